@@ -1,0 +1,9 @@
+pub mod Canonical
+pub mod Cellwise
+pub mod Listed
+pub mod Members
+pub mod Moving
+pub mod Order
+pub mod Pushes
+pub mod Search
+pub mod Steps

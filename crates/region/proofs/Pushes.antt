@@ -1,0 +1,155 @@
+-- Runs with one more run at the end.
+use Rattle.std.proofs.Common.{◌≡◌, ℕ, zero, suc, length, drop, get_or, ◌+◌, ◌<◌, ◌≤◌, max, ◌⊎◌, inl, inr, Bool, true, false, ◌||◌, List, [], ◌∷◌, ◌++◌, refl, sym, ap, subst, ◌∙◌, arith}
+use Rattle.std.proofs.lemmas.Bool.Decides.{nat_tests}
+use Rattle.std.proofs.lemmas.List.Folds.{list_any-append}
+use Rattle.region.specs.declared.runs.Run.{Run}
+use Rattle.region.specs.Runs.{IsRun, IsMaximalRuns, EndsBefore, EndsBeforeAll, in_run, in_runs}
+use Rattle.region.specs.Walks.{StartsBy, LastStartsBy}
+
+pub IsMaximalRuns-last : (xs : List Run) (l : Run) → IsMaximalRuns (xs ++ l ∷ []) → IsRun l
+IsMaximalRuns-last [] l h = h.0
+IsMaximalRuns-last (x ∷ xs) l h = IsMaximalRuns-last xs l h.2
+
+pub LastStartsBy-last : (xs : List Run) (l s : Run) → LastStartsBy (xs ++ l ∷ []) s → StartsBy l s
+LastStartsBy-last [] l s h = h
+LastStartsBy-last (x ∷ []) l s h = h
+LastStartsBy-last (x ∷ (y ∷ ys)) l s h = LastStartsBy-last (y ∷ ys) l s h
+
+pub LastStartsBy-push : (xs : List Run) (l s : Run) → StartsBy l s → LastStartsBy (xs ++ l ∷ []) s
+LastStartsBy-push [] l s h = h
+LastStartsBy-push (x ∷ []) l s h = h
+LastStartsBy-push (x ∷ (y ∷ ys)) l s h = LastStartsBy-push (y ∷ ys) l s h
+
+same_start : (r l m : Run) → m.y ≡ l.y → m.x ≡ l.x → EndsBefore r l → EndsBefore r m
+same_start r l m e f (inl h) = inl (omega arith)
+same_start r l m e f (inr h) = inr (h.0 ∙ sym e, omega (arith, h.1))
+
+before_start : (r : Run) (xs : List Run) (l m : Run) → m.y ≡ l.y → m.x ≡ l.x → EndsBeforeAll r (xs ++ l ∷ []) → EndsBeforeAll r (xs ++ m ∷ [])
+before_start r [] l m e f h = same_start r l m e f h
+before_start r (x ∷ xs) l m e f h = h
+
+-- the last run replaced by one that starts where it does
+pub IsMaximalRuns-replace : (xs : List Run) (l m : Run) → m.y ≡ l.y → m.x ≡ l.x → IsRun m → IsMaximalRuns (xs ++ l ∷ []) → IsMaximalRuns (xs ++ m ∷ [])
+IsMaximalRuns-replace [] l m e f i h = (i, tt, tt)
+IsMaximalRuns-replace (x ∷ xs) l m e f i h = (h.0, before_start x xs l m e f h.1, IsMaximalRuns-replace xs l m e f i h.2)
+
+before_push : (r : Run) (xs : List Run) (l m : Run) → EndsBeforeAll r (xs ++ l ∷ []) → EndsBeforeAll r ((xs ++ l ∷ []) ++ m ∷ [])
+before_push r [] l m h = h
+before_push r (x ∷ xs) l m h = h
+
+pub IsMaximalRuns-push : (xs : List Run) (l m : Run) → IsRun m → EndsBefore l m → IsMaximalRuns (xs ++ l ∷ []) → IsMaximalRuns ((xs ++ l ∷ []) ++ m ∷ [])
+IsMaximalRuns-push [] l m i b h = (h.0, b, (i, tt, tt))
+IsMaximalRuns-push (x ∷ xs) l m i b h = (h.0, before_push x xs l m h.1, IsMaximalRuns-push xs l m i b h.2)
+
+or-false : (b : Bool) → (b || false) ≡ b
+or-false true = refl
+or-false false = refl
+
+pub in_runs-push : (xs : List Run) (l : Run) (q : ℕ × ℕ) → in_runs (xs ++ l ∷ []) q ≡ (in_runs xs q || in_run l q)
+in_runs-push xs l q = list_any-append (λ r. in_run r q) xs (l ∷ []) ∙ ap (λ b. in_runs xs q || b) (or-false (in_run l q))
+
+or_assoc : (a b c : Bool) → (a || (b || c)) ≡ ((a || b) || c)
+or_assoc true b c = refl
+or_assoc false b c = refl
+
+-- two runs of a row that touch or overlap
+joined : (l r m : Run) (q : ℕ × ℕ) → l.y ≡ r.y → m.y ≡ l.y → m.x ≡ l.x → l.x ≤ r.x → r.x ≤ l.x + l.len → m.x + m.len ≡ max (l.x + l.len) (r.x + r.len) → in_run m q ≡ (in_run l q || in_run r q)
+joined l r m q a b c d e f = grind (arith, nat_tests)
+
+pub in_runs-join : (xs : List Run) (l r m : Run) (q : ℕ × ℕ) → l.y ≡ r.y → m.y ≡ l.y → m.x ≡ l.x → l.x ≤ r.x → r.x ≤ l.x + l.len
+    → m.x + m.len ≡ max (l.x + l.len) (r.x + r.len) → in_runs (xs ++ m ∷ []) q ≡ (in_runs (xs ++ l ∷ []) q || in_run r q)
+in_runs-join xs l r m q a b c d e f =
+    in_runs-push xs m q ∙ ap (λ t. in_runs xs q || t) (joined l r m q a b c d e f) ∙ or_assoc (in_runs xs q) (in_run l q) (in_run r q)
+    ∙ ap (λ t. t || in_run r q) (sym (in_runs-push xs l q))
+
+-- what a push leaves, where the last run reaches the new one
+module _ (xs old new : List Run) (l r m : Run) (old-is : old ≡ xs ++ l ∷ []) (new-is : new ≡ xs ++ m ∷ []) (runs : IsMaximalRuns old) (run : IsRun r) (order : LastStartsBy old r)
+    (row : m.y ≡ l.y) (start : m.x ≡ l.x) (end : m.x + m.len ≡ max (l.x + l.len) (r.x + r.len)) (reaches : (l.y ≡ r.y) × (r.x ≤ l.x + l.len)) where
+  first_starts : l.x ≤ r.x
+  first_starts = elim (LastStartsBy-last xs l r (rw old-is at order)) [ inl h ↦ omega (arith, reaches.0) | inr h ↦ h.1 ]
+
+  last_run : IsRun l
+  last_run = IsMaximalRuns-last xs l (rw old-is at runs)
+
+  pub joins-cells : (q : ℕ × ℕ) → in_runs new q ≡ (in_runs old q || in_run r q)
+  joins-cells q = rw (new-is, old-is) (in_runs-join xs l r m q reaches.0 row start first_starts reaches.1 end)
+
+  pub joins-runs : IsMaximalRuns new
+  joins-runs = rw new-is (IsMaximalRuns-replace xs l m row start
+      (record { some = omega (arith, last_run.some); fits = omega (arith, last_run.fits, run.fits) }) (rw old-is at runs))
+
+  pub joins-last : (next : Run) → StartsBy r next → LastStartsBy new next
+  joins-last next h = rw new-is (LastStartsBy-push xs m next (starts h))
+    where
+      starts : StartsBy r next → StartsBy m next
+      starts (inl k) = inl (omega (arith, reaches.0))
+      starts (inr k) = inr (row ∙ reaches.0 ∙ k.0, omega (arith, first_starts, k.1))
+
+-- and where it does not
+module _ (xs old new : List Run) (l r : Run) (old-is : old ≡ xs ++ l ∷ []) (new-is : new ≡ (xs ++ l ∷ []) ++ r ∷ []) (runs : IsMaximalRuns old) (run : IsRun r) (order : LastStartsBy old r)
+    (apart : (l.y ≡ r.y) × (r.x ≤ l.x + l.len) → ⊥) where
+  ends : StartsBy l r → EndsBefore l r
+  ends (inl h) = inl h
+  ends (inr h) = elim (nat_cases r.x (l.x + l.len)) [ inl k ↦ absurd (apart (h.0, k)) | inr k ↦ inr (h.0, k) ]
+    where
+      nat_cases : (a b : ℕ) → (a ≤ b) ⊎ (b < a)
+      nat_cases a b = grind arith
+
+  pub follows-runs : IsMaximalRuns new
+  follows-runs = rw new-is (IsMaximalRuns-push xs l r run (ends (LastStartsBy-last xs l r (rw old-is at order))) (rw old-is at runs))
+
+  pub follows-last : (next : Run) → StartsBy r next → LastStartsBy new next
+  follows-last next h = rw new-is (LastStartsBy-push (xs ++ l ∷ []) r next h)
+
+-- ---- a walk over two lists
+pub cells_step : (a : List Run) (i : ℕ) (d : Run) (q : ℕ × ℕ) → i < length a → in_runs (drop i a) q ≡ (in_run (get_or a i d) q || in_runs (drop (suc i) a) q)
+cells_step [] i d q l = absurd (omega arith)
+cells_step (x ∷ xs) zero d q l = refl
+cells_step (x ∷ xs) (suc i) d q l = cells_step xs i d q (omega arith)
+
+pub run_at : (a : List Run) (i : ℕ) (d : Run) → i < length a → IsMaximalRuns a → IsRun (get_or a i d)
+run_at [] i d l h = absurd (omega arith)
+run_at (x ∷ xs) zero d l h = h.0
+run_at (x ∷ xs) (suc i) d l h = run_at xs i d (omega arith) h.2
+
+ends_starts : (r s : Run) → EndsBefore r s → StartsBy r s
+ends_starts r s (inl h) = inl h
+ends_starts r s (inr h) = inr (h.0, omega (arith, h.1))
+
+pub runs_rise : (a : List Run) (i : ℕ) (d : Run) → suc i < length a → IsMaximalRuns a → StartsBy (get_or a i d) (get_or a (suc i) d)
+runs_rise [] i d l h = absurd (omega arith)
+runs_rise (x ∷ []) i d l h = absurd (omega arith)
+runs_rise (x ∷ (y ∷ ys)) zero d l h = ends_starts x y h.1
+runs_rise (x ∷ (y ∷ ys)) (suc i) d l h = runs_rise (y ∷ ys) i d (omega arith) h.2
+
+pub from_first : (o r x y : Bool) → ((o || r) || (x || y)) ≡ (o || ((r || x) || y))
+from_first true r x y = refl
+from_first false true x y = refl
+from_first false false x y = refl
+
+pub from_second : (o r x y : Bool) → ((o || r) || (x || y)) ≡ (o || (x || (r || y)))
+from_second true r x y = refl
+from_second false true true y = refl
+from_second false true false y = refl
+from_second false false x y = refl
+
+any_default : (a : List Run) (i : ℕ) (d e : Run) → i < length a → get_or a i d ≡ get_or a i e
+any_default [] i d e l = absurd (omega arith)
+any_default (x ∷ xs) zero d e l = refl
+any_default (x ∷ xs) (suc i) d e l = any_default xs i d e (omega arith)
+
+pub starts_any : (a : List Run) (i : ℕ) (d e : Run) (s : Run) → i < length a → StartsBy (get_or a i d) s → StartsBy (get_or a i e) s
+starts_any a i d e s l h = subst (λ (r : Run). StartsBy r s) (any_default a i d e l) h
+
+-- the cells that are left, once the first run of one list has gone out
+pub first_gone : (o p : Bool) (a b : List Run) (i j : ℕ) (d : Run) (q : ℕ × ℕ) → i < length a → p ≡ (o || in_run (get_or a i d) q)
+    → (p || (in_runs (drop (suc i) a) q || in_runs (drop j b) q)) ≡ (o || (in_runs (drop i a) q || in_runs (drop j b) q))
+first_gone o p a b i j d q l e =
+    rw e (from_first o (in_run (get_or a i d) q) (in_runs (drop (suc i) a) q) (in_runs (drop j b) q)
+    ∙ ap (λ t. o || (t || in_runs (drop j b) q)) (sym (cells_step a i d q l)))
+
+pub second_gone : (o p : Bool) (a b : List Run) (i j : ℕ) (d : Run) (q : ℕ × ℕ) → j < length b → p ≡ (o || in_run (get_or b j d) q)
+    → (p || (in_runs (drop i a) q || in_runs (drop (suc j) b) q)) ≡ (o || (in_runs (drop i a) q || in_runs (drop j b) q))
+second_gone o p a b i j d q l e =
+    rw e (from_second o (in_run (get_or b j d) q) (in_runs (drop i a) q) (in_runs (drop (suc j) b) q)
+    ∙ ap (λ t. o || (in_runs (drop i a) q || t)) (sym (cells_step b j d q l)))

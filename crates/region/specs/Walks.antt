@@ -1,0 +1,63 @@
+-- What the steps of a walk over two lists of runs say.
+use Rattle.std.specs.Prelude.{◌≡◌, ℤ, pos, negsuc, ◌+ℤ◌, ◌-ℤ◌, ◌≤ℤ◌, ℕ, ◌+◌, ◌<◌, ◌≤◌, ◌⊎◌, Bool, false, ◌&&◌, ◌||◌, nat_eq, nat_le, nat_lt, List, [], ◌∷◌, Option, Some, None}
+use Rattle.region.specs.declared.runs.Run.{Run}
+use Rattle.std.specs.List.{list_any}
+use Rattle.region.specs.Runs.{in_run}
+
+-- the first run starts at the second one's start or before it
+abbrev pub StartsBy : Run → Run → Type 0
+StartsBy r s = (r.y < s.y) ⊎ ((r.y ≡ s.y) × (r.x ≤ s.x))
+
+-- the first run ends at the second one's end or before it
+abbrev pub EndsBy : Run → Run → Type 0
+EndsBy r s = (r.y < s.y) ⊎ ((r.y ≡ s.y) × (r.x + r.len ≤ s.x + s.len))
+
+-- the last run starts at another's start or before it
+abbrev pub LastStartsBy : List Run → Run → Type 0
+LastStartsBy [] s = Unit {0}
+LastStartsBy (r ∷ []) s = StartsBy r s
+LastStartsBy (r ∷ (t ∷ rs)) s = LastStartsBy (t ∷ rs) s
+
+-- each cell of the first run comes after each cell of the second one
+abbrev pub LiesBehind : Run → Run → Type 0
+LiesBehind r s = (s.y < r.y) ⊎ ((s.y ≡ r.y) × (s.x + s.len ≤ r.x))
+
+-- the first run lies within the second one
+pub record IsPart (p r : Run) : Type 0 where
+  pub row : p.y ≡ r.y
+  pub start : r.x ≤ p.x
+  pub end : p.x + p.len ≤ r.x + r.len
+  pub some : 1 ≤ p.len
+
+-- the first run lies within the second one, moved by dx columns and dy rows
+pub record IsMovedPart (dx dy : ℤ) (p r : Run) : Type 0 where
+  pub row : pos p.y ≡ pos r.y +ℤ dy
+  pub start : (pos r.x +ℤ dx) ≤ℤ pos p.x
+  pub end : pos (p.x + p.len) ≤ℤ (pos (r.x + r.len) +ℤ dx)
+  pub some : 1 ≤ p.len
+
+-- whether a cell is in the run, if there is one
+abbrev pub in_option : Option Run → ℕ × ℕ → Bool
+in_option None q = false
+in_option (Some r) q = in_run r q
+
+-- whether a cell comes before a run, or after it
+abbrev pub is_before : ℕ × ℕ → Run → Bool
+is_before q r = nat_lt q.1 r.y || (nat_eq q.1 r.y && nat_lt q.0 r.x)
+
+abbrev pub is_after : ℕ × ℕ → Run → Bool
+is_after q r = nat_lt r.y q.1 || (nat_eq r.y q.1 && nat_le (r.x + r.len) q.0)
+
+-- whether a run has the cell at a column and a row, none of which is negative
+abbrev pub in_run_at : Run → ℤ → ℤ → Bool
+in_run_at r (pos x) (pos y) = in_run r (x, y)
+in_run_at r (pos x) (negsuc y) = false
+in_run_at r (negsuc x) y = false
+
+-- whether a cell lies within a width and a height, and moving it back gives a cell of the run
+abbrev pub in_moved_run : Run → ℤ → ℤ → ℕ → ℕ → ℕ × ℕ → Bool
+in_moved_run r dx dy w h q = (nat_lt q.0 w && nat_lt q.1 h) && in_run_at r (pos q.0 -ℤ dx) (pos q.1 -ℤ dy)
+
+-- the same of one of several runs
+abbrev pub in_moved_runs : List Run → ℤ → ℤ → ℕ → ℕ → ℕ × ℕ → Bool
+in_moved_runs rs dx dy w h q = list_any (λ r. in_moved_run r dx dy w h q) rs

@@ -1,0 +1,18 @@
+//! Sets of cells of a map.
+//!
+//! A `Region` is a finite set of cells, each a column and a row, which is kept as runs: cells of one
+//! row that lie side by side. The runs are maximal and stand in row order, so that equal sets have
+//! equal runs.
+#![tactic(auto)]
+
+#[cfg(test)]
+mod cell_list;
+mod cells;
+mod moves;
+mod row_order;
+mod runs;
+mod walks;
+
+pub use cells::Region;
+pub use row_order::Rows;
+pub use runs::Run;
