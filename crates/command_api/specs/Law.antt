@@ -1,0 +1,70 @@
+-- The law of a command.
+--
+-- A command has two texts, a tag or none, and a vanishing, and it follows the step before it or does not. It fits some
+-- documents for redo and some for undo. Redo and undo each ask that it fits the document for that call. Afterwards it
+-- fits the new document for the other call, and that one would give the old document back. The names stay.
+--
+-- One that never vanishes is never obsolete. One that vanishes when equal is obsolete exactly where turning it, redo or
+-- undo, leaves the document that it fits as it is.
+use Rattle.std.specs.Prelude.{◌≡◌, ℕ, List, Option, Bool, true, false}
+use Rattle.map_model.specs.Document.{DocumentParts}
+use Rattle.command_api.specs.Tag.{Tag}
+
+-- when a command is obsolete: never, or when the documents on its two sides are equal
+pub data Vanishing : Type 0 where
+  Never : Vanishing
+  WhenEqual : Vanishing
+
+-- what a command is: its names, whether it is obsolete, the documents that it fits, and what they turn to
+pub record Change : Type 1 where
+  pub text : List ℕ
+  pub action : List ℕ
+  pub tag : Option Tag
+  pub vanishing : Vanishing
+  pub follows : Bool
+  pub obsolete : Bool
+  pub redone : DocumentParts → DocumentParts
+  pub undone : DocumentParts → DocumentParts
+  pub fits_redo : DocumentParts → Type 0
+  pub fits_undo : DocumentParts → Type 0
+
+-- whether a change between these two documents is obsolete
+abbrev pub IsSettled : Vanishing → Bool → DocumentParts → DocumentParts → Type 0
+IsSettled Never obsolete here there = obsolete ≡ false
+IsSettled WhenEqual obsolete here there = (obsolete ≡ true → there ≡ here) × (there ≡ here → obsolete ≡ true)
+
+-- being obsolete is settled at each document that the command fits
+pub record IsLawful (c : Change) : Type 0 where
+  pub redo : (d : DocumentParts) → c.fits_redo d → IsSettled c.vanishing c.obsolete d (c.redone d)
+  pub undo : (d : DocumentParts) → c.fits_undo d → IsSettled c.vanishing c.obsolete d (c.undone d)
+
+-- w has the names of v
+pub record SameNames (v w : Change) : Type 0 where
+  pub text : w.text ≡ v.text
+  pub action : w.action ≡ v.action
+  pub tag : w.tag ≡ v.tag
+  pub vanishing : w.vanishing ≡ v.vanishing
+  pub follows : w.follows ≡ v.follows
+
+-- redo made the command v the command w, and the document d the document e
+pub record IsRedone (v w : Change) (d e : DocumentParts) : Type 0 where
+  pub document : e ≡ v.redone d
+  pub fits : w.fits_undo e
+  pub back : w.undone e ≡ d
+  pub names : SameNames v w
+
+-- undo made the command v the command w, and the document d the document e
+pub record IsUndone (v w : Change) (d e : DocumentParts) : Type 0 where
+  pub document : e ≡ v.undone d
+  pub fits : w.fits_redo e
+  pub back : w.redone e ≡ d
+  pub names : SameNames v w
+
+-- w does what v does
+pub record IsSame (v w : Change) : Type 0 where
+  pub names : SameNames v w
+  pub obsolete : w.obsolete ≡ v.obsolete
+  pub redone : (d : DocumentParts) → w.redone d ≡ v.redone d
+  pub undone : (d : DocumentParts) → w.undone d ≡ v.undone d
+  pub fits_redo : (d : DocumentParts) → v.fits_redo d → w.fits_redo d
+  pub fits_undo : (d : DocumentParts) → v.fits_undo d → w.fits_undo d

@@ -1,0 +1,19 @@
+-- What a command changes: the kind of the change, and the thing that it changes.
+use Rattle.std.specs.Prelude.{ℕ, ℤ, pos, negsuc, List, Option, Some, None}
+use Rattle.map_model.specs.declared.owner.Owner.{Owner}
+
+-- a layer or an object, by its id, or what a name stands for at an owner
+pub data Subject : Type 0 where
+  OfLayer : ℕ → Subject
+  OfObject : ℕ → Subject
+  OfName : Owner → List ℕ → Subject
+
+-- a kind of change, by its id, and its subject
+pub record Tag : Type 0 where
+  pub kind : ℕ
+  pub subject : Subject
+
+-- the id of a tag, and -1 where there is none
+abbrev pub id_of : Option Tag → ℤ
+id_of None = negsuc 0
+id_of (Some t) = pos t.kind

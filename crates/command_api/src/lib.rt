@@ -1,0 +1,8 @@
+//! Commands: changes of a document that can be made, turned back and made again.
+//!
+//! A caller of an undo stack writes its own commands as types with an `impl Command`, and passes them on in a box.
+#![tactic(auto)]
+
+mod command;
+
+pub use command::Command;

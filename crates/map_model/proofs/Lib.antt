@@ -1,0 +1,5 @@
+pub mod CellEdits
+pub mod Changes
+pub mod Keeps
+pub mod TilesetLemmas
+pub mod Turns

@@ -1,0 +1,26 @@
+-- Lists of changed cells of one layer.
+use Rattle.std.specs.Prelude.{ℕ, ◌+◌, ◌*◌, ◌<◌, List, slice_set}
+use Rattle.std.specs.List.{fold}
+use Rattle.map_model.specs.declared.edit.CellEdit.{CellEdit}
+use Rattle.map_model.specs.declared.edit.Side.{Side}
+use Rattle.map_model.specs.declared.edit.Side.TheVariants.{Before, After}
+
+-- the value of a changed cell on a side
+abbrev pub value_at : Side → CellEdit → ℕ
+value_at Before e = e.before
+value_at After e = e.after
+
+-- the place of a changed cell in a layer of this width, row by row
+abbrev pub place_of : ℕ → CellEdit → ℕ
+place_of width e = e.y * width + e.x
+
+-- the cell lies in a layer of this width with so many values
+abbrev pub IsBelow : ℕ → ℕ → CellEdit → Type 0
+IsBelow width count e = place_of width e < count
+
+abbrev pub with_value : ℕ → ℕ → List ℕ → List ℕ
+with_value at value values = slice_set values at value
+
+-- the values of a layer with the cells of a list set, in order, to their values on a side
+abbrev pub put_values : ℕ → Side → List CellEdit → List ℕ → List ℕ
+put_values width side es values = fold (λ vs e. with_value (place_of width e) (value_at side e) vs) values es

@@ -1,0 +1,9 @@
+pub mod Bodies
+pub mod CellEdits
+pub mod DataCode
+pub mod Document
+pub mod Lists
+pub mod NewMap
+pub mod Parts
+pub mod Tilesets
+pub mod WellFormed

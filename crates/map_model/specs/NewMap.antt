@@ -1,0 +1,41 @@
+-- A new map, as the session line `new` makes it.
+use Rattle.std.specs.Prelude.{ℕ, ◌*◌, List, [], ◌∷◌, true, Some, replicate, codes}
+use Rattle.serde_json.specs.Data.{number, unsigned, string, Members, no_members, member}
+use Rattle.map_model.specs.declared.parts.Encoding.TheVariants.{Array}
+use Rattle.map_model.specs.declared.parts.Body.TheVariants.{Tiles}
+use Rattle.map_model.specs.declared.parts.Layer.{Layer}
+use Rattle.map_model.specs.declared.parts.MapParts.{MapParts}
+
+-- the members that a new tile layer keeps
+abbrev pub tile_layer_members : Members
+tile_layer_members = member (codes "opacity") (number (unsigned 1)) (member (codes "x") (number (unsigned 0)) (member (codes "y") (number (unsigned 0)) no_members))
+
+-- the members that a new map keeps
+abbrev pub map_members : Members
+map_members = member (codes "orientation") (string (codes "orthogonal")) (member (codes "renderorder") (string (codes "right-down")) no_members)
+
+-- a visible tile layer of so many empty cells
+abbrev pub empty_layer : ℕ → List ℕ → ℕ → Layer
+empty_layer id name size = record {
+  id = id;
+  name = name;
+  visible = true;
+  properties = [];
+  kept = tile_layer_members;
+  body = Tiles Array (replicate size 0);
+}
+
+-- a map of one empty tile layer and one external tileset, from 1 on
+abbrev pub new_map : ℕ → ℕ → ℕ → ℕ → List ℕ → MapParts
+new_map width height tile_width tile_height source = record {
+  width = width;
+  height = height;
+  tile_width = tile_width;
+  tile_height = tile_height;
+  layers = empty_layer 1 (codes "Tile Layer 1") (width * height) ∷ [];
+  tilesets = record { first_id = 1; source = Some source; kept = no_members } ∷ [];
+  properties = [];
+  next_layer_id = 2;
+  next_object_id = 1;
+  kept = map_members;
+}

@@ -1,0 +1,57 @@
+-- What the look-ups and changes of a map give.
+use Rattle.std.specs.Prelude.{ℕ, ◌+◌, ◌*◌, ◌<◌, List, [], Bool, ◌&&◌, nat_eq, nat_lt, if◌then◌else◌, Option, Some, None, option_and_then, IsSomeAnd, find}
+use Rattle.map_model.specs.declared.parts.Layer.{Layer}
+use Rattle.map_model.specs.declared.parts.MapParts.{MapParts}
+use Rattle.map_model.specs.declared.edit.CellEdit.{CellEdit}
+use Rattle.map_model.specs.declared.edit.Side.{Side}
+use Rattle.map_model.specs.Lists.{change_first}
+use Rattle.map_model.specs.Bodies.{IsTiles, tiles_of, tile_at, body_with_tiles}
+use Rattle.map_model.specs.CellEdits.{with_value, put_values}
+
+-- whether a layer has the id
+abbrev pub has_id : ℕ → Layer → Bool
+has_id id l = nat_eq l.id id
+
+-- the layer with the id
+abbrev pub layer_of : MapParts → ℕ → Option Layer
+layer_of m id = find (has_id id) m.layers
+
+-- the map has a tile layer with the id
+abbrev pub HasTiles : MapParts → ℕ → Type 0
+HasTiles m id = IsSomeAnd (layer_of m id) (λ l. IsTiles l.body)
+
+-- the values of a layer; none where there is no layer
+abbrev pub tiles_of_layer : Option Layer → List ℕ
+tiles_of_layer None = []
+tiles_of_layer (Some l) = tiles_of l.body
+
+-- the values of the layer with the id
+abbrev pub tiles_in : MapParts → ℕ → List ℕ
+tiles_in m id = tiles_of_layer (layer_of m id)
+
+-- the value of a cell of the map in the tile layer with the id
+abbrev pub cell_of : MapParts → ℕ → ℕ → ℕ → Option ℕ
+cell_of m id x y = if nat_lt x m.width && nat_lt y m.height then option_and_then (λ l. tile_at l.body (y * m.width + x)) (layer_of m id) else None
+
+-- the map with f of the layer with the id in its place
+abbrev pub with_layer : ℕ → (Layer → Layer) → MapParts → MapParts
+with_layer id f m = record m { layers = change_first (has_id id) f m.layers }
+
+abbrev pub layer_with_tiles : (List ℕ → List ℕ) → Layer → Layer
+layer_with_tiles f l = record l { body = body_with_tiles f l.body }
+
+-- the map with f of the values of the tile layer with the id
+abbrev pub with_tiles : MapParts → ℕ → (List ℕ → List ℕ) → MapParts
+with_tiles m id f = with_layer id (layer_with_tiles f) m
+
+-- the map with the value at a cell of the tile layer with the id
+abbrev pub with_cell : MapParts → ℕ → ℕ → ℕ → ℕ → MapParts
+with_cell m id x y value = with_tiles m id (with_value (y * m.width + x) value)
+
+-- the map with the cells of a list set to their values on a side
+abbrev pub with_edits : MapParts → ℕ → List CellEdit → Side → MapParts
+with_edits m id es side = with_tiles m id (put_values m.width side es)
+
+-- the changed cell lies in the map
+abbrev pub IsWithin : MapParts → CellEdit → Type 0
+IsWithin m e = (e.x < m.width) × (e.y < m.height)

@@ -1,0 +1,32 @@
+ghost use Rattle.std.specs.Prelude.{◌≡◌};
+ghost use Rattle.map_model.specs.CellEdits.{value_at};
+
+use tile_id::Gid;
+
+/// A cell of a layer whose value changes: its column and row, and its value before and after.
+#[derive(Clone, Copy, PartialEq, Eq, Debug)]
+pub struct CellEdit {
+    pub x: u32,
+    pub y: u32,
+    pub before: Gid,
+    pub after: Gid,
+}
+
+/// One of the two sides of a change.
+#[derive(Clone, Copy, PartialEq, Eq, Debug)]
+pub enum Side {
+    Before,
+    After,
+}
+
+impl CellEdit {
+    /// The cell's value on a side of the change.
+    pub fn value(self, side: Side) -> Gid
+        ensures { result ≡ value_at side self }
+    {
+        match side {
+            Side::Before => self.before,
+            Side::After => self.after,
+        }
+    }
+}

@@ -1,0 +1,25 @@
+//! Documents of the editor: tile maps as Tiled has them, seen by contracts as records, with look-ups and changes.
+//!
+//! A look-up or a change takes no memory; what must hold for it is a condition, and no call refuses.
+#![tactic(auto)]
+
+mod body;
+mod document;
+mod edit;
+mod held;
+mod map;
+mod owner;
+mod parts;
+
+pub use document::Document;
+pub use edit::{CellEdit, Side};
+pub use held::{Cells, JsonValue, Kept, MapText};
+pub use map::Map;
+pub use owner::Owner;
+pub use parts::{
+    Body, Encoding, Layer, MapParts, Object, Placing, PropValue, Property, Tileset,
+};
+
+
+#[cfg(test)]
+mod tests;
