@@ -1,0 +1,4 @@
+pub mod Blocks
+pub mod Difference
+pub mod Laying
+pub mod Stamping

@@ -1,0 +1,13 @@
+//! What an edit does to a document: the cells that it changes, or why it is refused.
+#![tactic(auto)]
+
+mod block;
+mod change;
+mod fault;
+mod laid;
+mod stamp;
+
+pub use block::Block;
+pub use change::{CellChange, CellEdits};
+pub use fault::EditFault;
+pub use stamp::{stamp_change, tiles_of_layer};

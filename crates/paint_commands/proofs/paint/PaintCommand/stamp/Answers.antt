@@ -1,0 +1,20 @@
+use Rattle.std.proofs.Common.{refl}
+use Rattle.edits.specs.Blocks.{block_of}
+use Rattle.paint_commands.proofs.Paints.{stamp-fits, stamp-document}
+use Rattle.paint_commands.proofs.paint.PaintCommand.stamp.Goals as goal
+
+pub returns-clause-command : goal.returns-clause-command
+returns-clause-command c =
+    let d = c.args.document.now in
+    let block = block_of c.args.block.now in
+    let cells = c.in_ok-change.change.cells in
+    let is = c.in_ok-change.ensures.change in
+    record {
+      fits = (refl, stamp-fits c.args.layer block cells d is.cells is.tiles is.well_formed);
+      document = stamp-document c.args.layer block cells d is.accepted is.cells is.tiles is.well_formed;
+      text = refl;
+      action = refl;
+      tag = refl;
+      vanishing = refl;
+      follows_line = refl;
+    }

@@ -1,0 +1,102 @@
+ghost use Rattle.std.specs.Prelude.{◌≡◌, IfOk, IfErr};
+ghost use Rattle.map_model.specs.Document.{DocumentParts};
+ghost use Rattle.edits.specs.Blocks.{block_of};
+ghost use Rattle.edits.specs.Difference.{difference_in};
+ghost use Rattle.edits.specs.Stamping.{IsBlock, IsStampRefusal};
+ghost use Rattle.command_api.specs.Law.{Change};
+ghost use Rattle.paint_commands.specs.Painting.{paint_change, painted_layer, IsStampCommand};
+
+use command_api::Command;
+use edits::{Block, CellEdits, EditFault, stamp_change};
+use map_model::{CellEdit, Document, Side};
+use std::alloc::Global;
+
+/// A way to paint.
+#[derive(Clone, Copy, PartialEq, Eq, Debug)]
+enum PaintKind {
+    Stamp,
+}
+
+/// A paint on a tile layer. It holds exactly the cells that differ between the documents on its two sides.
+#[derive(Drop)]
+pub struct PaintCommand {
+    kind: PaintKind,
+    layer: u32,
+    follows: bool,
+    is_made: bool,
+    cells: CellEdits,
+}
+
+impl PaintCommand {
+    /// The command that stamps a block on a tile layer, not made yet. The document stays as it is.
+    ///
+    /// Refused, in this order: where there is no layer with the id; where it is not a tile layer; where a value of
+    /// the block other than 0 has no tileset, also one that falls outside the map; and then where there is no memory.
+    pub fn stamp(
+        alloc: Global,
+        document: &Document,
+        layer: u32,
+        block: &Block<'_>,
+        follows: bool,
+    ) -> Result<PaintCommand, EditFault>
+        requires { IsBlock (block_of block.now) }
+        ensures command { IfOk result (λ c. IsStampCommand document.now layer (block_of block.now) follows (paint_change c)) }
+        ensures refusal { IfErr result (IsStampRefusal document.now.map layer (block_of block.now)) }
+    {
+        let change = stamp_change(alloc, document, layer, block)?;
+        Ok(PaintCommand {
+            kind: PaintKind::Stamp,
+            layer,
+            follows,
+            is_made: false,
+            cells: change.cells,
+        })
+    }
+
+    /// The cells that the paint changes, in row order, each once, with unequal values before and after: the
+    /// difference of the documents on its two sides.
+    pub fn change(&self) -> &[CellEdit]
+        ensures redo { (d : DocumentParts) → (paint_change self.now).fits_redo d
+            → result.now ≡ difference_in (painted_layer self.now) d.map ((paint_change self.now).redone d).map }
+        ensures undo { (d : DocumentParts) → (paint_change self.now).fits_undo d
+            → result.now ≡ difference_in (painted_layer self.now) ((paint_change self.now).undone d).map d.map }
+    {
+        self.cells.as_slice()
+    }
+}
+
+impl Command for PaintCommand {
+    ghost change = { paint_change };
+
+    fn text(&self) -> &str {
+        match self.kind {
+            PaintKind::Stamp => "Stamp",
+        }
+    }
+
+    fn action_text(&self) -> &str {
+        match self.kind {
+            PaintKind::Stamp => "stamp tiles",
+        }
+    }
+
+    fn id(&self) -> i32 {
+        match self.kind {
+            PaintKind::Stamp => 1,
+        }
+    }
+
+    fn obsolete(&self) -> bool {
+        self.cells.as_slice().is_empty()
+    }
+
+    fn redo(&mut self, document: &mut Document) {
+        document.put_edits(self.layer, self.cells.as_slice(), Side::After);
+        self.is_made = true;
+    }
+
+    fn undo(&mut self, document: &mut Document) {
+        document.put_edits(self.layer, self.cells.as_slice(), Side::Before);
+        self.is_made = false;
+    }
+}

@@ -1,0 +1,4 @@
+pub mod Rows
+pub mod Turns
+pub mod Views
+pub mod Pushes

@@ -1,0 +1,62 @@
+-- Rows of changes of which one is turned.
+use Rattle.std.proofs.Common.{◌≡◌, ℕ, ◌+◌, ◌-◌, ◌<◌, ◌≤◌, List, take, drop, length, set, get_or, refl, sym, subst, arith, append_assoc, length-set}
+use Rattle.std.proofs.lemmas.List.{take-set, drop-set, take_more_set}
+use Rattle.map_model.specs.Document.{DocumentParts}
+use Rattle.command_api.specs.Law.{Change, IsRedone, IsUndone}
+use Rattle.undo_stack.specs.Row.{before, steps_of, FitsDown, FitsUp}
+use Rattle.undo_stack.proofs.Rows.{before-append, steps_down-append, FitsDown-pop, FitsDown-push, step_at-same, take_last, drop_first, drop_past}
+
+-- a row at the place i and the document d became another one, at j and e, with the same documents and steps
+pub record IsMoved {B : Type 0} (f : B → Change) (xs : List B) (i : ℕ) (d : DocumentParts) (ys : List B) (j : ℕ) (e : DocumentParts) : Type 0 where
+  pub same_length : length ys ≡ length xs
+  pub down : FitsDown f (take j ys) e
+  pub up : FitsUp f (drop j ys) e
+  pub base : before f (take j ys) e ≡ before f (take i xs) d
+  pub steps : steps_of f ys j e ≡ steps_of f xs i d
+
+-- the change below the place fits, and so does the one at it
+pub fits_last : {B : Type 0} (f : B → Change) (xs : List B) (v : B) (j : ℕ) (d : DocumentParts) → FitsDown f (take (j + 1) xs) d → j < length xs → v ≡ get_or xs j v → (f v).fits_undo d
+fits_last f xs v j d p h k = (FitsDown-pop f (take j xs) v d (rw (take_last xs v j h k) at p)).1
+
+pub fits_next : {B : Type 0} (f : B → Change) (xs : List B) (v : B) (j : ℕ) (d : DocumentParts) → FitsUp f (drop j xs) d → j < length xs → v ≡ get_or xs j v → (f v).fits_redo d
+fits_next f xs v j d p h k = (rw (drop_first xs v j h k) at p).0
+
+-- the change below the place is undone
+pub moved_back : {B : Type 0} (f : B → Change) (xs : List B) (v w : B) (j : ℕ) (d e : DocumentParts) → FitsDown f (take (j + 1) xs) d → FitsUp f (drop (j + 1) xs) d → j < length xs → v ≡ get_or xs j v → IsUndone (f v) (f w) d e → IsMoved f xs (j + 1) d (set xs j w) j e
+moved_back f xs v w j d e p q h k t =
+    let took = take_last xs v j h k in
+    let down = FitsDown-pop f (take j xs) v d (rw took at p) in
+    record {
+      same_length = length-set xs j w;
+      down = rw (take-set xs j w, t.document) down.0;
+      up = rw (drop-set xs j w h) (t.fits, rw t.back q);
+      base = rw (take-set xs j w, t.document, took) (sym (before-append f (take j xs) v d));
+      steps = rw (take-set xs j w, drop-set xs j w h, took, steps_down-append f (take j xs) v d, step_at-same (f v) (f w) ((f w).redone e) t.names, t.back, t.document, append_assoc) refl;
+    }
+
+-- the change at the place is redone
+pub moved_on : {B : Type 0} (f : B → Change) (xs : List B) (v w : B) (j : ℕ) (d e : DocumentParts) → FitsDown f (take j xs) d → FitsUp f (drop j xs) d → j < length xs → v ≡ get_or xs j v → IsRedone (f v) (f w) d e → IsMoved f xs j d (set xs j w) (j + 1) e
+moved_on f xs v w j d e p q h k t =
+    let first = drop_first xs v j h k in
+    let up = rw first at q in
+    record {
+      same_length = length-set xs j w;
+      down = rw (take_more_set xs j w h) (FitsDown-push f (take j xs) w e (rw t.back p) t.fits);
+      up = rw (drop_past xs w j, t.document) up.1;
+      base = rw (take_more_set xs j w h, before-append f (take j xs) w e, t.back) refl;
+      steps = rw (take_more_set xs j w h, drop_past xs w j, first, steps_down-append f (take j xs) w e, step_at-same (f v) (f w) e t.names, t.back, t.document, append_assoc) refl;
+    }
+
+-- the same by the place above the change
+pub fits_below : {B : Type 0} (f : B → Change) (xs : List B) (v : B) (i : ℕ) (d : DocumentParts) → 0 < i → i ≤ length xs → v ≡ get_or xs (i - 1) v → FitsDown f (take i xs) d → (f v).fits_undo d
+fits_below f xs v i d p q k =
+    let same : i - 1 + 1 ≡ i = omega arith in
+    let inside : i - 1 < length xs = omega arith in
+    subst (λ (n : ℕ). FitsDown f (take n xs) d → (f v).fits_undo d) same (λ h. fits_last f xs v (i - 1) d h inside k)
+
+pub moved_below : {B : Type 0} (f : B → Change) (xs : List B) (v w : B) (i : ℕ) (d e : DocumentParts) → 0 < i → i ≤ length xs → v ≡ get_or xs (i - 1) v → FitsDown f (take i xs) d → FitsUp f (drop i xs) d → IsUndone (f v) (f w) d e → IsMoved f xs i d (set xs (i - 1) w) (i - 1) e
+moved_below f xs v w i d e p q k down up t =
+    let same : i - 1 + 1 ≡ i = omega arith in
+    let inside : i - 1 < length xs = omega arith in
+    let all = subst (λ (n : ℕ). FitsDown f (take n xs) d → FitsUp f (drop n xs) d → IsMoved f xs n d (set xs (i - 1) w) (i - 1) e) same (λ a b. moved_back f xs v w (i - 1) d e a b inside k t) in
+    all down up

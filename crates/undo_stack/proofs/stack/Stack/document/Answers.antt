@@ -1,0 +1,6 @@
+use Rattle.std.proofs.Common.{sym}
+use Rattle.undo_stack.proofs.Views.{current-view}
+use Rattle.undo_stack.proofs.stack.Stack.document.Goals as goal
+
+pub returns : goal.returns
+returns g c = let s = c.args.self.now in sym (current-view g.C.Command.change s.document s.entries.items s.index s.clean s.limit c.requires.within)

@@ -1,0 +1,7 @@
+pub mod History
+pub mod Pushing
+pub mod Moving
+pub mod Row
+pub mod Entries
+pub mod Sound
+pub mod Stacks

@@ -1,0 +1,10 @@
+//! An undo stack: a document, and the commands that lead back from it and on again.
+//!
+//! To a caller a stack is a history of whole documents with a position among them, while it holds one document and the
+//! commands that turn it.
+#![tactic(auto)]
+
+mod entry;
+mod stack;
+
+pub use stack::{Stack, StackFault};
