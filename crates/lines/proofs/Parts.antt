@@ -1,0 +1,57 @@
+-- Parts of a list.
+use Rattle.std.proofs.Common.{◌≡◌, ℕ, ◌+◌, ◌-◌, ◌≤◌, List, ◌++◌, length, take, drop, sym, ap, ◌∙◌, arith, slice_range}
+use Rattle.std.proofs.Common.{Option, Some, None, append_assoc}
+use Rattle.std.proofs.lemmas.List.{drop-drop, take-take, drop-take, take-append-drop, length-take, length-drop}
+use Rattle.std.specs.Io.KnownBytes.{Consumes, Keeps, prepend_known}
+use Rattle.lines.specs.Lines.{SameInput}
+
+-- the front of a part
+pub range_front : (xs : List ℕ) (i j n : ℕ) → i + n ≤ j → slice_range xs i (i + n) ≡ take n (slice_range xs i j)
+range_front xs i j n h =
+    let e : i + n - i ≡ n = omega arith in
+    let k : n ≤ j - i = omega arith in
+    ap (λ m. take m (drop i xs)) e ∙ sym (take-take n (j - i) (drop i xs) k)
+
+-- a part without its front
+pub range_rest : (xs : List ℕ) (i j n : ℕ) → i + n ≤ j → slice_range xs (i + n) j ≡ drop n (slice_range xs i j)
+range_rest xs i j n h =
+    let e : j - i ≡ n + (j - (i + n)) = omega arith in
+    sym (ap (λ m. drop n (take m (drop i xs))) e ∙ drop-take n (j - (i + n)) (drop i xs) ∙ ap (λ ys. take (j - (i + n)) ys) (drop-drop n i xs))
+
+pub length-range : (xs : List ℕ) (i j : ℕ) → j ≤ length xs → length (slice_range xs i j) ≡ j - i
+length-range xs i j h = omega (arith, length-take (j - i) (drop i xs), length-drop i xs)
+
+-- a front in two parts
+pub two_parts : (xs : List ℕ) (i n : ℕ) → take (i + n) xs ≡ take i xs ++ take n (drop i xs)
+two_parts xs i n =
+    let front = take (i + n) xs in
+    let h : i ≤ i + n = omega arith in
+    sym (ap (λ ys. ys ++ take n (drop i xs)) (sym (take-take i (i + n) xs h)) ∙ ap (λ ys. take i front ++ ys) (sym (drop-take i n xs)) ∙ take-append-drop i front)
+
+-- after more bytes are read behind the ones that were moved to the front
+pub filled : (xs old : List ℕ) (i n : ℕ) → take i xs ≡ old → slice_range xs 0 (i + n) ≡ old ++ slice_range xs i (i + n)
+filled xs old i n h =
+    let zero_off : i + n - 0 ≡ i + n = omega arith in
+    let off : i + n - i ≡ n = omega arith in
+    ap (λ m. take m xs) zero_off ∙ two_parts xs i n ∙ ap (λ ys. ys ++ take n (drop i xs)) h ∙ ap (λ m. old ++ take m (drop i xs)) (sym off)
+
+-- what is to come stays the same when bytes move from the reader to the pending ones
+pub same_input : (old new more : List ℕ) (before after : Option (List ℕ)) → new ≡ old ++ more → Consumes before after more → SameInput (prepend_known old before) (prepend_known new after)
+same_input old new more None after e h = tt
+same_input old new more (Some xs) None e h = h
+same_input old new more (Some xs) (Some ys) e h = ap (λ zs. old ++ zs) h ∙ sym (append_assoc old more ys) ∙ ap (λ zs. zs ++ ys) (sym e)
+
+pub same_kept : (old new : List ℕ) (before after : Option (List ℕ)) → new ≡ old → Keeps before after → SameInput (prepend_known old before) (prepend_known new after)
+same_kept old new None after e h = tt
+same_kept old new (Some xs) None e h = h
+same_kept old new (Some xs) (Some ys) e h = ap (λ zs. old ++ zs) (sym h) ∙ ap (λ zs. zs ++ ys) (sym e)
+
+pub kept_front : (xs : List ℕ) (n : ℕ) → slice_range xs 0 n ≡ take n xs
+kept_front xs n = let e : n - 0 ≡ n = omega arith in ap (λ m. take m xs) e
+
+-- what lies in the buffer after a read, and after one that failed
+pub read_in : (items xs was old : List ℕ) (i n : ℕ) → items ≡ xs → take i xs ≡ was → was ≡ old → slice_range items 0 (i + n) ≡ old ++ slice_range xs i (i + n)
+read_in items xs was old i n same front e = ap (λ ys. slice_range ys 0 (i + n)) same ∙ filled xs old i n (front ∙ e)
+
+pub not_read : (items xs was old : List ℕ) (i : ℕ) → items ≡ xs → take i xs ≡ was → was ≡ old → slice_range items 0 i ≡ old
+not_read items xs was old i same front e = ap (λ ys. slice_range ys 0 i) same ∙ kept_front xs i ∙ front ∙ e

@@ -1,0 +1,16 @@
+use Rattle.std.proofs.Common.{◌-◌, ◌^◌, ◌≤◌, IsTrue}
+use Rattle.std.specs.Io.KnownBytes.{IsAtEnd}
+use Rattle.lines.specs.Lines.{input_left, SameInput, HasNoNewline, budget}
+use Rattle.lines.proofs.reader.LineReader.read_on.Given as goal
+
+abbrev pub invariant-loop-self : goal.invariant-loop-self
+invariant-loop-self g l = record {
+  input : SameInput (input_left l.fn.self (g.R.Read.remaining l.fn.reader)) (input_left l.self (g.R.Read.remaining l.reader));
+  ended : IsTrue l.self.ended → IsAtEnd (g.R.Read.remaining l.reader);
+  none : HasNoNewline l.self.pending;
+  within : budget l.self ≤ budget l.fn.self;
+  called : l.fn.self.calls ≤ l.self.calls;
+}
+
+abbrev pub decreases-loop-self : goal.decreases-loop-self
+decreases-loop-self g l = 2 ^ 32 - l.self.calls

@@ -1,0 +1,17 @@
+use Rattle.std.proofs.Common.{◌-◌, ◌*◌, ◌^◌, ◌<◌, ◌≤◌, IsTrue}
+use Rattle.std.specs.Io.KnownBytes.{IsAtEnd}
+use Rattle.lines.specs.Lines.{input_left, budget}
+use Rattle.lines.proofs.Finding.{SkipsFront}
+use Rattle.lines.proofs.reader.LineReader.skip.Given as goal
+
+abbrev pub invariant-loop-self : goal.invariant-loop-self
+invariant-loop-self g l = record {
+  input : SkipsFront (input_left l.fn.self (g.R.Read.remaining l.fn.reader)) (input_left l.self (g.R.Read.remaining l.reader));
+  ended : IsTrue l.self.ended → IsAtEnd (g.R.Read.remaining l.reader);
+  within : budget l.self ≤ budget l.fn.self;
+  called : l.fn.self.calls ≤ l.self.calls;
+  spent : (2 ^ 32 - l.self.calls) * 2 ^ 16 < budget l.fn.self;
+}
+
+abbrev pub decreases-loop-self : goal.decreases-loop-self
+decreases-loop-self g l = 2 ^ 32 - l.self.calls

@@ -1,0 +1,81 @@
+-- The lines of some bytes, and what a reader of lines finds of them.
+use Rattle.std.specs.Prelude.{◌≡◌, ℕ, ◌+◌, ◌-◌, ◌*◌, ◌^◌, ◌<◌, ◌≤◌, Bool, false, cond, ◌==◌, List, [], ◌∷◌, ◌++◌, length, ⊤, ◌≢◌, All, Contains, ◌⊎◌, Option, None, Some}
+use Rattle.std.specs.Io.KnownBytes.{prepend_known}
+use Rattle.lines.specs.declared.reader.Found.{Found}
+use Rattle.lines.specs.declared.reader.Found.TheVariants.{Line, TooLong}
+
+-- a byte goes onto the first line, or makes one
+abbrev pub onto_first : ℕ → List (List ℕ) → List (List ℕ)
+onto_first b [] = (b ∷ []) ∷ []
+onto_first b (line ∷ lines) = (b ∷ line) ∷ lines
+
+-- the lines of the bytes: each ends at a byte 10, and the last one also at the end, where it has a byte
+abbrev pub lines_of : List ℕ → List (List ℕ)
+lines_of [] = []
+lines_of (b ∷ bytes) = cond (b == 10) ([] ∷ lines_of bytes) (onto_first b (lines_of bytes))
+
+-- no byte is a newline
+abbrev pub HasNoNewline : List ℕ → Type 0
+HasNoNewline bytes = All (λ b. b ≢ 10) bytes
+
+-- lines, each with its newline
+abbrev pub joined : List (List ℕ) → List ℕ
+joined [] = []
+joined (line ∷ lines) = line ++ 10 ∷ joined lines
+
+-- a last line without a newline is one where it has a byte
+abbrev pub last_line : List ℕ → List (List ℕ)
+last_line [] = []
+last_line (b ∷ line) = (b ∷ line) ∷ []
+
+-- lines and what follows the last newline, however they are chosen, are the lines of the bytes that they make
+abbrev pub LinesAreCut : Type 0
+LinesAreCut =
+    (lines : List (List ℕ)) (last : List ℕ) → All HasNoNewline lines → HasNoNewline last
+    → lines_of (joined lines ++ last) ≡ lines ++ last_line last
+
+-- what a reader of lines holds: the bytes that it has read and not given, whether the input has ended, the calls of
+-- `read` made so far, and the line that it gave last
+pub record Reading : Type 0 where
+  pub pending : List ℕ
+  pub ended : Bool
+  pub calls : ℕ
+  pub line : List ℕ
+
+-- nothing was read yet
+abbrev pub fresh : Reading
+fresh = record { pending = []; ended = false; calls = 0; line = [] }
+
+-- no fewer than the bytes that can still come: those that are pending, and 2^16 for each call of `read` that is left
+abbrev pub budget : Reading → ℕ
+budget s = (2 ^ 32 - s.calls) * 2 ^ 16 + length s.pending
+
+-- a whole further line was read, with its newline
+abbrev pub HasLine : Reading → Type 0
+HasLine s = Contains s.pending 10
+
+-- the input that is still to come: what is pending, and then what the reader has left, where that is known
+abbrev pub input_left : Reading → Option (List ℕ) → Option (List ℕ)
+input_left s known = prepend_known s.pending known
+
+-- known input is the same
+abbrev pub SameInput : Option (List ℕ) → Option (List ℕ) → Type 0
+SameInput None new = ⊤
+SameInput (Some xs) None = ⊥
+SameInput (Some xs) (Some ys) = xs ≡ ys
+
+-- The first line of the old input is found, and the new input is what follows it. With nothing found there is no line.
+abbrev pub FindsLine : Option (List ℕ) → Option (List ℕ) → Option Found → List ℕ → Type 0
+FindsLine None new found line = ⊤
+FindsLine (Some xs) None found line = ⊥
+FindsLine (Some xs) (Some ys) None line = (lines_of xs ≡ []) × (ys ≡ xs)
+FindsLine (Some xs) (Some ys) (Some Line) line = (lines_of xs ≡ line ∷ lines_of ys) × (length line < 2 ^ 16)
+FindsLine (Some xs) (Some ys) (Some TooLong) line =
+    (long : List ℕ) × (lines_of xs ≡ long ∷ lines_of ys) × (2 ^ 16 ≤ length long)
+
+-- the new input is what follows the first newline of the old one
+abbrev pub SkipsLine : Option (List ℕ) → Option (List ℕ) → Type 0
+SkipsLine None new = ⊤
+SkipsLine (Some xs) None = ⊥
+SkipsLine (Some xs) (Some ys) =
+    (first : List ℕ) × HasNoNewline first × ((xs ≡ first) × (ys ≡ []) ⊎ (xs ≡ first ++ 10 ∷ ys))

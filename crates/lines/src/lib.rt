@@ -1,0 +1,10 @@
+//! The lines of a byte stream, cut at byte 10 and read through one buffer of fixed size.
+#![tactic(auto)]
+
+mod laws;
+mod reader;
+#[cfg(test)]
+mod tests;
+
+pub use laws::lines_are_cut;
+pub use reader::{Found, LineReader, ReadFault};

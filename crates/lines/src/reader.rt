@@ -1,0 +1,287 @@
+ghost use Rattle.std.specs.Prelude.{◌≡◌, ◌+◌, ◌-◌, ◌*◌, ◌^◌, ◌↔◌, ◌<◌, ◌≤◌, false, [], ◌∷◌, ◌++◌, length, IsTrue, IfOk, OnOk, OnErr, IfSome, IfNone, Ok, Some, None, vec_len, slice_range, take, drop};
+ghost use Rattle.std.specs.Bool.{OnTrue, OnFalse};
+ghost use Rattle.std.specs.Io.KnownBytes.{IsAtEnd, Consumes, Keeps};
+ghost use Rattle.lines.specs.Lines.{Reading, fresh, budget, HasLine, input_left, SameInput, FindsLine, HasNoNewline, SkipsLine};
+
+use std::alloc::{AllocError, Global};
+use std::io::Read;
+use std::marker::Model;
+
+/// The bytes of the longest line, and its newline.
+const CAPACITY: usize = 65_536;
+
+/// The calls of `read` that a reader of lines makes at most.
+const MAX_CALLS: u64 = 4_294_967_296;
+
+/// What the next line is.
+#[derive(Clone, Copy, Debug, PartialEq, Eq)]
+pub enum Found {
+    /// A line of at most 65,535 bytes, which `line` shows.
+    Line,
+    /// A longer line, which is gone.
+    TooLong,
+}
+
+/// A call of `read` failed, or there were too many.
+#[derive(Clone, Copy, Debug, PartialEq, Eq)]
+pub struct ReadFault;
+
+/// Reads lines into a buffer that is allocated once.
+#[derive(Drop)]
+pub struct LineReader {
+    buffer: Vec<u8>,
+    start: usize,
+    end: usize,
+    line_start: usize,
+    line_end: usize,
+    calls: u64,
+    has_ended: bool,
+}
+
+impl Model for LineReader {
+    ghost Value = { Reading };
+
+    ghost view = { λ r. record {
+      pending = slice_range r.buffer.items r.start r.end;
+      ended = r.has_ended;
+      calls = r.calls;
+      line = slice_range r.buffer.items r.line_start r.line_end;
+    } };
+
+    ghost invariant = { λ r. (vec_len r.buffer ≡ 2 ^ 16) × (r.start ≤ r.end) × (r.end ≤ 2 ^ 16)
+        × (r.line_start ≤ r.line_end) × (r.line_end ≤ 2 ^ 16) × (r.calls ≤ 2 ^ 32) };
+}
+
+/// The place of the first newline.
+fn newline_at(bytes: &[u8]) -> Option<usize>
+    ensures within { IfSome result (λ n. n < length bytes.now) }
+    ensures found { IfSome result (λ n. HasNoNewline (take n bytes.now)
+        × (bytes.now ≡ take n bytes.now ++ 10 ∷ drop (n + 1) bytes.now)) }
+    ensures none { IfNone result (HasNoNewline bytes.now) }
+{
+    bytes.iter().position(|b| *b == 10)
+}
+
+/// Copies a part to the front, and calls `read` once for what lies behind it.
+fn refill<R: Read>(
+    reader: &mut R,
+    bytes: &mut [u8],
+    start: usize,
+    end: usize,
+) -> Result<usize, ReadFault>
+    requires order { start ≤ end }
+    requires within { end ≤ length bytes.old }
+    requires room { end - start < length bytes.old }
+    ensures within { IfOk result (λ n. end - start + n ≤ length bytes.old) }
+    ensures front { take (end - start) bytes.new ≡ slice_range bytes.old start end }
+    ensures ok { IfOk result (λ n. Consumes (R.remaining reader.old) (R.remaining reader.new)
+        (slice_range bytes.new (end - start) (end - start + n))) }
+    ensures ended { IfOk result (λ n. n ≡ 0 → IsAtEnd (R.remaining reader.new)) }
+    ensures err { OnErr result (Keeps (R.remaining reader.old) (R.remaining reader.new)) }
+{
+    let len = end - start;
+    bytes.copy_within(start..end, 0);
+    match reader.read(&mut bytes[len..]) {
+        Ok(n) => Ok(n),
+        Err(_) => Err(ReadFault),
+    }
+}
+
+impl LineReader {
+    /// Takes the memory for all lines, and reads nothing.
+    pub fn new(alloc: Global) -> Result<LineReader, AllocError>
+        ensures { IfOk result (λ r. r ≡ fresh) }
+    {
+        Ok(LineReader {
+            buffer: vec![in alloc; 0; CAPACITY]?,
+            start: 0,
+            end: 0,
+            line_start: 0,
+            line_end: 0,
+            calls: 0,
+            has_ended: false,
+        })
+    }
+
+    /// The line that was found last, without its newline.
+    pub fn line(&self) -> &[u8]
+        ensures { result.now ≡ self.now.line }
+    {
+        &self.buffer[self.line_start..self.line_end]
+    }
+
+    /// Whether a whole further line was read, so that `next` will not call `read`.
+    pub fn has_line(&self) -> bool
+        ensures { IsTrue result ↔ HasLine self.now }
+    {
+        newline_at(self.pending()).is_some()
+    }
+
+    /// Finds the next line, if there is one: with the same reader at each call.
+    ///
+    /// It calls `read` 4,294,967,296 times at most over all calls, and the fault comes where `read` fails, also
+    /// where it was interrupted, or where it would be called once more. After a fault nothing more is to be read.
+    pub fn next<R: Read>(&mut self, reader: &mut R) -> Result<Option<Found>, ReadFault>
+        requires { IsTrue self.old.ended → IsAtEnd (R.remaining reader.old) }
+        ensures found { IfOk result (λ found. FindsLine (input_left self.old (R.remaining reader.old))
+            (input_left self.new (R.remaining reader.new)) found self.new.line) }
+        ensures ended { OnOk result (IsTrue self.new.ended → IsAtEnd (R.remaining reader.new)) }
+
+        // Each line that is found takes something of a budget, so a caller's loop ends.
+        ensures spends { IfOk result (λ found. IfSome found (λ _. budget self.new < budget self.old)) }
+        ensures calls { self.new.calls ≤ 2 ^ 32 }
+
+        // With a whole line at hand nothing is read, and a fault comes only behind a call of `read` or at the bound.
+        ensures ready { HasLine self.old → result ≡ Ok (Some Found.Line) }
+        ensures unread { HasLine self.old → reader.new ≡ reader.old }
+        ensures fault { OnErr result (self.new.calls < 2 ^ 32 → self.old.calls < self.new.calls) }
+    {
+        if self.cut() {
+            return Ok(Some(Found::Line));
+        }
+        self.read_on(reader)
+    }
+
+    fn pending(&self) -> &[u8]
+        ensures value { result.now ≡ self.now.pending }
+        ensures fits { length self.now.pending ≤ 2 ^ 16 }
+        ensures calls { self.now.calls ≤ 2 ^ 32 }
+    {
+        let _calls = self.calls;
+        &self.buffer[self.start..self.end]
+    }
+
+    fn pending_len(&self) -> usize
+        ensures value { result ≡ length self.now.pending }
+        ensures fits { length self.now.pending ≤ 2 ^ 16 }
+        ensures calls { self.now.calls ≤ 2 ^ 32 }
+    {
+        let _calls = self.calls;
+        self.end - self.start
+    }
+
+    fn has_ended(&self) -> bool
+        ensures { result ≡ self.now.ended }
+    {
+        self.has_ended
+    }
+
+    /// Gives the first bytes that are pending as the line, and lets go of them and of the separator.
+    fn give(&mut self, len: usize, separator: usize)
+        requires { len + separator ≤ length self.old.pending }
+        ensures { self.new ≡ record self.old {
+          line = take len self.old.pending;
+          pending = drop (len + separator) self.old.pending;
+        } }
+    {
+        self.line_start = self.start;
+        self.line_end = self.start + len;
+        self.start += len + separator;
+    }
+
+    /// Lets go of all that is pending.
+    fn discard(&mut self)
+        ensures { self.new ≡ record self.old { pending = [] } }
+    {
+        self.start = self.end;
+    }
+
+    /// Calls `read` once.
+    fn fill<R: Read>(&mut self, reader: &mut R) -> Result<(), ReadFault>
+        requires room { length self.old.pending < 2 ^ 16 }
+        requires goes_on { self.old.ended ≡ false }
+        ensures same { SameInput (input_left self.old (R.remaining reader.old))
+            (input_left self.new (R.remaining reader.new)) }
+        ensures counted { OnOk result (self.new.calls ≡ self.old.calls + 1) }
+        ensures calls { self.new.calls ≤ 2 ^ 32 }
+        ensures fits { length self.new.pending ≤ 2 ^ 16 }
+        ensures ended { IsTrue self.new.ended → IsAtEnd (R.remaining reader.new) }
+        ensures err { OnErr result (self.new.ended ≡ self.old.ended) }
+        ensures fault { OnErr result (self.new.calls < 2 ^ 32 → self.old.calls < self.new.calls) }
+    {
+        if self.calls >= MAX_CALLS {
+            return Err(ReadFault);
+        }
+        let len = self.end - self.start;
+        let (start, end) = (self.start, self.end);
+        self.start = 0;
+        self.end = len;
+        self.line_start = 0;
+        self.line_end = 0;
+        self.calls += 1;
+        let n = refill(reader, &mut self.buffer, start, end)?;
+        self.has_ended = n == 0;
+        self.end += n;
+        Ok(())
+    }
+
+    /// Gives the pending bytes up to a newline, where there is one.
+    fn cut(&mut self) -> bool
+        ensures found { OnTrue result (HasNoNewline self.new.line
+            × (self.old.pending ≡ self.new.line ++ 10 ∷ self.new.pending)) }
+        ensures others { (self.new.ended ≡ self.old.ended) × (self.new.calls ≡ self.old.calls) }
+        ensures none { OnFalse result (HasNoNewline self.old.pending × (self.new ≡ self.old)) }
+        ensures short { OnTrue result (length self.new.line < 2 ^ 16) }
+        ensures calls { self.new.calls ≤ 2 ^ 32 }
+    {
+        match newline_at(self.pending()) {
+            Some(len) => {
+                self.give(len, 1);
+                true
+            }
+            None => false,
+        }
+    }
+
+    /// Lets go of the line, up to its newline or the end.
+    fn skip<R: Read>(&mut self, reader: &mut R) -> Result<(), ReadFault>
+        requires ended { IsTrue self.old.ended → IsAtEnd (R.remaining reader.old) }
+        requires some { 0 < length self.old.pending }
+        ensures skipped { OnOk result (SkipsLine (input_left self.old (R.remaining reader.old))
+            (input_left self.new (R.remaining reader.new))) }
+        ensures ended { OnOk result (IsTrue self.new.ended → IsAtEnd (R.remaining reader.new)) }
+        ensures spends { OnOk result (budget self.new < budget self.old) }
+        ensures calls { self.new.calls ≤ 2 ^ 32 }
+        ensures fault { OnErr result (self.new.calls < 2 ^ 32 → self.old.calls < self.new.calls) }
+    {
+        while !self.cut() {
+            self.discard();
+            if self.has_ended() {
+                return Ok(());
+            }
+            self.fill(reader)?;
+        }
+        Ok(())
+    }
+
+    /// Finds the next line where none is pending.
+    fn read_on<R: Read>(&mut self, reader: &mut R) -> Result<Option<Found>, ReadFault>
+        requires ended { IsTrue self.old.ended → IsAtEnd (R.remaining reader.old) }
+        requires none { HasNoNewline self.old.pending }
+        ensures found { IfOk result (λ found. FindsLine (input_left self.old (R.remaining reader.old))
+            (input_left self.new (R.remaining reader.new)) found self.new.line) }
+        ensures ended { OnOk result (IsTrue self.new.ended → IsAtEnd (R.remaining reader.new)) }
+        ensures spends { IfOk result (λ found. IfSome found (λ _. budget self.new < budget self.old)) }
+        ensures calls { self.new.calls ≤ 2 ^ 32 }
+        ensures fault { OnErr result (self.new.calls < 2 ^ 32 → self.old.calls < self.new.calls) }
+    {
+        loop {
+            let len = self.pending_len();
+            if len == CAPACITY {
+                self.skip(reader)?;
+                return Ok(Some(Found::TooLong));
+            }
+            if self.has_ended() {
+                if len == 0 {
+                    return Ok(None);
+                }
+                self.give(len, 0);
+                return Ok(Some(Found::Line));
+            }
+            self.fill(reader)?;
+            if self.cut() {
+                return Ok(Some(Found::Line));
+            }
+        }
+    }
+}

@@ -1,0 +1,11 @@
+pub mod Numbers
+pub mod Signs
+pub mod Decimals
+pub mod Coordinates
+pub mod Wording
+pub mod Commas
+pub mod Cutting
+pub mod Counting
+pub mod Checked
+pub mod Spelled
+pub mod Told

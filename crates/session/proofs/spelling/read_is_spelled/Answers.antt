@@ -1,0 +1,5 @@
+use Rattle.session.proofs.Told.{read_is_spelled}
+use Rattle.session.proofs.spelling.read_is_spelled.Goals as goal
+
+pub returns : goal.returns
+returns c = read_is_spelled

@@ -1,0 +1,54 @@
+-- The text of each reply.
+use Rattle.std.specs.Prelude.{ℕ, ◌-◌, ◌==◌, List, [], ◌++◌, Option, None, Some, bit_and, codes, if◌then◌else◌, decimal}
+use Rattle.session.specs.declared.line.LineFault.TheVariants.{TooLong, NotUtf8, UnknownCommand, BadWord}
+use Rattle.session.specs.declared.reply.Refusal.{Refusal}
+use Rattle.session.specs.declared.reply.Refusal.TheVariants.{Line, NoActiveDocument, NameTaken, NothingToUndo, NothingToRedo, NoSuchLayer, LayerOfAnotherKind, OutsideTheMap, UnknownTile, OutOfRange, NoMemory}
+use Rattle.session.specs.declared.reply.Reply.{Reply}
+use Rattle.session.specs.declared.reply.Reply.TheVariants.{State, EmptyTile, Tile, Refused}
+use Rattle.tile_id.specs.Gid.{base_of}
+
+-- a refusal's number and its words
+abbrev pub refusal_text : Refusal → List ℕ
+refusal_text (Line TooLong) = codes "1 line too long"
+refusal_text (Line NotUtf8) = codes "2 not UTF-8"
+refusal_text (Line UnknownCommand) = codes "3 unknown command"
+refusal_text (Line BadWord) = codes "4 bad word"
+refusal_text NoActiveDocument = codes "10 no active document"
+refusal_text NameTaken = codes "11 name taken"
+refusal_text NothingToUndo = codes "21 nothing to undo"
+refusal_text NothingToRedo = codes "22 nothing to redo"
+refusal_text NoSuchLayer = codes "30 no such layer"
+refusal_text LayerOfAnotherKind = codes "31 layer of another kind"
+refusal_text OutsideTheMap = codes "32 outside the map"
+refusal_text UnknownTile = codes "33 unknown tile"
+refusal_text OutOfRange = codes "39 out of range"
+refusal_text NoMemory = codes "90 no memory"
+
+-- the letter where the value has the flag, and a dash where it has not
+abbrev pub flag_letter : ℕ → ℕ → List ℕ → List ℕ
+flag_letter value flag letter = if bit_and value flag == 0 then codes "-" else letter
+
+-- the four flags of a tile value
+abbrev pub flags_text : ℕ → List ℕ
+flags_text value =
+    flag_letter value 0x80000000 (codes "h") ++ flag_letter value 0x40000000 (codes "v")
+    ++ flag_letter value 0x20000000 (codes "d") ++ flag_letter value 0x10000000 (codes "r")
+
+-- the first id of a tile's tileset, and the tile's place in it
+abbrev pub tileset_text : ℕ → Option ℕ → List ℕ
+tileset_text base None = codes "none"
+tileset_text base (Some first) = decimal first ++ codes " " ++ decimal (base - first)
+
+-- what stands behind the head
+abbrev pub body_of : Reply → List ℕ
+body_of reply = []
+
+abbrev pub reply_text : Reply → List ℕ
+reply_text (State index count clean depth) =
+    codes "ok " ++ decimal index ++ codes "/" ++ decimal count
+    ++ (if clean then codes " clean " else codes " dirty ") ++ decimal depth
+reply_text EmptyTile = codes "tile 0"
+reply_text (Tile value first) =
+    codes "tile " ++ decimal value ++ codes " " ++ flags_text value ++ codes " "
+    ++ tileset_text (base_of value) first
+reply_text (Refused refusal) = codes "no " ++ refusal_text refusal

@@ -1,0 +1,88 @@
+-- The words of a line, and what a word can be.
+use Rattle.std.specs.Prelude.{ℕ, ◌+◌, ◌%◌, ◌^◌, Bool, not, ◌&&◌, ◌||◌, ◌==◌, nat_lt, nat_le, List, [], ◌∷◌, length, Option, None, Some, ℤ, pos, negsuc, zero, suc, option_and_then, slice_index, if◌then◌else◌}
+use Rattle.std.specs.Option.{option_map}
+use Rattle.std.specs.Borrow.{Bor}
+use Rattle.std.specs.List.{slice_split, list_all}
+use Rattle.std.specs.Char.{is_ascii_digit, is_ascii_alphanumeric}
+use Rattle.std.specs.Str.Parse.{digits_value}
+
+-- the words of a text stand between its spaces
+abbrev pub words : List ℕ → List (List ℕ)
+words bytes = slice_split (λ b. b == 32) bytes
+
+-- `0`, or digits without a leading zero
+abbrev pub is_numeral : List ℕ → Bool
+is_numeral word =
+    nat_lt 0 (length word) && (length word == 1 || not (slice_index word 0 == 48)) && list_all is_ascii_digit word
+
+-- the number that a word is: a numeral below 2^32
+unfoldable pub number_of : List ℕ → Option ℕ
+number_of word = if is_numeral word && nat_lt (digits_value 10 word) (2 ^ 32) then Some (digits_value 10 word) else None
+
+-- how far from 0 a coordinate may be
+abbrev pub reach : ℕ
+reach = 1000000000
+
+abbrev pub within_reach : ℕ → Option ℕ
+within_reach n = if nat_le n reach then Some n else None
+
+-- a number up to 1,000,000,000
+unfoldable pub distance_of : List ℕ → Option ℕ
+distance_of word = option_and_then within_reach (number_of word)
+
+-- the number below 0 that is so far from it; there is none for 0
+abbrev pub below_zero : ℕ → Option ℤ
+below_zero zero = None
+below_zero (suc n) = Some (negsuc n)
+
+-- the coordinate that a word is: a distance, or a `-` and a distance other than 0
+unfoldable pub coordinate_of : List ℕ → Option ℤ
+coordinate_of [] = None
+coordinate_of (b ∷ word) =
+    if b == 45 then option_and_then below_zero (distance_of word)
+    else option_map pos (distance_of (b ∷ word))
+
+-- the numbers of words
+abbrev pub all_numbers : List (List ℕ) → Option (List ℕ)
+all_numbers [] = Some []
+all_numbers (w ∷ ws) = option_and_then (λ n. option_map (λ ns. n ∷ ns) (all_numbers ws)) (number_of w)
+
+-- the numbers of a word of numbers, joined by commas
+unfoldable pub numbers_of : List ℕ → Option (List ℕ)
+numbers_of word = all_numbers (slice_split (λ b. b == 44) word)
+
+-- so many values are the rows of a block of that width
+abbrev pub is_block : ℕ → ℕ → Bool
+is_block width count = nat_le 1 width && nat_le width 4096 && (count % width == 0)
+
+-- a letter, a digit, `_`, `.` or `-`
+abbrev pub is_name_byte : ℕ → Bool
+is_name_byte b = is_ascii_alphanumeric b || b == 95 || b == 46 || b == 45
+
+-- a document's name: 1 to 64 such bytes, the first neither `.` nor `-`
+abbrev pub is_name : List ℕ → Bool
+is_name word =
+    nat_le 1 (length word) && nat_le (length word) 64
+    && not (slice_index word 0 == 46) && not (slice_index word 0 == 45) && list_all is_name_byte word
+
+-- a byte of a text
+abbrev pub is_text_byte : ℕ → Bool
+is_text_byte b = nat_le 32 b && not (b == 127)
+
+-- a text: 1 to 200 bytes, none of them a control
+abbrev pub is_text : List ℕ → Bool
+is_text bytes = nat_le 1 (length bytes) && nat_le (length bytes) 200 && list_all is_text_byte bytes
+
+-- the pieces of what is left of a text
+abbrev pub pieces_left : ℕ → Option (Bor (List ℕ)) → List (List ℕ)
+pieces_left separator None = []
+pieces_left separator (Some text) = slice_split (λ b. b == separator) text.now
+
+-- the words of what is left of a line
+abbrev pub words_left : Option (Bor (List ℕ)) → List (List ℕ)
+words_left rest = pieces_left 32 rest
+
+-- the bytes that are left, and one for their separator
+abbrev pub size_left : Option (Bor (List ℕ)) → ℕ
+size_left None = 0
+size_left (Some text) = length text.now + 1

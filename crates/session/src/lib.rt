@@ -1,0 +1,19 @@
+//! The lines of a session, and the replies to them: what each line says, and how each reply reads.
+#![tactic(auto)]
+
+mod gids;
+mod line;
+mod parse;
+mod reply;
+mod spelling;
+#[cfg(test)]
+mod tests;
+mod text;
+mod words;
+
+pub use gids::{Gids, Values};
+pub use line::{Line, LineFault};
+pub use parse::parse_line;
+pub use reply::{Refusal, Reply};
+pub use spelling::{long_is_not_read, quiet_is_read, read_is_spelled, spelled_is_read};
+pub use text::Text;

@@ -1,0 +1,167 @@
+ghost use Rattle.std.specs.Prelude.{◌≡◌, ◌++◌, ◌+◌, ◌-◌, ◌≤◌, ◌<◌, [], Option, length, decimal};
+ghost use Rattle.arrayvec.specs.ArrayString.{array_string_len};
+ghost use Rattle.session.specs.Replies.{body_of, reply_text, refusal_text, flag_letter, flags_text, tileset_text};
+
+use crate::line::LineFault;
+use arrayvec::ArrayString;
+use itoa::Buffer;
+use tile_id::Gid;
+
+/// Why a line changed nothing.
+#[derive(Clone, Copy, Debug, PartialEq, Eq)]
+pub enum Refusal {
+    /// The line says nothing.
+    Line(LineFault),
+    NoActiveDocument,
+    NameTaken,
+    NothingToUndo,
+    NothingToRedo,
+    NoSuchLayer,
+    LayerOfAnotherKind,
+    OutsideTheMap,
+    UnknownTile,
+    OutOfRange,
+    NoMemory,
+}
+
+/// What is answered to a line.
+#[derive(Debug, PartialEq, Eq, Drop)]
+pub enum Reply {
+    /// The state of the active document after an accepted line.
+    State {
+        index: u64,
+        count: u64,
+        is_clean: bool,
+        depth: u64,
+    },
+    /// The cell is empty.
+    EmptyTile,
+    /// The cell's value, and the first id of the tileset that has it, which is not above the value's base.
+    Tile {
+        value: Gid,
+        first: Option<u32>,
+    },
+    Refused(Refusal),
+}
+
+fn refusal_words(refusal: Refusal) -> &'static str
+    ensures value { result.now ≡ refusal_text refusal }
+    ensures short { length result.now ≤ 100 }
+{
+    match refusal {
+        Refusal::Line(LineFault::TooLong) => "1 line too long",
+        Refusal::Line(LineFault::NotUtf8) => "2 not UTF-8",
+        Refusal::Line(LineFault::UnknownCommand) => "3 unknown command",
+        Refusal::Line(LineFault::BadWord) => "4 bad word",
+        Refusal::NoActiveDocument => "10 no active document",
+        Refusal::NameTaken => "11 name taken",
+        Refusal::NothingToUndo => "21 nothing to undo",
+        Refusal::NothingToRedo => "22 nothing to redo",
+        Refusal::NoSuchLayer => "30 no such layer",
+        Refusal::LayerOfAnotherKind => "31 layer of another kind",
+        Refusal::OutsideTheMap => "32 outside the map",
+        Refusal::UnknownTile => "33 unknown tile",
+        Refusal::OutOfRange => "39 out of range",
+        Refusal::NoMemory => "90 no memory",
+    }
+}
+
+fn push_number(head: &mut ArrayString<512>, number: u64)
+    requires { array_string_len head.old ≤ 400 }
+    ensures value { head.new.bytes ≡ head.old.bytes ++ decimal number }
+    ensures size { array_string_len head.new ≤ array_string_len head.old + 20 }
+{
+    let mut buffer = Buffer::new();
+    head.push_str(buffer.format(number));
+}
+
+fn push_state(head: &mut ArrayString<512>, index: u64, count: u64, is_clean: bool, depth: u64)
+    requires { head.old.bytes ≡ [] }
+    ensures value { head.new.bytes ≡ reply_text (Reply.State index count is_clean depth) }
+    ensures size { array_string_len head.new ≤ 100 }
+{
+    head.push_str("ok ");
+    push_number(head, index);
+    head.push_str("/");
+    push_number(head, count);
+    head.push_str(if is_clean { " clean " } else { " dirty " });
+    push_number(head, depth);
+}
+
+fn letter(value: Gid, flag: u32, name: &'static str) -> &'static str
+    requires { length name.now ≡ 1 }
+    ensures value { result.now ≡ flag_letter value flag name.now }
+    ensures size { length result.now ≡ 1 }
+{
+    if value.0 & flag == 0 { "-" } else { name }
+}
+
+fn push_flags(head: &mut ArrayString<512>, value: Gid)
+    requires { array_string_len head.old ≤ 400 }
+    ensures value { head.new.bytes ≡ head.old.bytes ++ flags_text value }
+    ensures size { array_string_len head.new ≡ array_string_len head.old + 4 }
+{
+    head.push_str(letter(value, 0x8000_0000, "h"));
+    head.push_str(letter(value, 0x4000_0000, "v"));
+    head.push_str(letter(value, 0x2000_0000, "d"));
+    head.push_str(letter(value, 0x1000_0000, "r"));
+}
+
+fn push_tileset(head: &mut ArrayString<512>, base: u32, first: Option<u32>)
+    requires { array_string_len head.old ≤ 300 }
+    ensures value { head.new.bytes ≡ head.old.bytes ++ tileset_text base first }
+    ensures size { array_string_len head.new ≤ array_string_len head.old + 50 }
+{
+    match first {
+        Some(first) => {
+            push_number(head, u64::from(first));
+            head.push_str(" ");
+            push_number(head, u64::from(base.saturating_sub(first)));
+        }
+        None => head.push_str("none"),
+    }
+}
+
+fn push_tile(head: &mut ArrayString<512>, value: Gid, first: Option<u32>)
+    requires { head.old.bytes ≡ [] }
+    ensures value { head.new.bytes ≡ reply_text (Reply.Tile value first) }
+    ensures size { array_string_len head.new ≤ 100 }
+{
+    head.push_str("tile ");
+    push_number(head, u64::from(value.0));
+    head.push_str(" ");
+    push_flags(head, value);
+    head.push_str(" ");
+    push_tileset(head, value.base(), first);
+}
+
+impl Reply {
+    /// Writes the reply's head, a text without a newline.
+    pub fn write_into(&self, head: &mut ArrayString<512>)
+        requires { head.old.bytes ≡ [] }
+        ensures text { head.new.bytes ++ body_of self.now ≡ reply_text self.now }
+        ensures short { length head.new.bytes < 512 }
+    {
+        match self {
+            Reply::State {
+                index,
+                count,
+                is_clean,
+                depth,
+            } => push_state(head, *index, *count, *is_clean, *depth),
+            Reply::EmptyTile => head.push_str("tile 0"),
+            Reply::Tile { value, first } => push_tile(head, *value, *first),
+            Reply::Refused(refusal) => {
+                head.push_str("no ");
+                head.push_str(refusal_words(*refusal));
+            }
+        }
+    }
+
+    /// What follows the head: nothing, for these replies.
+    pub fn body(&self) -> &[u8]
+        ensures { result.now ≡ body_of self.now }
+    {
+        &[]
+    }
+}

@@ -1,0 +1,29 @@
+ghost use Rattle.std.specs.Prelude.{◌≡◌, ℕ, List};
+
+use std::marker::Model;
+
+/// A text of a line, borrowed from it.
+#[derive(Drop)]
+pub struct Text<'a> {
+    text: &'a str,
+}
+
+impl<'a> Model for Text<'a> {
+    ghost Value = { List ℕ };
+
+    ghost view = { λ t. t.text.now };
+}
+
+impl<'a> Text<'a> {
+    pub fn new(text: &'a str) -> Text<'a>
+        ensures { result ≡ text.now }
+    {
+        Text { text }
+    }
+
+    pub fn as_str(&self) -> &'a str
+        ensures { result.now ≡ self.now }
+    {
+        self.text
+    }
+}
