@@ -1,0 +1,3 @@
+pub mod Editors
+pub mod Machine
+pub mod Planning

@@ -1,0 +1,58 @@
+-- What planning a line and committing an edit say of each other.
+use Rattle.std.specs.Prelude.{◌≡◌, Option, None, Some, Ok, false, ◌⊎◌, ⊤}
+use Rattle.command_api.specs.Law.{Change}
+use Rattle.paint_commands.specs.Painting.{paint_change}
+use Rattle.undo_stack.specs.History.{History, current}
+use Rattle.undo_stack.specs.Pushing.{IsPushed, step_of}
+use Rattle.session.specs.declared.line.Line.{Line}
+use Rattle.session.specs.declared.reply.Refusal.TheVariants as refusals
+use Rattle.session.specs.declared.reply.Reply.{Reply}
+use Rattle.session.specs.declared.reply.Reply.TheVariants as replies
+use Rattle.editor.specs.declared.planned.Edit.{Edit}
+use Rattle.editor.specs.declared.planned.Edit.TheVariants.{Paint}
+use Rattle.editor.specs.declared.planned.Planned.{Planned}
+use Rattle.editor.specs.declared.planned.Planned.TheVariants as planned
+use Rattle.editor.specs.Machine.{Machine, Refuses, StandsAt, edit_answer, StepOfLine}
+
+-- what a planned edit does
+abbrev pub edit_change : Edit → Change
+edit_change (Paint command) = paint_change command
+
+-- the command fits the open document, and follows nothing
+abbrev pub FitsOpen : Option History → Change → Type 0
+FitsOpen None c = ⊥
+FitsOpen (Some h) c = c.fits_redo (current h) × (c.follows ≡ false)
+
+-- a planned edit fits
+abbrev pub FitsPlan : Machine → Planned → Type 0
+FitsPlan m planned.Quiet = ⊤
+FitsPlan m (planned.Reply reply) = ⊤
+FitsPlan m (planned.Push edit) = FitsOpen m.open_document (edit_change edit)
+
+-- the command's step is that of the line
+abbrev pub IsEditOf : Line → Option History → Change → Type 0
+IsEditOf line None c = ⊥
+IsEditOf line (Some h) c = edit_answer line (current h) ≡ Some (Ok (step_of c (current h)))
+
+-- what a plan says: the whole step of the line, or its edit, with nothing changed yet
+abbrev pub Plans : Line → Machine → Planned → Machine → Type 0
+Plans line old planned.Quiet new = StepOfLine line old None new
+Plans line old (planned.Reply reply) new = StepOfLine line old (Some reply) new
+Plans line old (planned.Push edit) new = (new ≡ old) × IsEditOf line old.open_document (edit_change edit)
+
+-- an edit or a refusal has left the machine as it was
+abbrev pub KeepsReply : Reply → Machine → Machine → Type 0
+KeepsReply (replies.Refused refusal) old new = new ≡ old
+KeepsReply reply old new = ⊤
+
+abbrev pub KeepsPlan : Planned → Machine → Machine → Type 0
+KeepsPlan planned.Quiet old new = new ≡ old
+KeepsPlan (planned.Reply reply) old new = KeepsReply reply old new
+KeepsPlan (planned.Push edit) old new = new ≡ old
+
+-- a command is pushed, or there was no memory and nothing has changed
+abbrev pub Commits : Option History → Change → Reply → Machine → Machine → Type 0
+Commits None c reply old new = ⊥
+Commits (Some h) c reply old new =
+    ((n : History) × IsPushed h (step_of c (current h)) n × StandsAt n (Some reply) new)
+    ⊎ Refuses refusals.NoMemory old (Some reply) new
