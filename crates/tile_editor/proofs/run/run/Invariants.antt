@@ -1,0 +1,21 @@
+use Rattle.std.proofs.Common.{◌+◌, ◌^◌, ◌≤◌, IsTrue}
+use Rattle.std.specs.Io.KnownBytes.{IsAtEnd}
+use Rattle.command_api.specs.contracts.command.BoxDynCommandCommand.TheImpl.{change-value}
+use Rattle.lines.specs.Lines.{budget, input_left}
+use Rattle.editor.specs.Editors.{IsSound, machine_of}
+use Rattle.tile_editor.specs.Runs.{Goes}
+use Rattle.tile_editor.proofs.run.run.OwnLists.{own-1, lawful-own-1}
+use Rattle.tile_editor.proofs.run.run.Given as goal
+
+abbrev pub invariant-session : goal.invariant-session
+invariant-session g l = let change = (change-value (own-1, lawful-own-1)).it in record {
+  sound : IsSound change l.editor;
+  ended : IsTrue l.lines.ended → IsAtEnd (g.R.Read.remaining l.reader);
+  goes : Goes (g.R.Read.remaining l.fn.reader) (input_left l.lines (g.R.Read.remaining l.reader)) (machine_of change l.editor)
+      (g.W.Write.contents l.fn.writer) (g.W.Write.contents l.writer) l.heard l.replies;
+  bounded : l.heard + budget l.lines ≤ 2 ^ 48;
+  few : l.replies ≤ l.heard;
+}
+
+abbrev pub decreases-session : goal.decreases-session
+decreases-session g l = budget l.lines

@@ -1,0 +1,10 @@
+use Rattle.tile_editor.proofs.Appending.{appends_more, partly_more, on_err}
+use Rattle.tile_editor.proofs.writing.write_pieces.Goals as goal
+
+pub returns-in_err-write_whole-2-clause-err : goal.returns-in_err-write_whole-2-clause-err
+returns-in_err-write_whole-2-clause-err g c =
+    on_err _ (partly_more _ _ _ _ c.in_ok-write_whole.ensures.ok c.in_err-write_whole-2.ensures.err)
+
+pub returns-in_err-write_whole-3-clause-err : goal.returns-in_err-write_whole-3-clause-err
+returns-in_err-write_whole-3-clause-err g c =
+    on_err _ (partly_more _ _ _ _ (appends_more _ _ _ _ _ c.in_ok-write_whole.ensures.ok c.in_ok-write_whole-2.ensures.ok) c.in_err-write_whole-3.ensures.err)

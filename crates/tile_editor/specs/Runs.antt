@@ -1,0 +1,101 @@
+-- Whole runs of the machine.
+use Rattle.std.specs.Prelude.{◌≡◌, ℕ, ◌^◌, ◌≤◌, List, [], ◌∷◌, ◌++◌, length, Option, None, Some, Result, Ok, Err, ⊤, option_to_list}
+use Rattle.std.specs.List.{flat_map}
+use Rattle.std.specs.Io.KnownBytes.{Appends}
+use Rattle.lines.specs.declared.reader.Found.{Found}
+use Rattle.lines.specs.declared.reader.Found.TheVariants as found
+use Rattle.lines.specs.Lines.{lines_of}
+use Rattle.session.specs.declared.line.Line.{Line}
+use Rattle.session.specs.declared.line.LineFault.{LineFault}
+use Rattle.session.specs.declared.reply.Reply.{Reply}
+use Rattle.session.specs.declared.reply.Refusal.TheVariants as refusals
+use Rattle.session.specs.Grammar.{line_of}
+use Rattle.session.specs.Replies.{reply_text}
+use Rattle.editor.specs.declared.planned.Planned.{Planned}
+use Rattle.editor.specs.declared.planned.Planned.TheVariants as planned
+use Rattle.editor.specs.Machine.{Machine, StepOfBytes, Refuses}
+use Rattle.editor.specs.Planning.{Plans}
+
+-- no document is open
+abbrev pub start : Machine
+start = record { open_document = None }
+
+-- what the machine may reply to lines, one after another, and where it ends
+abbrev pub Run : Machine → List (List ℕ) → List Reply → Machine → Type 0
+Run old [] replies new = (replies ≡ []) × (new ≡ old)
+Run old (line ∷ lines) replies new = (mid : Machine) × (reply : Option Reply) × (rest : List Reply)
+    × StepOfBytes line old reply mid × Run mid lines rest new × (replies ≡ option_to_list reply ++ rest)
+
+-- a reply as it is written, and all replies
+abbrev pub reply_line : Reply → List ℕ
+reply_line reply = reply_text reply ++ 10 ∷ []
+
+abbrev pub output : List Reply → List ℕ
+output replies = flat_map reply_line replies
+
+-- the writer took some bytes
+abbrev pub Partly : Option (List ℕ) → Option (List ℕ) → Type 0
+Partly before after = (part : List ℕ) × Appends before after part
+
+-- Some lines of the input were heard, and these are left. The machine stands at `now`, and the writer, whose contents
+-- went from `before` to `after`, has the replies to the lines that were heard.
+pub record Told (input : List ℕ) (left : List (List ℕ)) (now : Machine) (before after : Option (List ℕ)) (lines replied : ℕ) : Type 0 where
+  pub heard : List (List ℕ)
+  pub replies : List Reply
+  pub split : lines_of input ≡ heard ++ left
+  pub run : Run start heard replies now
+  pub written : Appends before after (output replies)
+  pub lines_counted : lines ≡ length heard
+  pub replies_counted : replied ≡ length replies
+
+-- all lines were heard
+pub record RunsAll (input : List ℕ) (before after : Option (List ℕ)) (lines replied : ℕ) : Type 0 where
+  pub now : Machine
+  pub told : Told input [] now before after lines replied
+
+-- some lines were heard
+pub record RunsToRead (input : List ℕ) (before after : Option (List ℕ)) : Type 0 where
+  pub now : Machine
+  pub left : List (List ℕ)
+  pub lines : ℕ
+  pub replied : ℕ
+  pub told : Told input left now before after lines replied
+
+-- some lines were heard, and one more, whose step is done and to which the reply is not whole
+pub record RunsToWrite (input : List ℕ) (before after : Option (List ℕ)) : Type 0 where
+  pub mid : Machine
+  pub line : List ℕ
+  pub left : List (List ℕ)
+  pub written : Option (List ℕ)
+  pub lines : ℕ
+  pub replied : ℕ
+  pub told : Told input (line ∷ left) mid before written lines replied
+  pub reply : Reply
+  pub now : Machine
+  pub step : StepOfBytes line mid (Some reply) now
+  pub part : Partly written after
+
+-- ---- within a run
+-- where the input is known, some lines of it were heard, and those of `left` are left
+abbrev pub Goes : Option (List ℕ) → Option (List ℕ) → Machine → Option (List ℕ) → Option (List ℕ) → ℕ → ℕ → Type 0
+Goes None left now before after lines replied = ⊤
+Goes (Some input) None now before after lines replied = ⊥
+Goes (Some input) (Some left) now before after lines replied = Told input (lines_of left) now before after lines replied
+
+-- what the bytes of a line may do, where an edit is only planned
+abbrev pub PlansRead : Result Line LineFault → Machine → Planned → Machine → Type 0
+PlansRead (Ok line) old plan new = Plans line old plan new
+PlansRead (Err fault) old planned.Quiet new = ⊥
+PlansRead (Err fault) old (planned.Reply reply) new = Refuses (refusals.Line fault) old (Some reply) new
+PlansRead (Err fault) old (planned.Push edit) new = ⊥
+
+-- a fact on the bytes of the line that was found; of a long one only its length is known
+abbrev pub OfFound : Found → List ℕ → (List ℕ → Type 0) → Type 0
+OfFound found.Line line P = P line
+OfFound found.TooLong line P = (long : List ℕ) → 2 ^ 16 ≤ length long → P long
+
+abbrev pub PlansFound : Found → List ℕ → Machine → Planned → Machine → Type 0
+PlansFound found line old plan new = OfFound found line (λ bytes. PlansRead (line_of bytes) old plan new)
+
+abbrev pub StepFound : Found → List ℕ → Machine → Option Reply → Machine → Type 0
+StepFound found line old reply new = OfFound found line (λ bytes. StepOfBytes bytes old reply new)
