@@ -1,8 +1,7 @@
 -- Differences of two lists of values.
-use Rattle.std.proofs.Common.{◌≡◌, ℕ, zero, suc, ◌+◌, ◌*◌, ◌/◌, ◌%◌, ◌<◌, ◌≤◌, List, [], ◌∷◌, ◌++◌, length, Bool, true, false, cond, nat_eq, get_or, add-zero, add-suc, append-nil, refl, sym, ap, ◌∙◌, subst, arith}
+use Rattle.std.proofs.Common.{◌≡◌, ℕ, zero, suc, ◌+◌, ◌<◌, List, [], ◌∷◌, length, true, nat_eq, get_or, add-zero, add-suc, append-nil, refl, ap, ◌∙◌, arith}
 use Rattle.std.proofs.lemmas.Bool.Decides.{nat_tests}
-use Rattle.map_model.specs.declared.edit.CellEdit.{CellEdit}
-use Rattle.edits.specs.Difference.{edit_at, change_at, difference}
+use Rattle.edits.specs.Difference.{change_at, difference}
 use Rattle.edits.specs.Stamping.{each_at}
 
 pub change_at-same : (width place a b : ℕ) → b ≡ a → change_at width place a b ≡ []

@@ -1,5 +1,5 @@
 -- A block that is laid over a tile layer, cell by cell.
-use Rattle.std.proofs.Common.{◌≡◌, ℕ, zero, suc, ◌+◌, ◌-◌, ◌*◌, ◌/◌, ◌%◌, ◌<◌, ◌≤◌, ◌^◌, List, [], ◌∷◌, ◌++◌, length, Bool, true, false, cond, nat_eq, nat_lt, get_or, Option, Some, None, IfSome, option_and_then, add-zero, add-suc, refl, sym, ap, ◌∙◌, subst, arith}
+use Rattle.std.proofs.Common.{◌≡◌, ℕ, zero, suc, ◌+◌, ◌-◌, ◌*◌, ◌/◌, ◌%◌, ◌<◌, ◌≤◌, ◌^◌, List, [], ◌∷◌, ◌++◌, length, true, false, cond, nat_eq, nat_lt, get_or, Option, Some, None, IfSome, option_and_then, add-zero, add-suc, refl, sym, ap, ◌∙◌, subst, arith}
 use Rattle.std.specs.List.{slice_get, list_all}
 use Rattle.std.proofs.lemmas.Bool.Decides.{nat_tests}
 use Rattle.std.proofs.lemmas.Nat.{mul-add-lt, mod-mul-add, div-mul-add}
@@ -20,7 +20,7 @@ use Rattle.edits.specs.declared.block.Block.{Block}
 use Rattle.edits.specs.declared.block.Span.{Span}
 use Rattle.edits.specs.declared.laid.Laid.{Laid}
 use Rattle.edits.specs.Blocks.{ValueBlock, block_of, offset, value_in, value_over, IsPast, IsSpan}
-use Rattle.edits.specs.Difference.{edit_at, change_at, difference, difference_in}
+use Rattle.edits.specs.Difference.{change_at, difference, difference_in}
 use Rattle.edits.specs.Laying.{IsLaid, changes_below, changed_to}
 use Rattle.edits.specs.Stamping.{stamped, stamped_value, stamped_map, IsBlock, IsStampChange, is_known, tile_layer_fault}
 use Rattle.edits.proofs.Differences.{difference-skip, get_or-each_at}
@@ -113,7 +113,7 @@ module _ (l : Laid) (h : IsLaid l) where
   changes-left y e =
       difference-skip l.width l.tiles.now (stamped l.width (block_of l.block) l.tiles.now) (y * l.width) l.columns.first
       (λ i k. let column : i < l.width = omega (arith, h.columns.ordered, h.columns.within) in
-        cell-none l.width i y (block_of l.block) l.tiles.now column (cell_place i y column e) (past_column (block_of l.block) i y (h.columns.before i k)))
+      cell-none l.width i y (block_of l.block) l.tiles.now column (cell_place i y column e) (past_column (block_of l.block) i y (h.columns.before i k)))
 
   pub changes-right : (y : ℕ) → y < l.rows.end → changes_below l (y * l.width + l.width) ≡ changes_below l (y * l.width + l.columns.end)
   changes-right y e =
@@ -121,10 +121,10 @@ module _ (l : Laid) (h : IsLaid l) where
       ap (changes_below l) (sym all)
       ∙ difference-skip l.width l.tiles.now (stamped l.width (block_of l.block) l.tiles.now) (y * l.width + l.columns.end) (l.width - l.columns.end)
       (λ i k.
-        let at : y * l.width + l.columns.end + i ≡ y * l.width + (l.columns.end + i) = omega arith in
-        let column : l.columns.end + i < l.width = omega (arith, h.columns.within) in
-        rw at (cell-none l.width (l.columns.end + i) y (block_of l.block) l.tiles.now column (cell_place (l.columns.end + i) y column e)
-          (past_column (block_of l.block) (l.columns.end + i) y (h.columns.after (l.columns.end + i) (omega arith) column))))
+      let at : y * l.width + l.columns.end + i ≡ y * l.width + (l.columns.end + i) = omega arith in
+      let column : l.columns.end + i < l.width = omega (arith, h.columns.within) in
+      rw at (cell-none l.width (l.columns.end + i) y (block_of l.block) l.tiles.now column (cell_place (l.columns.end + i) y column e)
+      (past_column (block_of l.block) (l.columns.end + i) y (h.columns.after (l.columns.end + i) (omega arith) column))))
 
   -- a row that the block does not reach adds nothing
   row-past : (y : ℕ) → y < h.height → IsPast l.block.y h.block_height y → changes_below l (suc y * l.width) ≡ changes_below l (y * l.width)
@@ -133,7 +133,7 @@ module _ (l : Laid) (h : IsLaid l) where
       ap (changes_below l) all
       ∙ difference-skip l.width l.tiles.now (stamped l.width (block_of l.block) l.tiles.now) (y * l.width) l.width
       (λ i k. cell-none l.width i y (block_of l.block) l.tiles.now k (in_layer l.width i y h.height (length l.tiles.now) h.size k e)
-        (past_row (block_of l.block) i y h.block_height h.values p))
+      (past_row (block_of l.block) i y h.block_height h.values p))
 
   rows-skip : (k n : ℕ) → k + n ≤ h.height → ((i : ℕ) → i < n → IsPast l.block.y h.block_height (k + i)) → changes_below l ((k + n) * l.width) ≡ changes_below l (k * l.width)
   rows-skip k zero e p = rw add-zero refl
@@ -162,9 +162,9 @@ module _ (l : Laid) (h : IsLaid l) where
       let after : get_or (stamped l.width (block_of l.block) l.tiles.now) (y * l.width + x) 0 ≡ stamped_value (Some over) before =
       cell-stamped l.width x y (block_of l.block) l.tiles.now a (cell_place x y a b) ∙ ap (λ o. stamped_value o before) e in
       ap (λ ds. changes_below l (y * l.width + x) ++ ds) (
-        ap (change_at l.width (y * l.width + x) before) after
-        ∙ ap (λ (es : List CellEdit). cond (nat_eq before (stamped_value (Some over) before)) [] es)
-        (λ i. record { x = mod-mul-add y l.width x a i; y = div-mul-add y l.width x a i; before = before; after = stamped_value (Some over) before } ∷ [])
+      ap (change_at l.width (y * l.width + x) before) after
+      ∙ ap (λ (es : List CellEdit). cond (nat_eq before (stamped_value (Some over) before)) [] es)
+      (λ i. record { x = mod-mul-add y l.width x a i; y = div-mul-add y l.width x a i; before = before; after = stamped_value (Some over) before } ∷ [])
       )
 
 rows_fit : (w h n : ℕ) → n ≡ h * w → 0 < w → h ≤ n

@@ -1,5 +1,5 @@
 -- What the cells of a difference do, when they are set to their values on a side.
-use Rattle.std.proofs.Common.{◌≡◌, ℕ, zero, suc, ◌+◌, ◌*◌, ◌/◌, ◌%◌, ◌<◌, ◌≤◌, List, [], ◌∷◌, ◌++◌, length, Bool, true, false, cond, nat_eq, get_or, refl, sym, ap, ◌∙◌, subst, arith}
+use Rattle.std.proofs.Common.{◌≡◌, ℕ, zero, suc, ◌+◌, ◌*◌, ◌<◌, ◌≤◌, List, [], ◌∷◌, ◌++◌, length, Bool, true, false, cond, nat_eq, get_or, refl, sym, ap, ◌∙◌, arith}
 use Rattle.std.specs.List.{slice_set}
 use Rattle.std.proofs.lemmas.Bool.Decides.{nat_tests}
 use Rattle.std.proofs.lemmas.List.Sums.{fold-append}
@@ -12,9 +12,8 @@ use Rattle.map_model.specs.CellEdits.{value_at, place_of, put_values}
 use Rattle.map_model.specs.Lists.{Each}
 use Rattle.map_model.specs.Parts.{HasTiles, tiles_in, with_tiles, with_edits, IsWithin}
 use Rattle.map_model.specs.WellFormed.{IsWellFormed}
-use Rattle.map_model.proofs.CellEdits.{length-put_values}
 use Rattle.map_model.proofs.Keeps.{length-tiles_in, with_tiles-keeps}
-use Rattle.map_model.proofs.Turns.{with_tiles-with_tiles, with_tiles-along, with_tiles-same, tiles_in-with_tiles, HasTiles-with_tiles}
+use Rattle.map_model.proofs.Turns.{with_tiles-with_tiles, with_tiles-along, with_tiles-same, tiles_in-with_tiles}
 use Rattle.edits.specs.Difference.{edit_at, change_at, difference, difference_in}
 use Rattle.edits.proofs.Differences.{difference-skip}
 
@@ -92,7 +91,7 @@ with_edits-after m id f es same e t h =
     let is : es ≡ difference m.width xs (f xs) (length (f xs)) =
     e ∙ ap (λ ys. difference m.width xs ys (m.width * m.height)) (tiles_in-with_tiles m id f t) ∙ ap (difference m.width xs (f xs)) size in
     with_tiles-along m id (put_values m.width After es) f (
-      ap (λ ds. put_values m.width After ds xs) is ∙ put-after m.width xs (f xs) (omega (arith, h.size.wide)) (same xs)
+    ap (λ ds. put_values m.width After ds xs) is ∙ put-after m.width xs (f xs) (omega (arith, h.size.wide)) (same xs)
     )
 
 -- the values before, put over the second map, give the first
@@ -105,7 +104,7 @@ with_edits-before m id f es same e t h =
     e ∙ ap (λ ys. difference m.width xs ys (m.width * m.height)) (tiles_in-with_tiles m id f t) ∙ ap (difference m.width xs (f xs)) size in
     with_tiles-with_tiles m id (put_values m.width Before es) f
     ∙ with_tiles-along m id (λ vs. put_values m.width Before es (f vs)) (λ vs. vs) (
-      ap (λ ds. put_values m.width Before ds (f xs)) is ∙ put-before m.width xs (f xs) (omega (arith, h.size.wide)) (sym (same xs))
+    ap (λ ds. put_values m.width Before ds (f xs)) is ∙ put-before m.width xs (f xs) (omega (arith, h.size.wide)) (sym (same xs))
     )
     ∙ with_tiles-same m id
 
@@ -119,7 +118,7 @@ with_edits-again m id f es same e t h =
     e ∙ ap (λ xs. difference m.width xs ys (m.width * m.height)) (tiles_in-with_tiles m id f t) ∙ ap (difference m.width (f ys) ys) size in
     with_tiles-with_tiles m id (put_values m.width After es) f
     ∙ with_tiles-along m id (λ vs. put_values m.width After es (f vs)) (λ vs. vs) (
-      ap (λ ds. put_values m.width After ds (f ys)) is ∙ put-after m.width (f ys) ys (omega (arith, h.size.wide)) (sym (same ys))
+    ap (λ ds. put_values m.width After ds (f ys)) is ∙ put-after m.width (f ys) ys (omega (arith, h.size.wide)) (sym (same ys))
     )
     ∙ with_tiles-same m id
 

@@ -1,5 +1,5 @@
 -- A block that is laid over a tile layer.
-use Rattle.std.specs.Prelude.{◌≡◌, ℕ, ◌+◌, ◌*◌, ◌<◌, ◌≤◌, ◌^◌, List, [], ◌∷◌, nat_eq, Some, length, if◌then◌else◌}
+use Rattle.std.specs.Prelude.{◌≡◌, ℕ, ◌*◌, ◌<◌, ◌≤◌, ◌^◌, List, [], ◌∷◌, nat_eq, Some, length, if◌then◌else◌}
 use Rattle.map_model.specs.declared.edit.CellEdit.{CellEdit}
 use Rattle.edits.specs.declared.laid.Laid.{Laid}
 use Rattle.edits.specs.Blocks.{block_of, IsSpan}

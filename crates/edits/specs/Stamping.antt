@@ -1,5 +1,5 @@
 -- What a stamp does, and why one is refused.
-use Rattle.std.specs.Prelude.{◌≡◌, ℕ, ◌*◌, ◌/◌, ◌%◌, ◌<◌, ◌≤◌, ◌^◌, List, [], ◌∷◌, zero, suc, Bool, ◌||◌, nat_eq, Option, Some, None, is_some, Result, Ok, Err, length, if◌then◌else◌}
+use Rattle.std.specs.Prelude.{◌≡◌, ℕ, ◌/◌, ◌%◌, ◌<◌, ◌≤◌, ◌^◌, List, [], ◌∷◌, suc, Bool, ◌||◌, nat_eq, Option, Some, None, is_some, Result, Ok, Err, length, if◌then◌else◌}
 use Rattle.std.specs.List.{list_all}
 use Rattle.map_model.specs.declared.parts.Body.{Body}
 use Rattle.map_model.specs.declared.parts.Body.TheVariants.{Tiles, Objects, Other}

@@ -1,10 +1,10 @@
 -- Lists of changed cells.
-use Rattle.std.proofs.Common.{◌≡◌, ℕ, zero, suc, ◌+◌, ◌*◌, ◌<◌, ◌≤◌, List, [], ◌∷◌, length, take, get_or, fold, refl, sym, ap, ◌∙◌, subst, arith, length-set}
+use Rattle.std.proofs.Common.{◌≡◌, ℕ, zero, suc, ◌<◌, List, [], ◌∷◌, length, take, get_or, fold, refl, ◌∙◌, arith, length-set}
 use Rattle.std.specs.List.{slice_set}
 use Rattle.map_model.specs.declared.edit.CellEdit.{CellEdit}
 use Rattle.map_model.specs.declared.edit.Side.{Side}
 use Rattle.map_model.specs.Lists.{Each}
-use Rattle.map_model.specs.CellEdits.{value_at, place_of, IsBelow, put_values}
+use Rattle.map_model.specs.CellEdits.{value_at, place_of, put_values}
 
 pub fold-take_suc : {A B : Type 0} (f : B → A → B) (b : B) (xs : List A) (k : ℕ) (d : A) → k < length xs → fold f b (take (suc k) xs) ≡ f (fold f b (take k xs)) (get_or xs k d)
 fold-take_suc f b [] k d l = absurd (omega arith)

@@ -1,5 +1,5 @@
 -- Changes that keep a map well formed, and where its cells stand.
-use Rattle.std.proofs.Common.{◌≡◌, ℕ, ◌+◌, ◌*◌, ◌<◌, ◌≤◌, List, [], ◌∷◌, length, Bool, true, false, cond, Option, Some, None, IsSome, IsSomeAnd, find, refl, sym, ap, ◌∙◌, subst, arith, map}
+use Rattle.std.proofs.Common.{◌≡◌, ℕ, ◌+◌, ◌*◌, ◌<◌, List, [], ◌∷◌, length, Bool, true, false, cond, Option, Some, None, IsSomeAnd, find, refl, ◌∙◌, subst, arith}
 use Rattle.std.specs.List.{slice_get, slice_set, position}
 use Rattle.std.proofs.lemmas.Nat.{mul-add-lt}
 use Rattle.map_model.specs.declared.parts.Body.{Body}
@@ -10,9 +10,9 @@ use Rattle.map_model.specs.declared.edit.CellEdit.{CellEdit}
 use Rattle.map_model.specs.Lists.{Each, change_first}
 use Rattle.map_model.specs.Bodies.{IsTiles, tiles_of, body_with_tiles}
 use Rattle.map_model.specs.CellEdits.{IsBelow}
-use Rattle.map_model.specs.Parts.{has_id, layer_of, HasTiles, tiles_of_layer, tiles_in, with_layer, with_tiles, layer_with_tiles, IsWithin}
+use Rattle.map_model.specs.Parts.{has_id, layer_of, HasTiles, tiles_of_layer, tiles_in, layer_with_tiles, IsWithin}
 use Rattle.map_model.specs.WellFormed.{BodyFits, IsLayer, IsWellFormed, layer_id}
-use Rattle.map_model.proofs.Changes.{length-change_first, map-change_first, Each-change_first, set-at_position, find-at_position}
+use Rattle.map_model.proofs.Changes.{length-change_first, map-change_first, Each-change_first, set-at_position}
 
 -- a change of a layer that keeps its id and keeps it one of the map's layers
 pub with_layer-keeps : (id : ℕ) (f : Layer → Layer) (m : MapParts) (layers : List Layer) → layers ≡ change_first (has_id id) f m.layers → ((l : Layer) → (f l).id ≡ l.id)

@@ -1,12 +1,12 @@
 -- The best tileset of a list.
-use Rattle.std.proofs.Common.{◌≡◌, ℕ, zero, suc, ◌<◌, ◌≤◌, List, [], ◌∷◌, length, Bool, true, false, cond, nat_lt, nat_eq, Option, Some, None, IfSome, IfNone, ◌⊎◌, inl, inr, refl, sym, ap, ◌∙◌, subst, arith}
+use Rattle.std.proofs.Common.{◌≡◌, ℕ, suc, ◌<◌, ◌≤◌, List, [], ◌∷◌, Bool, true, false, cond, nat_lt, nat_eq, Option, Some, None, IfSome, IfNone, ◌⊎◌, inl, inr, refl, subst, arith}
 use Rattle.std.specs.Prelude.{Contains}
 use Rattle.std.proofs.lemmas.Bool.Decides.{nat_tests}
 use Rattle.tile_id.specs.Gid.{base_of}
 use Rattle.map_model.specs.declared.parts.Tileset.{Tileset}
 use Rattle.map_model.specs.declared.parts.MapParts.{MapParts}
 use Rattle.map_model.specs.Lists.{Each}
-use Rattle.map_model.specs.Tilesets.{better, best_of, tileset_of, IsTilesetOf, HasNoTileset}
+use Rattle.map_model.specs.Tilesets.{better, best_of, IsTilesetOf, HasNoTileset}
 
 -- t is not beaten by the tileset s
 abbrev IsOver : ℕ → Tileset → Tileset → Type 0

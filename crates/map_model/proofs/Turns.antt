@@ -1,5 +1,5 @@
 -- Changes of the values of one layer, one after another.
-use Rattle.std.proofs.Common.{◌≡◌, ℕ, List, [], ◌∷◌, length, Bool, true, false, cond, Option, Some, None, IsSomeAnd, option_map, find, nat_eq, refl, sym, ap, ◌∙◌, subst}
+use Rattle.std.proofs.Common.{◌≡◌, ℕ, List, [], ◌∷◌, Bool, true, false, cond, Option, Some, None, IsSomeAnd, option_map, find, refl, sym, ap, ◌∙◌, subst}
 use Rattle.map_model.specs.declared.parts.Body.{Body}
 use Rattle.map_model.specs.declared.parts.Body.TheVariants.{Tiles, Objects, Other}
 use Rattle.map_model.specs.declared.parts.Layer.{Layer}
@@ -81,24 +81,24 @@ found_after m id f = find-change_first (has_id id) (layer_with_tiles f) (layer_w
 pub with_tiles-with_tiles : (m : MapParts) (id : ℕ) (f g : List ℕ → List ℕ) → with_tiles (with_tiles m id g) id f ≡ with_tiles m id (λ vs. f (g vs))
 with_tiles-with_tiles m id f g =
     ap (λ ls. record m { layers = ls }) (
-      change_first-change_first (has_id id) (layer_with_tiles f) (layer_with_tiles g) (λ l. refl) m.layers
-      ∙ change_first-along (has_id id) (λ l. layer_with_tiles f (layer_with_tiles g l)) (layer_with_tiles (λ vs. f (g vs))) m.layers
-      (λ l e. ap (λ b. record l { body = b }) (body-body f g l.body))
+    change_first-change_first (has_id id) (layer_with_tiles f) (layer_with_tiles g) (λ l. refl) m.layers
+    ∙ change_first-along (has_id id) (λ l. layer_with_tiles f (layer_with_tiles g l)) (layer_with_tiles (λ vs. f (g vs))) m.layers
+    (λ l e. ap (λ b. record l { body = b }) (body-body f g l.body))
     )
 
 -- two changes that agree on the values of the layer
 pub with_tiles-along : (m : MapParts) (id : ℕ) (f g : List ℕ → List ℕ) → f (tiles_in m id) ≡ g (tiles_in m id) → with_tiles m id f ≡ with_tiles m id g
 with_tiles-along m id f g h =
     ap (λ ls. record m { layers = ls }) (
-      change_first-along (has_id id) (layer_with_tiles f) (layer_with_tiles g) m.layers
-      (λ l e. ap (λ b. record l { body = b }) (body-along f g l.body (let P : Option Layer → Type 0 = λ o. f (tiles_of_layer o) ≡ g (tiles_of_layer o) in subst P e h)))
+    change_first-along (has_id id) (layer_with_tiles f) (layer_with_tiles g) m.layers
+    (λ l e. ap (λ b. record l { body = b }) (body-along f g l.body (let P : Option Layer → Type 0 = λ o. f (tiles_of_layer o) ≡ g (tiles_of_layer o) in subst P e h)))
     )
 
 pub with_tiles-same : (m : MapParts) (id : ℕ) → with_tiles m id (λ vs. vs) ≡ m
 with_tiles-same m id =
     ap (λ ls. record m { layers = ls }) (
-      change_first-along (has_id id) (layer_with_tiles (λ vs. vs)) (λ l. l) m.layers (λ l e. ap (λ b. record l { body = b }) (body-same l.body))
-      ∙ change_first-same (has_id id) m.layers
+    change_first-along (has_id id) (layer_with_tiles (λ vs. vs)) (λ l. l) m.layers (λ l e. ap (λ b. record l { body = b }) (body-same l.body))
+    ∙ change_first-same (has_id id) m.layers
     )
 
 pub tiles_in-with_tiles : (m : MapParts) (id : ℕ) (f : List ℕ → List ℕ) → HasTiles m id → tiles_in (with_tiles m id f) id ≡ f (tiles_in m id)

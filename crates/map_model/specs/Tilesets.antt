@@ -1,5 +1,5 @@
 -- The tileset of a value.
-use Rattle.std.specs.Prelude.{◌≡◌, ℕ, ◌<◌, ◌≤◌, List, [], ◌∷◌, nat_lt, nat_eq, if◌then◌else◌, Option, Some, None, Contains}
+use Rattle.std.specs.Prelude.{ℕ, ◌<◌, ◌≤◌, List, [], ◌∷◌, nat_lt, nat_eq, if◌then◌else◌, Option, Some, None, Contains}
 use Rattle.tile_id.specs.Gid.{base_of}
 use Rattle.map_model.specs.declared.parts.Tileset.{Tileset}
 use Rattle.map_model.specs.declared.parts.MapParts.{MapParts}

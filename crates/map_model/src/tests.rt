@@ -1,10 +1,17 @@
+ghost use Rattle.std.specs.Prelude.{◌≡◌, ◌∷◌, [], IfOk, length};
+ghost use Rattle.map_model.specs.Parts.{HasTiles};
+
 use super::*;
 use link_chain::{Chain, Loose};
+use serde_json::Value;
 use std::alloc::{AllocError, Global};
 use std::test::Fail;
 use tile_id::Gid;
 
-fn town(alloc: Global) -> Result<Map, AllocError> {
+// The map of the line `new town 4 3 16 16 town.tsj`.
+fn town(alloc: Global) -> Result<Map, AllocError>
+    ensures { IfOk result (λ m. HasTiles m 1 × (m.width ≡ 4) × (m.height ≡ 3)) }
+{
     let source = MapText::new(String::from_str(alloc, "town.tsj")?);
     Map::create(alloc, 4, 3, 16, 16, source)
 }
@@ -32,7 +39,10 @@ fn creates_a_map(rt: HostRuntime) -> Result<(), Fail> {
         next_object_id,
         kept,
     } = map.parts();
-    assert_eq!(rt; (*width, *height, *tile_width, *tile_height), (4, 3, 16, 16));
+    assert_eq!(rt;
+        (*width, *height, *tile_width, *tile_height),
+        (4, 3, 16, 16)
+    );
     assert_eq!(rt; (*next_layer_id, *next_object_id), (2, 1));
     assert_eq!(rt; (layers.len(), tilesets.len(), properties.len()), (1, 1, 0));
     assert_eq!(rt; kept.members().len(), 2);
@@ -51,14 +61,162 @@ fn creates_a_map(rt: HostRuntime) -> Result<(), Fail> {
 }
 
 #[test]
-fn puts_cells(rt: HostRuntime) -> Result<(), Fail> {
-    let mut document = Document::new(town(rt.alloc())?);
+fn finds_cells(rt: HostRuntime) -> Result<(), Fail> {
+    let document = Document::new(town(rt.alloc())?);
     assert!(rt; document.map().cell(1, 3, 2) == Some(Gid(0)));
     assert!(rt; document.map().cell(1, 4, 2).is_none());
     assert!(rt; document.map().cell(1, 3, 3).is_none());
     assert!(rt; document.map().cell(2, 0, 0).is_none());
     assert_eq!(rt; document.map().layer_place(1), Some(0));
     assert_eq!(rt; document.map().layer_place(2), None);
+    Ok(())
+}
+
+// The value 7 in the last cell, and no other.
+#[test]
+fn puts_a_cell(rt: HostRuntime) -> Result<(), Fail> {
+    let mut document = Document::new(town(rt.alloc())?);
+    document.put_cell(1, 3, 2, Gid(7));
+    let mut wanted = [Gid(0); 12];
+    wanted[11] = Gid(7);
+    let layer = document.map().layer(1).ok_or("layer")?;
+    assert_eq!(rt; layer.body.tiles().ok_or("tiles")?, wanted.as_slice());
+    Ok(())
+}
+
+// Two cells, on both sides of their change; the sides differ from the map's own values, which are all 0.
+#[test]
+fn puts_edits(rt: HostRuntime) -> Result<(), Fail> {
+    let edits = [
+        CellEdit {
+            x: 1,
+            y: 0,
+            before: Gid(3),
+            after: Gid(4),
+        },
+        CellEdit {
+            x: 0,
+            y: 2,
+            before: Gid(5),
+            after: Gid(6),
+        },
+    ];
+    let mut made = Document::new(town(rt.alloc())?);
+    made.put_edits(1, &edits, Side::After);
+    assert_eq!(rt; made.map().cell(1, 1, 0), Some(Gid(4)));
+    assert_eq!(rt; made.map().cell(1, 0, 2), Some(Gid(6)));
+    assert_eq!(rt; made.map().cell(1, 0, 0), Some(Gid(0)));
+    let mut turned = Document::new(town(rt.alloc())?);
+    turned.put_edits(1, &edits, Side::Before);
+    assert_eq!(rt; turned.map().cell(1, 1, 0), Some(Gid(3)));
+    assert_eq!(rt; turned.map().cell(1, 0, 2), Some(Gid(5)));
+    assert_eq!(rt; edits[0].value(Side::Before), Gid(3));
+    assert_eq!(rt; edits[0].value(Side::After), Gid(4));
+    Ok(())
+}
+
+// A layer with a body, and nothing else.
+fn plain_layer(alloc: Global, id: u32, body: Body) -> Layer
+    ensures id { result.id ≡ id }
+    ensures body { result.body ≡ body }
+{
+    Layer {
+        id,
+        name: MapText::new(String::new(alloc)),
+        visible: true,
+        properties: Chain::new(alloc),
+        kept: Kept::new(serde_json::Map::new(alloc)),
+        body,
+    }
+}
+
+fn chain_of(alloc: Global, first: Layer, second: Layer) -> Result<Chain<Layer>, AllocError>
+    ensures { IfOk result (λ chain. chain ≡ first ∷ second ∷ []) }
+{
+    let mut chain = Chain::new(alloc);
+    match Loose::new(alloc, first) {
+        Ok(loose) => chain.insert(0, loose),
+        Err(_) => return Err(AllocError),
+    }
+    match Loose::new(alloc, second) {
+        Ok(loose) => chain.insert(1, loose),
+        Err(_) => return Err(AllocError),
+    }
+    Ok(chain)
+}
+
+// An object layer and an image layer have no cells.
+#[test]
+fn finds_no_cells_in_other_layers(rt: HostRuntime) -> Result<(), Fail> {
+    let alloc = rt.alloc();
+    let objects = plain_layer(alloc, 3, Body::Objects(Chain::new(alloc)));
+    let image = plain_layer(alloc, 4, Body::Other);
+    let map = Map::from_parts(MapParts {
+        width: 1,
+        height: 1,
+        tile_width: 1,
+        tile_height: 1,
+        layers: chain_of(alloc, objects, image)?,
+        tilesets: Chain::new(alloc),
+        properties: Chain::new(alloc),
+        next_layer_id: 5,
+        next_object_id: 1,
+        kept: Kept::new(serde_json::Map::new(alloc)),
+    });
+    assert_eq!(rt; map.cell(3, 0, 0), None);
+    assert_eq!(rt; map.cell(4, 0, 0), None);
+    assert_eq!(rt; map.layer_place(4), Some(1));
+    let layer = map.layer(3).ok_or("layer")?;
+    assert!(rt; layer.body.tiles().is_none());
+    assert_eq!(rt; layer.body.tile_at(0), None);
+    Ok(())
+}
+
+fn four(alloc: Global) -> Result<Cells, AllocError>
+    ensures { IfOk result (λ cells. length cells ≡ 4) }
+{
+    Ok(Cells::new([Gid(1), Gid(2), Gid(3), Gid(4)].to_vec(alloc)?))
+}
+
+// Four values, two a row: the third is set, and the fourth is put.
+#[test]
+fn sets_values(rt: HostRuntime) -> Result<(), Fail> {
+    let edit = CellEdit {
+        x: 1,
+        y: 1,
+        before: Gid(4),
+        after: Gid(8),
+    };
+    let mut cells = four(rt.alloc())?;
+    cells.set(2, Gid(9));
+    assert_eq!(rt;
+        cells.as_slice(),
+        [Gid(1), Gid(2), Gid(9), Gid(4)].as_slice()
+    );
+    let mut cells = four(rt.alloc())?;
+    cells.put(2, &[edit], Side::After);
+    assert_eq!(rt;
+        cells.as_slice(),
+        [Gid(1), Gid(2), Gid(3), Gid(8)].as_slice()
+    );
+    let mut body = Body::Tiles(Encoding::Array, four(rt.alloc())?);
+    body.set_tile(2, Gid(9));
+    assert_eq!(rt; body.tile_at(2), Some(Gid(9)));
+    assert_eq!(rt; body.tile_at(4), None);
+    let mut body = Body::Tiles(Encoding::Base64, four(rt.alloc())?);
+    body.put_tiles(2, &[edit], Side::After);
+    assert_eq!(rt; body.tile_at(3), Some(Gid(8)));
+    Ok(())
+}
+
+#[test]
+fn keeps_values(rt: HostRuntime) -> Result<(), Fail> {
+    let text = MapText::new(String::from_str(rt.alloc(), "town")?);
+    assert_eq!(rt; text.as_str(), "town");
+    let kept = Kept::new(serde_json::Map::new(rt.alloc()));
+    assert!(rt; kept.members().is_empty());
+    let value = JsonValue::new(Value::Bool(true));
+    assert_eq!(rt; value.value().as_bool(), Some(true));
     Ok(())
 }
 
@@ -74,7 +232,10 @@ fn finds_tilesets(rt: HostRuntime) -> Result<(), Fail> {
         };
         if chain.len() < 3 {
             let end = chain.len();
-            chain.insert(end, Loose::new(rt.alloc(), tileset).map_err(|_| "no memory")?);
+            chain.insert(
+                end,
+                Loose::new(rt.alloc(), tileset).map_err(|_| "no memory")?,
+            );
         }
     }
     assert_eq!(rt; chain.len(), 3);
@@ -100,7 +261,10 @@ fn finds_tilesets(rt: HostRuntime) -> Result<(), Fail> {
         (0x8000_0064, Some(100)),
     ];
     for (value, first_id) in wanted {
-        assert_eq!(rt; map.tileset_of(Gid(value)).map(|tileset| tileset.first_id), first_id);
+        assert_eq!(rt;
+            map.tileset_of(Gid(value)).map(|tileset| tileset.first_id),
+            first_id
+        );
     }
     assert!(rt; map.tileset_of(Gid(0x8000_0000)).is_none());
     Ok(())

@@ -1,5 +1,5 @@
 -- What a paint command is and does.
-use Rattle.std.specs.Prelude.{◌≡◌, ℕ, List, Option, Some, Bool, true, false, Ok, codes, length, nat_eq}
+use Rattle.std.specs.Prelude.{◌≡◌, ℕ, List, Some, Bool, true, false, Ok, codes, length, nat_eq}
 use Rattle.map_model.specs.declared.edit.CellEdit.{CellEdit}
 use Rattle.map_model.specs.declared.edit.Side.{Side}
 use Rattle.map_model.specs.declared.edit.Side.TheVariants.{Before, After}
@@ -9,8 +9,8 @@ use Rattle.map_model.specs.WellFormed.{IsWellFormed}
 use Rattle.edits.specs.Blocks.{ValueBlock}
 use Rattle.edits.specs.Difference.{difference_in}
 use Rattle.edits.specs.Stamping.{after_stamp}
-use Rattle.command_api.specs.Law.{Change, Vanishing, WhenEqual}
-use Rattle.command_api.specs.Tag.{Tag, Subject, OfLayer}
+use Rattle.command_api.specs.Law.{Change, WhenEqual}
+use Rattle.command_api.specs.Tag.{OfLayer}
 use Rattle.paint_commands.specs.declared.paint.PaintCommand.{PaintCommand}
 use Rattle.paint_commands.specs.declared.paint.PaintKind.{PaintKind}
 use Rattle.paint_commands.specs.declared.paint.PaintKind.TheVariants.{Stamp}
@@ -47,7 +47,7 @@ paint_change c = record {
   redone = painted c.layer c.cells After;
   undone = painted c.layer c.cells Before;
   fits_redo = λ d. (c.is_made ≡ false) × IsDifference c.layer c.cells d d (painted c.layer c.cells After d);
-  fits_undo = λ d. (c.is_made ≡ true) × IsDifference c.layer c.cells d (painted c.layer c.cells Before d) d
+  fits_undo = λ d. (c.is_made ≡ true) × IsDifference c.layer c.cells d (painted c.layer c.cells Before d) d;
 }
 
 -- the layer that a command paints

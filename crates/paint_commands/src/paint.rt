@@ -11,6 +11,9 @@ use edits::{Block, CellEdits, EditFault, stamp_change};
 use map_model::{CellEdit, Document, Side};
 use std::alloc::Global;
 
+#[cfg(test)]
+mod tests;
+
 /// A way to paint.
 #[derive(Clone, Copy, PartialEq, Eq, Debug)]
 enum PaintKind {

@@ -1,4 +1,4 @@
-use Rattle.std.proofs.Common.{◌≡◌, sym, ◌∙◌}
+use Rattle.std.proofs.Common.{sym, ◌∙◌}
 use Rattle.map_model.specs.CellEdits.{with_value}
 use Rattle.map_model.specs.Parts.{has_id}
 use Rattle.map_model.proofs.Keeps.{set-body}

@@ -1,4 +1,4 @@
-use Rattle.std.proofs.Common.{◌≡◌, sym, ◌∙◌, ap, arith, ◌+◌, ◌*◌}
+use Rattle.std.proofs.Common.{◌≡◌, ◌∙◌, ap, arith, ◌*◌}
 use Rattle.edits.specs.Laying.{changes_below}
 use Rattle.edits.proofs.Layings.{changes-above, changes-below_block}
 use Rattle.edits.proofs.laid.Laid.changes.Goals as goal

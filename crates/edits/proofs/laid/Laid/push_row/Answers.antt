@@ -1,4 +1,4 @@
-use Rattle.std.proofs.Common.{◌≡◌, sym, ◌∙◌, ap, arith, add-one, ◌+◌, ◌*◌, ◌++◌, ◌<◌, suc, get_or}
+use Rattle.std.proofs.Common.{◌≡◌, sym, ◌∙◌, ap, arith, ◌+◌, ◌*◌, ◌++◌, ◌<◌, suc, get_or}
 use Rattle.edits.specs.Laying.{changes_below, changed_to}
 use Rattle.edits.proofs.Layings.{changes-left, changes-right, changes-cell, cell_place, get_or-default}
 use Rattle.edits.proofs.laid.Laid.push_row.Goals as goal

@@ -1,6 +1,6 @@
-use Rattle.std.proofs.Common.{◌≡◌, sym, ◌∙◌, refl, Bool, true, false, nat_eq, cond, IfSome, IfNone, None}
+use Rattle.std.proofs.Common.{◌≡◌, ◌∙◌, refl, Bool, true, false, nat_eq, cond, IfSome, IfNone, None}
 use Rattle.tile_id.specs.Gid.{base_of}
-use Rattle.map_model.specs.Tilesets.{tileset_of, best_of, IsTilesetOf, HasNoTileset}
+use Rattle.map_model.specs.Tilesets.{best_of, IsTilesetOf, HasNoTileset}
 use Rattle.map_model.proofs.TilesetLemmas.{nat_eq-true, tileset_of-greatest, tileset_of-none}
 use Rattle.map_model.proofs.map.Map.tileset_of.Goals as goal
 
