@@ -79,11 +79,15 @@ fn new_document(alloc: Global, sizes: Sizes, source: &str) -> Result<Document, A
     Ok(Document::new(map))
 }
 
-// The values of a line, one after another.
+// The values of a line, one after another, for which room is taken once.
 fn collected(alloc: Global, values: &Gids<'_>) -> Result<Vec<Gid>, AllocError>
     ensures { IfOk result (λ v. v.items ≡ values.now) }
 {
-    values.values().collect(alloc)
+    let mut collected = Vec::with_capacity(alloc, values.len())?;
+    for value in values.values() {
+        collected.push(value)?;
+    }
+    Ok(collected)
 }
 
 impl<C: Command> Editor<C> {

@@ -1,4 +1,5 @@
 pub mod Rows
 pub mod Turns
 pub mod Views
+pub mod Texts
 pub mod Pushes

@@ -1,10 +1,11 @@
 -- What a stack's history says of its entries.
-use Rattle.std.proofs.Common.{◌≡◌, ℕ, ◌<◌, ◌≤◌, List, Option, take, length, refl, arith, Ok, Err}
+use Rattle.std.proofs.Common.{◌≡◌, ℕ, ◌<◌, ◌≤◌, List, [], Option, Some, take, length, min, max, refl, ◌∙◌, ap, arith, Ok, Err}
 use Rattle.std.proofs.lemmas.Bool.{lt-ltb, le-ltb}
 use Rattle.map_model.specs.Document.{DocumentParts}
 use Rattle.command_api.specs.Law.{Change}
-use Rattle.undo_stack.specs.History.{current}
-use Rattle.undo_stack.specs.Moving.{moved, redo_answer}
+use Rattle.undo_stack.specs.History.{History, current}
+use Rattle.undo_stack.specs.Moving.{moved, redo_answer, cleared}
+use Rattle.undo_stack.specs.Row.{steps_of}
 use Rattle.undo_stack.specs.Entries.{entry_change}
 use Rattle.undo_stack.specs.Sound.{history_of, IsSound}
 use Rattle.undo_stack.specs.declared.entry.Entry.{Entry}
@@ -34,3 +35,20 @@ redo-accepted f d es n clean limit h = rw (length-steps (entry_change f) es n d,
 
 pub redo-refused : {C : Type 0} (f : C → Change) (d : DocumentParts) (es : List (Entry C)) (n : ℕ) (clean : Option ℕ) (limit : ℕ) → n ≡ length es → redo_answer (history_of f d es n clean limit) ≡ Err NothingToRedo
 redo-refused f d es n clean limit h = rw (length-steps (entry_change f) es n d, le-ltb n (length es) (omega arith)) refl
+
+-- a position below the count is that of an entry, and the other way
+pub step_within : {C : Type 0} (f : C → Change) (d : DocumentParts) (es : List (Entry C)) (n : ℕ) → n < length (steps_of (entry_change f) es n d) → n < length es
+step_within f d es n h = rw (length-steps (entry_change f) es n d) at h
+
+pub step_above : {C : Type 0} (f : C → Change) (d : DocumentParts) (es : List (Entry C)) (n : ℕ) → n < length es → n < length (steps_of (entry_change f) es n d)
+step_above f d es n h = rw (length-steps (entry_change f) es n d) h
+
+-- no entries are left
+pub cleared_view : {C : Type 0} (f : C → Change) (d : DocumentParts) (es ts : List (Entry C)) (n : ℕ) (clean : Option ℕ) (limit : ℕ) → n ≤ length es → ts ≡ [] → history_of f d ts 0 (Some 0) limit ≡ cleared (history_of f d es n clean limit)
+cleared_view f d es ts n clean limit h none = rw (none, current-view f d es n clean limit h) refl
+
+-- steps that were turned back to a place at most, and then made again up to it
+pub turned_view : (h u now : History) (i : ℕ) → h.position ≤ length h.steps → u ≡ moved (min i h.position) h → now ≡ moved (max (min i (length u.steps)) u.position) u → now ≡ moved (min i (length h.steps)) h
+turned_view h u now i within back on =
+    let to : max (min i (length h.steps)) (min i h.position) ≡ min i (length h.steps) = omega arith in
+    on ∙ ap (λ (v : History). moved (max (min i (length v.steps)) v.position) v) back ∙ ap (λ (n : ℕ). moved n h) to

@@ -1,6 +1,6 @@
--- Moving in a history with no open level, by one step back or on.
-use Rattle.std.specs.Prelude.{ℕ, ◌+◌, ◌-◌, length, Result, Ok, Err, zero, suc, nat_lt, if◌then◌else◌}
-use Rattle.undo_stack.specs.History.{History}
+-- Moving in a history with no open level, marking its position as the clean one, and clearing it.
+use Rattle.std.specs.Prelude.{ℕ, ◌+◌, ◌-◌, length, [], Some, None, Result, Ok, Err, zero, suc, nat_lt, if◌then◌else◌}
+use Rattle.undo_stack.specs.History.{History, current}
 use Rattle.undo_stack.specs.declared.stack.StackFault.{StackFault}
 use Rattle.undo_stack.specs.declared.stack.StackFault.TheVariants.{NothingToUndo, NothingToRedo}
 
@@ -29,3 +29,15 @@ undone_by (Err fault) h = h
 abbrev pub redone_by : Result (Unit {0}) StackFault → History → History
 redone_by (Ok done) h = moved (h.position + 1) h
 redone_by (Err fault) h = h
+
+-- the position becomes the clean one
+abbrev pub cleaned : History → History
+cleaned h = record h { clean = Some h.position }
+
+-- no position is the clean one
+abbrev pub uncleaned : History → History
+uncleaned h = record h { clean = None }
+
+-- the current document becomes the base, with no steps and no levels, and is clean; the limit stays
+abbrev pub cleared : History → History
+cleared h = record { base = current h; steps = []; position = 0; clean = Some 0; limit = h.limit; levels = [] }

@@ -1,3 +1,4 @@
+ghost use Rattle.std.specs.Prelude.{◌≡◌};
 ghost use Rattle.command_api.specs.Law.{IsRedone, IsUndone};
 ghost use Rattle.undo_stack.specs.Entries.{entry_change};
 
@@ -11,6 +12,24 @@ pub enum Entry<C> {
 }
 
 impl<C: Command> Entry<C> {
+    /// The text that stands for the entry in a list of steps.
+    pub fn text(&self) -> &str
+        ensures { result.now ≡ (entry_change C.change self.now).text }
+    {
+        match self {
+            Entry::Command(command) => command.text(),
+        }
+    }
+
+    /// The text that names the action, for undo and redo.
+    pub fn action_text(&self) -> &str
+        ensures { result.now ≡ (entry_change C.change self.now).action }
+    {
+        match self {
+            Entry::Command(command) => command.action_text(),
+        }
+    }
+
     /// Makes the change again.
     pub fn redo(&mut self, document: &mut Document)
         requires { (entry_change C.change self.old).fits_redo document.old }

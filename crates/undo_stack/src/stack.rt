@@ -1,8 +1,9 @@
-ghost use Rattle.std.specs.Prelude.{◌≡◌, ◌≤◌, ◌<◌, length, take, false, IfOk, IfErr};
+ghost use Rattle.std.specs.Prelude.{◌≡◌, ◌≤◌, ◌<◌, ◌+◌, ◌-◌, min, max, length, take, false, IfOk, IfErr, slice_get, option_copied};
 ghost use Rattle.std.specs.VecDeque.{deque_capacity};
 ghost use Rattle.undo_stack.specs.History.{new_history, current, count, is_clean};
 ghost use Rattle.undo_stack.specs.Pushing.{IsPushed, step_of, up_to};
-ghost use Rattle.undo_stack.specs.Moving.{undo_answer, redo_answer, undone_by, redone_by};
+ghost use Rattle.undo_stack.specs.Moving.{moved, undo_answer, redo_answer, undone_by, redone_by, cleaned, uncleaned, cleared};
+ghost use Rattle.undo_stack.specs.Reading.{text_at, action_of, undo_text_of, redo_text_of};
 ghost use Rattle.undo_stack.specs.Stacks.{history, Holds};
 
 use crate::entry::Entry;
@@ -94,6 +95,43 @@ impl<C: Command> Stack<C> {
     {
         &self.document
     }
+
+    /// The text for undo: the action text of the step below the index, and empty where there is none.
+    pub fn undo_text(&self) -> &str
+        ensures { result.now ≡ undo_text_of (history C.change self.now) }
+    {
+        if self.index == 0 {
+            return "";
+        }
+        self.action_text(self.index - 1)
+    }
+
+    /// The text for redo: the action text of the step above the index, and empty where there is none.
+    pub fn redo_text(&self) -> &str
+        ensures { result.now ≡ redo_text_of (history C.change self.now) }
+    {
+        self.action_text(self.index)
+    }
+
+    /// The text for lists of the step at this place, where the first step is at 0, and `None` past the last one.
+    pub fn text(&self, at: usize) -> Option<&str>
+        ensures { option_copied result ≡ text_at (history C.change self.now) at }
+    {
+        match self.entries.get(at) {
+            Some(entry) => Some(entry.text()),
+            None => None,
+        }
+    }
+
+    // The action text of the step at this place, and empty where there is none.
+    fn action_text(&self, place: usize) -> &str
+        ensures { result.now ≡ action_of (slice_get (history C.change self.now).steps place) }
+    {
+        match self.entries.get(place) {
+            Some(entry) => entry.action_text(),
+            None => "",
+        }
+    }
 }
 
 impl<C: Command> Stack<C> {
@@ -144,8 +182,7 @@ impl<C: Command> Stack<C> {
         if self.index == 0 {
             return Err(StackFault::NothingToUndo);
         }
-        self.entries[self.index - 1].undo(&mut self.document);
-        self.index -= 1;
+        self.step_back();
         Ok(())
     }
 
@@ -161,8 +198,7 @@ impl<C: Command> Stack<C> {
         if self.index == self.entries.len() {
             return Err(StackFault::NothingToRedo);
         }
-        self.entries[self.index].redo(&mut self.document);
-        self.index += 1;
+        self.step_on();
         Ok(())
     }
 
@@ -194,5 +230,98 @@ impl<C: Command> Stack<C> {
                 self.clean = None;
             }
         }
+    }
+}
+
+impl<C: Command> Stack<C> {
+    /// Undoes or redoes until the index is this one, where a number past the count means the count. Takes no memory.
+    ///
+    /// There is no answer, since nothing refuses the call: a stack takes no macros yet.
+    pub fn set_index(&mut self, index: usize)
+        requires { Holds C.change self.old }
+        ensures sound { Holds C.change self.new }
+        ensures history { history C.change self.new
+            ≡ moved (min index (length (history C.change self.old).steps)) (history C.change self.old) }
+    {
+        self.undo_to(index);
+        self.redo_to(index);
+    }
+
+    /// Makes the index the clean index.
+    pub fn set_clean(&mut self)
+        requires { Holds C.change self.old }
+        ensures sound { Holds C.change self.new }
+        ensures history { history C.change self.new ≡ cleaned (history C.change self.old) }
+    {
+        self.clean = Some(self.index);
+    }
+
+    /// Leaves no clean index.
+    pub fn reset_clean(&mut self)
+        requires { Holds C.change self.old }
+        ensures sound { Holds C.change self.new }
+        ensures history { history C.change self.new ≡ uncleaned (history C.change self.old) }
+    {
+        self.clean = None;
+    }
+
+    /// Lets go of all steps, and undoes none of them. The document and the limit stay, and the stack is clean at index 0.
+    pub fn clear(&mut self)
+        requires { Holds C.change self.old }
+        ensures sound { Holds C.change self.new }
+        ensures history { history C.change self.new ≡ cleared (history C.change self.old) }
+    {
+        self.entries.clear();
+        self.index = 0;
+        self.clean = Some(0);
+    }
+
+    // Undoes until the index is at most this one.
+    fn undo_to(&mut self, index: usize)
+        requires { Holds C.change self.old }
+        ensures sound { Holds C.change self.new }
+        ensures history { history C.change self.new
+            ≡ moved (min index (history C.change self.old).position) (history C.change self.old) }
+    {
+        while self.index > index {
+            self.step_back();
+        }
+    }
+
+    // Redoes until the index is at least this one, or the count.
+    fn redo_to(&mut self, index: usize)
+        requires { Holds C.change self.old }
+        ensures sound { Holds C.change self.new }
+        ensures history { history C.change self.new
+            ≡ moved (max (min index (length (history C.change self.old).steps)) (history C.change self.old).position) (history C.change self.old) }
+    {
+        let index = index.min(self.entries.len());
+        while self.index < index {
+            self.step_on();
+        }
+    }
+
+    // Turns the step below the index back, and lowers the index by one.
+    fn step_back(&mut self)
+        requires sound { Holds C.change self.old }
+        requires below { 0 < (history C.change self.old).position }
+        ensures sound { Holds C.change self.new }
+        ensures history { history C.change self.new
+            ≡ moved ((history C.change self.old).position - 1) (history C.change self.old) }
+    {
+        self.entries[self.index - 1].undo(&mut self.document);
+        self.index -= 1;
+    }
+
+    // Makes the step above the index again, and raises the index by one.
+    fn step_on(&mut self)
+        requires sound { Holds C.change self.old }
+        requires above { (history C.change self.old).position < length (history C.change self.old).steps }
+        ensures sound { Holds C.change self.new }
+        ensures history { history C.change self.new
+            ≡ moved ((history C.change self.old).position + 1) (history C.change self.old) }
+    {
+        self.entries[self.index].redo(&mut self.document);
+        self.index += 1;
     }
 }

@@ -156,6 +156,59 @@ impl Command for Idle {
     }
 }
 
+// A command with texts of its own, which leaves the document as it is and never vanishes.
+#[derive(Drop)]
+struct Titled {
+    text: &'static str,
+    action: &'static str,
+}
+
+impl Command for Titled {
+    ghost change = { λ c. record {
+      text = c.text.now;
+      action = c.action.now;
+      tag = None;
+      vanishing = Never;
+      follows = false;
+      obsolete = false;
+      redone = λ d. d;
+      undone = λ d. d;
+      fits_redo = λ _. Unit {0};
+      fits_undo = λ _. Unit {0};
+    } };
+
+    fn text(&self) -> &str {
+        self.text
+    }
+
+    fn action_text(&self) -> &str {
+        self.action
+    }
+
+    fn id(&self) -> i32 {
+        -1
+    }
+
+    fn obsolete(&self) -> bool {
+        false
+    }
+
+    fn redo(&mut self, document: &mut Document) {
+        let _ = document;
+    }
+
+    fn undo(&mut self, document: &mut Document) {
+        let _ = document;
+    }
+}
+
+fn stamp() -> Titled {
+    Titled {
+        text: "Stamp",
+        action: "stamp tiles",
+    }
+}
+
 #[test]
 fn each_call_turns_one_command(rt: HostRuntime) -> Result<(), Fail> {
     let alloc = rt.alloc();
@@ -274,5 +327,69 @@ fn stack_holds_one_document(rt: HostRuntime) -> Result<(), Fail> {
         drop(command);
     }
     assert_eq!(rt; counts.all(), (1, 0, 1));
+    Ok(())
+}
+
+#[test]
+fn index_goes_where_it_is_set(rt: HostRuntime) -> Result<(), Fail> {
+    let alloc = rt.alloc();
+    let mut stack: Stack<Titled> = Stack::new(alloc, blank(alloc)?, 0);
+    stack.push(stamp())?;
+    stack.push(stamp())?;
+    stack.push(stamp())?;
+    stack.set_index(99);
+    assert_eq!(rt; (stack.index(), stack.count()), (3, 3));
+    stack.set_index(0);
+    assert_eq!(rt; (stack.index(), stack.count()), (0, 3));
+    stack.set_index(2);
+    assert_eq!(rt; stack.index(), 2);
+    assert!(rt; !stack.is_clean());
+    stack.set_clean();
+    assert!(rt; stack.is_clean());
+    stack.reset_clean();
+    assert!(rt; !stack.is_clean());
+    Ok(())
+}
+
+#[test]
+fn clear_lets_go_of_each_box_and_undoes_none(rt: HostRuntime) -> Result<(), Fail> {
+    let alloc = rt.alloc();
+    let below = Counts::new(alloc)?;
+    let above = Counts::new(alloc)?;
+    let mut stack: Stack<Box<dyn Command>> = Stack::new(alloc, blank(alloc)?, 0);
+    let command: Box<dyn Command> = new_probe(alloc, &below)?;
+    stack.push(command)?;
+    let command: Box<dyn Command> = new_probe(alloc, &above)?;
+    stack.push(command)?;
+    stack.set_index(1);
+    stack.reset_clean();
+    stack.clear();
+    assert_eq!(rt; (stack.index(), stack.count()), (0, 0));
+    assert!(rt; stack.is_clean());
+    drop(stack);
+    assert_eq!(rt; below.all(), (1, 0, 1));
+    assert_eq!(rt; above.all(), (1, 1, 1));
+    Ok(())
+}
+
+#[test]
+fn texts_are_those_of_the_steps(rt: HostRuntime) -> Result<(), Fail> {
+    let alloc = rt.alloc();
+    let mut stack: Stack<Titled> = Stack::new(alloc, blank(alloc)?, 0);
+    assert_eq!(rt; (stack.undo_text(), stack.redo_text()), ("", ""));
+    stack.push(stamp())?;
+    stack.push(Titled {
+        text: "Erase",
+        action: "erase tiles",
+    })?;
+    assert_eq!(rt; (stack.undo_text(), stack.redo_text()), ("erase tiles", ""));
+    stack.set_index(1);
+    assert_eq!(rt;
+        (stack.undo_text(), stack.redo_text()),
+        ("stamp tiles", "erase tiles")
+    );
+    assert_eq!(rt; stack.text(0), Some("Stamp"));
+    assert_eq!(rt; stack.text(1), Some("Erase"));
+    assert_eq!(rt; stack.text(2), None);
     Ok(())
 }
