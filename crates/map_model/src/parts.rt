@@ -62,6 +62,13 @@ pub enum Body {
     Other,
 }
 
+/// A kind of layer that can be added to a map.
+#[derive(Clone, Copy, PartialEq, Eq, Debug)]
+pub enum LayerKind {
+    Tile,
+    Object,
+}
+
 /// A layer.
 #[derive(Drop)]
 pub struct Layer {
