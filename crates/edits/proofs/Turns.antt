@@ -1,5 +1,5 @@
 -- What the cells of a difference do, when they are set to their values on a side.
-use Rattle.std.proofs.Common.{◌≡◌, ℕ, zero, suc, ◌+◌, ◌*◌, ◌<◌, ◌≤◌, List, [], ◌∷◌, ◌++◌, length, Bool, true, false, cond, nat_eq, get_or, refl, sym, ap, ◌∙◌, arith}
+use Rattle.std.proofs.Common.{◌≡◌, ℕ, zero, suc, ◌+◌, ◌*◌, ◌<◌, ◌≤◌, List, [], ◌∷◌, length, Bool, true, false, cond, nat_eq, get_or, refl, sym, ap, ◌∙◌, arith}
 use Rattle.std.specs.List.{slice_set}
 use Rattle.std.proofs.lemmas.Bool.Decides.{nat_tests}
 use Rattle.std.proofs.lemmas.List.Sums.{fold-append}
@@ -11,8 +11,9 @@ use Rattle.map_model.specs.declared.parts.MapParts.{MapParts}
 use Rattle.map_model.specs.CellEdits.{value_at, place_of, put_values}
 use Rattle.map_model.specs.Lists.{Each}
 use Rattle.map_model.specs.Parts.{HasTiles, tiles_in, with_tiles, with_edits, IsWithin}
-use Rattle.map_model.specs.WellFormed.{IsWellFormed}
-use Rattle.map_model.proofs.Keeps.{length-tiles_in, with_tiles-keeps}
+use Rattle.map_model.specs.WellFormed.{IsSize, IsWellFormed}
+use Rattle.map_model.proofs.Keeps.{length-tiles_in}
+use Rattle.map_model.proofs.Listings.{Each-append}
 use Rattle.map_model.proofs.Turns.{with_tiles-with_tiles, with_tiles-along, with_tiles-same, tiles_in-with_tiles}
 use Rattle.edits.specs.Difference.{edit_at, change_at, difference, difference_in}
 use Rattle.edits.proofs.Differences.{difference-skip}
@@ -132,10 +133,6 @@ difference_in-same m id =
 pub with_edits-none : (m : MapParts) (id : ℕ) (side : Side) → with_edits m id [] side ≡ m
 with_edits-none m id side = with_tiles-same m id
 
-Each-append : {X : Type 0} (P : X → Type 0) (xs ys : List X) → Each P xs → Each P ys → Each P (xs ++ ys)
-Each-append P [] ys h k = k
-Each-append P (x ∷ xs) ys h k = (h.0, Each-append P xs ys h.1 k)
-
 -- the cells of a difference lie in the map
 within_first : (m : MapParts) (xs ys : List ℕ) (k : ℕ) → 0 < m.width → k ≤ m.width * m.height → Each (IsWithin m) (difference m.width xs ys k)
 within_first m xs ys zero some l = tt
@@ -149,9 +146,5 @@ within_first m xs ys (suc k) some l =
     by_test true = tt
     by_test false = (inside, tt)
 
-pub difference_in-within : (m n : MapParts) (id : ℕ) → IsWellFormed m → Each (IsWithin m) (difference_in id m n)
-difference_in-within m n id h = within_first m (tiles_in m id) (tiles_in n id) (m.width * m.height) (omega (arith, h.size.wide)) (omega arith)
-
--- a change of the values of a layer that keeps their number keeps the map well formed
-pub IsWellFormed-with_tiles : (m : MapParts) (id : ℕ) (f : List ℕ → List ℕ) → ((vs : List ℕ) → length (f vs) ≡ length vs) → IsWellFormed m → IsWellFormed (with_tiles m id f)
-IsWellFormed-with_tiles m id f same h = with_tiles-keeps id f m (with_tiles m id f).layers refl same h
+pub difference_in-within : (m n : MapParts) (id : ℕ) → IsSize m.width m.height → Each (IsWithin m) (difference_in id m n)
+difference_in-within m n id h = within_first m (tiles_in m id) (tiles_in n id) (m.width * m.height) (omega (arith, h.wide)) (omega arith)

@@ -1,4 +1,5 @@
 pub mod Blocks
 pub mod Difference
 pub mod Laying
+pub mod Refusing
 pub mod Stamping

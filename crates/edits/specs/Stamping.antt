@@ -11,7 +11,7 @@ use Rattle.map_model.specs.Tilesets.{tileset_of}
 use Rattle.map_model.specs.WellFormed.{IsWellFormed}
 use Rattle.edits.specs.declared.change.CellChange.{CellChange}
 use Rattle.edits.specs.declared.fault.EditFault.{EditFault}
-use Rattle.edits.specs.declared.fault.EditFault.TheVariants.{NoSuchLayer, LayerOfAnotherKind, UnknownTile, NoMemory}
+use Rattle.edits.specs.declared.fault.EditFault.TheVariants.{NoSuchLayer, LayerOfAnotherKind, UnknownTile, OutOfRange, TooMany, NoMemory}
 use Rattle.edits.specs.Blocks.{ValueBlock, value_over}
 use Rattle.edits.specs.Difference.{difference_in}
 
@@ -86,3 +86,5 @@ IsStampRefusal m id block NoMemory = stamp_fault m id block ≡ None
 IsStampRefusal m id block NoSuchLayer = stamp_fault m id block ≡ Some NoSuchLayer
 IsStampRefusal m id block LayerOfAnotherKind = stamp_fault m id block ≡ Some LayerOfAnotherKind
 IsStampRefusal m id block UnknownTile = stamp_fault m id block ≡ Some UnknownTile
+IsStampRefusal m id block OutOfRange = ⊥
+IsStampRefusal m id block TooMany = ⊥

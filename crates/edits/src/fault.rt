@@ -7,6 +7,10 @@ pub enum EditFault {
     LayerOfAnotherKind,
     /// A value other than 0 has no tileset.
     UnknownTile,
+    /// A place or a size is not within its limits.
+    OutOfRange,
+    /// There are as many as there may be.
+    TooMany,
     /// A growth was refused.
     NoMemory,
 }

@@ -9,7 +9,7 @@ use Rattle.map_model.specs.Bodies.{IsTiles, tiles_of, body_with_tiles}
 use Rattle.map_model.specs.Parts.{has_id, layer_of, HasTiles, tiles_of_layer, tiles_in, layer_with_tiles, with_tiles}
 
 module _ {X : Type 0} (p : X → Bool) (f g : X → X) (same : (x : X) → p (g x) ≡ p x) where
-  change_first-change_first : (xs : List X) → change_first p f (change_first p g xs) ≡ change_first p (λ x. f (g x)) xs
+  pub change_first-change_first : (xs : List X) → change_first p f (change_first p g xs) ≡ change_first p (λ x. f (g x)) xs
   change_first-change_first [] = refl
   change_first-change_first (x ∷ xs) = by_test (p x) refl (change_first-change_first xs)
     where
@@ -18,7 +18,7 @@ module _ {X : Type 0} (p : X → Bool) (f g : X → X) (same : (x : X) → p (g 
       by_test true e h = rw (same x, e) refl
       by_test false e h = rw e (ap (λ ys. x ∷ ys) h)
 
-  find-change_first : (xs : List X) → find p (change_first p g xs) ≡ option_map g (find p xs)
+  pub find-change_first : (xs : List X) → find p (change_first p g xs) ≡ option_map g (find p xs)
   find-change_first [] = refl
   find-change_first (x ∷ xs) = by_test (p x) refl (find-change_first xs)
     where
@@ -29,7 +29,7 @@ module _ {X : Type 0} (p : X → Bool) (f g : X → X) (same : (x : X) → p (g 
 
 module _ {X : Type 0} (p : X → Bool) (f g : X → X) where
   -- two changes that agree on the element that is found
-  change_first-along : (xs : List X) → ((x : X) → find p xs ≡ Some x → f x ≡ g x) → change_first p f xs ≡ change_first p g xs
+  pub change_first-along : (xs : List X) → ((x : X) → find p xs ≡ Some x → f x ≡ g x) → change_first p f xs ≡ change_first p g xs
   change_first-along [] e = refl
   change_first-along (x ∷ xs) e = by_test (p x) e (change_first-along xs)
     where
@@ -39,7 +39,7 @@ module _ {X : Type 0} (p : X → Bool) (f g : X → X) where
       by_test false e h = ap (λ ys. x ∷ ys) (h e)
 
 module _ {X : Type 0} (p : X → Bool) where
-  change_first-same : (xs : List X) → change_first p (λ x. x) xs ≡ xs
+  pub change_first-same : (xs : List X) → change_first p (λ x. x) xs ≡ xs
   change_first-same [] = refl
   change_first-same (x ∷ xs) = by_test (p x) (change_first-same xs)
     where

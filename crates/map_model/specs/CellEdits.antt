@@ -4,6 +4,8 @@ use Rattle.std.specs.List.{fold}
 use Rattle.map_model.specs.declared.edit.CellEdit.{CellEdit}
 use Rattle.map_model.specs.declared.edit.Side.{Side}
 use Rattle.map_model.specs.declared.edit.Side.TheVariants.{Before, After}
+use Rattle.map_model.specs.Lists.{Each}
+use Rattle.map_model.specs.WellFormed.{IsTileValue}
 
 -- the value of a changed cell on a side
 abbrev pub value_at : Side → CellEdit → ℕ
@@ -24,3 +26,7 @@ with_value at value values = slice_set values at value
 -- the values of a layer with the cells of a list set, in order, to their values on a side
 abbrev pub put_values : ℕ → Side → List CellEdit → List ℕ → List ℕ
 put_values width side es values = fold (λ vs e. with_value (place_of width e) (value_at side e) vs) values es
+
+-- the value of each cell of the list, on a side, is a tile value
+abbrev pub HaveRange : Side → List CellEdit → Type 0
+HaveRange side es = Each (λ e. IsTileValue (value_at side e)) es

@@ -2,6 +2,8 @@ pub mod Bodies
 pub mod CellEdits
 pub mod DataCode
 pub mod Document
+pub mod Keeping
+pub mod Layers
 pub mod Lists
 pub mod NewMap
 pub mod Parts

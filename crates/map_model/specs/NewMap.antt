@@ -1,14 +1,20 @@
--- A new map, as the session line `new` makes it.
+-- New layers, and a new map as the session line `new` makes it.
 use Rattle.std.specs.Prelude.{ℕ, ◌*◌, List, [], ◌∷◌, true, Some, replicate, codes}
 use Rattle.serde_json.specs.Data.{number, unsigned, string, Members, no_members, member}
 use Rattle.map_model.specs.declared.parts.Encoding.TheVariants.{Array}
-use Rattle.map_model.specs.declared.parts.Body.TheVariants.{Tiles}
+use Rattle.map_model.specs.declared.parts.Body.TheVariants.{Tiles, Objects}
+use Rattle.map_model.specs.declared.parts.LayerKind.{LayerKind}
+use Rattle.map_model.specs.declared.parts.LayerKind.TheVariants as kinds
 use Rattle.map_model.specs.declared.parts.Layer.{Layer}
 use Rattle.map_model.specs.declared.parts.MapParts.{MapParts}
 
 -- the members that a new tile layer keeps
 abbrev pub tile_layer_members : Members
 tile_layer_members = member (codes "opacity") (number (unsigned 1)) (member (codes "x") (number (unsigned 0)) (member (codes "y") (number (unsigned 0)) no_members))
+
+-- the members that a new object layer keeps
+abbrev pub object_layer_members : Members
+object_layer_members = member (codes "draworder") (string (codes "topdown")) tile_layer_members
 
 -- the members that a new map keeps
 abbrev pub map_members : Members
@@ -24,6 +30,22 @@ empty_layer id name size = record {
   kept = tile_layer_members;
   body = Tiles Array (replicate size 0);
 }
+
+-- a visible object layer without objects
+abbrev pub empty_object_layer : ℕ → List ℕ → Layer
+empty_object_layer id name = record {
+  id = id;
+  name = name;
+  visible = true;
+  properties = [];
+  kept = object_layer_members;
+  body = Objects [];
+}
+
+-- a new layer of a map of so many cells
+abbrev pub new_layer : LayerKind → ℕ → List ℕ → ℕ → Layer
+new_layer kinds.Tile id name size = empty_layer id name size
+new_layer kinds.Object id name size = empty_object_layer id name
 
 -- a map of one empty tile layer and one external tileset, from 1 on
 abbrev pub new_map : ℕ → ℕ → ℕ → ℕ → List ℕ → MapParts

@@ -1,7 +1,7 @@
 // The values of a layer's body.
 ghost use Rattle.std.specs.Prelude.{◌≡◌, ◌<◌, ◌↔◌, IsTrue, is_some, IfSome, length};
 ghost use Rattle.map_model.specs.Bodies.{IsTiles, tiles_of, tile_at, body_with_tiles};
-ghost use Rattle.map_model.specs.CellEdits.{IsBelow, put_values, with_value};
+ghost use Rattle.map_model.specs.CellEdits.{HaveRange, IsBelow, put_values, with_value};
 ghost use Rattle.map_model.specs.Lists.{Each};
 
 use crate::edit::{CellEdit, Side};
@@ -49,7 +49,8 @@ impl Body {
     pub fn put_tiles(&mut self, width: usize, edits: &[CellEdit], side: Side)
         requires tiles { IsTiles self.old }
         requires places { Each (IsBelow width (length (tiles_of self.old))) edits.now }
-        ensures { self.new ≡ body_with_tiles (put_values width side edits.now) self.old }
+        ensures body { self.new ≡ body_with_tiles (put_values width side edits.now) self.old }
+        ensures range { HaveRange side edits.now }
     {
         match self {
             Body::Tiles(_, cells) => cells.put(width, edits, side),

@@ -2,7 +2,7 @@
 ghost use Rattle.std.specs.Prelude.{◌≡◌, ◌+◌, ◌*◌, ◌<◌, length, slice_set, string_bytes};
 ghost use Rattle.serde_json.specs.View.{view as data_of, members_view};
 ghost use Rattle.map_model.specs.Lists.{Each};
-ghost use Rattle.map_model.specs.CellEdits.{IsBelow, put_values};
+ghost use Rattle.map_model.specs.CellEdits.{HaveRange, IsBelow, put_values};
 
 use crate::edit::{CellEdit, Side};
 use serde_json::Value;
@@ -79,7 +79,8 @@ impl Cells {
     /// Sets the cells of a list, in a layer of this width, to their values on a side.
     pub fn put(&mut self, width: usize, edits: &[CellEdit], side: Side)
         requires { Each (IsBelow width (length self.old)) edits.now }
-        ensures { self.new ≡ put_values width side edits.now self.old }
+        ensures values { self.new ≡ put_values width side edits.now self.old }
+        ensures range { HaveRange side edits.now }
     {
         for edit in edits {
             let at = edit.y as usize * width + edit.x as usize;

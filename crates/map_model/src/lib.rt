@@ -4,12 +4,15 @@
 #![tactic(auto)]
 
 mod body;
+mod create;
 mod document;
 mod edit;
 mod held;
+mod layers;
 mod map;
 mod owner;
 mod parts;
+mod place;
 
 pub use document::Document;
 pub use edit::{CellEdit, Side};
@@ -17,6 +20,7 @@ pub use held::{Cells, JsonValue, Kept, MapText};
 pub use map::Map;
 pub use owner::Owner;
 pub use parts::{Body, Encoding, Layer, LayerKind, MapParts, Object, Placing, PropValue, Property, Tileset};
+pub use place::LayerPlace;
 
 #[cfg(test)]
 mod tests;

@@ -1,20 +1,19 @@
-ghost use Rattle.std.specs.Prelude.{◌≡◌, ◌+◌, ◌*◌, ◌<◌, ◌∷◌, [], length, position, find, codes, None, IfOk, IfSome, IfNone, IsSome, IsSomeAnd};
+ghost use Rattle.std.specs.Prelude.{◌≡◌, ◌+◌, ◌*◌, ◌<◌, None, Some, IfOk, IfSome, IfNone, IsSome, IsSomeAnd, option_map};
 ghost use Rattle.std.specs.Option.{option_copied};
-ghost use Rattle.serde_json.specs.Find.{as_object};
-ghost use Rattle.serde_json.specs.View.{view as data_of};
-ghost use Rattle.map_model.specs.Bodies.{IsTiles, tiles_of};
-ghost use Rattle.map_model.specs.CellEdits.{IsBelow, put_values, with_value};
-ghost use Rattle.map_model.specs.Lists.{Each, change_first};
-ghost use Rattle.map_model.specs.NewMap.{new_map, empty_layer, tile_layer_members, map_members};
-ghost use Rattle.map_model.specs.Parts.{layer_of, has_id, HasTiles, tiles_of_layer, cell_of, with_cell, with_edits, IsWithin, layer_with_tiles};
+ghost use Rattle.map_model.specs.Layers.{IsPlaceIn, layer_at, layer_name, layer_with_name, layer_with_visible, place_of, with_layer_at, with_next_ids, without_layer_at};
+ghost use Rattle.map_model.specs.Lists.{Each};
+ghost use Rattle.map_model.specs.NewMap.{new_map};
+ghost use Rattle.map_model.specs.Parts.{layer_of, HasTiles, cell_of, with_cell, with_edits, with_layer, IsWithin};
 ghost use Rattle.map_model.specs.Tilesets.{tileset_of, better, best_of, IsTilesetOf, HasNoTileset};
 ghost use Rattle.map_model.specs.WellFormed.{IsWellFormed, IsSize, IsTileSize};
 
+use crate::create::{first_layer, kept_by_map, one};
 use crate::edit::{CellEdit, Side};
-use crate::held::{Cells, Kept, MapText};
-use crate::parts::{Body, Encoding, Layer, MapParts, Tileset};
+use crate::held::{Kept, MapText};
+use crate::layers::{place_in, put_in, rename_in, set_in, show_in};
+use crate::parts::{Layer, MapParts, Tileset};
+use crate::place::LayerPlace;
 use link_chain::{Chain, Loose};
-use serde_json::{Value, json};
 use std::alloc::{AllocError, Global};
 use std::marker::Model;
 use tile_id::Gid;
@@ -63,11 +62,12 @@ impl Map {
         self.parts.layers.iter().find(|layer| layer.id == id)
     }
 
-    /// The zero-based place of the layer with an id, in drawing order.
-    pub fn layer_place(&self, id: u32) -> Option<usize>
-        ensures { result ≡ position (has_id id) self.now.layers }
+    /// The place of the layer with an id.
+    pub fn layer_place(&self, id: u32) -> Option<LayerPlace>
+        ensures { result ≡ place_of self.now id }
     {
-        self.parts.layers.iter().position(|layer| layer.id == id)
+        let at = place_in(&self.parts.layers, id)?;
+        Some(LayerPlace { at })
     }
 
     /// The tileset of a value: the one with the greatest first id that is not above the value's base.
@@ -107,7 +107,8 @@ impl Map {
         requires tiles { HasTiles self.old layer }
         requires column { x < self.old.width }
         requires row { y < self.old.height }
-        ensures { self.new ≡ with_cell self.old layer x y value }
+        ensures map { self.new ≡ with_cell self.old layer x y value }
+        ensures well_formed { IsWellFormed self.new }
     {
         let at = self.index(x, y);
         set_in(&mut self.parts.layers, layer, at, value);
@@ -117,10 +118,60 @@ impl Map {
     pub fn put_edits(&mut self, layer: u32, edits: &[CellEdit], side: Side)
         requires tiles { HasTiles self.old layer }
         requires inside { Each (IsWithin self.old) edits.now }
-        ensures { self.new ≡ with_edits self.old layer edits.now side }
+        ensures map { self.new ≡ with_edits self.old layer edits.now side }
+        ensures well_formed { IsWellFormed self.new }
     {
         let width = self.parts.width as usize;
         put_in(&mut self.parts.layers, layer, width, edits, side);
+    }
+
+    /// Puts a layer in at a place; those from there on stand one place higher. The map is well formed with it.
+    pub fn insert_layer(&mut self, place: LayerPlace, layer: Loose<Layer>)
+        requires place { IsPlaceIn self.old place }
+        requires well_formed { IsSomeAnd layer (λ l. IsWellFormed (with_layer_at place l self.old)) }
+        ensures map { IsSomeAnd layer (λ l. self.new ≡ with_layer_at place l self.old) }
+        ensures well_formed { IsWellFormed self.new }
+    {
+        self.parts.layers.insert(place.at, layer);
+    }
+
+    /// Takes the layer at a place out; those behind it stand one place lower.
+    pub fn take_layer(&mut self, place: LayerPlace) -> Loose<Layer>
+        requires { IsSome (layer_at self.old place) }
+        ensures layer { result ≡ layer_at self.old place }
+        ensures map { self.new ≡ without_layer_at place self.old }
+        ensures well_formed { IsWellFormed self.new }
+    {
+        self.parts.layers.take(place.at)
+    }
+
+    /// Exchanges the name of the layer with an id and another name.
+    pub fn swap_layer_name(&mut self, layer: u32, name: &mut MapText)
+        requires { IsSome (layer_of self.old layer) }
+        ensures given { option_map layer_name (layer_of self.old layer) ≡ Some name.new }
+        ensures held { self.new ≡ with_layer layer (layer_with_name name.old) self.old }
+        ensures well_formed { IsWellFormed self.new }
+    {
+        rename_in(&mut self.parts.layers, layer, name);
+    }
+
+    /// Shows or hides the layer with an id.
+    pub fn set_visible(&mut self, layer: u32, visible: bool)
+        requires { IsSome (layer_of self.old layer) }
+        ensures map { self.new ≡ with_layer layer (layer_with_visible visible) self.old }
+        ensures well_formed { IsWellFormed self.new }
+    {
+        show_in(&mut self.parts.layers, layer, visible);
+    }
+
+    /// Sets the next ids, of a layer and of an object. The map is well formed with them.
+    pub fn set_next_ids(&mut self, layer: u32, object: u32)
+        requires { IsWellFormed (with_next_ids layer object self.old) }
+        ensures map { self.new ≡ with_next_ids layer object self.old }
+        ensures well_formed { IsWellFormed self.new }
+    {
+        self.parts.next_layer_id = layer;
+        self.parts.next_object_id = object;
     }
 
     /// A map of one empty tile layer, "Tile Layer 1", and one external tileset, whose first id is 1.
@@ -161,69 +212,6 @@ impl Map {
     }
 }
 
-// The members of a value, where it is an object.
-fn members_of(value: Value) -> Option<Kept>
-    ensures { result ≡ as_object (data_of value) }
-{
-    match value {
-        Value::Object(members) => Some(Kept::new(members)),
-        Value::Null => None,
-        Value::Bool(_) => None,
-        Value::Number(_) => None,
-        Value::String(_) => None,
-        Value::Array(_) => None,
-    }
-}
-
-// What a new tile layer keeps.
-fn kept_by_tile_layer(alloc: Global) -> Result<Kept, AllocError>
-    ensures { IfOk result (λ kept. kept ≡ tile_layer_members) }
-{
-    let value = json!(in alloc; {"opacity": 1u32, "x": 0u32, "y": 0u32})?;
-    match members_of(value) {
-        Some(kept) => Ok(kept),
-        None => unreachable!(),
-    }
-}
-
-// What a new map keeps.
-fn kept_by_map(alloc: Global) -> Result<Kept, AllocError>
-    ensures { IfOk result (λ kept. kept ≡ map_members) }
-{
-    let value = json!(in alloc; {"orientation": "orthogonal", "renderorder": "right-down"})?;
-    match members_of(value) {
-        Some(kept) => Ok(kept),
-        None => unreachable!(),
-    }
-}
-
-// The tile layer of a new map of so many cells.
-fn first_layer(alloc: Global, size: usize) -> Result<Layer, AllocError>
-    ensures { IfOk result (λ layer. layer ≡ empty_layer 1 (codes "Tile Layer 1") size) }
-{
-    let values = vec![in alloc; Gid(0); size]?;
-    Ok(Layer {
-        id: 1,
-        name: MapText::new(String::from_str(alloc, "Tile Layer 1")?),
-        visible: true,
-        properties: Chain::new(alloc),
-        kept: kept_by_tile_layer(alloc)?,
-        body: Body::Tiles(Encoding::Array, Cells::new(values)),
-    })
-}
-
-// A chain of one item.
-fn one<T: Drop>(alloc: Global, item: T) -> Result<Chain<T>, AllocError>
-    ensures { IfOk result (λ chain. chain ≡ item ∷ []) }
-{
-    let mut chain = Chain::new(alloc);
-    match Loose::new(alloc, item) {
-        Ok(loose) => chain.insert(0, loose),
-        Err(_) => return Err(AllocError),
-    }
-    Ok(chain)
-}
-
 // Of the best tileset so far and another, the one with the greater first id that is not above the base.
 fn better_tileset<'a>(
     base: u32,
@@ -256,33 +244,4 @@ fn best_tileset(tilesets: &Chain<Tileset>, base: u32) -> Option<&Tileset>
         best = better_tileset(base, best, tileset);
     }
     best
-}
-
-// The place of the layer with an id.
-fn place_in(layers: &Chain<Layer>, id: u32) -> Option<usize>
-    ensures { result ≡ position (has_id id) layers.now }
-{
-    layers.iter().position(|layer| layer.id == id)
-}
-
-// Sets a value of the tile layer with an id.
-#[tactic(auto, using(crate::proofs::Changes::places))]
-fn set_in(layers: &mut Chain<Layer>, id: u32, at: usize, value: Gid)
-    requires tiles { IsSomeAnd (find (has_id id) layers.old) (λ l. IsTiles l.body) }
-    requires place { at < length (tiles_of_layer (find (has_id id) layers.old)) }
-    ensures { layers.new ≡ change_first (has_id id) (layer_with_tiles (with_value at value)) layers.old }
-{
-    let place = place_in(layers, id).unwrap();
-    layers.get_mut(place).body.set_tile(at, value);
-}
-
-// Sets the cells of a list, in the tile layer with an id, to their values on a side.
-#[tactic(auto, using(crate::proofs::Changes::places))]
-fn put_in(layers: &mut Chain<Layer>, id: u32, width: usize, edits: &[CellEdit], side: Side)
-    requires tiles { IsSomeAnd (find (has_id id) layers.old) (λ l. IsTiles l.body) }
-    requires places { Each (IsBelow width (length (tiles_of_layer (find (has_id id) layers.old)))) edits.now }
-    ensures { layers.new ≡ change_first (has_id id) (layer_with_tiles (put_values width side edits.now)) layers.old }
-{
-    let place = place_in(layers, id).unwrap();
-    layers.get_mut(place).body.put_tiles(width, edits, side);
 }

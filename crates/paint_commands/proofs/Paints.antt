@@ -15,15 +15,12 @@ use Rattle.edits.specs.Blocks.{ValueBlock}
 use Rattle.edits.specs.Difference.{difference_in}
 use Rattle.edits.specs.Stamping.{stamped, stamped_map, stamp_fault, after_stamp, answer_by}
 use Rattle.edits.proofs.Differences.{length-each_at}
-use Rattle.edits.proofs.Turns.{with_edits-after, with_edits-before, with_edits-again, with_edits-none, difference_in-same, difference_in-within, IsWellFormed-with_tiles}
+use Rattle.edits.proofs.Turns.{with_edits-after, with_edits-before, with_edits-again, with_edits-none, difference_in-same, difference_in-within}
 use Rattle.paint_commands.specs.Painting.{painted, IsDifference}
 
 -- ---- where the cells lie
 pub inside-made : (layer : ℕ) (cells : List CellEdit) (d : DocumentParts) → IsDifference layer cells d d (painted layer cells After d) → Each (IsWithin d.map) cells
-inside-made layer cells d h = rw h.exact (difference_in-within d.map (painted layer cells After d).map layer h.well_formed)
-
-painted-well_formed : (layer : ℕ) (cells : List CellEdit) (side : Side) (d : DocumentParts) → IsWellFormed d.map → IsWellFormed (painted layer cells side d).map
-painted-well_formed layer cells side d h = IsWellFormed-with_tiles d.map layer (put_values d.map.width side cells) (length-put_values d.map.width side cells) h
+inside-made layer cells d h = rw h.exact (difference_in-within d.map (painted layer cells After d).map layer h.well_formed.size)
 
 painted-tiles : (layer : ℕ) (cells : List CellEdit) (side : Side) (d : DocumentParts) → HasTiles d.map layer → HasTiles (painted layer cells side d).map layer
 painted-tiles layer cells side d h = HasTiles-with_tiles d.map layer (put_values d.map.width side cells) h
@@ -31,7 +28,7 @@ painted-tiles layer cells side d h = HasTiles-with_tiles d.map layer (put_values
 pub inside-unmade : (layer : ℕ) (cells : List CellEdit) (d : DocumentParts) → IsDifference layer cells d (painted layer cells Before d) d → Each (IsWithin d.map) cells
 inside-unmade layer cells d h =
     let P : List CellEdit → Type 0 = λ es. Each (IsWithin d.map) es in
-    subst P (sym h.exact) (difference_in-within (painted layer cells Before d).map d.map layer (painted-well_formed layer cells Before d h.well_formed))
+    subst P (sym h.exact) (difference_in-within (painted layer cells Before d).map d.map layer h.well_formed.size)
 
 -- ---- there and back
 pub back-made : (layer : ℕ) (cells : List CellEdit) (d : DocumentParts) → IsDifference layer cells d d (painted layer cells After d)
@@ -46,18 +43,18 @@ back-unmade layer cells d h =
     ap (λ m. record d { map = m })
     (with_edits-again d.map layer (put_values d.map.width Before cells) cells (length-put_values d.map.width Before cells) h.exact h.tiles h.well_formed)
 
-pub fits-made : (layer : ℕ) (cells : List CellEdit) (d : DocumentParts) → IsDifference layer cells d d (painted layer cells After d)
+pub fits-made : (layer : ℕ) (cells : List CellEdit) (d : DocumentParts) → IsWellFormed (painted layer cells After d).map → IsDifference layer cells d d (painted layer cells After d)
     → IsDifference layer cells (painted layer cells After d) (painted layer cells Before (painted layer cells After d)) (painted layer cells After d)
-fits-made layer cells d h = record {
-  well_formed = painted-well_formed layer cells After d h.well_formed;
+fits-made layer cells d formed h = record {
+  well_formed = formed;
   tiles = painted-tiles layer cells After d h.tiles;
   exact = h.exact ∙ ap (λ (e : DocumentParts). difference_in layer e.map (painted layer cells After d).map) (sym (back-made layer cells d h));
 }
 
-pub fits-unmade : (layer : ℕ) (cells : List CellEdit) (d : DocumentParts) → IsDifference layer cells d (painted layer cells Before d) d
+pub fits-unmade : (layer : ℕ) (cells : List CellEdit) (d : DocumentParts) → IsWellFormed (painted layer cells Before d).map → IsDifference layer cells d (painted layer cells Before d) d
     → IsDifference layer cells (painted layer cells Before d) (painted layer cells Before d) (painted layer cells After (painted layer cells Before d))
-fits-unmade layer cells d h = record {
-  well_formed = painted-well_formed layer cells Before d h.well_formed;
+fits-unmade layer cells d formed h = record {
+  well_formed = formed;
   tiles = painted-tiles layer cells Before d h.tiles;
   exact = h.exact ∙ ap (λ (e : DocumentParts). difference_in layer (painted layer cells Before d).map e.map) (sym (back-unmade layer cells d h));
 }

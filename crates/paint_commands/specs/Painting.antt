@@ -1,15 +1,14 @@
 -- What a paint command is and does.
-use Rattle.std.specs.Prelude.{◌≡◌, ℕ, List, Some, Bool, true, false, Ok, codes, length, nat_eq}
+use Rattle.std.specs.Prelude.{◌≡◌, ℕ, List, Some, Bool, true, false, codes, length, nat_eq}
 use Rattle.map_model.specs.declared.edit.CellEdit.{CellEdit}
 use Rattle.map_model.specs.declared.edit.Side.{Side}
 use Rattle.map_model.specs.declared.edit.Side.TheVariants.{Before, After}
 use Rattle.map_model.specs.Document.{DocumentParts}
 use Rattle.map_model.specs.Parts.{HasTiles, with_edits}
 use Rattle.map_model.specs.WellFormed.{IsWellFormed}
-use Rattle.edits.specs.Blocks.{ValueBlock}
 use Rattle.edits.specs.Difference.{difference_in}
-use Rattle.edits.specs.Stamping.{after_stamp}
 use Rattle.command_api.specs.Law.{Change, WhenEqual}
+use Rattle.command_api.specs.Making.{Names}
 use Rattle.command_api.specs.Tag.{OfLayer}
 use Rattle.paint_commands.specs.declared.paint.PaintCommand.{PaintCommand}
 use Rattle.paint_commands.specs.declared.paint.PaintKind.{PaintKind}
@@ -54,12 +53,12 @@ paint_change c = record {
 abbrev pub painted_layer : PaintCommand → ℕ
 painted_layer c = c.layer
 
--- the command stamps the block on the layer of the document d
-pub record IsStampCommand (d : DocumentParts) (layer : ℕ) (block : ValueBlock) (follows : Bool) (c : Change) : Type 0 where
-  pub fits : c.fits_redo d
-  pub document : after_stamp d layer block ≡ Ok (c.redone d)
-  pub text : c.text ≡ codes "Stamp"
-  pub action : c.action ≡ codes "stamp tiles"
-  pub tag : c.tag ≡ Some (record { kind = 1; subject = OfLayer layer })
-  pub vanishing : c.vanishing ≡ WhenEqual
-  pub follows_line : c.follows ≡ follows
+-- what a stamp on a layer is called
+abbrev pub stamp_names : ℕ → Bool → Names
+stamp_names layer follows = record {
+  text = codes "Stamp";
+  action = codes "stamp tiles";
+  tag = Some (record { kind = 1; subject = OfLayer layer });
+  vanishing = WhenEqual;
+  follows = follows;
+}

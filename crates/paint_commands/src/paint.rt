@@ -2,9 +2,10 @@ ghost use Rattle.std.specs.Prelude.{◌≡◌, IfOk, IfErr};
 ghost use Rattle.map_model.specs.Document.{DocumentParts};
 ghost use Rattle.edits.specs.Blocks.{block_of};
 ghost use Rattle.edits.specs.Difference.{difference_in};
-ghost use Rattle.edits.specs.Stamping.{IsBlock, IsStampRefusal};
+ghost use Rattle.edits.specs.Stamping.{after_stamp, IsBlock, IsStampRefusal};
 ghost use Rattle.command_api.specs.Law.{Change};
-ghost use Rattle.paint_commands.specs.Painting.{paint_change, painted_layer, IsStampCommand};
+ghost use Rattle.command_api.specs.Making.{Makes};
+ghost use Rattle.paint_commands.specs.Painting.{paint_change, painted_layer, stamp_names};
 
 use command_api::Command;
 use edits::{Block, CellEdits, EditFault, stamp_change};
@@ -43,7 +44,7 @@ impl PaintCommand {
         follows: bool,
     ) -> Result<PaintCommand, EditFault>
         requires { IsBlock (block_of block.now) }
-        ensures command { IfOk result (λ c. IsStampCommand document.now layer (block_of block.now) follows (paint_change c)) }
+        ensures command { IfOk result (λ c. Makes (stamp_names layer follows) document.now (after_stamp document.now layer (block_of block.now)) (paint_change c)) }
         ensures refusal { IfErr result (IsStampRefusal document.now.map layer (block_of block.now)) }
     {
         let change = stamp_change(alloc, document, layer, block)?;

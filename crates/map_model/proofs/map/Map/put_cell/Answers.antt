@@ -1,6 +1,8 @@
-use Rattle.std.proofs.Common.{◌≡◌, ◌<◌, ◌+◌, ◌*◌, length-set}
+use Rattle.std.proofs.Common.{◌≡◌, ◌<◌, ◌+◌, ◌*◌, length-set, rules}
 use Rattle.map_model.specs.CellEdits.{with_value}
 use Rattle.map_model.specs.Parts.{HasTiles}
+use Rattle.map_model.specs.WellFormed.{IsTileValue}
+use Rattle.map_model.proofs.CellEdits.{with_value-keeps}
 use Rattle.map_model.proofs.Keeps.{place-within, with_tiles-keeps}
 use Rattle.map_model.proofs.map.Map.put_cell.Goals as goal
 
@@ -15,5 +17,9 @@ set_in-requires-clause-place c =
 
 pub invariant_of-self : goal.invariant_of-self
 invariant_of-self c =
+    let range : IsTileValue c.args.value = search rules in
     with_tiles-keeps c.args.layer (with_value c.index-at.result c.args.value) c.self.inside.parts c.set_in.new.layers c.set_in.ensures
-    (λ vs. length-set vs c.index-at.result c.args.value) c.self.invariant
+    (with_value-keeps c.index-at.result c.args.value range) c.self.invariant
+
+pub returns-clause-well_formed : goal.returns-clause-well_formed
+returns-clause-well_formed c = invariant_of-self c

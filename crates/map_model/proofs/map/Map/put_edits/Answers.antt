@@ -1,7 +1,7 @@
 use Rattle.map_model.specs.CellEdits.{put_values}
 use Rattle.map_model.specs.Lists.{Each}
 use Rattle.map_model.specs.Parts.{HasTiles, IsWithin}
-use Rattle.map_model.proofs.CellEdits.{length-put_values}
+use Rattle.map_model.proofs.CellEdits.{put_values-keeps}
 use Rattle.map_model.proofs.Keeps.{places-within, with_tiles-keeps}
 use Rattle.map_model.proofs.map.Map.put_edits.Goals as goal
 
@@ -15,5 +15,8 @@ put_in-requires-clause-places c =
 pub invariant_of-self : goal.invariant_of-self
 invariant_of-self c =
     let m = c.self.inside.parts in
-    with_tiles-keeps c.args.layer (put_values m.width c.args.side c.args.edits.now) m c.put_in.new.layers c.put_in.ensures
-    (length-put_values m.width c.args.side c.args.edits.now) c.self.invariant
+    with_tiles-keeps c.args.layer (put_values m.width c.args.side c.args.edits.now) m c.put_in.new.layers c.put_in.ensures.layers
+    (put_values-keeps m.width c.args.side c.args.edits.now c.put_in.ensures.range) c.self.invariant
+
+pub returns-clause-well_formed : goal.returns-clause-well_formed
+returns-clause-well_formed c = invariant_of-self c

@@ -16,5 +16,5 @@ returns-clause-command c =
       action = refl;
       tag = refl;
       vanishing = refl;
-      follows_line = refl;
+      follows = refl;
     }

@@ -16,10 +16,10 @@ returns c =
     let p = c.args.self.now in
     let d = c.args.document.now in
     let turned : c.put_edits.new.self ≡ painted p.layer p.cells After d =
-    c.put_edits.ensures ∙ ap (λ (es : List CellEdit). record d { map = with_edits d.map p.layer es After }) c.as_slice.ensures in
+    c.put_edits.ensures.document ∙ ap (λ (es : List CellEdit). record d { map = with_edits d.map p.layer es After }) c.as_slice.ensures in
     record {
       document = turned;
-      fits = (refl, rw turned (fits-made p.layer p.cells d c.requires.1));
+      fits = (refl, rw turned (fits-made p.layer p.cells d (rw turned at c.put_edits.ensures.well_formed) c.requires.1));
       back = rw turned (back-made p.layer p.cells d c.requires.1);
       names = record { text = refl; action = refl; tag = refl; vanishing = refl; follows = refl };
     }

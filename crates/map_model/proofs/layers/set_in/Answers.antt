@@ -2,7 +2,7 @@ use Rattle.std.proofs.Common.{sym, ◌∙◌}
 use Rattle.map_model.specs.CellEdits.{with_value}
 use Rattle.map_model.specs.Parts.{has_id}
 use Rattle.map_model.proofs.Keeps.{set-body}
-use Rattle.map_model.proofs.map.set_in.Goals as goal
+use Rattle.map_model.proofs.layers.set_in.Goals as goal
 
 pub returns : goal.returns
 returns c =

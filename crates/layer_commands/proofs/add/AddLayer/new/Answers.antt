@@ -1,0 +1,12 @@
+use Rattle.std.proofs.Common.{◌≡◌, ◌∙◌}
+use Rattle.layer_commands.proofs.Adding.{add_made}
+use Rattle.layer_commands.proofs.add.AddLayer.new.Goals as goal
+
+pub returns-in-Ok-clause-command : goal.returns-in-Ok-clause-command
+returns-in-Ok-clause-command c =
+    let d = c.args.document.now in
+    let same : c.parts-parts.result.now ≡ d.map = c.parts-parts.ensures.value ∙ c.map.ensures in
+    rw same (
+    add_made d c.args.kind c.args.name.now c.in-Ok.layer (rw same at c.in-Ok.ensures) (rw (c.len.ensures.value, same) at c.if-len-ge-MOST_LAYERS.false)
+    (rw same at c.if-parts-ge-LAST_ID.false) (rw c.map.ensures at c.parts-parts.ensures.well_formed)
+    )

@@ -1,0 +1,14 @@
+//! The commands of layers: one is added, removed, moved, renamed, shown or hidden.
+#![tactic(auto)]
+
+mod add;
+mod move_layer;
+mod remove;
+mod rename;
+mod show;
+
+pub use add::AddLayer;
+pub use move_layer::MoveLayer;
+pub use remove::RemoveLayer;
+pub use rename::RenameLayer;
+pub use show::ShowLayer;

@@ -1,0 +1,65 @@
+ghost use Rattle.std.specs.Prelude.{◌≡◌, Err, IfOk, IfErr};
+ghost use Rattle.command_api.specs.Making.{Makes};
+ghost use Rattle.layer_commands.specs.After.{after_remove};
+ghost use Rattle.layer_commands.specs.Changes.{remove_change, remove_names};
+
+use command_api::Command;
+use edits::EditFault;
+use link_chain::Loose;
+use map_model::{Document, Layer, LayerPlace};
+
+/// A layer is removed, also the last one that there is. While it is not in the map, the command owns it, and puts it
+/// back at its old place.
+#[derive(Drop)]
+pub struct RemoveLayer {
+    place: LayerPlace,
+    layer: Option<Loose<Layer>>,
+}
+
+impl RemoveLayer {
+    /// The command that removes the layer with an id, not made yet. The document stays as it is.
+    ///
+    /// Refused where there is no such layer.
+    pub fn new(document: &Document, layer: u32) -> Result<RemoveLayer, EditFault>
+        ensures command { IfOk result (λ c. Makes remove_names document.now (after_remove document.now layer) (remove_change c)) }
+        ensures refusal { IfErr result (λ fault. after_remove document.now layer ≡ Err fault) }
+    {
+        let map = document.map();
+        let _well_formed = map.parts();
+        match map.layer_place(layer) {
+            Some(place) => Ok(RemoveLayer { place, layer: None }),
+            None => Err(EditFault::NoSuchLayer),
+        }
+    }
+}
+
+impl Command for RemoveLayer {
+    ghost change = { remove_change };
+
+    fn text(&self) -> &str {
+        "Remove Layer"
+    }
+
+    fn action_text(&self) -> &str {
+        "remove layer"
+    }
+
+    fn id(&self) -> i32 {
+        -1
+    }
+
+    fn obsolete(&self) -> bool {
+        false
+    }
+
+    fn redo(&mut self, document: &mut Document) {
+        self.layer = Some(document.take_layer(self.place));
+    }
+
+    fn undo(&mut self, document: &mut Document) {
+        let Some(layer) = self.layer.take() else {
+            unreachable!();
+        };
+        document.insert_layer(self.place, layer);
+    }
+}

@@ -1,0 +1,75 @@
+ghost use Rattle.std.specs.Prelude.{◌≡◌, IfOk, IfErr};
+ghost use Rattle.edits.specs.Refusing.{IsRefusalOf};
+ghost use Rattle.command_api.specs.Making.{Makes};
+ghost use Rattle.layer_commands.specs.After.{after_rename};
+ghost use Rattle.layer_commands.specs.Changes.{rename_change, rename_names};
+
+use command_api::Command;
+use edits::EditFault;
+use map_model::{Document, MapText};
+use std::alloc::Global;
+
+/// A layer gets another name. The command owns the name that the layer does not have.
+#[derive(Drop)]
+pub struct RenameLayer {
+    layer: u32,
+    name: MapText,
+    // Whether the layer's name and the command's are the same.
+    is_same: bool,
+}
+
+impl RenameLayer {
+    /// The command that gives the layer with an id this name, not made yet. The document stays as it is.
+    ///
+    /// Refused where there is no such layer, and then where there is no memory.
+    pub fn new(
+        alloc: Global,
+        document: &Document,
+        layer: u32,
+        name: &str,
+    ) -> Result<RenameLayer, EditFault>
+        ensures command { IfOk result (λ c. Makes rename_names document.now (after_rename document.now layer name.now) (rename_change c)) }
+        ensures refusal { IfErr result (IsRefusalOf (after_rename document.now layer name.now)) }
+    {
+        let Some(renamed) = document.map().layer(layer) else {
+            return Err(EditFault::NoSuchLayer);
+        };
+        let is_same = renamed.name.as_str() == name;
+        match String::from_str(alloc, name) {
+            Ok(name) => Ok(RenameLayer {
+                layer,
+                name: MapText::new(name),
+                is_same,
+            }),
+            Err(_) => Err(EditFault::NoMemory),
+        }
+    }
+}
+
+impl Command for RenameLayer {
+    ghost change = { rename_change };
+
+    fn text(&self) -> &str {
+        "Rename Layer"
+    }
+
+    fn action_text(&self) -> &str {
+        "rename layer"
+    }
+
+    fn id(&self) -> i32 {
+        -1
+    }
+
+    fn obsolete(&self) -> bool {
+        self.is_same
+    }
+
+    fn redo(&mut self, document: &mut Document) {
+        document.swap_layer_name(self.layer, &mut self.name);
+    }
+
+    fn undo(&mut self, document: &mut Document) {
+        document.swap_layer_name(self.layer, &mut self.name);
+    }
+}

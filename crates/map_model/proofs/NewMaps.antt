@@ -1,0 +1,64 @@
+-- New layers and new maps are well formed.
+use Rattle.std.proofs.Common.{◌≡◌, ℕ, zero, suc, ◌*◌, List, [], ◌∷◌, Bool, true, false, not, ◌&&◌, Option, Some, None, is_some, refl, arith}
+use Rattle.std.specs.Prelude.{replicate, codes}
+use Rattle.std.specs.List.{list_all}
+use Rattle.std.proofs.lemmas.List.{length-replicate}
+use Rattle.serde_json.specs.Data.{Data, Members, no_members}
+use Rattle.serde_json.specs.Find.{get_member}
+use Rattle.map_model.specs.declared.parts.Encoding.TheVariants.{Array}
+use Rattle.map_model.specs.declared.parts.Body.TheVariants.{Tiles, Objects}
+use Rattle.map_model.specs.declared.parts.LayerKind.{LayerKind}
+use Rattle.map_model.specs.declared.parts.LayerKind.TheVariants as kinds
+use Rattle.map_model.specs.Keeping.{layer_level, map_level, map_names, layer_names, tileset_names}
+use Rattle.map_model.specs.Lists.{Each}
+use Rattle.map_model.specs.NewMap.{new_layer, new_map, tile_layer_members, object_layer_members, map_members}
+use Rattle.map_model.specs.WellFormed.{IsTileValue, IsLayer, IsSize, IsTileSize, IsWellFormed, AreProperties}
+
+Each-replicate : {X : Type 0} (P : X → Type 0) (n : ℕ) (x : X) → P x → Each P (replicate n x)
+Each-replicate P zero x p = tt
+Each-replicate P (suc n) x p = (p, Each-replicate P n x p)
+
+no_properties : (level : ℕ) → AreProperties level []
+no_properties level = record { few = omega arith; each = tt; distinct = tt }
+
+-- members without these names, by a test
+unread-test : (ms : Members) (names : List (List ℕ)) → list_all (λ name. not (is_some (get_member name ms))) names ≡ true → Each (λ name. get_member name ms ≡ None) names
+unread-test ms [] e = tt
+unread-test ms (name ∷ names) e = by_member (get_member name ms) e (unread-test ms names)
+  where
+    by_member : (o : Option Data) → (not (is_some o) && list_all (λ n. not (is_some (get_member n ms))) names) ≡ true
+        → (list_all (λ n. not (is_some (get_member n ms))) names ≡ true → Each (λ n. get_member n ms ≡ None) names) → (o ≡ None) × Each (λ n. get_member n ms ≡ None) names
+    by_member None q rest = (refl, rest q)
+    by_member (Some d) q rest = cc
+
+-- a new layer is one of a map of so many cells
+pub new_layer-IsLayer : (kind : LayerKind) (id : ℕ) (name : List ℕ) (size : ℕ) → IsLayer size (new_layer kind id name size)
+new_layer-IsLayer kinds.Tile id name size = record {
+  properties = no_properties layer_level;
+  kept = record { unread = unread-test tile_layer_members (layer_names (Tiles Array [])) refl; whole = refl; shallow = omega arith };
+  body = (length-replicate size 0, Each-replicate IsTileValue size 0 (omega arith));
+}
+new_layer-IsLayer kinds.Object id name size = record {
+  properties = no_properties layer_level;
+  kept = record { unread = unread-test object_layer_members (layer_names (Objects [])) refl; whole = refl; shallow = omega arith };
+  body = (omega arith, tt);
+}
+
+-- the map of the line `new`
+pub new_map-IsWellFormed : (width height tile_width tile_height : ℕ) (source : List ℕ) → IsSize width height → IsTileSize tile_width tile_height
+    → IsWellFormed (new_map width height tile_width tile_height source)
+new_map-IsWellFormed width height tile_width tile_height source size tile_size = record {
+  size = size;
+  tile_size = tile_size;
+  few_layers = omega arith;
+  layers = (new_layer-IsLayer kinds.Tile 1 (codes "Tile Layer 1") (width * height), tt);
+  layer_ids = record { next_low = omega arith; next_high = omega arith; each = (record { low = omega arith; high = omega arith }, tt); distinct = (tt, tt) };
+  object_ids = record { next_low = omega arith; next_high = omega arith; each = tt; distinct = tt };
+  tilesets = record {
+    few = omega arith;
+    each = (record { low = omega arith; high = omega arith; kept = record { unread = unread-test no_members tileset_names refl; whole = refl; shallow = omega arith } }, tt);
+    distinct = (tt, tt);
+  };
+  properties = no_properties map_level;
+  kept = record { unread = unread-test map_members map_names refl; whole = refl; shallow = omega arith };
+}

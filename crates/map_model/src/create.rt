@@ -1,0 +1,126 @@
+// What is made new: layers, and the first parts of a map.
+ghost use Rattle.std.specs.Prelude.{◌≡◌, ◌∷◌, [], codes, IfOk};
+ghost use Rattle.serde_json.specs.Find.{as_object};
+ghost use Rattle.serde_json.specs.View.{view as data_of};
+ghost use Rattle.map_model.specs.NewMap.{new_layer, empty_layer, empty_object_layer, tile_layer_members, object_layer_members, map_members};
+
+use crate::held::{Cells, Kept, MapText};
+use crate::parts::{Body, Encoding, Layer, LayerKind};
+use link_chain::{Chain, Loose};
+use serde_json::{Value, json};
+use std::alloc::{AllocError, Global};
+use tile_id::Gid;
+
+// The members of a value, where it is an object.
+fn members_of(value: Value) -> Option<Kept>
+    ensures { result ≡ as_object (data_of value) }
+{
+    match value {
+        Value::Object(members) => Some(Kept::new(members)),
+        Value::Null => None,
+        Value::Bool(_) => None,
+        Value::Number(_) => None,
+        Value::String(_) => None,
+        Value::Array(_) => None,
+    }
+}
+
+// What a new tile layer keeps.
+fn kept_by_tile_layer(alloc: Global) -> Result<Kept, AllocError>
+    ensures { IfOk result (λ kept. kept ≡ tile_layer_members) }
+{
+    let value = json!(in alloc; {"opacity": 1u32, "x": 0u32, "y": 0u32})?;
+    match members_of(value) {
+        Some(kept) => Ok(kept),
+        None => unreachable!(),
+    }
+}
+
+// What a new object layer keeps.
+fn kept_by_object_layer(alloc: Global) -> Result<Kept, AllocError>
+    ensures { IfOk result (λ kept. kept ≡ object_layer_members) }
+{
+    let value = json!(in alloc; {"draworder": "topdown", "opacity": 1u32, "x": 0u32, "y": 0u32})?;
+    match members_of(value) {
+        Some(kept) => Ok(kept),
+        None => unreachable!(),
+    }
+}
+
+/// What a new map keeps.
+pub fn kept_by_map(alloc: Global) -> Result<Kept, AllocError>
+    ensures { IfOk result (λ kept. kept ≡ map_members) }
+{
+    let value = json!(in alloc; {"orientation": "orthogonal", "renderorder": "right-down"})?;
+    match members_of(value) {
+        Some(kept) => Ok(kept),
+        None => unreachable!(),
+    }
+}
+
+// A tile layer of so many empty cells.
+fn tile_layer(alloc: Global, id: u32, name: MapText, size: usize) -> Result<Layer, AllocError>
+    ensures { IfOk result (λ layer. layer ≡ empty_layer id name size) }
+{
+    let values = vec![in alloc; Gid(0); size]?;
+    Ok(Layer {
+        id,
+        name,
+        visible: true,
+        properties: Chain::new(alloc),
+        kept: kept_by_tile_layer(alloc)?,
+        body: Body::Tiles(Encoding::Array, Cells::new(values)),
+    })
+}
+
+// An object layer without objects.
+fn object_layer(alloc: Global, id: u32, name: MapText) -> Result<Layer, AllocError>
+    ensures { IfOk result (λ layer. layer ≡ empty_object_layer id name) }
+{
+    Ok(Layer {
+        id,
+        name,
+        visible: true,
+        properties: Chain::new(alloc),
+        kept: kept_by_object_layer(alloc)?,
+        body: Body::Objects(Chain::new(alloc)),
+    })
+}
+
+impl Layer {
+    /// A visible layer with no properties and nothing on it, for a map of so many cells.
+    pub fn new(
+        alloc: Global,
+        kind: LayerKind,
+        id: u32,
+        name: MapText,
+        size: usize,
+    ) -> Result<Layer, AllocError>
+        ensures { IfOk result (λ layer. layer ≡ new_layer kind id name size) }
+    {
+        match kind {
+            LayerKind::Tile => tile_layer(alloc, id, name, size),
+            LayerKind::Object => object_layer(alloc, id, name),
+        }
+    }
+}
+
+/// The layer of a new map of so many cells.
+pub fn first_layer(alloc: Global, size: usize) -> Result<Layer, AllocError>
+    ensures { IfOk result (λ layer. layer ≡ empty_layer 1 (codes "Tile Layer 1") size) }
+{
+    let name = MapText::new(String::from_str(alloc, "Tile Layer 1")?);
+    tile_layer(alloc, 1, name, size)
+}
+
+/// A chain of one item.
+pub fn one<T: Drop>(alloc: Global, item: T) -> Result<Chain<T>, AllocError>
+    ensures { IfOk result (λ chain. chain ≡ item ∷ []) }
+{
+    let mut chain = Chain::new(alloc);
+    match Loose::new(alloc, item) {
+        Ok(loose) => chain.insert(0, loose),
+        Err(_) => return Err(AllocError),
+    }
+    Ok(chain)
+}
