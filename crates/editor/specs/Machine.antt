@@ -1,6 +1,6 @@
 -- The machine: what each line may do. It keeps, for the open document, a history of whole documents, and turns nothing
 -- back: every accepted edit gives a new document, and undo and redo only move a position.
-use Rattle.std.specs.Prelude.{◌≡◌, ℕ, List, ℤ, pos, negsuc, nat_eq, if◌then◌else◌, length, Option, None, Some, Result, Ok, Err, false, codes, ◌⊎◌}
+use Rattle.std.specs.Prelude.{◌≡◌, ℕ, List, [], min, ℤ, pos, negsuc, nat_eq, if◌then◌else◌, length, Option, None, Some, Result, Ok, Err, false, ◌⊎◌}
 use Rattle.std.specs.Option.{option_map}
 use Rattle.map_model.specs.Document.{DocumentParts}
 use Rattle.map_model.specs.declared.parts.MapParts.{MapParts}
@@ -11,15 +11,18 @@ use Rattle.map_model.specs.WellFormed.{IsSize, IsTileSize}
 use Rattle.edits.specs.Stamping.{after_stamp, tile_layer_fault}
 use Rattle.edits.specs.declared.fault.EditFault.{EditFault}
 use Rattle.edits.specs.declared.fault.EditFault.TheVariants as edit_faults
-use Rattle.command_api.specs.Law.{WhenEqual}
-use Rattle.command_api.specs.Tag.{OfLayer}
+use Rattle.command_api.specs.Making.{Names}
+use Rattle.layer_commands.specs.After.{after_add, after_remove, after_rename, after_show, after_move}
+use Rattle.layer_commands.specs.Changes.{add_names, remove_names, rename_names, show_names, move_names}
+use Rattle.paint_commands.specs.Painting.{stamp_names}
 use Rattle.undo_stack.specs.History.{Step, History, new_history, current, count, is_clean}
-use Rattle.undo_stack.specs.Moving.{undo_answer, redo_answer, undone_by, redone_by}
+use Rattle.undo_stack.specs.Moving.{undo_answer, redo_answer, undone_by, redone_by, moved, cleaned, uncleaned, cleared}
+use Rattle.undo_stack.specs.Reading.{undo_text_of, redo_text_of, text_at}
 use Rattle.undo_stack.specs.Pushing.{IsPushed}
 use Rattle.undo_stack.specs.declared.stack.StackFault.{StackFault}
 use Rattle.undo_stack.specs.declared.stack.StackFault.TheVariants as stack_faults
 use Rattle.session.specs.declared.line.Line.{Line}
-use Rattle.session.specs.declared.line.Line.TheVariants.{Quiet, New, Stamp, Tile, Undo, Redo}
+use Rattle.session.specs.declared.line.Line.TheVariants.{Quiet, New, Stamp, Tile, AddLayer, RemoveLayer, RenameLayer, ShowLayer, MoveLayer, Undo, Redo, Goto, Clean, Dirty, Clear, Status, UndoText, RedoText, StepText}
 use Rattle.session.specs.declared.line.LineFault.{LineFault}
 use Rattle.session.specs.declared.reply.Refusal.{Refusal}
 use Rattle.session.specs.declared.reply.Refusal.TheVariants as refusals
@@ -36,6 +39,8 @@ abbrev pub refusal_of_edit : EditFault → Refusal
 refusal_of_edit edit_faults.NoSuchLayer = refusals.NoSuchLayer
 refusal_of_edit edit_faults.LayerOfAnotherKind = refusals.LayerOfAnotherKind
 refusal_of_edit edit_faults.UnknownTile = refusals.UnknownTile
+refusal_of_edit edit_faults.OutOfRange = refusals.OutOfRange
+refusal_of_edit edit_faults.TooMany = refusals.TooMany
 refusal_of_edit edit_faults.NoMemory = refusals.NoMemory
 
 abbrev pub refusal_of_stack : StackFault → Refusal
@@ -74,25 +79,31 @@ NewStep None width height tile_width tile_height source old reply new =
     ⊎ Refuses refusals.NoMemory old reply new
 
 -- ---- edits
--- the step of an edit that leads to a document, or the edit's refusal
-abbrev pub step_by : (DocumentParts → Step) → Result DocumentParts EditFault → Result Step Refusal
-step_by step (Ok d) = Ok (step d)
-step_by step (Err fault) = Err (refusal_of_edit fault)
-
--- the step of a stamp
-abbrev pub stamp_step : ℕ → DocumentParts → Step
-stamp_step layer d = record {
-  text = codes "Stamp";
-  action = codes "stamp tiles";
-  tag = Some (record { kind = 1; subject = OfLayer layer });
-  follows = false;
-  vanishing = WhenEqual;
+-- the step of a command of these names that leads to a document
+abbrev pub step_named : Names → DocumentParts → Step
+step_named names d = record {
+  text = names.text;
+  action = names.action;
+  tag = names.tag;
+  follows = names.follows;
+  vanishing = names.vanishing;
   after = d;
 }
 
+-- the step of an edit with these names, or the edit's refusal
+abbrev pub answer_of : Names → Result DocumentParts EditFault → Result Step Refusal
+answer_of names (Ok d) = Ok (step_named names d)
+answer_of names (Err fault) = Err (refusal_of_edit fault)
+
 -- the step of a line that is an edit, on a document, or its refusal
 abbrev pub edit_answer : Line → DocumentParts → Option (Result Step Refusal)
-edit_answer (Stamp layer x y width values) d = Some (step_by (stamp_step layer) (after_stamp d layer (record { x = x; y = y; width = width; values = values })))
+edit_answer (Stamp layer x y width values) d =
+    Some (answer_of (stamp_names layer false) (after_stamp d layer (record { x = x; y = y; width = width; values = values })))
+edit_answer (AddLayer kind name) d = Some (answer_of add_names (after_add d kind name))
+edit_answer (RemoveLayer layer) d = Some (answer_of remove_names (after_remove d layer))
+edit_answer (RenameLayer layer name) d = Some (answer_of rename_names (after_rename d layer name))
+edit_answer (ShowLayer layer visible) d = Some (answer_of show_names (after_show d layer visible))
+edit_answer (MoveLayer layer place) d = Some (answer_of move_names (after_move d layer place))
 edit_answer line d = None
 
 -- an accepted edit is pushed
@@ -105,11 +116,43 @@ abbrev pub EditLine : Option (Result Step Refusal) → History → Machine → O
 EditLine None h old reply new = ⊥
 EditLine (Some answer) h old reply new = EditStep answer h old reply new ⊎ Refuses refusals.NoMemory old reply new
 
+-- a line that is an edit of the open document
+abbrev pub EditsOpen : Line → Machine → Option Reply → Machine → Type 0
+EditsOpen line old reply new = OverOpen (λ h. EditLine (edit_answer line (current h)) h) old.open_document old reply new
+
 -- ---- moving
 -- the history became n, or there was nothing to turn
 abbrev pub MoveStep : Result (Unit {0}) StackFault → History → Machine → Option Reply → Machine → Type 0
 MoveStep (Ok done) n old reply new = StandsAt n reply new
 MoveStep (Err fault) n old reply new = Refuses (refusal_of_stack fault) old reply new
+
+-- the open document's history becomes n
+abbrev pub Becomes : History → Machine → Option Reply → Machine → Type 0
+Becomes n old reply new = StandsAt n reply new
+
+-- ---- readings
+-- the reply is this one, and nothing changes
+abbrev pub Answers : Reply → Machine → Option Reply → Machine → Type 0
+Answers answer old reply new = (reply ≡ Some answer) × (new ≡ old)
+
+-- how the machine stands
+abbrev pub status_reply : Option History → Reply
+status_reply None = replies.NoDocument
+status_reply (Some h) = state_reply h
+
+-- for a text in a reply there may be no memory
+abbrev pub TextStep : List ℕ → Machine → Option Reply → Machine → Type 0
+TextStep text old reply new = Answers (replies.Text text) old reply new ⊎ Refuses refusals.NoMemory old reply new
+
+-- the text of a history, and the empty one where no document is open
+abbrev pub OfOpen : (History → List ℕ) → Option History → Machine → Option Reply → Machine → Type 0
+OfOpen text None old reply new = Answers (replies.Text []) old reply new
+OfOpen text (Some h) old reply new = TextStep (text h) old reply new
+
+-- the text for lists of a step, where there is one
+abbrev pub StepTextAt : Option (List ℕ) → Machine → Option Reply → Machine → Type 0
+StepTextAt None old reply new = Refuses refusals.OutOfRange old reply new
+StepTextAt (Some text) old reply new = TextStep text old reply new
 
 -- ---- a look at a cell
 -- the value of a cell; none left of the map or above it
@@ -135,12 +178,23 @@ tile_reply m layer x y = tile_reply_by (tile_layer_fault (layer_of m layer)) m (
 abbrev pub StepOfLine : Line → Machine → Option Reply → Machine → Type 0
 StepOfLine Quiet old reply new = (reply ≡ None) × (new ≡ old)
 StepOfLine (New name width height tile_width tile_height source) old reply new = NewStep old.open_document width height tile_width tile_height source old reply new
-StepOfLine (Stamp layer x y width values) old reply new =
-    OverOpen (λ h. EditLine (edit_answer (Stamp layer x y width values) (current h)) h) old.open_document old reply new
-StepOfLine (Tile layer x y) old reply new =
-    OverOpen (λ h old reply new. (reply ≡ Some (tile_reply (current h).map layer x y)) × (new ≡ old)) old.open_document old reply new
+StepOfLine (Stamp layer x y width values) old reply new = EditsOpen (Stamp layer x y width values) old reply new
+StepOfLine (AddLayer kind name) old reply new = EditsOpen (AddLayer kind name) old reply new
+StepOfLine (RemoveLayer layer) old reply new = EditsOpen (RemoveLayer layer) old reply new
+StepOfLine (RenameLayer layer name) old reply new = EditsOpen (RenameLayer layer name) old reply new
+StepOfLine (ShowLayer layer visible) old reply new = EditsOpen (ShowLayer layer visible) old reply new
+StepOfLine (MoveLayer layer place) old reply new = EditsOpen (MoveLayer layer place) old reply new
+StepOfLine (Tile layer x y) old reply new = OverOpen (λ h. Answers (tile_reply (current h).map layer x y)) old.open_document old reply new
 StepOfLine Undo old reply new = OverOpen (λ h. MoveStep (undo_answer h) (undone_by (undo_answer h) h)) old.open_document old reply new
 StepOfLine Redo old reply new = OverOpen (λ h. MoveStep (redo_answer h) (redone_by (redo_answer h) h)) old.open_document old reply new
+StepOfLine (Goto index) old reply new = OverOpen (λ h. Becomes (moved (min index (length h.steps)) h)) old.open_document old reply new
+StepOfLine Clean old reply new = OverOpen (λ h. Becomes (cleaned h)) old.open_document old reply new
+StepOfLine Dirty old reply new = OverOpen (λ h. Becomes (uncleaned h)) old.open_document old reply new
+StepOfLine Clear old reply new = OverOpen (λ h. Becomes (cleared h)) old.open_document old reply new
+StepOfLine Status old reply new = Answers (status_reply old.open_document) old reply new
+StepOfLine UndoText old reply new = OfOpen undo_text_of old.open_document old reply new
+StepOfLine RedoText old reply new = OfOpen redo_text_of old.open_document old reply new
+StepOfLine (StepText place) old reply new = OverOpen (λ h. StepTextAt (text_at h place)) old.open_document old reply new
 
 abbrev pub StepOf : Result Line LineFault → Machine → Option Reply → Machine → Type 0
 StepOf (Ok line) old reply new = StepOfLine line old reply new

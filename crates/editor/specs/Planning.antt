@@ -1,15 +1,17 @@
 -- What planning a line and committing an edit say of each other.
 use Rattle.std.specs.Prelude.{◌≡◌, Option, None, Some, Ok, false, ◌⊎◌, ⊤}
 use Rattle.command_api.specs.Law.{Change}
+use Rattle.layer_commands.specs.Changes.{add_change, remove_change, rename_change, show_change, move_change}
 use Rattle.paint_commands.specs.Painting.{paint_change}
 use Rattle.undo_stack.specs.History.{History, current}
 use Rattle.undo_stack.specs.Pushing.{IsPushed, step_of}
 use Rattle.session.specs.declared.line.Line.{Line}
+use Rattle.session.specs.declared.reply.Refusal.{Refusal}
 use Rattle.session.specs.declared.reply.Refusal.TheVariants as refusals
 use Rattle.session.specs.declared.reply.Reply.{Reply}
 use Rattle.session.specs.declared.reply.Reply.TheVariants as replies
 use Rattle.editor.specs.declared.planned.Edit.{Edit}
-use Rattle.editor.specs.declared.planned.Edit.TheVariants.{Paint}
+use Rattle.editor.specs.declared.planned.Edit.TheVariants.{Paint, AddLayer, RemoveLayer, RenameLayer, ShowLayer, MoveLayer}
 use Rattle.editor.specs.declared.planned.Planned.{Planned}
 use Rattle.editor.specs.declared.planned.Planned.TheVariants as planned
 use Rattle.editor.specs.Machine.{Machine, Refuses, StandsAt, edit_answer, StepOfLine}
@@ -17,11 +19,20 @@ use Rattle.editor.specs.Machine.{Machine, Refuses, StandsAt, edit_answer, StepOf
 -- what a planned edit does
 abbrev pub edit_change : Edit → Change
 edit_change (Paint command) = paint_change command
+edit_change (AddLayer command) = add_change command
+edit_change (RemoveLayer command) = remove_change command
+edit_change (RenameLayer command) = rename_change command
+edit_change (ShowLayer command) = show_change command
+edit_change (MoveLayer command) = move_change command
 
 -- the command fits the open document, and follows nothing
 abbrev pub FitsOpen : Option History → Change → Type 0
 FitsOpen None c = ⊥
 FitsOpen (Some h) c = c.fits_redo (current h) × (c.follows ≡ false)
+
+-- the plan of a line that is refused
+abbrev pub refused : Refusal → Planned
+refused refusal = planned.Reply (replies.Refused refusal)
 
 -- a planned edit fits
 abbrev pub FitsPlan : Machine → Planned → Type 0

@@ -1,22 +1,20 @@
-ghost use Rattle.std.specs.Prelude.{◌≡◌, ◌<◌, ◌^◌, ◌↔◌, IsTrue, IfOk, None, Some, length};
+ghost use Rattle.std.specs.Prelude.{◌≡◌, ◌↔◌, IsTrue, IfOk, None};
 ghost use Rattle.map_model.specs.NewMap.{new_map};
 ghost use Rattle.map_model.specs.WellFormed.{IsSize, IsTileSize};
 ghost use Rattle.undo_stack.specs.Stacks.{history, Holds};
-ghost use Rattle.session.specs.Spelling.{CanBeSpelled, IsBlock};
-ghost use Rattle.session.specs.declared.line.Line.TheVariants as lines;
+ghost use Rattle.session.specs.Spelling.{CanBeSpelled};
 ghost use Rattle.editor.specs.Editors.{machine_of, IsSound, IsUnlimited};
-ghost use Rattle.editor.specs.Machine.{state_reply, NewStep, StepOfLine};
+ghost use Rattle.editor.specs.Machine.{state_reply, NewStep};
 ghost use Rattle.editor.specs.Planning.{Commits, FitsOpen, FitsPlan, KeepsPlan, KeepsReply, Plans};
 
-use crate::planned::{Edit, Planned};
-use crate::{refusal, tile};
+mod planning;
+mod steps;
+
+use crate::planned::Planned;
 use command_api::Command;
-use edits::Block;
 use map_model::{Document, Map, MapText};
-use paint_commands::PaintCommand;
-use session::{Gids, Line, Refusal, Reply, Text};
+use session::{Line, Refusal, Reply, Text};
 use std::alloc::{AllocError, Global};
-use tile_id::Gid;
 use undo_stack::Stack;
 
 /// At most one open document, with its undo stack.
@@ -49,8 +47,8 @@ impl Sizes {
     }
 }
 
-// How a stack stands.
-fn state_of<C: Command>(stack: &Stack<C>) -> Reply
+/// How a stack stands.
+pub fn state_of<C: Command>(stack: &Stack<C>) -> Reply
     ensures { result ≡ state_reply (history C.change stack.now) }
 {
     Reply::State {
@@ -77,17 +75,6 @@ fn new_document(alloc: Global, sizes: Sizes, source: &str) -> Result<Document, A
         source,
     )?;
     Ok(Document::new(map))
-}
-
-// The values of a line, one after another, for which room is taken once.
-fn collected(alloc: Global, values: &Gids<'_>) -> Result<Vec<Gid>, AllocError>
-    ensures { IfOk result (λ v. v.items ≡ values.now) }
-{
-    let mut collected = Vec::with_capacity(alloc, values.len())?;
-    for value in values.values() {
-        collected.push(value)?;
-    }
-    Ok(collected)
 }
 
 impl<C: Command> Editor<C> {
@@ -137,8 +124,21 @@ impl<C: Command> Editor<C> {
                 values,
             } => self.plan_stamp(alloc, *layer, *x, *y, *width, values),
             Line::Tile { layer, x, y } => Planned::Reply(self.tile(*layer, *x, *y)),
+            Line::AddLayer { kind, name } => self.plan_add_layer(alloc, *kind, name),
+            Line::RemoveLayer { layer } => self.plan_remove_layer(*layer),
+            Line::RenameLayer { layer, name } => self.plan_rename_layer(alloc, *layer, name),
+            Line::ShowLayer { layer, visible } => self.plan_show_layer(*layer, *visible),
+            Line::MoveLayer { layer, place } => self.plan_move_layer(*layer, *place),
             Line::Undo => Planned::Reply(self.undo()),
             Line::Redo => Planned::Reply(self.redo()),
+            Line::Goto { index } => Planned::Reply(self.go_to(*index)),
+            Line::Clean => Planned::Reply(self.clean()),
+            Line::Dirty => Planned::Reply(self.dirty()),
+            Line::Clear => Planned::Reply(self.clear()),
+            Line::Status => Planned::Reply(self.status()),
+            Line::UndoText => Planned::Reply(self.undo_text(alloc)),
+            Line::RedoText => Planned::Reply(self.redo_text(alloc)),
+            Line::StepText { place } => Planned::Reply(self.step_text(alloc, *place)),
         }
     }
 
@@ -183,83 +183,6 @@ impl<C: Command> Editor<C> {
                 reply
             }
             Err(_) => Reply::Refused(Refusal::NoMemory),
-        }
-    }
-
-    // Plans a stamp on the open document.
-    fn plan_stamp(
-        &self,
-        alloc: Global,
-        layer: u32,
-        x: i32,
-        y: i32,
-        width: u32,
-        values: &Gids<'_>,
-    ) -> Planned
-        requires sound { IsSound C.change self.now }
-        requires block { IsBlock width values.now }
-        requires few { length values.now < 2 ^ 32 }
-        ensures plans { Plans (lines.Stamp layer x y width values.now) (machine_of C.change self.now) result (machine_of C.change self.now) }
-        ensures fits { FitsPlan (machine_of C.change self.now) result }
-    {
-        let Some(stack) = &self.stack else {
-            return Planned::Reply(Reply::Refused(Refusal::NoActiveDocument));
-        };
-        let Ok(values) = collected(alloc, values) else {
-            return Planned::Reply(Reply::Refused(Refusal::NoMemory));
-        };
-        let block = Block {
-            x,
-            y,
-            width,
-            values: values.as_slice(),
-        };
-        match PaintCommand::stamp(alloc, stack.document(), layer, &block, false) {
-            Ok(command) => Planned::Push(Edit::Paint(command)),
-            Err(fault) => Planned::Reply(Reply::Refused(refusal::of_edit(fault))),
-        }
-    }
-
-    // Looks at a cell of the open document.
-    fn tile(&self, layer: u32, x: i32, y: i32) -> Reply
-        requires { IsSound C.change self.now }
-        ensures { StepOfLine (lines.Tile layer x y) (machine_of C.change self.now) (Some result) (machine_of C.change self.now) }
-    {
-        match &self.stack {
-            Some(stack) => tile::reply(stack.document().map(), layer, x, y),
-            None => Reply::Refused(Refusal::NoActiveDocument),
-        }
-    }
-
-    // Undoes a step of the open document.
-    fn undo(&mut self) -> Reply
-        requires { IsSound C.change self.old }
-        ensures sound { IsSound C.change self.new }
-        ensures step { StepOfLine lines.Undo (machine_of C.change self.old) (Some result) (machine_of C.change self.new) }
-        ensures kept { KeepsReply result (machine_of C.change self.old) (machine_of C.change self.new) }
-    {
-        match &mut self.stack {
-            Some(stack) => match stack.undo() {
-                Ok(()) => state_of(stack),
-                Err(fault) => Reply::Refused(refusal::of_stack(fault)),
-            },
-            None => Reply::Refused(Refusal::NoActiveDocument),
-        }
-    }
-
-    // Redoes a step of the open document.
-    fn redo(&mut self) -> Reply
-        requires { IsSound C.change self.old }
-        ensures sound { IsSound C.change self.new }
-        ensures step { StepOfLine lines.Redo (machine_of C.change self.old) (Some result) (machine_of C.change self.new) }
-        ensures kept { KeepsReply result (machine_of C.change self.old) (machine_of C.change self.new) }
-    {
-        match &mut self.stack {
-            Some(stack) => match stack.redo() {
-                Ok(()) => state_of(stack),
-                Err(fault) => Reply::Refused(refusal::of_stack(fault)),
-            },
-            None => Reply::Refused(Refusal::NoActiveDocument),
         }
     }
 }

@@ -1,3 +1,4 @@
+use layer_commands::{AddLayer, MoveLayer, RemoveLayer, RenameLayer, ShowLayer};
 use paint_commands::PaintCommand;
 use session::Reply;
 
@@ -5,6 +6,11 @@ use session::Reply;
 #[derive(Drop)]
 pub enum Edit {
     Paint(PaintCommand),
+    AddLayer(AddLayer),
+    RemoveLayer(RemoveLayer),
+    RenameLayer(RenameLayer),
+    ShowLayer(ShowLayer),
+    MoveLayer(MoveLayer),
 }
 
 /// What is to be done for a line.

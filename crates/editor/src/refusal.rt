@@ -14,6 +14,8 @@ pub fn of_edit(fault: EditFault) -> Refusal
         EditFault::NoSuchLayer => Refusal::NoSuchLayer,
         EditFault::LayerOfAnotherKind => Refusal::LayerOfAnotherKind,
         EditFault::UnknownTile => Refusal::UnknownTile,
+        EditFault::OutOfRange => Refusal::OutOfRange,
+        EditFault::TooMany => Refusal::TooMany,
         EditFault::NoMemory => Refusal::NoMemory,
     }
 }

@@ -7,5 +7,10 @@ pub mod Commas
 pub mod Cutting
 pub mod Counting
 pub mod Checked
+pub mod Reading
+pub mod LayersSpelled
 pub mod Spelled
+pub mod Taken
+pub mod Telling
+pub mod LayersTold
 pub mod Told

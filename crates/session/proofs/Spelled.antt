@@ -1,55 +1,19 @@
 -- A spelled line is read as that line.
-use Rattle.std.proofs.Common.{◌≡◌, ℕ, suc, ◌^◌, ◌<◌, ◌≤◌, true, cond, ltb, not, ◌&&◌, List, [], ◌∷◌, ◌++◌, length, Ok, ℤ, pos, negsuc, refl, ap, ◌∙◌, arith, lit<}
+use Rattle.std.proofs.Common.{◌≡◌, ℕ, ◌^◌, ◌<◌, cond, List, [], ◌∷◌, ◌++◌, length, Ok, ℤ, refl, ap, ◌∙◌, arith, lit<}
 use Rattle.std.specs.Prelude.{codes}
-use Rattle.std.specs.List.{AllByRecursion, list_all}
+use Rattle.std.specs.List.{AllByRecursion}
 use Rattle.std.specs.Fmt.{decimal, signed_decimal}
 use Rattle.std.proofs.lemmas.Str.{IsUtf8-nil}
-use Rattle.std.proofs.lemmas.Int.{ints}
-use Rattle.std.proofs.lemmas.Fmt.{length-decimal-le}
-use Rattle.std.proofs.lemmas.List.Sums.{list_all-from_AllPass}
-use Rattle.std.proofs.lemmas.Bool.{le-leb, ne_eqb, eq-eqb, and_from}
-use Rattle.session.specs.declared.line.Line.TheVariants.{Quiet, New, Stamp, Tile, Undo, Redo}
-use Rattle.session.specs.Words.{words, is_name, is_name_byte, is_text, is_text_byte, is_block}
-use Rattle.session.specs.Grammar.{number_at, coordinate_at, block_at, name_at, text_at, ends_at, new_of, stamp_of, tile_of, undo_of, redo_of, command_of, is_quiet, line_of_words, line_of}
-use Rattle.session.specs.Spelling.{commas, spelling, IsNumber, IsCoordinate, IsName, IsText, IsBlock, CanBeSpelled, SpelledIsRead, QuietIsRead, LongIsNotRead}
-use Rattle.session.proofs.Decimals.{number_of-decimal}
-use Rattle.session.proofs.Coordinates.{coordinate_of-signed}
-use Rattle.session.proofs.Commas.{numbers_of-commas, plain_commas}
-use Rattle.session.proofs.Wording.{Plain, plain_literal, plain_number, plain_coordinate, plain_name, words-spaced, words-before, utf8-spaced, utf8-before, length-spaced}
-use Rattle.session.proofs.Cutting.{text_of_words}
+use Rattle.std.proofs.lemmas.Bool.{le-leb}
+use Rattle.session.specs.declared.line.Line.TheVariants.{Quiet, New, Stamp, Tile, AddLayer, RemoveLayer, RenameLayer, ShowLayer, MoveLayer, Undo, Redo, Goto, Clean, Dirty, Clear, Status, UndoText, RedoText, StepText}
+use Rattle.session.specs.Words.{words}
+use Rattle.session.specs.Grammar.{ends_at, new_of, stamp_of, tile_of, undo_of, redo_of, goto_of, clean_of, dirty_of, clear_of, status_of, undo_text_of, redo_text_of, step_text_of, command_of, line_of_words, line_of}
+use Rattle.session.specs.Spelling.{commas, spelling, IsNumber, IsCoordinate, IsBlock, CanBeSpelled, SpelledIsRead, QuietIsRead, LongIsNotRead}
+use Rattle.session.proofs.Commas.{plain_commas}
+use Rattle.session.proofs.Wording.{Plain, plain_literal, plain_number, plain_coordinate, plain_name, length-spaced}
+use Rattle.session.proofs.Reading.{number_at-decimal, coordinate_at-signed, block_at-commas, name_at-name, text_at-words, short_number, short_coordinate, read_words, read_before, read_word, read_number}
+use Rattle.session.proofs.LayersSpelled.{read_add_layer, read_remove_layer, read_rename_layer, read_show_layer, read_move_layer}
 use Rattle.session.proofs.Checked.{checked}
-
-number_at-decimal : (n : ℕ) (ws : List (List ℕ)) → IsNumber n → number_at (decimal n ∷ ws) ≡ Ok (n, ws)
-unfolding number_at
-number_at-decimal n ws h = rw (number_of-decimal n h) refl
-
-coordinate_at-signed : (z : ℤ) (ws : List (List ℕ)) → IsCoordinate z → coordinate_at (signed_decimal z ∷ ws) ≡ Ok (z, ws)
-unfolding coordinate_at
-coordinate_at-signed z ws h = rw (coordinate_of-signed z h) refl
-
-block : (width : ℕ) (values : List ℕ) → IsBlock width values → is_block width (length values) ≡ true
-block width values h = and_from _ _ (and_from _ _ (le-leb 1 width h.some) (le-leb width 4096 h.narrow)) (eq-eqb _ 0 h.rows)
-
-block_at-commas : (width : ℕ) (values : List ℕ) (ws : List (List ℕ)) → IsBlock width values → block_at width (commas values ∷ ws) ≡ Ok (values, ws)
-unfolding block_at
-block_at-commas width values ws h = rw (numbers_of-commas values h.filled h.numbers, block width values h) refl
-
-name : (bytes : List ℕ) → IsName bytes → is_name bytes ≡ true
-name bytes h =
-    and_from _ _ (and_from _ _ (and_from _ _ (and_from _ _ (le-leb 1 (length bytes) h.some) (le-leb (length bytes) 64 h.short)) (ap not (ne_eqb _ 46 h.no_dot))) (ap not (ne_eqb _ 45 h.no_dash)))
-    (list_all-from_AllPass is_name_byte bytes h.bytes)
-
-name_at-name : (bytes : List ℕ) (ws : List (List ℕ)) → IsName bytes → name_at (bytes ∷ ws) ≡ Ok (bytes, ws)
-unfolding name_at
-name_at-name bytes ws h = rw (name bytes h) refl
-
-text : (bytes : List ℕ) → IsText bytes → is_text bytes ≡ true
-text bytes h =
-    and_from _ _ (and_from _ _ (le-leb 1 (length bytes) h.some) (le-leb (length bytes) 200 h.short))
-    (list_all-from_AllPass is_text_byte bytes (λ k d l. let at = h.bytes k d l in and_from _ _ (le-leb 32 _ at.0) (ap not (ne_eqb _ 127 at.1))))
-
-text_at-words : (bytes : List ℕ) → IsText bytes → text_at (words bytes) ≡ Ok bytes
-text_at-words bytes h = rw (text_of_words bytes, text bytes h) refl
 
 tile_of-words : (layer : ℕ) (x y : ℤ) → IsNumber layer → IsCoordinate x → IsCoordinate y → tile_of (decimal layer ∷ signed_decimal x ∷ signed_decimal y ∷ []) ≡ Ok (Tile layer x y)
 unfolding tile_of ends_at
@@ -73,13 +37,6 @@ new_of-words name width height tile_width tile_height source h =
       text_at-words source h.5,
     ) refl
 
-short_number : (n : ℕ) → IsNumber n → length (decimal n) ≤ 10
-short_number n h = length-decimal-le 10 n (omega arith) (omega arith) (omega arith)
-
-short_coordinate : (z : ℤ) → IsCoordinate z → length (signed_decimal z) ≤ 11
-short_coordinate (pos n) h = let k : n < 2 ^ 32 = omega (arith, ints, h.high) in omega (arith, short_number n k)
-short_coordinate (negsuc n) h = let k : suc n < 2 ^ 32 = omega (arith, ints, h.low) in omega (arith, short_number (suc n) k)
-
 read_tile : (layer : ℕ) (x y : ℤ) → CanBeSpelled (Tile layer x y) → line_of (spelling (Tile layer x y)) ≡ Ok (Tile layer x y)
 unfolding command_of
 read_tile layer x y h =
@@ -87,8 +44,7 @@ read_tile layer x y h =
     let plain : AllByRecursion Plain (tile ∷ decimal layer ∷ signed_decimal x ∷ signed_decimal y ∷ []) = (plain_literal tile refl, (plain_number layer h.0, (plain_coordinate x h.1, (plain_coordinate y h.2, tt)))) in
     let short : length (spelling (Tile layer x y)) < 2 ^ 16 =
     omega (arith, length-spaced tile (decimal layer) (signed_decimal x ∷ signed_decimal y ∷ []), length-spaced (decimal layer) (signed_decimal x) (signed_decimal y ∷ []), length-spaced (signed_decimal x) (signed_decimal y) [], short_number layer h.0, short_coordinate x h.1, short_coordinate y h.2) in
-    checked (spelling (Tile layer x y)) short (utf8-spaced tile (decimal layer ∷ signed_decimal x ∷ signed_decimal y ∷ []) plain)
-    ∙ ap line_of_words (words-spaced tile (decimal layer ∷ signed_decimal x ∷ signed_decimal y ∷ []) plain)
+    read_words tile (decimal layer ∷ signed_decimal x ∷ signed_decimal y ∷ []) plain short
     ∙ tile_of-words layer x y h.0 h.1 h.2
 
 read_stamp : (layer : ℕ) (x y : ℤ) (width : ℕ) (values : List ℕ) → CanBeSpelled (Stamp layer x y width values) → line_of (spelling (Stamp layer x y width values)) ≡ Ok (Stamp layer x y width values)
@@ -98,8 +54,7 @@ read_stamp layer x y width values h =
     let wide : width < 2 ^ 32 = omega (arith, h.3.narrow) in
     let more = decimal layer ∷ signed_decimal x ∷ signed_decimal y ∷ decimal width ∷ commas values ∷ [] in
     let plain : AllByRecursion Plain (stamp ∷ more) = (plain_literal stamp refl, (plain_number layer h.0, (plain_coordinate x h.1, (plain_coordinate y h.2, (plain_number width wide, (plain_commas values h.3.numbers, tt)))))) in
-    checked (spelling (Stamp layer x y width values)) h.4 (utf8-spaced stamp more plain)
-    ∙ ap line_of_words (words-spaced stamp more plain)
+    read_words stamp more plain h.4
     ∙ stamp_of-words layer x y width values h.0 h.1 h.2 h.3
 
 read_new : (name : List ℕ) (width height tile_width tile_height : ℕ) (source : List ℕ) → CanBeSpelled (New name width height tile_width tile_height source) → line_of (spelling (New name width height tile_width tile_height source)) ≡ Ok (New name width height tile_width tile_height source)
@@ -124,14 +79,8 @@ read_new name width height tile_width tile_height source h =
       short_number tile_width h.3,
       short_number tile_height h.4,
     ) in
-    checked (spelling (New name width height tile_width tile_height source)) short (utf8-before new more source plain h.5.utf8)
-    ∙ ap line_of_words (words-before new more source plain)
+    read_before new more source plain h.5.utf8 short
     ∙ new_of-words name width height tile_width tile_height source h
-
-read_word : (word : List ℕ) → list_all (λ b. ltb 32 b && ltb b 128) word ≡ true → length word < 2 ^ 16 → line_of word ≡ cond (is_quiet word) (Ok Quiet) (line_of_words (word ∷ []))
-read_word word h l =
-    let plain : AllByRecursion Plain (word ∷ []) = (plain_literal word h, tt) in
-    checked word l (utf8-spaced word [] plain) ∙ ap (λ ws. cond (is_quiet word) (Ok Quiet) (line_of_words ws)) (words-spaced word [] plain)
 
 read_undo : line_of (spelling Undo) ≡ Ok Undo
 unfolding command_of undo_of ends_at
@@ -141,13 +90,66 @@ read_redo : line_of (spelling Redo) ≡ Ok Redo
 unfolding command_of redo_of ends_at
 read_redo = read_word (codes "redo") refl (lit< tt)
 
+goto_of-words : (n : ℕ) → IsNumber n → goto_of (decimal n ∷ []) ≡ Ok (Goto n)
+unfolding goto_of ends_at
+goto_of-words n h = rw (number_at-decimal n [] h) refl
+
+read_goto : (n : ℕ) → IsNumber n → line_of (spelling (Goto n)) ≡ Ok (Goto n)
+unfolding command_of
+read_goto n h = read_number (codes "goto") n refl h (omega arith) ∙ goto_of-words n h
+
+read_clean : line_of (spelling Clean) ≡ Ok Clean
+unfolding command_of clean_of ends_at
+read_clean = read_word (codes "clean") refl (lit< tt)
+
+read_dirty : line_of (spelling Dirty) ≡ Ok Dirty
+unfolding command_of dirty_of ends_at
+read_dirty = read_word (codes "dirty") refl (lit< tt)
+
+read_clear : line_of (spelling Clear) ≡ Ok Clear
+unfolding command_of clear_of ends_at
+read_clear = read_word (codes "clear") refl (lit< tt)
+
+read_status : line_of (spelling Status) ≡ Ok Status
+unfolding command_of status_of ends_at
+read_status = read_word (codes "status") refl (lit< tt)
+
+read_undo_text : line_of (spelling UndoText) ≡ Ok UndoText
+unfolding command_of undo_text_of ends_at
+read_undo_text = read_word (codes "undotext") refl (lit< tt)
+
+read_redo_text : line_of (spelling RedoText) ≡ Ok RedoText
+unfolding command_of redo_text_of ends_at
+read_redo_text = read_word (codes "redotext") refl (lit< tt)
+
+step_text_of-words : (n : ℕ) → IsNumber n → step_text_of (decimal n ∷ []) ≡ Ok (StepText n)
+unfolding step_text_of ends_at
+step_text_of-words n h = rw (number_at-decimal n [] h) refl
+
+read_step_text : (n : ℕ) → IsNumber n → line_of (spelling (StepText n)) ≡ Ok (StepText n)
+unfolding command_of
+read_step_text n h = read_number (codes "text") n refl h (omega arith) ∙ step_text_of-words n h
+
 pub spelled_is_read : SpelledIsRead
 spelled_is_read Quiet h = checked [] (lit< tt) IsUtf8-nil
 spelled_is_read (New name width height tile_width tile_height source) h = read_new name width height tile_width tile_height source h
 spelled_is_read (Stamp layer x y width values) h = read_stamp layer x y width values h
 spelled_is_read (Tile layer x y) h = read_tile layer x y h
+spelled_is_read (AddLayer kind name) h = read_add_layer kind name h
+spelled_is_read (RemoveLayer layer) h = read_remove_layer layer h
+spelled_is_read (RenameLayer layer name) h = read_rename_layer layer name h
+spelled_is_read (ShowLayer layer visible) h = read_show_layer layer visible h
+spelled_is_read (MoveLayer layer place) h = read_move_layer layer place h
 spelled_is_read Undo h = read_undo
 spelled_is_read Redo h = read_redo
+spelled_is_read (Goto index) h = read_goto index h
+spelled_is_read Clean h = read_clean
+spelled_is_read Dirty h = read_dirty
+spelled_is_read Clear h = read_clear
+spelled_is_read Status h = read_status
+spelled_is_read UndoText h = read_undo_text
+spelled_is_read RedoText h = read_redo_text
+spelled_is_read (StepText place) h = read_step_text place h
 
 pub quiet_is_read : QuietIsRead
 quiet_is_read bytes l u h = checked bytes l u ∙ ap (λ b. cond b (Ok Quiet) (line_of_words (words bytes))) h

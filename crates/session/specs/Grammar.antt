@@ -3,10 +3,11 @@ use Rattle.std.specs.Prelude.{◌≡◌, ℕ, ◌^◌, ℤ, Bool, true, not, ◌
 use Rattle.std.specs.List.{join_with_byte, list_all}
 use Rattle.std.specs.Str.{bytes_eq, is_utf8}
 use Rattle.session.specs.declared.line.Line.{Line}
-use Rattle.session.specs.declared.line.Line.TheVariants.{Quiet, New, Stamp, Tile, Undo, Redo}
+use Rattle.session.specs.declared.line.Line.TheVariants.{Quiet, New, Stamp, Tile, AddLayer, RemoveLayer, RenameLayer, ShowLayer, MoveLayer, Undo, Redo, Goto, Clean, Dirty, Clear, Status, UndoText, RedoText, StepText}
 use Rattle.session.specs.declared.line.LineFault.{LineFault}
 use Rattle.session.specs.declared.line.LineFault.TheVariants.{TooLong, NotUtf8, UnknownCommand, BadWord}
-use Rattle.session.specs.Words.{words, number_of, coordinate_of, numbers_of, is_block, is_name, is_text}
+use Rattle.map_model.specs.declared.parts.LayerKind.{LayerKind}
+use Rattle.session.specs.Words.{words, number_of, coordinate_of, numbers_of, is_block, is_name, is_text, kind_of, answer_of}
 
 infixl 10 ◌>>=◌
 abbrev pub ◌>>=◌ : {A B : Type 0} → Result A LineFault → (A → Result B LineFault) → Result B LineFault
@@ -44,6 +45,16 @@ unfoldable pub text_at : List (List ℕ) → Result (List ℕ) LineFault
 text_at [] = Err BadWord
 text_at (w ∷ ws) =
     if is_text (join_with_byte 32 (w ∷ ws)) then Ok (join_with_byte 32 (w ∷ ws)) else Err BadWord
+
+-- a kind of layer, and the words after it
+unfoldable pub kind_at : List (List ℕ) → Result (LayerKind × List (List ℕ)) LineFault
+kind_at [] = Err BadWord
+kind_at (w ∷ ws) = word_is (kind_of w) >>= λ kind. Ok (kind, ws)
+
+-- yes or no, and the words after it
+unfoldable pub answer_at : List (List ℕ) → Result (Bool × List (List ℕ)) LineFault
+answer_at [] = Err BadWord
+answer_at (w ∷ ws) = word_is (answer_of w) >>= λ answer. Ok (answer, ws)
 
 -- no further word
 unfoldable pub ends_at : List (List ℕ) → Result (Unit {0}) LineFault
@@ -86,6 +97,54 @@ tile_of ws = do
   end ← ends_at y.1
   Ok (Tile layer.0 x.0 y.0)
 
+-- kind, name
+unfoldable pub add_layer_of : List (List ℕ) → Result Line LineFault
+add_layer_of ws = do
+  kind ← kind_at ws
+  name ← text_at kind.1
+  Ok (AddLayer kind.0 name)
+
+-- layer
+unfoldable pub remove_layer_of : List (List ℕ) → Result Line LineFault
+remove_layer_of ws = do
+  layer ← number_at ws
+  end ← ends_at layer.1
+  Ok (RemoveLayer layer.0)
+
+-- layer, name
+unfoldable pub rename_layer_of : List (List ℕ) → Result Line LineFault
+rename_layer_of ws = do
+  layer ← number_at ws
+  name ← text_at layer.1
+  Ok (RenameLayer layer.0 name)
+
+-- layer, yes or no
+unfoldable pub show_layer_of : List (List ℕ) → Result Line LineFault
+show_layer_of ws = do
+  layer ← number_at ws
+  visible ← answer_at layer.1
+  end ← ends_at visible.1
+  Ok (ShowLayer layer.0 visible.0)
+
+-- layer, place
+unfoldable pub move_layer_of : List (List ℕ) → Result Line LineFault
+move_layer_of ws = do
+  layer ← number_at ws
+  place ← number_at layer.1
+  end ← ends_at place.1
+  Ok (MoveLayer layer.0 place.0)
+
+-- what is done with a layer, and the further words
+unfoldable pub layer_of : List (List ℕ) → Result Line LineFault
+layer_of [] = Err BadWord
+layer_of (w ∷ ws) =
+    if bytes_eq w (codes "add") then add_layer_of ws
+    else if bytes_eq w (codes "remove") then remove_layer_of ws
+    else if bytes_eq w (codes "rename") then rename_layer_of ws
+    else if bytes_eq w (codes "show") then show_layer_of ws
+    else if bytes_eq w (codes "move") then move_layer_of ws
+    else Err BadWord
+
 unfoldable pub undo_of : List (List ℕ) → Result Line LineFault
 undo_of ws = do
   end ← ends_at ws
@@ -96,14 +155,67 @@ redo_of ws = do
   end ← ends_at ws
   Ok Redo
 
+-- index
+unfoldable pub goto_of : List (List ℕ) → Result Line LineFault
+goto_of ws = do
+  index ← number_at ws
+  end ← ends_at index.1
+  Ok (Goto index.0)
+
+unfoldable pub clean_of : List (List ℕ) → Result Line LineFault
+clean_of ws = do
+  end ← ends_at ws
+  Ok Clean
+
+unfoldable pub dirty_of : List (List ℕ) → Result Line LineFault
+dirty_of ws = do
+  end ← ends_at ws
+  Ok Dirty
+
+unfoldable pub clear_of : List (List ℕ) → Result Line LineFault
+clear_of ws = do
+  end ← ends_at ws
+  Ok Clear
+
+unfoldable pub status_of : List (List ℕ) → Result Line LineFault
+status_of ws = do
+  end ← ends_at ws
+  Ok Status
+
+unfoldable pub undo_text_of : List (List ℕ) → Result Line LineFault
+undo_text_of ws = do
+  end ← ends_at ws
+  Ok UndoText
+
+unfoldable pub redo_text_of : List (List ℕ) → Result Line LineFault
+redo_text_of ws = do
+  end ← ends_at ws
+  Ok RedoText
+
+-- place
+unfoldable pub step_text_of : List (List ℕ) → Result Line LineFault
+step_text_of ws = do
+  place ← number_at ws
+  end ← ends_at place.1
+  Ok (StepText place.0)
+
 -- the line of a command and its further words
 unfoldable pub command_of : List ℕ → List (List ℕ) → Result Line LineFault
 command_of name ws =
     if bytes_eq name (codes "new") then new_of ws
     else if bytes_eq name (codes "stamp") then stamp_of ws
     else if bytes_eq name (codes "tile") then tile_of ws
+    else if bytes_eq name (codes "layer") then layer_of ws
     else if bytes_eq name (codes "undo") then undo_of ws
     else if bytes_eq name (codes "redo") then redo_of ws
+    else if bytes_eq name (codes "goto") then goto_of ws
+    else if bytes_eq name (codes "clean") then clean_of ws
+    else if bytes_eq name (codes "dirty") then dirty_of ws
+    else if bytes_eq name (codes "clear") then clear_of ws
+    else if bytes_eq name (codes "status") then status_of ws
+    else if bytes_eq name (codes "undotext") then undo_text_of ws
+    else if bytes_eq name (codes "redotext") then redo_text_of ws
+    else if bytes_eq name (codes "text") then step_text_of ws
     else Err UnknownCommand
 
 -- nothing, spaces alone, or a comment

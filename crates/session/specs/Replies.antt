@@ -1,10 +1,10 @@
 -- The text of each reply.
-use Rattle.std.specs.Prelude.{ℕ, ◌-◌, ◌==◌, List, [], ◌++◌, Option, None, Some, bit_and, codes, if◌then◌else◌, decimal}
+use Rattle.std.specs.Prelude.{ℕ, ◌-◌, ◌==◌, List, [], ◌∷◌, ◌++◌, Option, None, Some, bit_and, codes, if◌then◌else◌, decimal}
 use Rattle.session.specs.declared.line.LineFault.TheVariants.{TooLong, NotUtf8, UnknownCommand, BadWord}
 use Rattle.session.specs.declared.reply.Refusal.{Refusal}
-use Rattle.session.specs.declared.reply.Refusal.TheVariants.{Line, NoActiveDocument, NameTaken, NothingToUndo, NothingToRedo, NoSuchLayer, LayerOfAnotherKind, OutsideTheMap, UnknownTile, OutOfRange, NoMemory}
+use Rattle.session.specs.declared.reply.Refusal.TheVariants.{Line, NoActiveDocument, NameTaken, NothingToUndo, NothingToRedo, NoSuchLayer, LayerOfAnotherKind, OutsideTheMap, UnknownTile, OutOfRange, TooMany, NoMemory}
 use Rattle.session.specs.declared.reply.Reply.{Reply}
-use Rattle.session.specs.declared.reply.Reply.TheVariants.{State, EmptyTile, Tile, Refused}
+use Rattle.session.specs.declared.reply.Reply.TheVariants.{State, NoDocument, Text, EmptyTile, Tile, Refused}
 use Rattle.tile_id.specs.Gid.{base_of}
 
 -- a refusal's number and its words
@@ -22,6 +22,7 @@ refusal_text LayerOfAnotherKind = codes "31 layer of another kind"
 refusal_text OutsideTheMap = codes "32 outside the map"
 refusal_text UnknownTile = codes "33 unknown tile"
 refusal_text OutOfRange = codes "39 out of range"
+refusal_text TooMany = codes "40 too many"
 refusal_text NoMemory = codes "90 no memory"
 
 -- the letter where the value has the flag, and a dash where it has not
@@ -41,12 +42,16 @@ tileset_text base (Some first) = decimal first ++ codes " " ++ decimal (base - f
 
 -- what stands behind the head
 abbrev pub body_of : Reply → List ℕ
+body_of (Text text) = text
 body_of reply = []
 
 abbrev pub reply_text : Reply → List ℕ
 reply_text (State index count clean depth) =
     codes "ok " ++ decimal index ++ codes "/" ++ decimal count
     ++ (if clean then codes " clean " else codes " dirty ") ++ decimal depth
+reply_text NoDocument = codes "ok none clean"
+reply_text (Text []) = codes "text"
+reply_text (Text (b ∷ text)) = codes "text " ++ b ∷ text
 reply_text EmptyTile = codes "tile 0"
 reply_text (Tile value first) =
     codes "tile " ++ decimal value ++ codes " " ++ flags_text value ++ codes " "

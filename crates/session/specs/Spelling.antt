@@ -1,11 +1,13 @@
 -- How a line is spelled, and that this spelling is read.
-use Rattle.std.specs.Prelude.{◌≡◌, ◌≢◌, ℕ, ◌^◌, ◌%◌, ◌<◌, ◌≤◌, ℤ, pos, neg_ℤ, ◌≤ℤ◌, List, [], ◌∷◌, length, map, All, slice_index, IsTrue, Ok, Err, codes, decimal, ⊤}
+use Rattle.std.specs.Prelude.{◌≡◌, ◌≢◌, ℕ, ◌^◌, ◌%◌, ◌<◌, ◌≤◌, ℤ, pos, neg_ℤ, ◌≤ℤ◌, Bool, true, false, List, [], ◌∷◌, length, map, All, slice_index, IsTrue, Ok, Err, codes, decimal, ⊤}
 use Rattle.std.specs.List.{join_with_byte}
 use Rattle.std.specs.Fmt.{signed_decimal}
 use Rattle.std.specs.Str.{IsUtf8}
 use Rattle.session.specs.declared.line.Line.{Line}
-use Rattle.session.specs.declared.line.Line.TheVariants.{Quiet, New, Stamp, Tile, Undo, Redo}
+use Rattle.session.specs.declared.line.Line.TheVariants.{Quiet, New, Stamp, Tile, AddLayer, RemoveLayer, RenameLayer, ShowLayer, MoveLayer, Undo, Redo, Goto, Clean, Dirty, Clear, Status, UndoText, RedoText, StepText}
 use Rattle.session.specs.declared.line.LineFault.TheVariants.{TooLong}
+use Rattle.map_model.specs.declared.parts.LayerKind.{LayerKind}
+use Rattle.map_model.specs.declared.parts.LayerKind.TheVariants as kinds
 use Rattle.session.specs.Words.{reach, is_name_byte}
 use Rattle.session.specs.Grammar.{is_quiet, line_of}
 
@@ -17,6 +19,16 @@ spaced ws = join_with_byte 32 ws
 abbrev pub commas : List ℕ → List ℕ
 commas ns = join_with_byte 44 (map decimal ns)
 
+-- the word of a kind of layer
+abbrev pub kind_word : LayerKind → List ℕ
+kind_word kinds.Tile = codes "tile"
+kind_word kinds.Object = codes "object"
+
+-- the word of an answer
+abbrev pub answer_word : Bool → List ℕ
+answer_word true = codes "yes"
+answer_word false = codes "no"
+
 -- the spelling of a line; a quiet one has others too
 abbrev pub spelling : Line → List ℕ
 spelling Quiet = []
@@ -25,8 +37,22 @@ spelling (New name width height tile_width tile_height source) =
 spelling (Stamp layer x y width values) =
     spaced (codes "stamp" ∷ decimal layer ∷ signed_decimal x ∷ signed_decimal y ∷ decimal width ∷ commas values ∷ [])
 spelling (Tile layer x y) = spaced (codes "tile" ∷ decimal layer ∷ signed_decimal x ∷ signed_decimal y ∷ [])
+spelling (AddLayer kind name) = spaced (codes "layer" ∷ codes "add" ∷ kind_word kind ∷ name ∷ [])
+spelling (RemoveLayer layer) = spaced (codes "layer" ∷ codes "remove" ∷ decimal layer ∷ [])
+spelling (RenameLayer layer name) = spaced (codes "layer" ∷ codes "rename" ∷ decimal layer ∷ name ∷ [])
+spelling (ShowLayer layer visible) =
+    spaced (codes "layer" ∷ codes "show" ∷ decimal layer ∷ answer_word visible ∷ [])
+spelling (MoveLayer layer place) = spaced (codes "layer" ∷ codes "move" ∷ decimal layer ∷ decimal place ∷ [])
 spelling Undo = codes "undo"
 spelling Redo = codes "redo"
+spelling (Goto index) = spaced (codes "goto" ∷ decimal index ∷ [])
+spelling Clean = codes "clean"
+spelling Dirty = codes "dirty"
+spelling Clear = codes "clear"
+spelling Status = codes "status"
+spelling UndoText = codes "undotext"
+spelling RedoText = codes "redotext"
+spelling (StepText place) = spaced (codes "text" ∷ decimal place ∷ [])
 
 -- a number that a word can be
 abbrev pub IsNumber : ℕ → Type 0
@@ -69,8 +95,21 @@ CanBeSpelled (Stamp layer x y width values) =
     IsNumber layer × IsCoordinate x × IsCoordinate y × IsBlock width values
     × (length (spelling (Stamp layer x y width values)) < 2 ^ 16)
 CanBeSpelled (Tile layer x y) = IsNumber layer × IsCoordinate x × IsCoordinate y
+CanBeSpelled (AddLayer kind name) = IsText name
+CanBeSpelled (RemoveLayer layer) = IsNumber layer
+CanBeSpelled (RenameLayer layer name) = IsNumber layer × IsText name
+CanBeSpelled (ShowLayer layer visible) = IsNumber layer
+CanBeSpelled (MoveLayer layer place) = IsNumber layer × IsNumber place
 CanBeSpelled Undo = ⊤
 CanBeSpelled Redo = ⊤
+CanBeSpelled (Goto index) = IsNumber index
+CanBeSpelled Clean = ⊤
+CanBeSpelled Dirty = ⊤
+CanBeSpelled Clear = ⊤
+CanBeSpelled Status = ⊤
+CanBeSpelled UndoText = ⊤
+CanBeSpelled RedoText = ⊤
+CanBeSpelled (StepText place) = IsNumber place
 
 -- the bytes say the line: they are its spelling, and for a quiet line nothing, spaces alone or a comment
 abbrev pub Says : List ℕ → Line → Type 0

@@ -1,10 +1,13 @@
 -- The words of a line, and what a word can be.
-use Rattle.std.specs.Prelude.{ℕ, ◌+◌, ◌%◌, ◌^◌, Bool, not, ◌&&◌, ◌||◌, ◌==◌, nat_lt, nat_le, List, [], ◌∷◌, length, Option, None, Some, ℤ, pos, negsuc, zero, suc, option_and_then, slice_index, if◌then◌else◌}
+use Rattle.std.specs.Prelude.{ℕ, ◌+◌, ◌%◌, ◌^◌, Bool, true, false, not, ◌&&◌, ◌||◌, ◌==◌, nat_lt, nat_le, List, [], ◌∷◌, length, Option, None, Some, ℤ, pos, negsuc, zero, suc, option_and_then, slice_index, codes, if◌then◌else◌}
 use Rattle.std.specs.Option.{option_map}
 use Rattle.std.specs.Borrow.{Bor}
 use Rattle.std.specs.List.{slice_split, list_all}
 use Rattle.std.specs.Char.{is_ascii_digit, is_ascii_alphanumeric}
+use Rattle.std.specs.Str.{bytes_eq}
 use Rattle.std.specs.Str.Parse.{digits_value}
+use Rattle.map_model.specs.declared.parts.LayerKind.{LayerKind}
+use Rattle.map_model.specs.declared.parts.LayerKind.TheVariants as kinds
 
 -- the words of a text stand between its spaces
 abbrev pub words : List ℕ → List (List ℕ)
@@ -77,6 +80,20 @@ is_text bytes = nat_le 1 (length bytes) && nat_le (length bytes) 200 && list_all
 abbrev pub pieces_left : ℕ → Option (Bor (List ℕ)) → List (List ℕ)
 pieces_left separator None = []
 pieces_left separator (Some text) = slice_split (λ b. b == separator) text.now
+
+-- the kind of layer that a word is
+abbrev pub kind_of : List ℕ → Option LayerKind
+kind_of word =
+    if bytes_eq word (codes "tile") then Some kinds.Tile
+    else if bytes_eq word (codes "object") then Some kinds.Object
+    else None
+
+-- the answer that a word is
+abbrev pub answer_of : List ℕ → Option Bool
+answer_of word =
+    if bytes_eq word (codes "yes") then Some true
+    else if bytes_eq word (codes "no") then Some false
+    else None
 
 -- the words of what is left of a line
 abbrev pub words_left : Option (Bor (List ℕ)) → List (List ℕ)

@@ -1,7 +1,9 @@
 //! The lines of a session, and the replies to them: what each line says, and how each reply reads.
 #![tactic(auto)]
 
+mod fields;
 mod gids;
+mod layer_lines;
 mod line;
 mod parse;
 mod reply;

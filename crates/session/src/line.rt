@@ -1,5 +1,6 @@
 use crate::gids::Gids;
 use crate::text::Text;
+use map_model::LayerKind;
 
 /// What a line asks for. Its texts and values are borrowed from the line.
 #[derive(Drop)]
@@ -29,8 +30,52 @@ pub enum Line<'a> {
         x: i32,
         y: i32,
     },
+    /// A new layer of that kind and with that name.
+    AddLayer {
+        kind: LayerKind,
+        name: Text<'a>,
+    },
+    /// The layer is taken out of the map.
+    RemoveLayer {
+        layer: u32,
+    },
+    /// The layer gets that name.
+    RenameLayer {
+        layer: u32,
+        name: Text<'a>,
+    },
+    /// The layer is shown, or it is hidden.
+    ShowLayer {
+        layer: u32,
+        visible: bool,
+    },
+    /// The layer goes to that place among the layers, where the first one is at 0.
+    MoveLayer {
+        layer: u32,
+        place: u32,
+    },
     Undo,
     Redo,
+    /// The state at that index of the undo stack.
+    Goto {
+        index: u32,
+    },
+    /// The index is the clean one.
+    Clean,
+    /// No index is the clean one.
+    Dirty,
+    /// The undo stack lets go of its steps.
+    Clear,
+    /// How the active document stands.
+    Status,
+    /// The text of the step that an undo turns back.
+    UndoText,
+    /// The text of the step that a redo makes again.
+    RedoText,
+    /// The text of the step at that place, where the first one is at 0.
+    StepText {
+        place: u32,
+    },
 }
 
 /// Why a line says nothing.

@@ -1,114 +1,18 @@
-ghost use Rattle.session.specs.Grammar.{Gives, number_at, coordinate_at, block_at, name_at, text_at, ends_at, new_of, stamp_of, tile_of, undo_of, redo_of, command_of, is_quiet, line_of};
+ghost use Rattle.session.specs.Grammar.{Gives, new_of, stamp_of, tile_of, undo_of, redo_of, goto_of, clean_of, dirty_of, clear_of, status_of, undo_text_of, redo_text_of, step_text_of, command_of, is_quiet, line_of};
 ghost use Rattle.session.specs.Spelling.{Says, CanBeSpelled};
 ghost use Rattle.std.specs.Prelude.{◌≡◌, ◌==◌, IfOk};
 ghost use Rattle.std.specs.List.{list_all};
-ghost use Rattle.session.specs.Words.{words_left, is_block};
+ghost use Rattle.session.specs.Words.{words_left};
 
-use crate::gids::Gids;
+use crate::fields::{
+    block_field, coordinate_field, end_field, name_field, number_field, text_field,
+};
+use crate::layer_lines::layer;
 use crate::line::{Line, LineFault};
-use crate::text::Text;
-use crate::words::{coordinate, cut, is_name_word, is_text_here, number};
+use crate::words::cut;
 
 /// A line with so many bytes is too long.
 const LIMIT: usize = 65_536;
-
-/// The width of the widest block.
-const WIDTH_LIMIT: u32 = 4_096;
-
-#[tactic(auto, unfolding(crate::specs::Grammar::number_at))]
-fn number_field<'a>(rest: Option<&'a str>) -> Result<(u32, Option<&'a str>), LineFault>
-    ensures { Gives (λ x. (x.0, words_left x.1)) result (number_at (words_left rest.entry)) }
-{
-    let Some(rest) = rest else {
-        return Err(LineFault::BadWord);
-    };
-    let (word, rest) = cut(rest, ' ');
-    match number(word) {
-        Some(n) => Ok((n, rest)),
-        None => Err(LineFault::BadWord),
-    }
-}
-
-#[tactic(auto, unfolding(crate::specs::Grammar::coordinate_at))]
-fn coordinate_field<'a>(rest: Option<&'a str>) -> Result<(i32, Option<&'a str>), LineFault>
-    ensures { Gives (λ x. (x.0, words_left x.1)) result (coordinate_at (words_left rest.entry)) }
-{
-    let Some(rest) = rest else {
-        return Err(LineFault::BadWord);
-    };
-    let (word, rest) = cut(rest, ' ');
-    match coordinate(word) {
-        Some(z) => Ok((z, rest)),
-        None => Err(LineFault::BadWord),
-    }
-}
-
-/// Whether so many values are the rows of a block of that width.
-fn is_block_of(width: u32, count: usize) -> bool
-    ensures { result ≡ is_block width count }
-{
-    if width == 0 || width > WIDTH_LIMIT {
-        return false;
-    }
-    count % width as usize == 0
-}
-
-#[tactic(auto, unfolding(crate::specs::Grammar::block_at))]
-fn block_field<'a>(
-    width: u32,
-    rest: Option<&'a str>,
-) -> Result<(Gids<'a>, Option<&'a str>), LineFault>
-    ensures { Gives (λ x. (x.0, words_left x.1)) result (block_at width (words_left rest.entry)) }
-{
-    let Some(rest) = rest else {
-        return Err(LineFault::BadWord);
-    };
-    let (word, rest) = cut(rest, ' ');
-    let Some(values) = Gids::of_word(word) else {
-        return Err(LineFault::BadWord);
-    };
-    if !is_block_of(width, values.len()) {
-        return Err(LineFault::BadWord);
-    }
-    Ok((values, rest))
-}
-
-#[tactic(auto, unfolding(crate::specs::Grammar::name_at))]
-fn name_field<'a>(rest: Option<&'a str>) -> Result<(Text<'a>, Option<&'a str>), LineFault>
-    ensures { Gives (λ x. (x.0, words_left x.1)) result (name_at (words_left rest.entry)) }
-{
-    let Some(rest) = rest else {
-        return Err(LineFault::BadWord);
-    };
-    let (word, rest) = cut(rest, ' ');
-    if !is_name_word(word.as_bytes()) {
-        return Err(LineFault::BadWord);
-    }
-    Ok((Text::new(word), rest))
-}
-
-/// The text that is left.
-fn text_field<'a>(rest: Option<&'a str>) -> Result<Text<'a>, LineFault>
-    ensures { Gives (λ x. x) result (text_at (words_left rest.entry)) }
-{
-    let Some(text) = rest else {
-        return Err(LineFault::BadWord);
-    };
-    if !is_text_here(text.as_bytes()) {
-        return Err(LineFault::BadWord);
-    }
-    Ok(Text::new(text))
-}
-
-#[tactic(auto, unfolding(crate::specs::Grammar::ends_at))]
-fn end_field(rest: Option<&str>) -> Result<(), LineFault>
-    ensures { Gives (λ x. x) result (ends_at (words_left rest.entry)) }
-{
-    match rest {
-        Some(_) => Err(LineFault::BadWord),
-        None => Ok(()),
-    }
-}
 
 #[tactic(auto, unfolding(crate::specs::Grammar::new_of))]
 fn new<'a>(rest: Option<&'a str>) -> Result<Line<'a>, LineFault>
@@ -176,6 +80,72 @@ fn redo<'a>(rest: Option<&'a str>) -> Result<Line<'a>, LineFault>
     Ok(Line::Redo)
 }
 
+#[tactic(auto, unfolding(crate::specs::Grammar::goto_of))]
+fn goto<'a>(rest: Option<&'a str>) -> Result<Line<'a>, LineFault>
+    ensures { Gives (λ x. x) result (goto_of (words_left rest.entry)) }
+{
+    let (index, rest) = number_field(rest)?;
+    end_field(rest)?;
+    Ok(Line::Goto { index })
+}
+
+#[tactic(auto, unfolding(crate::specs::Grammar::clean_of))]
+fn clean<'a>(rest: Option<&'a str>) -> Result<Line<'a>, LineFault>
+    ensures { Gives (λ x. x) result (clean_of (words_left rest.entry)) }
+{
+    end_field(rest)?;
+    Ok(Line::Clean)
+}
+
+#[tactic(auto, unfolding(crate::specs::Grammar::dirty_of))]
+fn dirty<'a>(rest: Option<&'a str>) -> Result<Line<'a>, LineFault>
+    ensures { Gives (λ x. x) result (dirty_of (words_left rest.entry)) }
+{
+    end_field(rest)?;
+    Ok(Line::Dirty)
+}
+
+#[tactic(auto, unfolding(crate::specs::Grammar::clear_of))]
+fn clear<'a>(rest: Option<&'a str>) -> Result<Line<'a>, LineFault>
+    ensures { Gives (λ x. x) result (clear_of (words_left rest.entry)) }
+{
+    end_field(rest)?;
+    Ok(Line::Clear)
+}
+
+#[tactic(auto, unfolding(crate::specs::Grammar::status_of))]
+fn status<'a>(rest: Option<&'a str>) -> Result<Line<'a>, LineFault>
+    ensures { Gives (λ x. x) result (status_of (words_left rest.entry)) }
+{
+    end_field(rest)?;
+    Ok(Line::Status)
+}
+
+#[tactic(auto, unfolding(crate::specs::Grammar::undo_text_of))]
+fn undo_text<'a>(rest: Option<&'a str>) -> Result<Line<'a>, LineFault>
+    ensures { Gives (λ x. x) result (undo_text_of (words_left rest.entry)) }
+{
+    end_field(rest)?;
+    Ok(Line::UndoText)
+}
+
+#[tactic(auto, unfolding(crate::specs::Grammar::redo_text_of))]
+fn redo_text<'a>(rest: Option<&'a str>) -> Result<Line<'a>, LineFault>
+    ensures { Gives (λ x. x) result (redo_text_of (words_left rest.entry)) }
+{
+    end_field(rest)?;
+    Ok(Line::RedoText)
+}
+
+#[tactic(auto, unfolding(crate::specs::Grammar::step_text_of))]
+fn step_text<'a>(rest: Option<&'a str>) -> Result<Line<'a>, LineFault>
+    ensures { Gives (λ x. x) result (step_text_of (words_left rest.entry)) }
+{
+    let (place, rest) = number_field(rest)?;
+    end_field(rest)?;
+    Ok(Line::StepText { place })
+}
+
 #[tactic(auto, unfolding(crate::specs::Grammar::command_of))]
 fn command<'a>(name: &str, rest: Option<&'a str>) -> Result<Line<'a>, LineFault>
     ensures { Gives (λ x. x) result (command_of name.now (words_left rest.entry)) }
@@ -184,8 +154,17 @@ fn command<'a>(name: &str, rest: Option<&'a str>) -> Result<Line<'a>, LineFault>
         "new" => new(rest),
         "stamp" => stamp(rest),
         "tile" => tile(rest),
+        "layer" => layer(rest),
         "undo" => undo(rest),
         "redo" => redo(rest),
+        "goto" => goto(rest),
+        "clean" => clean(rest),
+        "dirty" => dirty(rest),
+        "clear" => clear(rest),
+        "status" => status(rest),
+        "undotext" => undo_text(rest),
+        "redotext" => redo_text(rest),
+        "text" => step_text(rest),
         _ => Err(LineFault::UnknownCommand),
     }
 }

@@ -5,6 +5,7 @@ ghost use Rattle.session.specs.Replies.{body_of, reply_text, refusal_text, flag_
 use crate::line::LineFault;
 use arrayvec::ArrayString;
 use itoa::Buffer;
+use map_model::MapText;
 use tile_id::Gid;
 
 /// Why a line changed nothing.
@@ -21,11 +22,12 @@ pub enum Refusal {
     OutsideTheMap,
     UnknownTile,
     OutOfRange,
+    TooMany,
     NoMemory,
 }
 
 /// What is answered to a line.
-#[derive(Debug, PartialEq, Eq, Drop)]
+#[derive(Drop)]
 pub enum Reply {
     /// The state of the active document after an accepted line.
     State {
@@ -34,6 +36,10 @@ pub enum Reply {
         is_clean: bool,
         depth: u64,
     },
+    /// No document is active after an accepted line.
+    NoDocument,
+    /// A text that was asked for.
+    Text(MapText),
     /// The cell is empty.
     EmptyTile,
     /// The cell's value, and the first id of the tileset that has it, which is not above the value's base.
@@ -62,6 +68,7 @@ fn refusal_words(refusal: Refusal) -> &'static str
         Refusal::OutsideTheMap => "32 outside the map",
         Refusal::UnknownTile => "33 unknown tile",
         Refusal::OutOfRange => "39 out of range",
+        Refusal::TooMany => "40 too many",
         Refusal::NoMemory => "90 no memory",
     }
 }
@@ -135,6 +142,18 @@ fn push_tile(head: &mut ArrayString<512>, value: Gid, first: Option<u32>)
     push_tileset(head, value.base(), first);
 }
 
+/// Writes what stands in front of a text: the word alone, where the text is empty.
+fn push_text_word(head: &mut ArrayString<512>, text: &str)
+    requires { head.old.bytes ≡ [] }
+    ensures value { head.new.bytes ++ text.now ≡ reply_text (Reply.Text text.now) }
+    ensures size { array_string_len head.new ≤ 100 }
+{
+    head.push_str("text");
+    if !text.is_empty() {
+        head.push_str(" ");
+    }
+}
+
 impl Reply {
     /// Writes the reply's head, a text without a newline.
     pub fn write_into(&self, head: &mut ArrayString<512>)
@@ -149,6 +168,8 @@ impl Reply {
                 is_clean,
                 depth,
             } => push_state(head, *index, *count, *is_clean, *depth),
+            Reply::NoDocument => head.push_str("ok none clean"),
+            Reply::Text(text) => push_text_word(head, text.as_str()),
             Reply::EmptyTile => head.push_str("tile 0"),
             Reply::Tile { value, first } => push_tile(head, *value, *first),
             Reply::Refused(refusal) => {
@@ -158,10 +179,13 @@ impl Reply {
         }
     }
 
-    /// What follows the head: nothing, for these replies.
+    /// What follows the head: a text that was asked for, and nothing for the other replies.
     pub fn body(&self) -> &[u8]
         ensures { result.now ≡ body_of self.now }
     {
-        &[]
+        match self {
+            Reply::Text(text) => text.as_str().as_bytes(),
+            _ => &[],
+        }
     }
 }

@@ -12,7 +12,7 @@ use Rattle.command_api.specs.Law.{Change}
 use Rattle.undo_stack.specs.History.{History, Step, current}
 use Rattle.undo_stack.specs.Pushing.{step_of}
 use Rattle.session.specs.declared.line.Line.{Line}
-use Rattle.session.specs.declared.line.Line.TheVariants.{Quiet, New, Stamp, Tile, Undo, Redo}
+use Rattle.session.specs.declared.line.Line.TheVariants.{Stamp, AddLayer, RemoveLayer, RenameLayer, ShowLayer, MoveLayer}
 use Rattle.session.specs.declared.line.LineFault.{LineFault}
 use Rattle.session.specs.declared.line.LineFault.TheVariants.{TooLong}
 use Rattle.session.specs.declared.reply.Refusal.{Refusal}
@@ -24,7 +24,7 @@ use Rattle.editor.specs.declared.editor.Editor.{Editor}
 use Rattle.editor.specs.declared.planned.Edit.{Edit}
 use Rattle.editor.specs.declared.planned.Planned.TheVariants as planned
 use Rattle.editor.specs.Editors.{machine_of, IsSound}
-use Rattle.editor.specs.Machine.{Machine, StepOfBytes, StepOf, StepOfLine, Refuses, EditLine, EditStep, edit_answer}
+use Rattle.editor.specs.Machine.{Machine, StepOfBytes, StepOf, StepOfLine, Refuses, EditLine, EditStep, EditsOpen, edit_answer}
 use Rattle.editor.specs.Planning.{Plans, IsEditOf, Commits, edit_change}
 use Rattle.tile_editor.specs.Runs.{start, Run, Told, Goes, PlansRead, PlansFound, StepFound, Partly, RunsAll, RunsToRead, RunsToWrite, output, reply_line}
 use Rattle.tile_editor.proofs.Appending.{appends_more, appends_nothing}
@@ -203,18 +203,23 @@ EditLine-commit : (answer : Option (Result Step Refusal)) (h : History) (c : Cha
 EditLine-commit answer h c reply old new e (inl p) = let P : Option (Result Step Refusal) → Type 0 = λ a. EditLine a h old (Some reply) new in subst P (sym e) (inl p)
 EditLine-commit answer h c reply old new e (inr p) = let P : Option (Result Step Refusal) → Type 0 = λ a. EditLine a h old (Some reply) new in subst P (sym e) (inr p)
 
+edit_committed : (line : Line) (h : History) (old new : Machine) (c : Change) (reply : Reply) → old ≡ record { open_document = Some h } → edit_answer line (current h) ≡ Some (Ok (step_of c (current h)))
+    → Commits (Some h) c reply old new → EditsOpen line old (Some reply) new
+edit_committed line h old new c reply e a p =
+    let P : Machine → Type 0 = λ m. EditsOpen line m (Some reply) new in
+    let Q : Machine → Type 0 = λ m. Commits (Some h) c reply m new in
+    subst P (sym e) (EditLine-commit _ h c reply (record { open_document = Some h }) new a (subst Q e p))
+
 -- only an edit's line is planned as an edit
 commit_line : (line : Line) (h : History) (old new : Machine) (c : Change) (reply : Reply) → old ≡ record { open_document = Some h } → edit_answer line (current h) ≡ Some (Ok (step_of c (current h)))
     → Commits (Some h) c reply old new → StepOfLine line old (Some reply) new
-commit_line Quiet h old new c reply e a p = cc
-commit_line (New name width height tile_width tile_height source) h old new c reply e a p = cc
-commit_line (Stamp layer x y width values) h old new c reply e a p =
-    let P : Machine → Type 0 = λ m. StepOfLine (Stamp layer x y width values) m (Some reply) new in
-    let Q : Machine → Type 0 = λ m. Commits (Some h) c reply m new in
-    subst P (sym e) (EditLine-commit _ h c reply (record { open_document = Some h }) new a (subst Q e p))
-commit_line (Tile layer x y) h old new c reply e a p = cc
-commit_line Undo h old new c reply e a p = cc
-commit_line Redo h old new c reply e a p = cc
+commit_line (Stamp layer x y width values) h old new c reply e a p = edit_committed (Stamp layer x y width values) h old new c reply e a p
+commit_line (AddLayer kind name) h old new c reply e a p = edit_committed (AddLayer kind name) h old new c reply e a p
+commit_line (RemoveLayer layer) h old new c reply e a p = edit_committed (RemoveLayer layer) h old new c reply e a p
+commit_line (RenameLayer layer name) h old new c reply e a p = edit_committed (RenameLayer layer name) h old new c reply e a p
+commit_line (ShowLayer layer visible) h old new c reply e a p = edit_committed (ShowLayer layer visible) h old new c reply e a p
+commit_line (MoveLayer layer place) h old new c reply e a p = edit_committed (MoveLayer layer place) h old new c reply e a p
+commit_line line h old new c reply e a p = cc
 
 commit_open : (line : Line) (open_document : Option History) (new : Machine) (c : Change) (reply : Reply) → IsEditOf line open_document c
     → Commits open_document c reply (record { open_document = open_document }) new → StepOfLine line (record { open_document = open_document }) (Some reply) new

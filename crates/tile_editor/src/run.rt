@@ -8,7 +8,6 @@ use crate::writing::{flush_if, write_reply};
 use command_api::Command;
 use editor::{Edit, Editor, Planned};
 use lines::{Found, LineReader};
-use paint_commands::PaintCommand;
 use session::{LineFault, Refusal, Reply, parse_line};
 use std::alloc::Global;
 use std::io::{Read, Write};
@@ -56,20 +55,21 @@ fn plan_found<C: Command>(
     }
 }
 
-// The command of a planned edit.
-fn command_of(edit: Edit) -> PaintCommand
-    ensures { edit ≡ Edit.Paint result }
-{
-    match edit {
-        Edit::Paint(command) => command,
-    }
-}
-
 // A command in a box, where there is memory.
 fn boxed<K: Command>(alloc: Global, command: K) -> Option<Box<K>>
     ensures { IfSome result (λ b. b.value ≡ command) }
 {
     Box::new(alloc, command).ok()
+}
+
+// The reply to a planned edit, whose command is put into a box and committed.
+macro_rules! committed {
+    ($editor:ident, $alloc:ident, $command:ident) => {
+        match boxed($alloc, $command) {
+            Some(command) => $editor.commit(command),
+            None => Reply::Refused(Refusal::NoMemory),
+        }
+    };
 }
 
 /// Reads session lines to the end of the input, and writes a reply to each but the quiet ones.
@@ -123,12 +123,14 @@ pub fn run<R: Read, W: Write>(
         let reply = match plan_found(alloc, &mut editor, found, lines.line()) {
             Planned::Quiet => continue 'session,
             Planned::Reply(reply) => reply,
-            Planned::Push(edit) => match boxed(alloc, command_of(edit)) {
-                Some(command) => editor.commit(command),
-                None => Reply::Refused(Refusal::NoMemory),
-            },
+            Planned::Push(Edit::Paint(command)) => committed!(editor, alloc, command),
+            Planned::Push(Edit::AddLayer(command)) => committed!(editor, alloc, command),
+            Planned::Push(Edit::RemoveLayer(command)) => committed!(editor, alloc, command),
+            Planned::Push(Edit::RenameLayer(command)) => committed!(editor, alloc, command),
+            Planned::Push(Edit::ShowLayer(command)) => committed!(editor, alloc, command),
+            Planned::Push(Edit::MoveLayer(command)) => committed!(editor, alloc, command),
         };
-        if write_reply(writer, &reply).is_err() {
+        if write_reply(writer, reply).is_err() {
             return Err(RunFault::Write);
         }
         replies += 1;

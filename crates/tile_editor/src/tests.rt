@@ -1,5 +1,6 @@
 use crate::run::{RunFault, Summary, run};
 use std::alloc::{AllocError, Global};
+use std::cell::Cell;
 use std::io;
 use std::io::{BufWriter, Read, Write};
 use std::test::Fail;
@@ -670,6 +671,76 @@ fn flush_faults_come_behind_whole_replies(rt: HostRuntime) -> Result<(), Fail> {
         // The last flush is behind all replies.
         assert!(rt; 2 <= faults && faults < 100, "by {step}");
         assert_eq!(rt; taken, script.replies.len(), "by {step}");
+    }
+    Ok(())
+}
+
+/// Counts the bytes that it takes, and shows how many of them it had taken at its last flush.
+#[derive(Drop)]
+struct Counter<'a> {
+    bytes: usize,
+    flushed: &'a Cell<usize>,
+}
+
+impl<'a> Write for Counter<'a> {
+    fn write(&mut self, buf: &[u8]) -> io::Result<usize> {
+        self.bytes = self.bytes.saturating_add(buf.len());
+        Ok(buf.len())
+    }
+
+    fn flush(&mut self) -> io::Result<()> {
+        self.flushed.set(self.bytes);
+        Ok(())
+    }
+}
+
+/// A source that notes, as each read begins, what the counter shows.
+#[derive(Drop)]
+struct Onlooker<'a> {
+    source: Source<'a>,
+    flushed: &'a Cell<usize>,
+    seen: Vec<usize>,
+}
+
+impl<'a> Read for Onlooker<'a> {
+    fn read(&mut self, buf: &mut [u8]) -> io::Result<usize> {
+        self.seen.push(self.flushed.get())?;
+        self.source.read(buf)
+    }
+}
+
+#[test]
+fn each_read_finds_all_replies_flushed(rt: HostRuntime) -> Result<(), Fail> {
+    let alloc = rt.alloc();
+    let script = read_script(alloc, ROW_1)?;
+    let bytes = script.session.as_bytes();
+    for step in [1, 7, 65_536] {
+        // The replies to all lines that were given whole are due.
+        let mut due = Vec::new(alloc);
+        for read in 0..=bytes.len().div_ceil(step) {
+            let given = bytes.iter().take(read.saturating_mul(step));
+            let lines = given.filter(|byte| **byte == b'\n').count();
+            due.push(first_replies(&script.replies, lines).len())?;
+        }
+        for has_buffer in [false, true] {
+            let flushed = &Cell::new(0);
+            let mut reader = Onlooker {
+                source: Source {
+                    bytes,
+                    step,
+                    calls_left: MANY,
+                },
+                flushed,
+                seen: Vec::new(alloc),
+            };
+            let mut writer = Counter { bytes: 0, flushed };
+            if has_buffer {
+                run(alloc, &mut reader, &mut BufWriter::new(alloc, writer)?)?;
+            } else {
+                run(alloc, &mut reader, &mut writer)?;
+            }
+            assert_eq!(rt; reader.seen.as_slice(), due.as_slice(), "by {step}");
+        }
     }
     Ok(())
 }

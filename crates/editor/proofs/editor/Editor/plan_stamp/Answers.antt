@@ -19,5 +19,8 @@ returns-in-Ok-stamp-clause-plans g c =
 
 pub returns-in-Ok-stamp-clause-fits : goal.returns-in-Ok-stamp-clause-fits
 returns-in-Ok-stamp-clause-fits g c =
-    stamp-FitsOpen _ (history g.C.Command.change c.in-Some.stack) c.document.result.now c.args.layer _ _
-    (ap (option_map (history g.C.Command.change)) c.in-Some.is) c.document.ensures c.in-Ok-stamp.ensures.command
+    let x : SFits w32 c.args.x = search rules in
+    let y : SFits w32 c.args.y = search rules in
+    let command = rw (c.as_slice.ensures.value, c.in-Ok.ensures, to_z-of_z w32 c.args.x x, to_z-of_z w32 c.args.y y) at c.in-Ok-stamp.ensures.command in
+    stamp-FitsOpen _ (history g.C.Command.change c.in-Some.stack) c.document.result.now c.args.layer
+    (record { x = c.args.x; y = c.args.y; width = c.args.width; values = c.args.values.now }) _ (ap (option_map (history g.C.Command.change)) c.in-Some.is) c.document.ensures command

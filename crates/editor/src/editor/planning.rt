@@ -1,0 +1,148 @@
+// The lines that are edits: each plans its command, and changes nothing.
+ghost use Rattle.std.specs.Prelude.{◌≡◌, ◌<◌, ◌^◌, IfOk, length};
+ghost use Rattle.session.specs.Spelling.{IsBlock};
+ghost use Rattle.session.specs.declared.line.Line.TheVariants as lines;
+ghost use Rattle.editor.specs.Editors.{machine_of, IsSound};
+ghost use Rattle.editor.specs.Machine.{refusal_of_edit};
+ghost use Rattle.editor.specs.Planning.{FitsPlan, Plans, refused};
+
+use crate::editor::Editor;
+use crate::planned::{Edit, Planned};
+use crate::refusal;
+use command_api::Command;
+use edits::{Block, EditFault};
+use layer_commands::{AddLayer, MoveLayer, RemoveLayer, RenameLayer, ShowLayer};
+use map_model::LayerKind;
+use paint_commands::PaintCommand;
+use session::{Gids, Refusal, Reply, Text};
+use std::alloc::{AllocError, Global};
+use tile_id::Gid;
+
+// The values of a line, one after another, for which room is taken once.
+fn collected(alloc: Global, values: &Gids<'_>) -> Result<Vec<Gid>, AllocError>
+    ensures { IfOk result (λ v. v.items ≡ values.now) }
+{
+    let mut collected = Vec::with_capacity(alloc, values.len())?;
+    for value in values.values() {
+        collected.push(value)?;
+    }
+    Ok(collected)
+}
+
+// The plan of a line that is refused.
+fn refused(refusal: Refusal) -> Planned
+    ensures { result ≡ refused refusal }
+{
+    Planned::Reply(Reply::Refused(refusal))
+}
+
+impl<C: Command> Editor<C> {
+    // Plans a stamp on the open document.
+    pub fn plan_stamp(
+        &self,
+        alloc: Global,
+        layer: u32,
+        x: i32,
+        y: i32,
+        width: u32,
+        values: &Gids<'_>,
+    ) -> Planned
+        requires sound { IsSound C.change self.now }
+        requires block { IsBlock width values.now }
+        requires few { length values.now < 2 ^ 32 }
+        ensures plans { Plans (lines.Stamp layer x y width values.now) (machine_of C.change self.now) result (machine_of C.change self.now) }
+        ensures fits { FitsPlan (machine_of C.change self.now) result }
+    {
+        let Some(stack) = &self.stack else {
+            return refused(Refusal::NoActiveDocument);
+        };
+        let Ok(values) = collected(alloc, values) else {
+            return refused(Refusal::NoMemory);
+        };
+        let block = Block {
+            x,
+            y,
+            width,
+            values: values.as_slice(),
+        };
+        match PaintCommand::stamp(alloc, stack.document(), layer, &block, false) {
+            Ok(command) => Planned::Push(Edit::Paint(command)),
+            Err(fault) => refused(refusal::of_edit(fault)),
+        }
+    }
+
+    // Plans a layer more.
+    pub fn plan_add_layer(&self, alloc: Global, kind: LayerKind, name: &Text<'_>) -> Planned
+        requires { IsSound C.change self.now }
+        ensures plans { Plans (lines.AddLayer kind name.now) (machine_of C.change self.now) result (machine_of C.change self.now) }
+        ensures fits { FitsPlan (machine_of C.change self.now) result }
+    {
+        let Some(stack) = &self.stack else {
+            return refused(Refusal::NoActiveDocument);
+        };
+        match AddLayer::new(alloc, stack.document(), kind, name.as_str()) {
+            Ok(command) => Planned::Push(Edit::AddLayer(command)),
+            Err(fault) => refused(refusal::of_edit(fault)),
+        }
+    }
+
+    // Plans a layer less.
+    pub fn plan_remove_layer(&self, layer: u32) -> Planned
+        requires { IsSound C.change self.now }
+        ensures plans { Plans (lines.RemoveLayer layer) (machine_of C.change self.now) result (machine_of C.change self.now) }
+        ensures fits { FitsPlan (machine_of C.change self.now) result }
+    {
+        let Some(stack) = &self.stack else {
+            return refused(Refusal::NoActiveDocument);
+        };
+        match RemoveLayer::new(stack.document(), layer) {
+            Ok(command) => Planned::Push(Edit::RemoveLayer(command)),
+            Err(fault) => refused(refusal::of_edit(fault)),
+        }
+    }
+
+    // Plans another name for a layer.
+    pub fn plan_rename_layer(&self, alloc: Global, layer: u32, name: &Text<'_>) -> Planned
+        requires { IsSound C.change self.now }
+        ensures plans { Plans (lines.RenameLayer layer name.now) (machine_of C.change self.now) result (machine_of C.change self.now) }
+        ensures fits { FitsPlan (machine_of C.change self.now) result }
+    {
+        let Some(stack) = &self.stack else {
+            return refused(Refusal::NoActiveDocument);
+        };
+        match RenameLayer::new(alloc, stack.document(), layer, name.as_str()) {
+            Ok(command) => Planned::Push(Edit::RenameLayer(command)),
+            Err(fault) => refused(refusal::of_edit(fault)),
+        }
+    }
+
+    // Plans a layer that is shown or hidden.
+    pub fn plan_show_layer(&self, layer: u32, visible: bool) -> Planned
+        requires { IsSound C.change self.now }
+        ensures plans { Plans (lines.ShowLayer layer visible) (machine_of C.change self.now) result (machine_of C.change self.now) }
+        ensures fits { FitsPlan (machine_of C.change self.now) result }
+    {
+        let Some(stack) = &self.stack else {
+            return refused(Refusal::NoActiveDocument);
+        };
+        match ShowLayer::new(stack.document(), layer, visible) {
+            Ok(command) => Planned::Push(Edit::ShowLayer(command)),
+            Err(fault) => refused(refusal::of_edit(fault)),
+        }
+    }
+
+    // Plans a layer at another place.
+    pub fn plan_move_layer(&self, layer: u32, place: u32) -> Planned
+        requires { IsSound C.change self.now }
+        ensures plans { Plans (lines.MoveLayer layer place) (machine_of C.change self.now) result (machine_of C.change self.now) }
+        ensures fits { FitsPlan (machine_of C.change self.now) result }
+    {
+        let Some(stack) = &self.stack else {
+            return refused(Refusal::NoActiveDocument);
+        };
+        match MoveLayer::new(stack.document(), layer, place) {
+            Ok(command) => Planned::Push(Edit::MoveLayer(command)),
+            Err(fault) => refused(refusal::of_edit(fault)),
+        }
+    }
+}

@@ -1,0 +1,177 @@
+// The lines that read the open document, or move in its history.
+ghost use Rattle.std.specs.Prelude.{◌≡◌, ◌⊎◌, Some};
+ghost use Rattle.session.specs.declared.line.Line.TheVariants as lines;
+ghost use Rattle.session.specs.declared.reply.Refusal.TheVariants as refusals;
+ghost use Rattle.session.specs.declared.reply.Reply.TheVariants as replies;
+ghost use Rattle.editor.specs.Editors.{machine_of, IsSound};
+ghost use Rattle.editor.specs.Machine.{StepOfLine};
+ghost use Rattle.editor.specs.Planning.{KeepsReply};
+
+use crate::editor::{Editor, state_of};
+use crate::{refusal, tile};
+use command_api::Command;
+use map_model::MapText;
+use session::{Refusal, Reply};
+use std::alloc::Global;
+
+// The reply that gives a text, where there is memory for it.
+fn text_reply(alloc: Global, text: &str) -> Reply
+    ensures { (result ≡ replies.Text text.now) ⊎ (result ≡ replies.Refused refusals.NoMemory) }
+{
+    match String::from_str(alloc, text) {
+        Ok(text) => Reply::Text(MapText::new(text)),
+        Err(_) => Reply::Refused(Refusal::NoMemory),
+    }
+}
+
+impl<C: Command> Editor<C> {
+    // Looks at a cell of the open document.
+    pub fn tile(&self, layer: u32, x: i32, y: i32) -> Reply
+        requires { IsSound C.change self.now }
+        ensures { StepOfLine (lines.Tile layer x y) (machine_of C.change self.now) (Some result) (machine_of C.change self.now) }
+    {
+        match &self.stack {
+            Some(stack) => tile::reply(stack.document().map(), layer, x, y),
+            None => Reply::Refused(Refusal::NoActiveDocument),
+        }
+    }
+
+    // Undoes a step of the open document.
+    pub fn undo(&mut self) -> Reply
+        requires { IsSound C.change self.old }
+        ensures sound { IsSound C.change self.new }
+        ensures step { StepOfLine lines.Undo (machine_of C.change self.old) (Some result) (machine_of C.change self.new) }
+        ensures kept { KeepsReply result (machine_of C.change self.old) (machine_of C.change self.new) }
+    {
+        match &mut self.stack {
+            Some(stack) => match stack.undo() {
+                Ok(()) => state_of(stack),
+                Err(fault) => Reply::Refused(refusal::of_stack(fault)),
+            },
+            None => Reply::Refused(Refusal::NoActiveDocument),
+        }
+    }
+
+    // Redoes a step of the open document.
+    pub fn redo(&mut self) -> Reply
+        requires { IsSound C.change self.old }
+        ensures sound { IsSound C.change self.new }
+        ensures step { StepOfLine lines.Redo (machine_of C.change self.old) (Some result) (machine_of C.change self.new) }
+        ensures kept { KeepsReply result (machine_of C.change self.old) (machine_of C.change self.new) }
+    {
+        match &mut self.stack {
+            Some(stack) => match stack.redo() {
+                Ok(()) => state_of(stack),
+                Err(fault) => Reply::Refused(refusal::of_stack(fault)),
+            },
+            None => Reply::Refused(Refusal::NoActiveDocument),
+        }
+    }
+
+    // Undoes or redoes until the index is this one, or the count where it is past that.
+    pub fn go_to(&mut self, index: u32) -> Reply
+        requires { IsSound C.change self.old }
+        ensures sound { IsSound C.change self.new }
+        ensures step { StepOfLine (lines.Goto index) (machine_of C.change self.old) (Some result) (machine_of C.change self.new) }
+        ensures kept { KeepsReply result (machine_of C.change self.old) (machine_of C.change self.new) }
+    {
+        match &mut self.stack {
+            Some(stack) => {
+                stack.set_index(index as usize);
+                state_of(stack)
+            }
+            None => Reply::Refused(Refusal::NoActiveDocument),
+        }
+    }
+
+    // Makes the index the clean one.
+    pub fn clean(&mut self) -> Reply
+        requires { IsSound C.change self.old }
+        ensures sound { IsSound C.change self.new }
+        ensures step { StepOfLine lines.Clean (machine_of C.change self.old) (Some result) (machine_of C.change self.new) }
+        ensures kept { KeepsReply result (machine_of C.change self.old) (machine_of C.change self.new) }
+    {
+        match &mut self.stack {
+            Some(stack) => {
+                stack.set_clean();
+                state_of(stack)
+            }
+            None => Reply::Refused(Refusal::NoActiveDocument),
+        }
+    }
+
+    // Leaves no clean index.
+    pub fn dirty(&mut self) -> Reply
+        requires { IsSound C.change self.old }
+        ensures sound { IsSound C.change self.new }
+        ensures step { StepOfLine lines.Dirty (machine_of C.change self.old) (Some result) (machine_of C.change self.new) }
+        ensures kept { KeepsReply result (machine_of C.change self.old) (machine_of C.change self.new) }
+    {
+        match &mut self.stack {
+            Some(stack) => {
+                stack.reset_clean();
+                state_of(stack)
+            }
+            None => Reply::Refused(Refusal::NoActiveDocument),
+        }
+    }
+
+    // Lets go of all steps.
+    pub fn clear(&mut self) -> Reply
+        requires { IsSound C.change self.old }
+        ensures sound { IsSound C.change self.new }
+        ensures step { StepOfLine lines.Clear (machine_of C.change self.old) (Some result) (machine_of C.change self.new) }
+        ensures kept { KeepsReply result (machine_of C.change self.old) (machine_of C.change self.new) }
+    {
+        match &mut self.stack {
+            Some(stack) => {
+                stack.clear();
+                state_of(stack)
+            }
+            None => Reply::Refused(Refusal::NoActiveDocument),
+        }
+    }
+
+    // How the open document stands.
+    pub fn status(&self) -> Reply
+        ensures { StepOfLine lines.Status (machine_of C.change self.now) (Some result) (machine_of C.change self.now) }
+    {
+        match &self.stack {
+            Some(stack) => state_of(stack),
+            None => Reply::NoDocument,
+        }
+    }
+
+    // The text for undo.
+    pub fn undo_text(&self, alloc: Global) -> Reply
+        ensures { StepOfLine lines.UndoText (machine_of C.change self.now) (Some result) (machine_of C.change self.now) }
+    {
+        match &self.stack {
+            Some(stack) => text_reply(alloc, stack.undo_text()),
+            None => Reply::Text(MapText::new(String::new(alloc))),
+        }
+    }
+
+    // The text for redo.
+    pub fn redo_text(&self, alloc: Global) -> Reply
+        ensures { StepOfLine lines.RedoText (machine_of C.change self.now) (Some result) (machine_of C.change self.now) }
+    {
+        match &self.stack {
+            Some(stack) => text_reply(alloc, stack.redo_text()),
+            None => Reply::Text(MapText::new(String::new(alloc))),
+        }
+    }
+
+    // The text for lists of the step at a place.
+    pub fn step_text(&self, alloc: Global, place: u32) -> Reply
+        ensures { StepOfLine (lines.StepText place) (machine_of C.change self.now) (Some result) (machine_of C.change self.now) }
+    {
+        let Some(stack) = &self.stack else {
+            return Reply::Refused(Refusal::NoActiveDocument);
+        };
+        match stack.text(place as usize) {
+            Some(text) => text_reply(alloc, text),
+            None => Reply::Refused(Refusal::OutOfRange),
+        }
+    }
+}

@@ -1,0 +1,111 @@
+ghost use Rattle.session.specs.Grammar.{Gives, number_at, coordinate_at, block_at, name_at, text_at, ends_at};
+ghost use Rattle.std.specs.Prelude.{◌≡◌};
+ghost use Rattle.session.specs.Words.{words_left, is_block};
+
+use crate::gids::Gids;
+use crate::line::LineFault;
+use crate::text::Text;
+use crate::words::{coordinate, cut, is_name_word, is_text_here, number};
+
+/// The width of the widest block.
+const WIDTH_LIMIT: u32 = 4_096;
+
+/// A number, and what is left of the line.
+#[tactic(auto, unfolding(crate::specs::Grammar::number_at))]
+pub fn number_field<'a>(rest: Option<&'a str>) -> Result<(u32, Option<&'a str>), LineFault>
+    ensures { Gives (λ x. (x.0, words_left x.1)) result (number_at (words_left rest.entry)) }
+{
+    let Some(rest) = rest else {
+        return Err(LineFault::BadWord);
+    };
+    let (word, rest) = cut(rest, ' ');
+    match number(word) {
+        Some(n) => Ok((n, rest)),
+        None => Err(LineFault::BadWord),
+    }
+}
+
+/// A coordinate, and what is left of the line.
+#[tactic(auto, unfolding(crate::specs::Grammar::coordinate_at))]
+pub fn coordinate_field<'a>(rest: Option<&'a str>) -> Result<(i32, Option<&'a str>), LineFault>
+    ensures { Gives (λ x. (x.0, words_left x.1)) result (coordinate_at (words_left rest.entry)) }
+{
+    let Some(rest) = rest else {
+        return Err(LineFault::BadWord);
+    };
+    let (word, rest) = cut(rest, ' ');
+    match coordinate(word) {
+        Some(z) => Ok((z, rest)),
+        None => Err(LineFault::BadWord),
+    }
+}
+
+/// Whether so many values are the rows of a block of that width.
+fn is_block_of(width: u32, count: usize) -> bool
+    ensures { result ≡ is_block width count }
+{
+    if width == 0 || width > WIDTH_LIMIT {
+        return false;
+    }
+    count % width as usize == 0
+}
+
+/// The values of a block of that width, and what is left of the line.
+#[tactic(auto, unfolding(crate::specs::Grammar::block_at))]
+pub fn block_field<'a>(
+    width: u32,
+    rest: Option<&'a str>,
+) -> Result<(Gids<'a>, Option<&'a str>), LineFault>
+    ensures { Gives (λ x. (x.0, words_left x.1)) result (block_at width (words_left rest.entry)) }
+{
+    let Some(rest) = rest else {
+        return Err(LineFault::BadWord);
+    };
+    let (word, rest) = cut(rest, ' ');
+    let Some(values) = Gids::of_word(word) else {
+        return Err(LineFault::BadWord);
+    };
+    if !is_block_of(width, values.len()) {
+        return Err(LineFault::BadWord);
+    }
+    Ok((values, rest))
+}
+
+/// A document's name, and what is left of the line.
+#[tactic(auto, unfolding(crate::specs::Grammar::name_at))]
+pub fn name_field<'a>(rest: Option<&'a str>) -> Result<(Text<'a>, Option<&'a str>), LineFault>
+    ensures { Gives (λ x. (x.0, words_left x.1)) result (name_at (words_left rest.entry)) }
+{
+    let Some(rest) = rest else {
+        return Err(LineFault::BadWord);
+    };
+    let (word, rest) = cut(rest, ' ');
+    if !is_name_word(word.as_bytes()) {
+        return Err(LineFault::BadWord);
+    }
+    Ok((Text::new(word), rest))
+}
+
+/// The text that is left.
+pub fn text_field<'a>(rest: Option<&'a str>) -> Result<Text<'a>, LineFault>
+    ensures { Gives (λ x. x) result (text_at (words_left rest.entry)) }
+{
+    let Some(text) = rest else {
+        return Err(LineFault::BadWord);
+    };
+    if !is_text_here(text.as_bytes()) {
+        return Err(LineFault::BadWord);
+    }
+    Ok(Text::new(text))
+}
+
+/// Nothing is left.
+#[tactic(auto, unfolding(crate::specs::Grammar::ends_at))]
+pub fn end_field(rest: Option<&str>) -> Result<(), LineFault>
+    ensures { Gives (λ x. x) result (ends_at (words_left rest.entry)) }
+{
+    match rest {
+        Some(_) => Err(LineFault::BadWord),
+        None => Ok(()),
+    }
+}
