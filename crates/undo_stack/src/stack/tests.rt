@@ -6,7 +6,8 @@ ghost use Rattle.command_api.specs.Law.{Never, WhenEqual};
 use super::{Stack, StackFault};
 use crate::entry::Entry;
 use command_api::Command;
-use map_model::{Document, Map, MapText};
+use link_chain::Loose;
+use map_model::{Document, Layer, LayerKind, Map, MapText};
 use std::alloc::{AllocError, Global};
 use std::cell::Cell;
 use std::rc::Rc;
@@ -45,15 +46,19 @@ fn add_one(count: &Cell<u32>) {
     count.set(count.get().wrapping_add(1));
 }
 
-// A command that leaves the document as it is and never vanishes.
+// A command that leaves the document as it is and never vanishes. It owns a layer in a link, as a removal does.
 struct Probe {
     counts: Rc<Counts>,
+    layer: Loose<Layer>,
 }
 
 impl Drop for Probe {
     fn drop(self) {
         add_one(&self.counts.dropped);
-        let Probe { counts: _ } = self;
+        let Probe {
+            counts: _,
+            layer: _,
+        } = self;
     }
 }
 
@@ -100,7 +105,10 @@ impl Command for Probe {
 
 fn new_probe(alloc: Global, counts: &Rc<Counts>) -> Result<Box<Probe>, AllocError> {
     let counts = counts.clone()?;
-    Ok(Box::new(alloc, Probe { counts })?)
+    let name = MapText::new(String::from_str(alloc, "removed")?);
+    let layer = Layer::new(alloc, LayerKind::Tile, 2, name, 1)?;
+    let layer = Loose::new(alloc, layer).map_err(|_| AllocError)?;
+    Ok(Box::new(alloc, Probe { counts, layer })?)
 }
 
 // A command that vanishes when equal, and is so: it leaves the document as it is.
