@@ -12,3 +12,6 @@ pub use move_layer::MoveLayer;
 pub use remove::RemoveLayer;
 pub use rename::RenameLayer;
 pub use show::ShowLayer;
+
+#[cfg(test)]
+mod tests;

@@ -80,3 +80,6 @@ impl Command for MoveLayer {
         self.is_made = false;
     }
 }
+
+#[cfg(test)]
+mod tests;

@@ -63,3 +63,6 @@ impl Command for RemoveLayer {
         document.insert_layer(self.place, layer);
     }
 }
+
+#[cfg(test)]
+mod tests;

@@ -61,3 +61,6 @@ impl Command for ShowLayer {
         document.set_visible(self.layer, self.before);
     }
 }
+
+#[cfg(test)]
+mod tests;

@@ -19,7 +19,9 @@ pub use edit::{CellEdit, Side};
 pub use held::{Cells, JsonValue, Kept, MapText};
 pub use map::Map;
 pub use owner::Owner;
-pub use parts::{Body, Encoding, Layer, LayerKind, MapParts, Object, Placing, PropValue, Property, Tileset};
+pub use parts::{
+    Body, Encoding, Layer, LayerKind, MapParts, Object, Placing, PropValue, Property, Tileset,
+};
 pub use place::LayerPlace;
 
 #[cfg(test)]

@@ -1,7 +1,9 @@
-ghost use Rattle.std.specs.Prelude.{◌≡◌, ◌∷◌, [], IfOk, length};
-ghost use Rattle.map_model.specs.Parts.{HasTiles};
+ghost use Rattle.std.specs.Prelude.{◌≡◌, ◌∷◌, [], IfOk, None, Some, codes, length, true};
+ghost use Rattle.serde_json.specs.Data.{no_members};
+ghost use Rattle.map_model.specs.NewMap.{empty_object_layer, new_map};
 
 use super::*;
+use crate::create::one;
 use link_chain::{Chain, Loose};
 use serde_json::Value;
 use std::alloc::{AllocError, Global};
@@ -10,7 +12,7 @@ use tile_id::Gid;
 
 // The map of the line `new town 4 3 16 16 town.tsj`.
 fn town(alloc: Global) -> Result<Map, AllocError>
-    ensures { IfOk result (λ m. HasTiles m 1 × (m.width ≡ 4) × (m.height ≡ 3)) }
+    ensures { IfOk result (λ m. m ≡ new_map 4 3 16 16 (codes "town.tsj")) }
 {
     let source = MapText::new(String::from_str(alloc, "town.tsj")?);
     Map::create(alloc, 4, 3, 16, 16, source)
@@ -67,7 +69,7 @@ fn finds_cells(rt: HostRuntime) -> Result<(), Fail> {
     assert!(rt; document.map().cell(1, 4, 2).is_none());
     assert!(rt; document.map().cell(1, 3, 3).is_none());
     assert!(rt; document.map().cell(2, 0, 0).is_none());
-    assert_eq!(rt; document.map().layer_place(1), Some(0));
+    assert_eq!(rt; document.map().layer_place(1), Some(LayerPlace { at: 0 }));
     assert_eq!(rt; document.map().layer_place(2), None);
     Ok(())
 }
@@ -117,8 +119,7 @@ fn puts_edits(rt: HostRuntime) -> Result<(), Fail> {
 
 // A layer with a body, and nothing else.
 fn plain_layer(alloc: Global, id: u32, body: Body) -> Layer
-    ensures id { result.id ≡ id }
-    ensures body { result.body ≡ body }
+    ensures { result ≡ record { id = id; name = []; visible = true; properties = []; kept = no_members; body = body } }
 {
     Layer {
         id,
@@ -130,14 +131,10 @@ fn plain_layer(alloc: Global, id: u32, body: Body) -> Layer
     }
 }
 
-fn chain_of(alloc: Global, first: Layer, second: Layer) -> Result<Chain<Layer>, AllocError>
+fn chain_of<T: Drop>(alloc: Global, first: T, second: T) -> Result<Chain<T>, AllocError>
     ensures { IfOk result (λ chain. chain ≡ first ∷ second ∷ []) }
 {
-    let mut chain = Chain::new(alloc);
-    match Loose::new(alloc, first) {
-        Ok(loose) => chain.insert(0, loose),
-        Err(_) => return Err(AllocError),
-    }
+    let mut chain = one(alloc, first)?;
     match Loose::new(alloc, second) {
         Ok(loose) => chain.insert(1, loose),
         Err(_) => return Err(AllocError),
@@ -165,7 +162,7 @@ fn finds_no_cells_in_other_layers(rt: HostRuntime) -> Result<(), Fail> {
     });
     assert_eq!(rt; map.cell(3, 0, 0), None);
     assert_eq!(rt; map.cell(4, 0, 0), None);
-    assert_eq!(rt; map.layer_place(4), Some(1));
+    assert_eq!(rt; map.layer_place(4), Some(LayerPlace { at: 1 }));
     let layer = map.layer(3).ok_or("layer")?;
     assert!(rt; layer.body.tiles().is_none());
     assert_eq!(rt; layer.body.tile_at(0), None);
@@ -220,25 +217,24 @@ fn keeps_values(rt: HostRuntime) -> Result<(), Fail> {
     Ok(())
 }
 
+// A tileset from an id on, and nothing else.
+fn plain_tileset(alloc: Global, first_id: u32) -> Tileset
+    ensures { result ≡ record { first_id = first_id; source = None; kept = no_members } }
+{
+    Tileset {
+        first_id,
+        source: None,
+        kept: Kept::new(serde_json::Map::new(alloc)),
+    }
+}
+
 // Values are looked up in tilesets from 1, 100 and 50, in this order.
 #[test]
 fn finds_tilesets(rt: HostRuntime) -> Result<(), Fail> {
-    let mut chain = Chain::new(rt.alloc());
-    for first_id in [1, 100, 50] {
-        let tileset = Tileset {
-            first_id,
-            source: None,
-            kept: Kept::new(serde_json::Map::new(rt.alloc())),
-        };
-        if chain.len() < 3 {
-            let end = chain.len();
-            chain.insert(
-                end,
-                Loose::new(rt.alloc(), tileset).map_err(|_| "no memory")?,
-            );
-        }
-    }
-    assert_eq!(rt; chain.len(), 3);
+    let alloc = rt.alloc();
+    let mut chain = chain_of(alloc, plain_tileset(alloc, 1), plain_tileset(alloc, 100))?;
+    let last = Loose::new(alloc, plain_tileset(alloc, 50)).map_err(|_| "no memory")?;
+    chain.insert(2, last);
     let map = Map::from_parts(MapParts {
         width: 1,
         height: 1,
@@ -267,5 +263,82 @@ fn finds_tilesets(rt: HostRuntime) -> Result<(), Fail> {
         );
     }
     assert!(rt; map.tileset_of(Gid(0x8000_0000)).is_none());
+    Ok(())
+}
+
+// A new layer of either kind is visible and empty, and keeps what layers of its kind keep.
+#[test]
+fn makes_layers(rt: HostRuntime) -> Result<(), Fail> {
+    for (kind, kept_members) in [(LayerKind::Tile, 3), (LayerKind::Object, 4)] {
+        let name = MapText::new(String::from_str(rt.alloc(), "Roof")?);
+        let Layer {
+            id,
+            name,
+            visible,
+            properties,
+            kept,
+            body,
+        } = Layer::new(rt.alloc(), kind, 2, name, 12)?;
+        assert_eq!(rt; (id, name.as_str(), visible), (2, "Roof", true));
+        assert_eq!(rt; properties.len(), 0);
+        assert_eq!(rt; kept.members().len(), kept_members);
+        let is_empty = match &body {
+            Body::Tiles(_, cells) => {
+                kind == LayerKind::Tile && cells.as_slice() == [Gid(0); 12].as_slice()
+            }
+            Body::Objects(objects) => kind == LayerKind::Object && objects.len() == 0,
+            Body::Other => false,
+        };
+        assert!(rt; is_empty);
+    }
+    Ok(())
+}
+
+// Whether the layers of a document are these, in this order: their ids and names.
+fn has_layers(document: &Document, wanted: &[(u32, &str)]) -> bool {
+    let layers = &document.map().parts().layers;
+    layers.len() == wanted.len()
+        && layers.iter().zip(wanted).all(|(layer, (id, name))| layer.id == *id
+            && layer.name.as_str() == *name)
+}
+
+// A layer for the town, with its next layer id.
+fn roof(alloc: Global) -> Result<Loose<Layer>, AllocError>
+    ensures { IfOk result (λ loose. loose ≡ Some (empty_object_layer 2 (codes "Roof"))) }
+{
+    let name = MapText::new(String::from_str(alloc, "Roof")?);
+    let layer = Layer::new(alloc, LayerKind::Object, 2, name, 12)?;
+    Loose::new(alloc, layer).map_err(|_| AllocError)
+}
+
+// A layer goes first, is taken out, and goes last; then it gets another name and is hidden.
+#[test]
+fn layers_come_and_go(rt: HostRuntime) -> Result<(), Fail> {
+    let alloc = rt.alloc();
+    let mut document = Document::new(town(alloc)?);
+    let added = roof(alloc)?;
+    document.set_next_ids(3, 1);
+    let parts = document.map().parts();
+    assert_eq!(rt; (parts.next_layer_id, parts.next_object_id), (3, 1));
+    document.insert_layer(LayerPlace { at: 0 }, added);
+    assert!(rt; has_layers(&document, &[(2, "Roof"), (1, "Tile Layer 1")]));
+    let taken = document.take_layer(LayerPlace { at: 0 });
+    assert!(rt; has_layers(&document, &[(1, "Tile Layer 1")]));
+    document.insert_layer(LayerPlace { at: 1 }, taken);
+    assert!(rt; has_layers(&document, &[(1, "Tile Layer 1"), (2, "Roof")]));
+    let mut name = MapText::new(String::from_str(alloc, "Attic")?);
+    assert!(rt; document.map().layer(2).is_some());
+    document.swap_layer_name(2, &mut name);
+    assert_eq!(rt; name.as_str(), "Roof");
+    assert!(rt; has_layers(&document, &[(1, "Tile Layer 1"), (2, "Attic")]));
+    assert!(rt; document.map().layer(2).is_some());
+    document.set_visible(2, false);
+    let shown = document
+        .map()
+        .parts()
+        .layers
+        .iter()
+        .map(|layer| layer.visible);
+    assert!(rt; shown.eq([true, false].into_iter()));
     Ok(())
 }
