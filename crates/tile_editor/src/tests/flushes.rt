@@ -1,0 +1,159 @@
+use super::{MANY, ROW_1, Sink, Source, WHOLE, ending, first_replies, read_script, stretched};
+use crate::run::{Summary, run};
+use std::cell::Cell;
+use std::io;
+use std::io::{BufWriter, Read, Write};
+use std::test::Fail;
+
+#[test]
+fn flush_faults_come_behind_whole_replies(rt: HostRuntime) -> Result<(), Fail> {
+    let alloc = rt.alloc();
+    let script = read_script(alloc, ROW_1)?;
+    for step in [1, 50, WHOLE] {
+        let mut taken = 0usize;
+        let mut faults = 0u32;
+        for flushes_left in 0..100u32 {
+            let mut source = Source {
+                bytes: script.session.as_bytes(),
+                step,
+                calls_left: MANY,
+            };
+            let mut sink = Sink::new(alloc, WHOLE, MANY, flushes_left);
+            let result = run(alloc, &mut source, &mut sink);
+            let text = sink.text();
+            if result.is_ok() {
+                assert_eq!(rt;
+                    text,
+                    script.replies.as_str(),
+                    "at {flushes_left} by {step}"
+                );
+                break;
+            }
+            faults = faults.saturating_add(1);
+            assert_eq!(rt;
+                ending(alloc, &result)?.as_str(),
+                "write failed",
+                "at {flushes_left} by {step}"
+            );
+            assert!(rt;
+                script.replies.starts_with(text),
+                "at {flushes_left} by {step}"
+            );
+            assert!(rt;
+                text.is_empty() || text.ends_with('\n'),
+                "at {flushes_left} by {step}"
+            );
+            // The first flush comes before anything is heard.
+            assert!(rt; flushes_left != 0 || text.is_empty());
+            taken = text.len();
+        }
+        // The last flush is behind all replies.
+        assert!(rt; 2 <= faults && faults < 100, "by {step}");
+        assert_eq!(rt; taken, script.replies.len(), "by {step}");
+    }
+    Ok(())
+}
+
+/// Counts the bytes that it takes, and shows how many of them it had taken at its last flush.
+#[derive(Drop)]
+struct Counter<'a> {
+    bytes: usize,
+    flushed: &'a Cell<usize>,
+}
+
+impl<'a> Write for Counter<'a> {
+    fn write(&mut self, buf: &[u8]) -> io::Result<usize> {
+        self.bytes = self.bytes.saturating_add(buf.len());
+        Ok(buf.len())
+    }
+
+    fn flush(&mut self) -> io::Result<()> {
+        self.flushed.set(self.bytes);
+        Ok(())
+    }
+}
+
+/// A source that notes, as each read begins, what the counter shows.
+#[derive(Drop)]
+struct Onlooker<'a> {
+    source: Source<'a>,
+    flushed: &'a Cell<usize>,
+    seen: Vec<usize>,
+}
+
+impl<'a> Read for Onlooker<'a> {
+    fn read(&mut self, buf: &mut [u8]) -> io::Result<usize> {
+        self.seen.push(self.flushed.get())?;
+        self.source.read(buf)
+    }
+}
+
+#[test]
+fn each_read_finds_all_replies_flushed(rt: HostRuntime) -> Result<(), Fail> {
+    let alloc = rt.alloc();
+    let script = read_script(alloc, ROW_1)?;
+    let bytes = script.session.as_bytes();
+    for step in [1, 7, 65_536] {
+        // The replies to all lines that were given whole are due.
+        let mut due = Vec::new(alloc);
+        for read in 0..=bytes.len().div_ceil(step) {
+            let given = bytes.iter().take(read.saturating_mul(step));
+            let lines = given.filter(|byte| **byte == b'\n').count();
+            due.push(first_replies(&script.replies, lines).len())?;
+        }
+        for has_buffer in [false, true] {
+            let flushed = &Cell::new(0);
+            let mut reader = Onlooker {
+                source: Source {
+                    bytes,
+                    step,
+                    calls_left: MANY,
+                },
+                flushed,
+                seen: Vec::new(alloc),
+            };
+            let mut writer = Counter { bytes: 0, flushed };
+            if has_buffer {
+                run(alloc, &mut reader, &mut BufWriter::new(alloc, writer)?)?;
+            } else {
+                run(alloc, &mut reader, &mut writer)?;
+            }
+            assert_eq!(rt; reader.seen.as_slice(), due.as_slice(), "by {step}");
+        }
+    }
+    Ok(())
+}
+
+#[test]
+fn writes_once_a_reply(rt: HostRuntime) -> Result<(), Fail> {
+    let alloc = rt.alloc();
+    let script = read_script(alloc, ROW_1)?;
+    let session = script.session.as_bytes();
+    let bytes = stretched(alloc, session, b"undo\nredo\n\n# note\n", 1000, b"")?;
+    let mut source = Source {
+        bytes: &bytes,
+        step: WHOLE,
+        calls_left: MANY,
+    };
+    let mut sink = Sink::new(alloc, WHOLE, MANY, MANY);
+    let summary = run(alloc, &mut source, &mut sink)?;
+    assert_eq!(rt;
+        summary,
+        Summary {
+            lines: 4007,
+            replies: 2007
+        }
+    );
+    assert_eq!(rt; MANY.saturating_sub(sink.writes_left), 2007);
+
+    let mut source = Source {
+        bytes: &bytes,
+        step: WHOLE,
+        calls_left: MANY,
+    };
+    let mut writer = BufWriter::new(alloc, Sink::new(alloc, WHOLE, MANY, MANY))?;
+    assert_eq!(rt; run(alloc, &mut source, &mut writer)?, summary);
+    assert!(rt; MANY.saturating_sub(writer.get_ref().writes_left) < 20);
+    assert!(rt; writer.get_ref().text() == sink.text());
+    Ok(())
+}
