@@ -1,6 +1,5 @@
 use super::AddLayer;
-use crate::tests::{has_layers, is_called, town};
-use command_api::Command;
+use crate::tests::{Wanted, is_called, town, turns};
 use edits::EditFault;
 use map_model::{Document, LayerKind, Map, MapText};
 use std::test::Fail;
@@ -9,20 +8,19 @@ use tile_id::Gid;
 // An object layer goes behind the town's own, is taken back, and goes there again.
 #[test]
 fn adds_a_layer(rt: HostRuntime) -> Result<(), Fail> {
-    let alloc = rt.alloc();
-    let mut document = town(alloc)?;
-    let mut command = AddLayer::new(alloc, &document, LayerKind::Object, "Roof")?;
+    let mut document = town(rt.alloc())?;
+    let before = Wanted {
+        layers: &[(1, "Tile Layer 1", true)],
+        next_id: 2,
+    };
+    let after = Wanted {
+        layers: &[(1, "Tile Layer 1", true), (2, "Roof", true)],
+        next_id: 3,
+    };
+    let mut command = AddLayer::new(rt.alloc(), &document, LayerKind::Object, "Roof")?;
     assert!(rt; is_called(&command, "Add Layer", "add layer", false));
-    let with_roof = [(1, "Tile Layer 1", true), (2, "Roof", true)];
-    command.redo(&mut document);
-    assert!(rt; has_layers(&document, &with_roof));
-    assert_eq!(rt; document.map().parts().next_layer_id, 3);
-    command.undo(&mut document);
-    assert!(rt; has_layers(&document, &[(1, "Tile Layer 1", true)]));
-    assert_eq!(rt; document.map().parts().next_layer_id, 2);
+    assert!(rt; turns(&mut command, &mut document, &before, &after));
     assert_eq!(rt; document.map().parts().next_object_id, 1);
-    command.redo(&mut document);
-    assert!(rt; has_layers(&document, &with_roof));
     let roof = document.map().layer(2).ok_or("roof")?;
     assert!(rt; roof.body.tiles().is_none());
     assert_eq!(rt; (roof.properties.len(), roof.kept.members().len()), (0, 4));

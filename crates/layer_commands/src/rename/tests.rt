@@ -1,19 +1,22 @@
 use super::RenameLayer;
-use crate::tests::{has_layers, is_called, town};
+use crate::tests::{Wanted, is_called, town, turns};
 use command_api::Command;
 use std::test::Fail;
 
 #[test]
 fn renames_a_layer(rt: HostRuntime) -> Result<(), Fail> {
     let mut document = town(rt.alloc())?;
+    let before = Wanted {
+        layers: &[(1, "Tile Layer 1", true)],
+        next_id: 2,
+    };
+    let after = Wanted {
+        layers: &[(1, "Ground", true)],
+        next_id: 2,
+    };
     let mut command = RenameLayer::new(rt.alloc(), &document, 1, "Ground")?;
     assert!(rt; is_called(&command, "Rename Layer", "rename layer", false));
-    command.redo(&mut document);
-    assert!(rt; has_layers(&document, &[(1, "Ground", true)]));
-    command.undo(&mut document);
-    assert!(rt; has_layers(&document, &[(1, "Tile Layer 1", true)]));
-    command.redo(&mut document);
-    assert!(rt; has_layers(&document, &[(1, "Ground", true)]));
+    assert!(rt; turns(&mut command, &mut document, &before, &after));
     let RenameLayer {
         layer,
         name,

@@ -1,19 +1,22 @@
 use super::ShowLayer;
-use crate::tests::{has_layers, is_called, town};
+use crate::tests::{Wanted, is_called, town, turns};
 use command_api::Command;
 use std::test::Fail;
 
 #[test]
 fn hides_a_layer(rt: HostRuntime) -> Result<(), Fail> {
     let mut document = town(rt.alloc())?;
+    let before = Wanted {
+        layers: &[(1, "Tile Layer 1", true)],
+        next_id: 2,
+    };
+    let after = Wanted {
+        layers: &[(1, "Tile Layer 1", false)],
+        next_id: 2,
+    };
     let mut command = ShowLayer::new(&document, 1, false)?;
     assert!(rt; is_called(&command, "Show Layer", "show layer", false));
-    command.redo(&mut document);
-    assert!(rt; has_layers(&document, &[(1, "Tile Layer 1", false)]));
-    command.undo(&mut document);
-    assert!(rt; has_layers(&document, &[(1, "Tile Layer 1", true)]));
-    command.redo(&mut document);
-    assert!(rt; has_layers(&document, &[(1, "Tile Layer 1", false)]));
+    assert!(rt; turns(&mut command, &mut document, &before, &after));
     let ShowLayer {
         layer,
         before,

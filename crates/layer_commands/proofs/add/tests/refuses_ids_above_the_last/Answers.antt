@@ -1,25 +1,18 @@
-use Rattle.std.proofs.Common.{arith}
-use Rattle.std.specs.Prelude.{codes}
-use Rattle.map_model.specs.declared.parts.MapParts.{MapParts}
+use Rattle.std.proofs.Common.{ℕ, List, arith}
 use Rattle.map_model.specs.Layers.{with_next_ids}
 use Rattle.map_model.specs.NewMap.{new_map}
 use Rattle.map_model.specs.WellFormed.{IsWellFormed}
 use Rattle.map_model.proofs.NewMaps.{new_map-IsWellFormed}
 use Rattle.layer_commands.proofs.add.tests.refuses_ids_above_the_last.Goals as goal
 
-abbrev town : MapParts
-town = new_map 4 3 16 16 (codes "town.tsj")
-
-town-IsWellFormed : IsWellFormed town
-town-IsWellFormed =
-    new_map-IsWellFormed 4 3 16 16 (codes "town.tsj")
+-- the town with the greatest next layer id
+last-IsWellFormed : (source : List ℕ) → IsWellFormed (with_next_ids 2147483647 1 (new_map 4 3 16 16 source))
+last-IsWellFormed source =
+    let h =
+    new_map-IsWellFormed 4 3 16 16 source
     (record { wide = omega arith; high = omega arith; width_limit = omega arith; height_limit = omega arith; cells_limit = omega arith })
     (record { wide = omega arith; high = omega arith; width_limit = omega arith; height_limit = omega arith })
-
--- the town with the greatest next layer id
-last-IsWellFormed : IsWellFormed (with_next_ids 2147483647 1 town)
-last-IsWellFormed =
-    let h = town-IsWellFormed in
+    in
     record {
       size = h.size;
       tile_size = h.tile_size;
@@ -38,4 +31,4 @@ last-IsWellFormed =
     }
 
 pub set_next_ids-requires : goal.set_next_ids-requires
-set_next_ids-requires g c = ?
+set_next_ids-requires g c = rw (c.new-document.ensures, c.in_ok-create.ensures) (last-IsWellFormed c.new-source.result)
