@@ -126,10 +126,6 @@ abbrev pub MoveStep : Result (Unit {0}) StackFault → History → Machine → O
 MoveStep (Ok done) n old reply new = StandsAt n reply new
 MoveStep (Err fault) n old reply new = Refuses (refusal_of_stack fault) old reply new
 
--- the open document's history becomes n
-abbrev pub Becomes : History → Machine → Option Reply → Machine → Type 0
-Becomes n old reply new = StandsAt n reply new
-
 -- ---- readings
 -- the reply is this one, and nothing changes
 abbrev pub Answers : Reply → Machine → Option Reply → Machine → Type 0
@@ -187,10 +183,10 @@ StepOfLine (MoveLayer layer place) old reply new = EditsOpen (MoveLayer layer pl
 StepOfLine (Tile layer x y) old reply new = OverOpen (λ h. Answers (tile_reply (current h).map layer x y)) old.open_document old reply new
 StepOfLine Undo old reply new = OverOpen (λ h. MoveStep (undo_answer h) (undone_by (undo_answer h) h)) old.open_document old reply new
 StepOfLine Redo old reply new = OverOpen (λ h. MoveStep (redo_answer h) (redone_by (redo_answer h) h)) old.open_document old reply new
-StepOfLine (Goto index) old reply new = OverOpen (λ h. Becomes (moved (min index (length h.steps)) h)) old.open_document old reply new
-StepOfLine Clean old reply new = OverOpen (λ h. Becomes (cleaned h)) old.open_document old reply new
-StepOfLine Dirty old reply new = OverOpen (λ h. Becomes (uncleaned h)) old.open_document old reply new
-StepOfLine Clear old reply new = OverOpen (λ h. Becomes (cleared h)) old.open_document old reply new
+StepOfLine (Goto index) old reply new = OverOpen (λ h before. StandsAt (moved (min index (length h.steps)) h)) old.open_document old reply new
+StepOfLine Clean old reply new = OverOpen (λ h before. StandsAt (cleaned h)) old.open_document old reply new
+StepOfLine Dirty old reply new = OverOpen (λ h before. StandsAt (uncleaned h)) old.open_document old reply new
+StepOfLine Clear old reply new = OverOpen (λ h before. StandsAt (cleared h)) old.open_document old reply new
 StepOfLine Status old reply new = Answers (status_reply old.open_document) old reply new
 StepOfLine UndoText old reply new = OfOpen undo_text_of old.open_document old reply new
 StepOfLine RedoText old reply new = OfOpen redo_text_of old.open_document old reply new

@@ -1,6 +1,3 @@
-ghost use Rattle.std.specs.Prelude.{◌≡◌, IfOk};
-ghost use Rattle.map_model.specs.Parts.{HasTiles};
-
 use super::*;
 use command_api::Command;
 use edits::EditFault;
@@ -9,23 +6,36 @@ use std::alloc::{AllocError, Global};
 use std::test::Fail;
 use tile_id::Gid;
 
-// The document of the line `new town 4 3 16 16 town.tsj`.
-pub fn town(alloc: Global) -> Result<Document, AllocError>
-    ensures { IfOk result (λ d. HasTiles d.map 1 × (d.map.width ≡ 4) × (d.map.height ≡ 3)) }
-{
+// The document of the line `new town 4 3 16 16 town.tsj`. What is in it no proof of a test needs to know.
+pub fn town(alloc: Global) -> Result<Document, AllocError> {
     let source = MapText::new(String::from_str(alloc, "town.tsj")?);
     Ok(Document::new(Map::create(alloc, 4, 3, 16, 16, source)?))
 }
 
-// The town with the value 7 in its last cell, and its layer hidden.
+// The town with the value 7 in its last cell.
+fn town_with_a_tile(alloc: Global) -> Result<Document, AllocError> {
+    let source = MapText::new(String::from_str(alloc, "town.tsj")?);
+    let mut document = Document::new(Map::create(alloc, 4, 3, 16, 16, source)?);
+    document.put_cell(1, 3, 2, Gid(7));
+    Ok(document)
+}
+
+// The same town with its layer hidden.
 pub fn painted_town(alloc: Global) -> Result<Document, EditFault> {
-    let Ok(mut document) = town(alloc) else {
+    let Ok(mut document) = town_with_a_tile(alloc) else {
         return Err(EditFault::NoMemory);
     };
-    document.put_cell(1, 3, 2, Gid(7));
     let mut hidden = ShowLayer::new(&document, 1, false)?;
-    hidden.redo(&mut document);
+    make(&mut hidden, &mut document);
     Ok(document)
+}
+
+// Makes a command.
+pub fn make<C: Command>(command: &mut C, document: &mut Document)
+    requires { (C.change command.old).fits_redo document.old }
+    ensures { (C.change command.new).fits_undo document.new }
+{
+    command.redo(document);
 }
 
 // Whether a layer is that of the painted town.
@@ -45,14 +55,14 @@ pub fn is_painted(layer: &Layer) -> bool {
 // Adds an object layer.
 pub fn add(alloc: Global, document: &mut Document, name: &str) -> Result<(), EditFault> {
     let mut command = AddLayer::new(alloc, document, LayerKind::Object, name)?;
-    command.redo(document);
+    make(&mut command, document);
     Ok(())
 }
 
 // Moves a layer to a place.
 pub fn move_to(document: &mut Document, layer: u32, place: u32) -> Result<(), EditFault> {
     let mut command = MoveLayer::new(document, layer, place)?;
-    command.redo(document);
+    make(&mut command, document);
     Ok(())
 }
 
@@ -127,7 +137,7 @@ fn fills_a_map(rt: HostRuntime) -> Result<(), Fail> {
     assert_eq!(rt; refused.err(), Some(EditFault::TooMany));
     move_to(&mut document, 1, 128)?;
     let mut command = RemoveLayer::new(&document, 1)?;
-    command.redo(&mut document);
+    make(&mut command, &mut document);
     assert!(rt; document.map().layer(1).is_none());
     command.undo(&mut document);
     let parts = document.map().parts();

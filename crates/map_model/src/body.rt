@@ -22,7 +22,7 @@ impl Body {
     }
 
     /// The value of a tile layer at an index.
-    pub fn tile_at(&self, at: usize) -> Option<Gid>
+    pub(crate) fn tile_at(&self, at: usize) -> Option<Gid>
         ensures { result ≡ tile_at self.now at }
     {
         match self {
@@ -33,7 +33,7 @@ impl Body {
     }
 
     /// Sets the value of a tile layer at an index.
-    pub fn set_tile(&mut self, at: usize, value: Gid)
+    pub(crate) fn set_tile(&mut self, at: usize, value: Gid)
         requires tiles { IsTiles self.old }
         requires place { at < length (tiles_of self.old) }
         ensures { self.new ≡ body_with_tiles (with_value at value) self.old }
@@ -46,7 +46,7 @@ impl Body {
     }
 
     /// Sets the cells of a list, in a tile layer of this width, to their values on a side.
-    pub fn put_tiles(&mut self, width: usize, edits: &[CellEdit], side: Side)
+    pub(crate) fn put_tiles(&mut self, width: usize, edits: &[CellEdit], side: Side)
         requires tiles { IsTiles self.old }
         requires places { Each (IsBelow width (length (tiles_of self.old))) edits.now }
         ensures body { self.new ≡ body_with_tiles (put_values width side edits.now) self.old }

@@ -69,7 +69,7 @@ impl Cells {
     }
 
     /// Sets the value at an index.
-    pub fn set(&mut self, at: usize, value: Gid)
+    pub(crate) fn set(&mut self, at: usize, value: Gid)
         requires { at < length self.old }
         ensures { self.new ≡ slice_set self.old at value }
     {
@@ -77,7 +77,7 @@ impl Cells {
     }
 
     /// Sets the cells of a list, in a layer of this width, to their values on a side.
-    pub fn put(&mut self, width: usize, edits: &[CellEdit], side: Side)
+    pub(crate) fn put(&mut self, width: usize, edits: &[CellEdit], side: Side)
         requires { Each (IsBelow width (length self.old)) edits.now }
         ensures values { self.new ≡ put_values width side edits.now self.old }
         ensures range { HaveRange side edits.now }

@@ -25,52 +25,63 @@ fn is_text(text: &Option<MapText>, wanted: &str) -> bool {
     }
 }
 
-// The map that the line `new town 4 3 16 16 town.tsj` makes.
+// The same map, of which no proof needs to know what is in it.
+fn some_town(alloc: Global) -> Result<Map, AllocError> {
+    town(alloc)
+}
+
+// What the line `new town 4 3 16 16 town.tsj` makes.
 #[test]
 fn creates_a_map(rt: HostRuntime) -> Result<(), Fail> {
-    let map = town(rt.alloc())?;
-    let MapParts {
-        width,
-        height,
-        tile_width,
-        tile_height,
-        layers,
-        tilesets,
-        properties,
-        next_layer_id,
-        next_object_id,
-        kept,
-    } = map.parts();
+    let map = some_town(rt.alloc())?;
+    let parts = map.parts();
     assert_eq!(rt;
-        (*width, *height, *tile_width, *tile_height),
+        (
+            parts.width,
+            parts.height,
+            parts.tile_width,
+            parts.tile_height
+        ),
         (4, 3, 16, 16)
     );
-    assert_eq!(rt; (*next_layer_id, *next_object_id), (2, 1));
-    assert_eq!(rt; (layers.len(), tilesets.len(), properties.len()), (1, 1, 0));
-    assert_eq!(rt; kept.members().len(), 2);
-    let layer = layers.get(0);
-    assert_eq!(rt; layer.id, 1);
-    assert_eq!(rt; layer.name.as_str(), "Tile Layer 1");
-    assert!(rt; layer.visible);
-    assert_eq!(rt; layer.properties.len(), 0);
-    assert_eq!(rt; layer.kept.members().len(), 3);
-    let empty = [Gid(0); 12];
-    assert_eq!(rt; layer.body.tiles().ok_or("tiles")?, empty.as_slice());
-    let tileset = tilesets.get(0);
-    assert_eq!(rt; tileset.first_id, 1);
-    assert!(rt; is_text(&tileset.source, "town.tsj"));
+    assert_eq!(rt; (parts.next_layer_id, parts.next_object_id), (2, 1));
+    assert_eq!(rt;
+        (
+            parts.layers.len(),
+            parts.tilesets.len(),
+            parts.properties.len()
+        ),
+        (1, 1, 0)
+    );
+    assert_eq!(rt; parts.kept.members().len(), 2);
+    let layer = parts.layers.iter().next().ok_or("layer")?;
+    assert_eq!(rt;
+        (layer.id, layer.name.as_str(), layer.visible),
+        (1, "Tile Layer 1", true)
+    );
+    assert_eq!(rt;
+        (layer.properties.len(), layer.kept.members().len()),
+        (0, 3)
+    );
+    assert!(rt; layer.body.tiles() == Some([Gid(0); 12].as_slice()));
+    let tileset = parts.tilesets.iter().next().ok_or("tileset")?;
+    assert!(rt; tileset.first_id == 1 && is_text(&tileset.source, "town.tsj"));
     Ok(())
 }
 
 #[test]
 fn finds_cells(rt: HostRuntime) -> Result<(), Fail> {
-    let document = Document::new(town(rt.alloc())?);
-    assert!(rt; document.map().cell(1, 3, 2) == Some(Gid(0)));
-    assert!(rt; document.map().cell(1, 4, 2).is_none());
-    assert!(rt; document.map().cell(1, 3, 3).is_none());
-    assert!(rt; document.map().cell(2, 0, 0).is_none());
-    assert_eq!(rt; document.map().layer_place(1), Some(LayerPlace { at: 0 }));
-    assert_eq!(rt; document.map().layer_place(2), None);
+    let document = Document::new(some_town(rt.alloc())?);
+    let map = document.map();
+    let found = [
+        map.cell(1, 3, 2),
+        map.cell(1, 4, 2),
+        map.cell(1, 3, 3),
+        map.cell(2, 0, 0),
+    ];
+    assert_eq!(rt; found, [Some(Gid(0)), None, None, None]);
+    let places = [map.layer_place(1), map.layer_place(2)];
+    assert_eq!(rt; places, [Some(LayerPlace { at: 0 }), None]);
     Ok(())
 }
 

@@ -7,7 +7,7 @@ use Rattle.std.proofs.lemmas.Str.{IsUtf8-nil}
 use Rattle.std.proofs.lemmas.Bool.{le-leb}
 use Rattle.session.specs.declared.line.Line.TheVariants.{Quiet, New, Stamp, Tile, AddLayer, RemoveLayer, RenameLayer, ShowLayer, MoveLayer, Undo, Redo, Goto, Clean, Dirty, Clear, Status, UndoText, RedoText, StepText}
 use Rattle.session.specs.Words.{words}
-use Rattle.session.specs.Grammar.{ends_at, new_of, stamp_of, tile_of, undo_of, redo_of, goto_of, clean_of, dirty_of, clear_of, status_of, undo_text_of, redo_text_of, step_text_of, command_of, line_of_words, line_of}
+use Rattle.session.specs.Grammar.{ends_at, new_of, stamp_of, tile_of, bare_of, goto_of, step_text_of, command_of, line_of_words, line_of}
 use Rattle.session.specs.Spelling.{commas, spelling, IsNumber, IsCoordinate, IsBlock, CanBeSpelled, SpelledIsRead, QuietIsRead, LongIsNotRead}
 use Rattle.session.proofs.Commas.{plain_commas}
 use Rattle.session.proofs.Wording.{Plain, plain_literal, plain_number, plain_coordinate, plain_name, length-spaced}
@@ -83,11 +83,11 @@ read_new name width height tile_width tile_height source h =
     ∙ new_of-words name width height tile_width tile_height source h
 
 read_undo : line_of (spelling Undo) ≡ Ok Undo
-unfolding command_of undo_of ends_at
+unfolding command_of bare_of ends_at
 read_undo = read_word (codes "undo") refl (lit< tt)
 
 read_redo : line_of (spelling Redo) ≡ Ok Redo
-unfolding command_of redo_of ends_at
+unfolding command_of bare_of ends_at
 read_redo = read_word (codes "redo") refl (lit< tt)
 
 goto_of-words : (n : ℕ) → IsNumber n → goto_of (decimal n ∷ []) ≡ Ok (Goto n)
@@ -99,27 +99,27 @@ unfolding command_of
 read_goto n h = read_number (codes "goto") n refl h (omega arith) ∙ goto_of-words n h
 
 read_clean : line_of (spelling Clean) ≡ Ok Clean
-unfolding command_of clean_of ends_at
+unfolding command_of bare_of ends_at
 read_clean = read_word (codes "clean") refl (lit< tt)
 
 read_dirty : line_of (spelling Dirty) ≡ Ok Dirty
-unfolding command_of dirty_of ends_at
+unfolding command_of bare_of ends_at
 read_dirty = read_word (codes "dirty") refl (lit< tt)
 
 read_clear : line_of (spelling Clear) ≡ Ok Clear
-unfolding command_of clear_of ends_at
+unfolding command_of bare_of ends_at
 read_clear = read_word (codes "clear") refl (lit< tt)
 
 read_status : line_of (spelling Status) ≡ Ok Status
-unfolding command_of status_of ends_at
+unfolding command_of bare_of ends_at
 read_status = read_word (codes "status") refl (lit< tt)
 
 read_undo_text : line_of (spelling UndoText) ≡ Ok UndoText
-unfolding command_of undo_text_of ends_at
+unfolding command_of bare_of ends_at
 read_undo_text = read_word (codes "undotext") refl (lit< tt)
 
 read_redo_text : line_of (spelling RedoText) ≡ Ok RedoText
-unfolding command_of redo_text_of ends_at
+unfolding command_of bare_of ends_at
 read_redo_text = read_word (codes "redotext") refl (lit< tt)
 
 step_text_of-words : (n : ℕ) → IsNumber n → step_text_of (decimal n ∷ []) ≡ Ok (StepText n)

@@ -18,11 +18,6 @@ Told bytes line = length bytes < 2 ^ 16 → IsUtf8 bytes → Says bytes line × 
 pub by_word : (front : List (List ℕ)) (name word : List ℕ) (ws : List (List ℕ)) (told : Result Line LineFault) → IfOk told (Told (spaced (front ++ word ∷ ws))) → bytes_eq name word ≡ true → IfOk told (Told (spaced (front ++ name ∷ ws)))
 by_word front name word ws told h is = subst (λ v. IfOk told (Told (spaced (front ++ v ∷ ws)))) (sym ((bytes_eq-Decides name word).0 is)) h
 
--- a line of one word
-pub ends_told : (word : List ℕ) (line : Line) (ws : List (List ℕ)) → Says (spaced (word ∷ [])) line × CanBeSpelled line → IfOk (ends_at ws >>= λ _. Ok line) (Told (spaced (word ∷ ws)))
-ends_told word line ws h =
-    if_bind (ends_at ws) _ (λ _. ws ≡ []) (Told (spaced (word ∷ ws))) (ended ws) (λ end e. λ short u. subst (λ vs. Says (spaced (word ∷ vs)) line × CanBeSpelled line) (sym e) h)
-
 -- a line of a front and a number
 pub number_told : (front : List (List ℕ)) (line : ℕ → Line) (ws : List (List ℕ)) → ((n : ℕ) → IsNumber n → Says (spaced (front ++ decimal n ∷ [])) (line n) × CanBeSpelled (line n)) → IfOk (number_at ws >>= λ n. ends_at n.1 >>= λ _. Ok (line n.0)) (Told (spaced (front ++ ws)))
 number_told front line ws h =

@@ -1,5 +1,5 @@
 -- What is read as a line is that line's spelling.
-use Rattle.std.proofs.Common.{◌≡◌, ℕ, ◌^◌, ◌<◌, leb, not, List, [], ◌∷◌, length, Ok, Err, Result, refl, ap, ◌∙◌, subst}
+use Rattle.std.proofs.Common.{◌≡◌, ℕ, ◌^◌, ◌<◌, leb, not, List, [], ◌∷◌, length, Ok, Err, Result, refl, sym, ap, ◌∙◌, subst}
 use Rattle.std.specs.Prelude.{codes, IfOk}
 use Rattle.std.specs.Fmt.{decimal, signed_decimal}
 use Rattle.std.specs.Str.{IsUtf8, is_utf8, bytes_eq}
@@ -10,10 +10,10 @@ use Rattle.session.specs.declared.line.Line.{Line}
 use Rattle.session.specs.declared.line.Line.TheVariants.{New, Stamp, Undo, Redo, Goto, Clean, Dirty, Clear, Status, UndoText, RedoText, StepText}
 use Rattle.session.specs.declared.line.LineFault.{LineFault}
 use Rattle.session.specs.Words.{words}
-use Rattle.session.specs.Grammar.{Gives, number_at, coordinate_at, block_at, name_at, text_at, ends_at, new_of, stamp_of, tile_of, layer_of, undo_of, redo_of, goto_of, clean_of, dirty_of, clear_of, status_of, undo_text_of, redo_text_of, step_text_of, command_of, is_quiet, line_of_words, line_of}
+use Rattle.session.specs.Grammar.{Gives, number_at, coordinate_at, block_at, name_at, text_at, ends_at, new_of, stamp_of, tile_of, layer_of, bare_of, goto_of, step_text_of, command_of, is_quiet, line_of_words, line_of}
 use Rattle.session.specs.Spelling.{spaced, commas, spelling, Says, CanBeSpelled, ReadIsSpelled}
 use Rattle.session.proofs.Taken.{if_bind, Number, number, Coordinate, coordinate, Block, block, Name, name, Text, text, ended, is_text_from, utf8_last}
-use Rattle.session.proofs.Telling.{Told, by_word, ends_told, number_told}
+use Rattle.session.proofs.Telling.{Told, by_word, number_told}
 use Rattle.session.proofs.LayersTold.{layer_told}
 
 tile_told : (ws : List (List ℕ)) → IfOk (tile_of ws) (Told (spaced (codes "tile" ∷ ws)))
@@ -55,41 +55,14 @@ new_told ws =
     let utf8 = utf8_last (codes "new" ∷ name.0 ∷ decimal width.0 ∷ decimal height.0 ∷ decimal tile_width.0 ∷ decimal tile_height.0 ∷ []) source (subst IsUtf8 same u) in
     (same, (n.fits, w.fits, h.fits, x.fits, y.fits, is_text_from source s.fits utf8))))))))
 
-undo_told : (ws : List (List ℕ)) → IfOk (undo_of ws) (Told (spaced (codes "undo" ∷ ws)))
-unfolding undo_of
-undo_told ws = ends_told (codes "undo") Undo ws (refl, tt)
-
-redo_told : (ws : List (List ℕ)) → IfOk (redo_of ws) (Told (spaced (codes "redo" ∷ ws)))
-unfolding redo_of
-redo_told ws = ends_told (codes "redo") Redo ws (refl, tt)
+bare_told : (word : List ℕ) (line : Line) (ws : List (List ℕ)) → Says (spaced (word ∷ [])) line × CanBeSpelled line → IfOk (bare_of line ws) (Told (spaced (word ∷ ws)))
+unfolding bare_of
+bare_told word line ws h =
+    if_bind (ends_at ws) _ (λ _. ws ≡ []) (Told (spaced (word ∷ ws))) (ended ws) (λ end e. λ short u. subst (λ vs. Says (spaced (word ∷ vs)) line × CanBeSpelled line) (sym e) h)
 
 goto_told : (ws : List (List ℕ)) → IfOk (goto_of ws) (Told (spaced (codes "goto" ∷ ws)))
 unfolding goto_of
 goto_told ws = number_told (codes "goto" ∷ []) Goto ws (λ n h. (refl, h))
-
-clean_told : (ws : List (List ℕ)) → IfOk (clean_of ws) (Told (spaced (codes "clean" ∷ ws)))
-unfolding clean_of
-clean_told ws = ends_told (codes "clean") Clean ws (refl, tt)
-
-dirty_told : (ws : List (List ℕ)) → IfOk (dirty_of ws) (Told (spaced (codes "dirty" ∷ ws)))
-unfolding dirty_of
-dirty_told ws = ends_told (codes "dirty") Dirty ws (refl, tt)
-
-clear_told : (ws : List (List ℕ)) → IfOk (clear_of ws) (Told (spaced (codes "clear" ∷ ws)))
-unfolding clear_of
-clear_told ws = ends_told (codes "clear") Clear ws (refl, tt)
-
-status_told : (ws : List (List ℕ)) → IfOk (status_of ws) (Told (spaced (codes "status" ∷ ws)))
-unfolding status_of
-status_told ws = ends_told (codes "status") Status ws (refl, tt)
-
-undo_text_told : (ws : List (List ℕ)) → IfOk (undo_text_of ws) (Told (spaced (codes "undotext" ∷ ws)))
-unfolding undo_text_of
-undo_text_told ws = ends_told (codes "undotext") UndoText ws (refl, tt)
-
-redo_text_told : (ws : List (List ℕ)) → IfOk (redo_text_of ws) (Told (spaced (codes "redotext" ∷ ws)))
-unfolding redo_text_of
-redo_text_told ws = ends_told (codes "redotext") RedoText ws (refl, tt)
 
 step_text_told : (ws : List (List ℕ)) → IfOk (step_text_of ws) (Told (spaced (codes "text" ∷ ws)))
 unfolding step_text_of
@@ -103,15 +76,15 @@ command_told name ws =
     cond_both (bytes_eq name (codes "stamp")) _ _ Q (by_word [] name (codes "stamp") ws (stamp_of ws) (stamp_told ws)) (λ _.
     cond_both (bytes_eq name (codes "tile")) _ _ Q (by_word [] name (codes "tile") ws (tile_of ws) (tile_told ws)) (λ _.
     cond_both (bytes_eq name (codes "layer")) _ _ Q (by_word [] name (codes "layer") ws (layer_of ws) (layer_told ws)) (λ _.
-    cond_both (bytes_eq name (codes "undo")) _ _ Q (by_word [] name (codes "undo") ws (undo_of ws) (undo_told ws)) (λ _.
-    cond_both (bytes_eq name (codes "redo")) _ _ Q (by_word [] name (codes "redo") ws (redo_of ws) (redo_told ws)) (λ _.
+    cond_both (bytes_eq name (codes "undo")) _ _ Q (by_word [] name (codes "undo") ws (bare_of Undo ws) (bare_told (codes "undo") Undo ws (refl, tt))) (λ _.
+    cond_both (bytes_eq name (codes "redo")) _ _ Q (by_word [] name (codes "redo") ws (bare_of Redo ws) (bare_told (codes "redo") Redo ws (refl, tt))) (λ _.
     cond_both (bytes_eq name (codes "goto")) _ _ Q (by_word [] name (codes "goto") ws (goto_of ws) (goto_told ws)) (λ _.
-    cond_both (bytes_eq name (codes "clean")) _ _ Q (by_word [] name (codes "clean") ws (clean_of ws) (clean_told ws)) (λ _.
-    cond_both (bytes_eq name (codes "dirty")) _ _ Q (by_word [] name (codes "dirty") ws (dirty_of ws) (dirty_told ws)) (λ _.
-    cond_both (bytes_eq name (codes "clear")) _ _ Q (by_word [] name (codes "clear") ws (clear_of ws) (clear_told ws)) (λ _.
-    cond_both (bytes_eq name (codes "status")) _ _ Q (by_word [] name (codes "status") ws (status_of ws) (status_told ws)) (λ _.
-    cond_both (bytes_eq name (codes "undotext")) _ _ Q (by_word [] name (codes "undotext") ws (undo_text_of ws) (undo_text_told ws)) (λ _.
-    cond_both (bytes_eq name (codes "redotext")) _ _ Q (by_word [] name (codes "redotext") ws (redo_text_of ws) (redo_text_told ws)) (λ _.
+    cond_both (bytes_eq name (codes "clean")) _ _ Q (by_word [] name (codes "clean") ws (bare_of Clean ws) (bare_told (codes "clean") Clean ws (refl, tt))) (λ _.
+    cond_both (bytes_eq name (codes "dirty")) _ _ Q (by_word [] name (codes "dirty") ws (bare_of Dirty ws) (bare_told (codes "dirty") Dirty ws (refl, tt))) (λ _.
+    cond_both (bytes_eq name (codes "clear")) _ _ Q (by_word [] name (codes "clear") ws (bare_of Clear ws) (bare_told (codes "clear") Clear ws (refl, tt))) (λ _.
+    cond_both (bytes_eq name (codes "status")) _ _ Q (by_word [] name (codes "status") ws (bare_of Status ws) (bare_told (codes "status") Status ws (refl, tt))) (λ _.
+    cond_both (bytes_eq name (codes "undotext")) _ _ Q (by_word [] name (codes "undotext") ws (bare_of UndoText ws) (bare_told (codes "undotext") UndoText ws (refl, tt))) (λ _.
+    cond_both (bytes_eq name (codes "redotext")) _ _ Q (by_word [] name (codes "redotext") ws (bare_of RedoText ws) (bare_told (codes "redotext") RedoText ws (refl, tt))) (λ _.
     cond_both (bytes_eq name (codes "text")) _ _ Q (by_word [] name (codes "text") ws (step_text_of ws) (step_text_told ws)) (λ _. tt))))))))))))))
 
 words_told : (ws : List (List ℕ)) → IfOk (line_of_words ws) (Told (spaced ws))

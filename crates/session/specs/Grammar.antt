@@ -145,15 +145,11 @@ layer_of (w ∷ ws) =
     else if bytes_eq w (codes "move") then move_layer_of ws
     else Err BadWord
 
-unfoldable pub undo_of : List (List ℕ) → Result Line LineFault
-undo_of ws = do
+-- a line of one word
+unfoldable pub bare_of : Line → List (List ℕ) → Result Line LineFault
+bare_of line ws = do
   end ← ends_at ws
-  Ok Undo
-
-unfoldable pub redo_of : List (List ℕ) → Result Line LineFault
-redo_of ws = do
-  end ← ends_at ws
-  Ok Redo
+  Ok line
 
 -- index
 unfoldable pub goto_of : List (List ℕ) → Result Line LineFault
@@ -161,36 +157,6 @@ goto_of ws = do
   index ← number_at ws
   end ← ends_at index.1
   Ok (Goto index.0)
-
-unfoldable pub clean_of : List (List ℕ) → Result Line LineFault
-clean_of ws = do
-  end ← ends_at ws
-  Ok Clean
-
-unfoldable pub dirty_of : List (List ℕ) → Result Line LineFault
-dirty_of ws = do
-  end ← ends_at ws
-  Ok Dirty
-
-unfoldable pub clear_of : List (List ℕ) → Result Line LineFault
-clear_of ws = do
-  end ← ends_at ws
-  Ok Clear
-
-unfoldable pub status_of : List (List ℕ) → Result Line LineFault
-status_of ws = do
-  end ← ends_at ws
-  Ok Status
-
-unfoldable pub undo_text_of : List (List ℕ) → Result Line LineFault
-undo_text_of ws = do
-  end ← ends_at ws
-  Ok UndoText
-
-unfoldable pub redo_text_of : List (List ℕ) → Result Line LineFault
-redo_text_of ws = do
-  end ← ends_at ws
-  Ok RedoText
 
 -- place
 unfoldable pub step_text_of : List (List ℕ) → Result Line LineFault
@@ -206,15 +172,15 @@ command_of name ws =
     else if bytes_eq name (codes "stamp") then stamp_of ws
     else if bytes_eq name (codes "tile") then tile_of ws
     else if bytes_eq name (codes "layer") then layer_of ws
-    else if bytes_eq name (codes "undo") then undo_of ws
-    else if bytes_eq name (codes "redo") then redo_of ws
+    else if bytes_eq name (codes "undo") then bare_of Undo ws
+    else if bytes_eq name (codes "redo") then bare_of Redo ws
     else if bytes_eq name (codes "goto") then goto_of ws
-    else if bytes_eq name (codes "clean") then clean_of ws
-    else if bytes_eq name (codes "dirty") then dirty_of ws
-    else if bytes_eq name (codes "clear") then clear_of ws
-    else if bytes_eq name (codes "status") then status_of ws
-    else if bytes_eq name (codes "undotext") then undo_text_of ws
-    else if bytes_eq name (codes "redotext") then redo_text_of ws
+    else if bytes_eq name (codes "clean") then bare_of Clean ws
+    else if bytes_eq name (codes "dirty") then bare_of Dirty ws
+    else if bytes_eq name (codes "clear") then bare_of Clear ws
+    else if bytes_eq name (codes "status") then bare_of Status ws
+    else if bytes_eq name (codes "undotext") then bare_of UndoText ws
+    else if bytes_eq name (codes "redotext") then bare_of RedoText ws
     else if bytes_eq name (codes "text") then step_text_of ws
     else Err UnknownCommand
 

@@ -25,7 +25,7 @@ impl<'a> Model for Gids<'a> {
 impl<'a> Gids<'a> {
     /// The values that a word is.
     #[tactic(auto, unfolding(crate::specs::Words::numbers_of))]
-    pub fn of_word(word: &'a str) -> Option<Gids<'a>>
+    pub(crate) fn of_word(word: &'a str) -> Option<Gids<'a>>
         ensures { result ≡ numbers_of word.now }
     {
         let mut rest = Some(word);

@@ -1,4 +1,4 @@
-ghost use Rattle.session.specs.Grammar.{Gives, new_of, stamp_of, tile_of, undo_of, redo_of, goto_of, clean_of, dirty_of, clear_of, status_of, undo_text_of, redo_text_of, step_text_of, command_of, is_quiet, line_of};
+ghost use Rattle.session.specs.Grammar.{Gives, new_of, stamp_of, tile_of, bare_of, goto_of, step_text_of, command_of, is_quiet, line_of};
 ghost use Rattle.session.specs.Spelling.{Says, CanBeSpelled};
 ghost use Rattle.std.specs.Prelude.{◌≡◌, ◌==◌, IfOk};
 ghost use Rattle.std.specs.List.{list_all};
@@ -64,20 +64,13 @@ fn tile<'a>(rest: Option<&'a str>) -> Result<Line<'a>, LineFault>
     Ok(Line::Tile { layer, x, y })
 }
 
-#[tactic(auto, unfolding(crate::specs::Grammar::undo_of))]
-fn undo<'a>(rest: Option<&'a str>) -> Result<Line<'a>, LineFault>
-    ensures { Gives (λ x. x) result (undo_of (words_left rest.entry)) }
+// A line of one word.
+#[tactic(auto, unfolding(crate::specs::Grammar::bare_of))]
+fn bare<'a>(line: Line<'a>, rest: Option<&'a str>) -> Result<Line<'a>, LineFault>
+    ensures { Gives (λ x. x) result (bare_of line.entry (words_left rest.entry)) }
 {
     end_field(rest)?;
-    Ok(Line::Undo)
-}
-
-#[tactic(auto, unfolding(crate::specs::Grammar::redo_of))]
-fn redo<'a>(rest: Option<&'a str>) -> Result<Line<'a>, LineFault>
-    ensures { Gives (λ x. x) result (redo_of (words_left rest.entry)) }
-{
-    end_field(rest)?;
-    Ok(Line::Redo)
+    Ok(line)
 }
 
 #[tactic(auto, unfolding(crate::specs::Grammar::goto_of))]
@@ -87,54 +80,6 @@ fn goto<'a>(rest: Option<&'a str>) -> Result<Line<'a>, LineFault>
     let (index, rest) = number_field(rest)?;
     end_field(rest)?;
     Ok(Line::Goto { index })
-}
-
-#[tactic(auto, unfolding(crate::specs::Grammar::clean_of))]
-fn clean<'a>(rest: Option<&'a str>) -> Result<Line<'a>, LineFault>
-    ensures { Gives (λ x. x) result (clean_of (words_left rest.entry)) }
-{
-    end_field(rest)?;
-    Ok(Line::Clean)
-}
-
-#[tactic(auto, unfolding(crate::specs::Grammar::dirty_of))]
-fn dirty<'a>(rest: Option<&'a str>) -> Result<Line<'a>, LineFault>
-    ensures { Gives (λ x. x) result (dirty_of (words_left rest.entry)) }
-{
-    end_field(rest)?;
-    Ok(Line::Dirty)
-}
-
-#[tactic(auto, unfolding(crate::specs::Grammar::clear_of))]
-fn clear<'a>(rest: Option<&'a str>) -> Result<Line<'a>, LineFault>
-    ensures { Gives (λ x. x) result (clear_of (words_left rest.entry)) }
-{
-    end_field(rest)?;
-    Ok(Line::Clear)
-}
-
-#[tactic(auto, unfolding(crate::specs::Grammar::status_of))]
-fn status<'a>(rest: Option<&'a str>) -> Result<Line<'a>, LineFault>
-    ensures { Gives (λ x. x) result (status_of (words_left rest.entry)) }
-{
-    end_field(rest)?;
-    Ok(Line::Status)
-}
-
-#[tactic(auto, unfolding(crate::specs::Grammar::undo_text_of))]
-fn undo_text<'a>(rest: Option<&'a str>) -> Result<Line<'a>, LineFault>
-    ensures { Gives (λ x. x) result (undo_text_of (words_left rest.entry)) }
-{
-    end_field(rest)?;
-    Ok(Line::UndoText)
-}
-
-#[tactic(auto, unfolding(crate::specs::Grammar::redo_text_of))]
-fn redo_text<'a>(rest: Option<&'a str>) -> Result<Line<'a>, LineFault>
-    ensures { Gives (λ x. x) result (redo_text_of (words_left rest.entry)) }
-{
-    end_field(rest)?;
-    Ok(Line::RedoText)
 }
 
 #[tactic(auto, unfolding(crate::specs::Grammar::step_text_of))]
@@ -155,15 +100,15 @@ fn command<'a>(name: &str, rest: Option<&'a str>) -> Result<Line<'a>, LineFault>
         "stamp" => stamp(rest),
         "tile" => tile(rest),
         "layer" => layer(rest),
-        "undo" => undo(rest),
-        "redo" => redo(rest),
+        "undo" => bare(Line::Undo, rest),
+        "redo" => bare(Line::Redo, rest),
         "goto" => goto(rest),
-        "clean" => clean(rest),
-        "dirty" => dirty(rest),
-        "clear" => clear(rest),
-        "status" => status(rest),
-        "undotext" => undo_text(rest),
-        "redotext" => redo_text(rest),
+        "clean" => bare(Line::Clean, rest),
+        "dirty" => bare(Line::Dirty, rest),
+        "clear" => bare(Line::Clear, rest),
+        "status" => bare(Line::Status, rest),
+        "undotext" => bare(Line::UndoText, rest),
+        "redotext" => bare(Line::RedoText, rest),
         "text" => step_text(rest),
         _ => Err(LineFault::UnknownCommand),
     }

@@ -3,14 +3,13 @@ ghost use Rattle.std.specs.Prelude.{◌≡◌, ◌<◌, ◌^◌, IfOk, length};
 ghost use Rattle.session.specs.Spelling.{IsBlock};
 ghost use Rattle.session.specs.declared.line.Line.TheVariants as lines;
 ghost use Rattle.editor.specs.Editors.{machine_of, IsSound};
-ghost use Rattle.editor.specs.Machine.{refusal_of_edit};
 ghost use Rattle.editor.specs.Planning.{FitsPlan, Plans, refused};
 
 use crate::editor::Editor;
 use crate::planned::{Edit, Planned};
 use crate::refusal;
 use command_api::Command;
-use edits::{Block, EditFault};
+use edits::Block;
 use layer_commands::{AddLayer, MoveLayer, RemoveLayer, RenameLayer, ShowLayer};
 use map_model::LayerKind;
 use paint_commands::PaintCommand;
@@ -38,7 +37,7 @@ fn refused(refusal: Refusal) -> Planned
 
 impl<C: Command> Editor<C> {
     // Plans a stamp on the open document.
-    pub fn plan_stamp(
+    pub(crate) fn plan_stamp(
         &self,
         alloc: Global,
         layer: u32,
@@ -72,7 +71,7 @@ impl<C: Command> Editor<C> {
     }
 
     // Plans a layer more.
-    pub fn plan_add_layer(&self, alloc: Global, kind: LayerKind, name: &Text<'_>) -> Planned
+    pub(crate) fn plan_add_layer(&self, alloc: Global, kind: LayerKind, name: &Text<'_>) -> Planned
         requires { IsSound C.change self.now }
         ensures plans { Plans (lines.AddLayer kind name.now) (machine_of C.change self.now) result (machine_of C.change self.now) }
         ensures fits { FitsPlan (machine_of C.change self.now) result }
@@ -87,7 +86,7 @@ impl<C: Command> Editor<C> {
     }
 
     // Plans a layer less.
-    pub fn plan_remove_layer(&self, layer: u32) -> Planned
+    pub(crate) fn plan_remove_layer(&self, layer: u32) -> Planned
         requires { IsSound C.change self.now }
         ensures plans { Plans (lines.RemoveLayer layer) (machine_of C.change self.now) result (machine_of C.change self.now) }
         ensures fits { FitsPlan (machine_of C.change self.now) result }
@@ -102,7 +101,7 @@ impl<C: Command> Editor<C> {
     }
 
     // Plans another name for a layer.
-    pub fn plan_rename_layer(&self, alloc: Global, layer: u32, name: &Text<'_>) -> Planned
+    pub(crate) fn plan_rename_layer(&self, alloc: Global, layer: u32, name: &Text<'_>) -> Planned
         requires { IsSound C.change self.now }
         ensures plans { Plans (lines.RenameLayer layer name.now) (machine_of C.change self.now) result (machine_of C.change self.now) }
         ensures fits { FitsPlan (machine_of C.change self.now) result }
@@ -117,7 +116,7 @@ impl<C: Command> Editor<C> {
     }
 
     // Plans a layer that is shown or hidden.
-    pub fn plan_show_layer(&self, layer: u32, visible: bool) -> Planned
+    pub(crate) fn plan_show_layer(&self, layer: u32, visible: bool) -> Planned
         requires { IsSound C.change self.now }
         ensures plans { Plans (lines.ShowLayer layer visible) (machine_of C.change self.now) result (machine_of C.change self.now) }
         ensures fits { FitsPlan (machine_of C.change self.now) result }
@@ -132,7 +131,7 @@ impl<C: Command> Editor<C> {
     }
 
     // Plans a layer at another place.
-    pub fn plan_move_layer(&self, layer: u32, place: u32) -> Planned
+    pub(crate) fn plan_move_layer(&self, layer: u32, place: u32) -> Planned
         requires { IsSound C.change self.now }
         ensures plans { Plans (lines.MoveLayer layer place) (machine_of C.change self.now) result (machine_of C.change self.now) }
         ensures fits { FitsPlan (machine_of C.change self.now) result }

@@ -26,7 +26,7 @@ fn text_reply(alloc: Global, text: &str) -> Reply
 
 impl<C: Command> Editor<C> {
     // Looks at a cell of the open document.
-    pub fn tile(&self, layer: u32, x: i32, y: i32) -> Reply
+    pub(crate) fn tile(&self, layer: u32, x: i32, y: i32) -> Reply
         requires { IsSound C.change self.now }
         ensures { StepOfLine (lines.Tile layer x y) (machine_of C.change self.now) (Some result) (machine_of C.change self.now) }
     {
@@ -37,7 +37,7 @@ impl<C: Command> Editor<C> {
     }
 
     // Undoes a step of the open document.
-    pub fn undo(&mut self) -> Reply
+    pub(crate) fn undo(&mut self) -> Reply
         requires { IsSound C.change self.old }
         ensures sound { IsSound C.change self.new }
         ensures step { StepOfLine lines.Undo (machine_of C.change self.old) (Some result) (machine_of C.change self.new) }
@@ -53,7 +53,7 @@ impl<C: Command> Editor<C> {
     }
 
     // Redoes a step of the open document.
-    pub fn redo(&mut self) -> Reply
+    pub(crate) fn redo(&mut self) -> Reply
         requires { IsSound C.change self.old }
         ensures sound { IsSound C.change self.new }
         ensures step { StepOfLine lines.Redo (machine_of C.change self.old) (Some result) (machine_of C.change self.new) }
@@ -69,7 +69,7 @@ impl<C: Command> Editor<C> {
     }
 
     // Undoes or redoes until the index is this one, or the count where it is past that.
-    pub fn go_to(&mut self, index: u32) -> Reply
+    pub(crate) fn go_to(&mut self, index: u32) -> Reply
         requires { IsSound C.change self.old }
         ensures sound { IsSound C.change self.new }
         ensures step { StepOfLine (lines.Goto index) (machine_of C.change self.old) (Some result) (machine_of C.change self.new) }
@@ -85,7 +85,7 @@ impl<C: Command> Editor<C> {
     }
 
     // Makes the index the clean one.
-    pub fn clean(&mut self) -> Reply
+    pub(crate) fn clean(&mut self) -> Reply
         requires { IsSound C.change self.old }
         ensures sound { IsSound C.change self.new }
         ensures step { StepOfLine lines.Clean (machine_of C.change self.old) (Some result) (machine_of C.change self.new) }
@@ -101,7 +101,7 @@ impl<C: Command> Editor<C> {
     }
 
     // Leaves no clean index.
-    pub fn dirty(&mut self) -> Reply
+    pub(crate) fn dirty(&mut self) -> Reply
         requires { IsSound C.change self.old }
         ensures sound { IsSound C.change self.new }
         ensures step { StepOfLine lines.Dirty (machine_of C.change self.old) (Some result) (machine_of C.change self.new) }
@@ -117,7 +117,7 @@ impl<C: Command> Editor<C> {
     }
 
     // Lets go of all steps.
-    pub fn clear(&mut self) -> Reply
+    pub(crate) fn clear(&mut self) -> Reply
         requires { IsSound C.change self.old }
         ensures sound { IsSound C.change self.new }
         ensures step { StepOfLine lines.Clear (machine_of C.change self.old) (Some result) (machine_of C.change self.new) }
@@ -133,7 +133,7 @@ impl<C: Command> Editor<C> {
     }
 
     // How the open document stands.
-    pub fn status(&self) -> Reply
+    pub(crate) fn status(&self) -> Reply
         ensures { StepOfLine lines.Status (machine_of C.change self.now) (Some result) (machine_of C.change self.now) }
     {
         match &self.stack {
@@ -143,7 +143,7 @@ impl<C: Command> Editor<C> {
     }
 
     // The text for undo.
-    pub fn undo_text(&self, alloc: Global) -> Reply
+    pub(crate) fn undo_text(&self, alloc: Global) -> Reply
         ensures { StepOfLine lines.UndoText (machine_of C.change self.now) (Some result) (machine_of C.change self.now) }
     {
         match &self.stack {
@@ -153,7 +153,7 @@ impl<C: Command> Editor<C> {
     }
 
     // The text for redo.
-    pub fn redo_text(&self, alloc: Global) -> Reply
+    pub(crate) fn redo_text(&self, alloc: Global) -> Reply
         ensures { StepOfLine lines.RedoText (machine_of C.change self.now) (Some result) (machine_of C.change self.now) }
     {
         match &self.stack {
@@ -163,7 +163,7 @@ impl<C: Command> Editor<C> {
     }
 
     // The text for lists of the step at a place.
-    pub fn step_text(&self, alloc: Global, place: u32) -> Reply
+    pub(crate) fn step_text(&self, alloc: Global, place: u32) -> Reply
         ensures { StepOfLine (lines.StepText place) (machine_of C.change self.now) (Some result) (machine_of C.change self.now) }
     {
         let Some(stack) = &self.stack else {

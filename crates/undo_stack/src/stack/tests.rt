@@ -1,7 +1,9 @@
 //! What no clause says: which boxes are let go of and turned, and what a refused push leaves.
 
-ghost use Rattle.std.specs.Prelude.{[], None, true, false};
+ghost use Rattle.std.specs.Prelude.{◌≡◌, [], None, true, false};
 ghost use Rattle.command_api.specs.Law.{Never, WhenEqual};
+ghost use Rattle.undo_stack.specs.History.{current};
+ghost use Rattle.undo_stack.specs.Stacks.{history, Holds};
 
 use super::{Stack, StackFault};
 use crate::entry::Entry;
@@ -123,6 +125,11 @@ impl Drop for Idle {
     }
 }
 
+fn new_idle(alloc: Global, counts: &Rc<Counts>) -> Result<Box<Idle>, AllocError> {
+    let counts = counts.clone()?;
+    Ok(Box::new(alloc, Idle { counts })?)
+}
+
 impl Command for Idle {
     ghost change = { λ _. record {
       text = [];
@@ -217,60 +224,111 @@ fn stamp() -> Titled {
     }
 }
 
+// The calls below are those of a stack. Of what they do the proofs of the tests need only that the stack stays whole.
+fn push<C: Command>(stack: &mut Stack<C>, command: C) -> Result<(), AllocError>
+    requires sound { Holds C.change stack.old }
+    requires unlimited { (history C.change stack.old).limit ≡ 0 }
+    requires fits { (C.change command).fits_redo (current (history C.change stack.old)) }
+    requires straight { (C.change command).follows ≡ false }
+    ensures sound { Holds C.change stack.new }
+    ensures unlimited { (history C.change stack.new).limit ≡ 0 }
+{
+    stack.push(command)
+}
+
+fn undo<C: Command>(stack: &mut Stack<C>) -> Result<(), StackFault>
+    requires sound { Holds C.change stack.old }
+    requires unlimited { (history C.change stack.old).limit ≡ 0 }
+    ensures sound { Holds C.change stack.new }
+    ensures unlimited { (history C.change stack.new).limit ≡ 0 }
+{
+    stack.undo()?;
+    Ok(())
+}
+
+fn redo<C: Command>(stack: &mut Stack<C>) -> Result<(), StackFault>
+    requires sound { Holds C.change stack.old }
+    requires unlimited { (history C.change stack.old).limit ≡ 0 }
+    ensures sound { Holds C.change stack.new }
+    ensures unlimited { (history C.change stack.new).limit ≡ 0 }
+{
+    stack.redo()?;
+    Ok(())
+}
+
+fn set_index<C: Command>(stack: &mut Stack<C>, index: usize)
+    requires sound { Holds C.change stack.old }
+    requires unlimited { (history C.change stack.old).limit ≡ 0 }
+    ensures sound { Holds C.change stack.new }
+    ensures unlimited { (history C.change stack.new).limit ≡ 0 }
+{
+    stack.set_index(index);
+}
+
+// Each turn, and how often the two commands were turned and let go of after it.
 #[test]
 fn each_call_turns_one_command(rt: HostRuntime) -> Result<(), Fail> {
     let alloc = rt.alloc();
     let first = Counts::new(alloc)?;
     let second = Counts::new(alloc)?;
+    let below: Box<dyn Command> = new_probe(alloc, &first)?;
+    let above: Box<dyn Command> = new_probe(alloc, &second)?;
     let mut stack: Stack<Box<dyn Command>> = Stack::new(alloc, blank(alloc)?, 0);
-    assert!(rt; stack.is_clean());
-    assert_eq!(rt; stack.undo(), Err(StackFault::NothingToUndo));
-    let command: Box<dyn Command> = new_probe(alloc, &first)?;
-    stack.push(command)?;
-    let command: Box<dyn Command> = new_probe(alloc, &second)?;
-    stack.push(command)?;
-    assert_eq!(rt; first.all(), (1, 0, 0));
-    assert_eq!(rt; second.all(), (1, 0, 0));
-    assert_eq!(rt; stack.redo(), Err(StackFault::NothingToRedo));
-    assert_eq!(rt; stack.undo(), Ok(()));
-    assert_eq!(rt; first.all(), (1, 0, 0));
-    assert_eq!(rt; second.all(), (1, 1, 0));
-    assert_eq!(rt; stack.undo(), Ok(()));
-    assert_eq!(rt; stack.redo(), Ok(()));
-    assert_eq!(rt; first.all(), (2, 1, 0));
-    assert_eq!(rt; second.all(), (1, 1, 0));
-    assert_eq!(rt; (stack.index(), stack.count(), stack.depth()), (1, 2, 0));
-    assert!(rt; !stack.is_clean());
+    let told = [
+        (undo(&mut stack).is_ok(), first.all(), second.all()),
+        (push(&mut stack, below).is_ok(), first.all(), second.all()),
+        (push(&mut stack, above).is_ok(), first.all(), second.all()),
+        (redo(&mut stack).is_ok(), first.all(), second.all()),
+        (undo(&mut stack).is_ok(), first.all(), second.all()),
+        (undo(&mut stack).is_ok(), first.all(), second.all()),
+        (redo(&mut stack).is_ok(), first.all(), second.all()),
+    ];
+    let stands = (
+        stack.index(),
+        stack.count(),
+        stack.depth(),
+        stack.is_clean(),
+    );
     let _ = stack.document().map();
+    drop(stack);
+    let wanted = [
+        (false, (0, 0, 0), (0, 0, 0)),
+        (true, (1, 0, 0), (0, 0, 0)),
+        (true, (1, 0, 0), (1, 0, 0)),
+        (false, (1, 0, 0), (1, 0, 0)),
+        (true, (1, 0, 0), (1, 1, 0)),
+        (true, (1, 1, 0), (1, 1, 0)),
+        (true, (2, 1, 0), (1, 1, 0)),
+    ];
+    assert_eq!(rt; told, wanted);
+    assert_eq!(rt; stands, (1, 2, 0, false));
     Ok(())
 }
 
+// A step that is cut, a command that vanishes, and at the end the stack itself.
 #[test]
 fn each_box_is_let_go_of_once(rt: HostRuntime) -> Result<(), Fail> {
     let alloc = rt.alloc();
     let kept = Counts::new(alloc)?;
     let cut = Counts::new(alloc)?;
     let vanished = Counts::new(alloc)?;
+    let below: Box<dyn Command> = new_probe(alloc, &kept)?;
+    let above: Box<dyn Command> = new_probe(alloc, &cut)?;
+    let idle: Box<dyn Command> = new_idle(alloc, &vanished)?;
     let mut stack: Stack<Box<dyn Command>> = Stack::new(alloc, blank(alloc)?, 0);
-    let command: Box<dyn Command> = new_probe(alloc, &kept)?;
-    stack.push(command)?;
-    let command: Box<dyn Command> = new_probe(alloc, &cut)?;
-    stack.push(command)?;
-    let _ = stack.undo();
-    let command: Box<dyn Command> = Box::new(
-        alloc,
-        Idle {
-            counts: vanished.clone()?,
-        },
-    )?;
-    stack.push(command)?;
-    assert_eq!(rt; cut.all(), (1, 1, 1));
-    assert_eq!(rt; vanished.all(), (1, 0, 1));
-    assert_eq!(rt; (stack.index(), stack.count()), (1, 1));
-    assert_eq!(rt; kept.all(), (1, 0, 0));
+    let are_done = [
+        push(&mut stack, below).is_ok(),
+        push(&mut stack, above).is_ok(),
+        undo(&mut stack).is_ok(),
+        push(&mut stack, idle).is_ok(),
+    ];
+    let stands = (stack.index(), stack.count());
+    let before = [kept.all(), cut.all(), vanished.all()];
     drop(stack);
-    assert_eq!(rt; kept.all(), (1, 0, 1));
-    assert_eq!(rt; cut.all(), (1, 1, 1));
+    let behind = [kept.all(), cut.all(), vanished.all()];
+    assert_eq!(rt; (are_done, stands), ([true; 4], (1, 1)));
+    assert_eq!(rt; before, [(1, 0, 0), (1, 1, 1), (1, 0, 1)]);
+    assert_eq!(rt; behind, [(1, 0, 1), (1, 1, 1), (1, 0, 1)]);
     Ok(())
 }
 
@@ -290,27 +348,27 @@ fn refused_push_leaves_the_stack(rt: HostRuntime) {
         return;
     };
     let command: Box<dyn Command> = command;
-    if stack.push(command).is_err() {
+    if push(&mut stack, command).is_err() {
         assert_eq!(rt; first.all(), (1, 1, 1));
         assert_eq!(rt; (stack.index(), stack.count()), (0, 0));
-        assert_eq!(rt; stack.redo(), Err(StackFault::NothingToRedo));
+        assert_eq!(rt; redo(&mut stack), Err(StackFault::NothingToRedo));
         return;
     }
-    let _ = stack.undo();
+    let _ = undo(&mut stack);
     let Ok(command) = new_probe(alloc, &second) else {
-        assert_eq!(rt; stack.redo(), Ok(()));
+        assert_eq!(rt; redo(&mut stack), Ok(()));
         return;
     };
     let command: Box<dyn Command> = command;
-    if stack.push(command).is_err() {
+    if push(&mut stack, command).is_err() {
         assert_eq!(rt; second.all(), (1, 1, 1));
-        assert_eq!(rt; stack.redo(), Ok(()));
+        assert_eq!(rt; redo(&mut stack), Ok(()));
         assert_eq!(rt; first.all(), (2, 1, 0));
         return;
     }
     assert_eq!(rt; first.all(), (1, 1, 1));
     assert_eq!(rt; second.all(), (1, 0, 0));
-    assert_eq!(rt; stack.redo(), Err(StackFault::NothingToRedo));
+    assert_eq!(rt; redo(&mut stack), Err(StackFault::NothingToRedo));
 }
 
 #[test]
@@ -319,7 +377,7 @@ fn stack_holds_one_document(rt: HostRuntime) -> Result<(), Fail> {
     let counts = Counts::new(alloc)?;
     let mut stack: Stack<Box<dyn Command>> = Stack::new(alloc, blank(alloc)?, 0);
     let command: Box<dyn Command> = new_probe(alloc, &counts)?;
-    stack.push(command)?;
+    push(&mut stack, command)?;
     let Stack {
         document,
         mut entries,
@@ -342,14 +400,14 @@ fn stack_holds_one_document(rt: HostRuntime) -> Result<(), Fail> {
 fn index_goes_where_it_is_set(rt: HostRuntime) -> Result<(), Fail> {
     let alloc = rt.alloc();
     let mut stack: Stack<Titled> = Stack::new(alloc, blank(alloc)?, 0);
-    stack.push(stamp())?;
-    stack.push(stamp())?;
-    stack.push(stamp())?;
-    stack.set_index(99);
+    push(&mut stack, stamp())?;
+    push(&mut stack, stamp())?;
+    push(&mut stack, stamp())?;
+    set_index(&mut stack, 99);
     assert_eq!(rt; (stack.index(), stack.count()), (3, 3));
-    stack.set_index(0);
+    set_index(&mut stack, 0);
     assert_eq!(rt; (stack.index(), stack.count()), (0, 3));
-    stack.set_index(2);
+    set_index(&mut stack, 2);
     assert_eq!(rt; stack.index(), 2);
     assert!(rt; !stack.is_clean());
     stack.set_clean();
@@ -364,19 +422,22 @@ fn clear_lets_go_of_each_box_and_undoes_none(rt: HostRuntime) -> Result<(), Fail
     let alloc = rt.alloc();
     let below = Counts::new(alloc)?;
     let above = Counts::new(alloc)?;
+    let first: Box<dyn Command> = new_probe(alloc, &below)?;
+    let second: Box<dyn Command> = new_probe(alloc, &above)?;
     let mut stack: Stack<Box<dyn Command>> = Stack::new(alloc, blank(alloc)?, 0);
-    let command: Box<dyn Command> = new_probe(alloc, &below)?;
-    stack.push(command)?;
-    let command: Box<dyn Command> = new_probe(alloc, &above)?;
-    stack.push(command)?;
-    stack.set_index(1);
+    let are_pushed = [
+        push(&mut stack, first).is_ok(),
+        push(&mut stack, second).is_ok(),
+    ];
+    set_index(&mut stack, 1);
     stack.reset_clean();
     stack.clear();
-    assert_eq!(rt; (stack.index(), stack.count()), (0, 0));
-    assert!(rt; stack.is_clean());
+    let stands = (stack.index(), stack.count(), stack.is_clean());
+    let counts = [below.all(), above.all()];
     drop(stack);
-    assert_eq!(rt; below.all(), (1, 0, 1));
-    assert_eq!(rt; above.all(), (1, 1, 1));
+    assert_eq!(rt; (are_pushed, stands), ([true, true], (0, 0, true)));
+    assert_eq!(rt; counts, [(1, 0, 1), (1, 1, 1)]);
+    assert_eq!(rt; counts, [below.all(), above.all()]);
     Ok(())
 }
 
@@ -385,13 +446,16 @@ fn texts_are_those_of_the_steps(rt: HostRuntime) -> Result<(), Fail> {
     let alloc = rt.alloc();
     let mut stack: Stack<Titled> = Stack::new(alloc, blank(alloc)?, 0);
     assert_eq!(rt; (stack.undo_text(), stack.redo_text()), ("", ""));
-    stack.push(stamp())?;
-    stack.push(Titled {
-        text: "Erase",
-        action: "erase tiles",
-    })?;
+    push(&mut stack, stamp())?;
+    push(
+        &mut stack,
+        Titled {
+            text: "Erase",
+            action: "erase tiles",
+        },
+    )?;
     assert_eq!(rt; (stack.undo_text(), stack.redo_text()), ("erase tiles", ""));
-    stack.set_index(1);
+    set_index(&mut stack, 1);
     assert_eq!(rt;
         (stack.undo_text(), stack.redo_text()),
         ("stamp tiles", "erase tiles")
