@@ -8,6 +8,3 @@ mod tile;
 
 pub use editor::Editor;
 pub use planned::{Edit, Planned};
-
-#[cfg(test)]
-mod tests;

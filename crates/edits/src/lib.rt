@@ -11,6 +11,3 @@ pub use block::Block;
 pub use change::{CellChange, CellEdits};
 pub use fault::EditFault;
 pub use stamp::{stamp_change, tiles_of_layer};
-
-#[cfg(test)]
-mod tests;

@@ -110,6 +110,3 @@ impl Command for AddLayer {
         document.set_next_ids(self.id, next_object);
     }
 }
-
-#[cfg(test)]
-mod tests;

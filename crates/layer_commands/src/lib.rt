@@ -12,6 +12,3 @@ pub use move_layer::MoveLayer;
 pub use remove::RemoveLayer;
 pub use rename::RenameLayer;
 pub use show::ShowLayer;
-
-#[cfg(test)]
-mod tests;

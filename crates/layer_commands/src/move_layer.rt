@@ -80,6 +80,3 @@ impl Command for MoveLayer {
         self.is_made = false;
     }
 }
-
-#[cfg(test)]
-mod tests;

@@ -63,6 +63,3 @@ impl Command for RemoveLayer {
         document.insert_layer(self.place, layer);
     }
 }
-
-#[cfg(test)]
-mod tests;

@@ -73,6 +73,3 @@ impl Command for RenameLayer {
         document.swap_layer_name(self.layer, &mut self.name);
     }
 }
-
-#[cfg(test)]
-mod tests;

@@ -61,6 +61,3 @@ impl Command for ShowLayer {
         document.set_visible(self.layer, self.before);
     }
 }
-
-#[cfg(test)]
-mod tests;

@@ -3,8 +3,6 @@
 
 mod laws;
 mod reader;
-#[cfg(test)]
-mod tests;
 
 pub use laws::lines_are_cut;
 pub use reader::{Found, LineReader, ReadFault};

@@ -6,6 +6,3 @@ mod iter;
 
 pub use chain::{Chain, Loose};
 pub use iter::Iter;
-
-#[cfg(test)]
-mod tests;

@@ -1,5 +1,5 @@
 -- Changes that keep a map well formed, and where its cells stand.
-use Rattle.std.proofs.Common.{◌≡◌, ◌≢◌, ℕ, ◌+◌, ◌*◌, ◌<◌, ◌≤◌, List, [], ◌∷◌, length, Bool, true, false, cond, Option, Some, None, IsSomeAnd, find, refl, ap, ◌∙◌, subst, arith}
+use Rattle.std.proofs.Common.{◌≡◌, ◌≢◌, ℕ, ◌+◌, ◌*◌, ◌<◌, List, [], ◌∷◌, length, Bool, true, false, cond, Option, Some, None, IsSomeAnd, find, refl, ◌∙◌, subst, arith}
 use Rattle.std.specs.List.{slice_get, slice_set, position, insert, remove}
 use Rattle.std.proofs.lemmas.Nat.{mul-add-lt}
 use Rattle.map_model.specs.declared.parts.Body.{Body}
@@ -10,10 +10,10 @@ use Rattle.map_model.specs.declared.edit.CellEdit.{CellEdit}
 use Rattle.map_model.specs.Lists.{Each, change_first}
 use Rattle.map_model.specs.Bodies.{IsTiles, tiles_of, body_with_tiles}
 use Rattle.map_model.specs.CellEdits.{IsBelow}
-use Rattle.map_model.specs.Keeping.{AreKept, body_names, layer_names, layer_level}
+use Rattle.map_model.specs.Keeping.{body_names}
 use Rattle.map_model.specs.Layers.{layer_with_name, layer_with_visible, with_next_ids}
 use Rattle.map_model.specs.Parts.{has_id, layer_of, HasTiles, tiles_of_layer, tiles_in, layer_with_tiles, IsWithin}
-use Rattle.map_model.specs.WellFormed.{IsId, IsTileValue, IsBody, IsLayer, IsWellFormed, AreIds, ids_of, object_ids_in, object_ids_of, layer_ids, object_ids}
+use Rattle.map_model.specs.WellFormed.{IsId, IsTileValue, IsBody, IsLayer, IsWellFormed, ids_of, object_ids_in, object_ids_of, layer_ids, object_ids}
 use Rattle.map_model.proofs.Changes.{length-change_first, Each-change_first, Each-insert, Each-remove, length-insert, length-remove_le, set-at_position, within-removed, slice_get-within, Each-at}
 use Rattle.map_model.proofs.Listings.{AreNewIds, AreIds-insert, AreIds-remove, AreIds-change_first, AreNewIds-taken}
 

@@ -1,5 +1,5 @@
 -- The lists that are read off a list of layers, piece by piece, as layers come and go.
-use Rattle.std.proofs.Common.{◌≡◌, ◌≢◌, ℕ, zero, suc, List, [], ◌∷◌, ◌++◌, Bool, true, false, cond, Some, refl, sym, ap, ◌∙◌, subst}
+use Rattle.std.proofs.Common.{◌≡◌, ◌≢◌, ℕ, zero, suc, List, [], ◌∷◌, ◌++◌, Bool, true, false, cond, Some, refl, sym, ap, subst}
 use Rattle.std.specs.List.{flat_map, slice_get, insert, remove}
 use Rattle.map_model.specs.Lists.{Each, Distinct, change_first}
 use Rattle.map_model.specs.WellFormed.{IsId, AreIds}

@@ -4,7 +4,7 @@
 -- objects, tilesets or properties takes one level more, and each object in it another. What is kept in an object may
 -- nest as deep as the levels below that object allow.
 use Rattle.std.specs.Prelude.{◌≡◌, ℕ, ◌+◌, ◌≤◌, List, [], ◌∷◌, ◌++◌, None, false, codes}
-use Rattle.serde_json.specs.Data.{Num, Data, null, boolean, number, string, array, object, Members, depth, members_depth}
+use Rattle.serde_json.specs.Data.{Data, null, boolean, number, string, array, object, Members, depth, members_depth}
 use Rattle.serde_json.specs.Find.{get_member, as_i64}
 use Rattle.serde_json.specs.Written.{has_float, members_have_float}
 use Rattle.map_model.specs.declared.parts.Body.{Body}

@@ -23,6 +23,3 @@ pub use parts::{
     Body, Encoding, Layer, LayerKind, MapParts, Object, Placing, PropValue, Property, Tileset,
 };
 pub use place::LayerPlace;
-
-#[cfg(test)]
-mod tests;

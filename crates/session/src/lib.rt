@@ -8,8 +8,6 @@ mod line;
 mod parse;
 mod reply;
 mod spelling;
-#[cfg(test)]
-mod tests;
 mod text;
 mod words;
 

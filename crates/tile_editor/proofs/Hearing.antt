@@ -24,8 +24,8 @@ use Rattle.editor.specs.declared.editor.Editor.{Editor}
 use Rattle.editor.specs.declared.planned.Edit.{Edit}
 use Rattle.editor.specs.declared.planned.Planned.TheVariants as planned
 use Rattle.editor.specs.Editors.{machine_of, IsSound}
-use Rattle.editor.specs.Machine.{Machine, StepOfBytes, StepOf, StepOfLine, Refuses, EditLine, EditStep, EditsOpen, edit_answer}
-use Rattle.editor.specs.Planning.{Plans, IsEditOf, Commits, edit_change}
+use Rattle.editor.specs.Machine.{Machine, StepOfBytes, StepOf, StepOfLine, EditLine, EditsOpen, edit_answer}
+use Rattle.editor.specs.Planning.{IsEditOf, Commits, edit_change}
 use Rattle.tile_editor.specs.Runs.{start, Run, Told, Goes, PlansRead, PlansFound, StepFound, Partly, RunsAll, RunsToRead, RunsToWrite, output, reply_line}
 use Rattle.tile_editor.proofs.Appending.{appends_more, appends_nothing}
 

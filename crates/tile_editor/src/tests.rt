@@ -1,7 +1,8 @@
 use crate::run::{RunFault, Summary, run};
 use std::alloc::{AllocError, Global};
 use std::io;
-use std::io::{Read, Write};
+use std::io::{BufWriter, Read, Write};
+use std::process::Abort;
 use std::test::Fail;
 
 mod faults;
@@ -15,6 +16,9 @@ mod rows;
 const MANY: u32 = 1_000_000;
 
 const WHOLE: usize = 1_000_000;
+
+/// How many bytes a read gives at most, in turn.
+const STEPS: [usize; 3] = [1, 3, WHOLE];
 
 const ROW_1: &str = "new town 4 3 16 16 town.tsj => ok 0/0 clean 0
 stamp 1 1 1 2 5,6 => ok 1/1 dirty 0
@@ -91,12 +95,33 @@ impl Write for Sink {
     }
 }
 
-/// How a run ended, in words.
-fn ending(alloc: Global, end: &Result<Summary, RunFault>) -> Result<String, AllocError> {
+/// What a sink took of a run, and behind it how the run ended, in words.
+fn told_of(
+    alloc: Global,
+    sink: &Sink,
+    end: &Result<Summary, RunFault>,
+) -> Result<String, AllocError> {
+    let text = sink.text();
     match end {
-        Ok(_) => format!(in alloc; "done"),
-        Err(fault) => format!(in alloc; "{fault}"),
+        Ok(_) => format!(in alloc; "{text}done"),
+        Err(fault) => format!(in alloc; "{text}{fault}"),
     }
+}
+
+/// What a sink takes of a run, and how the run ends. The sink may stand behind a buffer.
+fn taken(
+    alloc: Global,
+    mut source: Source<'_>,
+    mut sink: Sink,
+    has_buffer: bool,
+) -> Result<String, AllocError> {
+    if has_buffer {
+        let mut writer = BufWriter::new(alloc, sink).map_err(|_| AllocError)?;
+        let end = run(alloc, &mut source, &mut writer);
+        return told_of(alloc, writer.get_ref(), &end);
+    }
+    let end = run(alloc, &mut source, &mut sink);
+    told_of(alloc, &sink, &end)
 }
 
 /// The replies to a session that is read in steps, and behind them the numbers of lines and of replies.
@@ -126,8 +151,22 @@ struct Script {
     replied: u64,
 }
 
+/// A line, of which `{piece*count}` stands for so many pieces.
+fn push_stretched(text: &mut String, line: &str) -> Result<(), Fail> {
+    let Some((front, rest)) = line.split_once('{') else {
+        return Ok(push_line(text, line)?);
+    };
+    let (piece, rest) = rest.split_once('*').ok_or("no piece")?;
+    let (count, back) = rest.split_once('}').ok_or("no count")?;
+    text.push_str(front)?;
+    for _ in 0..count.parse::<u32>()? {
+        text.push_str(piece)?;
+    }
+    Ok(push_line(text, back)?)
+}
+
 /// The script whose rows are `line => reply`, or a line alone where it gets no reply.
-fn read_script(alloc: Global, rows: &str) -> Result<Script, AllocError> {
+fn read_script(alloc: Global, rows: &str) -> Result<Script, Fail> {
     let mut script = Script {
         session: String::new(alloc),
         replies: String::new(alloc),
@@ -137,19 +176,19 @@ fn read_script(alloc: Global, rows: &str) -> Result<Script, AllocError> {
     for row in rows.lines() {
         script.lines = script.lines.saturating_add(1);
         if let Some((line, reply)) = row.split_once(" => ") {
-            push_line(&mut script.session, line)?;
+            push_stretched(&mut script.session, line)?;
             push_line(&mut script.replies, reply)?;
             script.replied = script.replied.saturating_add(1);
         } else {
-            push_line(&mut script.session, row)?;
+            push_stretched(&mut script.session, row)?;
         }
     }
     Ok(script)
 }
 
-/// What a run tells on a script's rows, and what it is to tell. The session is read in steps, and then without its last
+/// What a run tells on a script's rows, and what it is to tell. The session is read in each of the steps, and then without its last
 /// newline, which changes nothing; of what the readings tell it is the first that is wrong.
-fn told_and_wanted(alloc: Global, rows: &str) -> Result<(String, String), Fail> {
+fn told_and_wanted(alloc: Global, rows: &str, steps: &[usize]) -> Result<(String, String), Fail> {
     let script = read_script(alloc, rows)?;
     let Script {
         session,
@@ -159,14 +198,28 @@ fn told_and_wanted(alloc: Global, rows: &str) -> Result<(String, String), Fail> 
     } = &script;
     let wanted = format!(in alloc; "{replies}{lines} lines, {replied} replies")?;
     let bytes = session.as_bytes();
-    for step in [1, 3, WHOLE] {
-        let told = heard(alloc, bytes, step)?;
+    for step in steps {
+        let told = heard(alloc, bytes, *step)?;
         if told != wanted {
             return Ok((told, wanted));
         }
     }
     let cut = bytes.strip_suffix(b"\n".as_slice()).unwrap_or(bytes);
     Ok((heard(alloc, cut, WHOLE)?, wanted))
+}
+
+/// Each script is replied to as its rows say.
+fn assert_scripts(
+    rt: &impl Abort,
+    alloc: Global,
+    scripts: &[&str],
+    steps: &[usize],
+) -> Result<(), Fail> {
+    for rows in scripts {
+        let (told, wanted) = told_and_wanted(alloc, rows, steps)?;
+        assert_eq!(rt; told.as_str(), wanted.as_str(), "at {rows}");
+    }
+    Ok(())
 }
 
 /// Bytes that are many of one piece between two others.
@@ -184,6 +237,15 @@ fn stretched(
     }
     bytes.extend_from_slice(back)?;
     Ok(bytes)
+}
+
+/// How many lines of a session end within its first bytes.
+fn whole_lines(session: &[u8], count: usize) -> usize {
+    session
+        .iter()
+        .take(count)
+        .filter(|byte| **byte == b'\n')
+        .count()
 }
 
 /// The first of some replies.

@@ -1,55 +1,37 @@
-use super::{MANY, ROW_1, Sink, Source, WHOLE, ending, first_replies, read_script, stretched};
+use super::{
+    MANY, ROW_1, Sink, Source, WHOLE, first_replies, read_script, stretched, taken, whole_lines,
+};
 use crate::run::{Summary, run};
 use std::cell::Cell;
 use std::io;
 use std::io::{BufWriter, Read, Write};
 use std::test::Fail;
 
+// Each flush but the first comes behind whole replies, and the last behind all.
 #[test]
 fn flush_faults_come_behind_whole_replies(rt: HostRuntime) -> Result<(), Fail> {
     let alloc = rt.alloc();
     let script = read_script(alloc, ROW_1)?;
     for step in [1, 50, WHOLE] {
-        let mut taken = 0usize;
-        let mut faults = 0u32;
+        let mut lengths = Vec::new(alloc);
         for flushes_left in 0..100u32 {
-            let mut source = Source {
+            let source = Source {
                 bytes: script.session.as_bytes(),
                 step,
                 calls_left: MANY,
             };
-            let mut sink = Sink::new(alloc, WHOLE, MANY, flushes_left);
-            let result = run(alloc, &mut source, &mut sink);
-            let text = sink.text();
-            if result.is_ok() {
-                assert_eq!(rt;
-                    text,
-                    script.replies.as_str(),
-                    "at {flushes_left} by {step}"
-                );
+            let sink = Sink::new(alloc, WHOLE, MANY, flushes_left);
+            let told = taken(alloc, source, sink, false)?;
+            let Some(text) = told.strip_suffix("write failed") else {
                 break;
-            }
-            faults = faults.saturating_add(1);
-            assert_eq!(rt;
-                ending(alloc, &result)?.as_str(),
-                "write failed",
-                "at {flushes_left} by {step}"
-            );
-            assert!(rt;
-                script.replies.starts_with(text),
-                "at {flushes_left} by {step}"
-            );
-            assert!(rt;
-                text.is_empty() || text.ends_with('\n'),
-                "at {flushes_left} by {step}"
-            );
-            // The first flush comes before anything is heard.
-            assert!(rt; flushes_left != 0 || text.is_empty());
-            taken = text.len();
+            };
+            assert!(rt; script.replies.starts_with(text));
+            assert!(rt; text.is_empty() || text.ends_with('\n'));
+            lengths.push(text.len())?;
         }
-        // The last flush is behind all replies.
-        assert!(rt; 2 <= faults && faults < 100, "by {step}");
-        assert_eq!(rt; taken, script.replies.len(), "by {step}");
+        assert!(rt; 2 <= lengths.len() && lengths.len() < 100, "by {step}");
+        assert_eq!(rt; lengths.first(), Some(&0), "by {step}");
+        assert_eq!(rt; lengths.last(), Some(&script.replies.len()), "by {step}");
     }
     Ok(())
 }
@@ -97,8 +79,7 @@ fn each_read_finds_all_replies_flushed(rt: HostRuntime) -> Result<(), Fail> {
         // The replies to all lines that were given whole are due.
         let mut due = Vec::new(alloc);
         for read in 0..=bytes.len().div_ceil(step) {
-            let given = bytes.iter().take(read.saturating_mul(step));
-            let lines = given.filter(|byte| **byte == b'\n').count();
+            let lines = whole_lines(bytes, read.saturating_mul(step));
             due.push(first_replies(&script.replies, lines).len())?;
         }
         for has_buffer in [false, true] {

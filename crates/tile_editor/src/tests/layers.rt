@@ -1,4 +1,4 @@
-use super::{WHOLE, heard, push_line, told_and_wanted};
+use super::{STEPS, WHOLE, assert_scripts, heard, push_line};
 use std::test::Fail;
 
 #[test]
@@ -12,7 +12,21 @@ layer rename 2 Sky => ok 4/4 dirty 0
 layer move 2 2 => no 39 out of range
 stamp 2 0 0 1 5 => no 31 layer of another kind
 tile 2 0 0 => no 31 layer of another kind
-goto 0 => ok 0/4 clean 0",
+layer remove 9 => no 30 no such layer
+layer rename 9 Sky => no 30 no such layer
+layer show 9 no => no 30 no such layer
+layer move 9 0 => no 30 no such layer
+goto 0 => ok 0/4 clean 0
+layer remove 2 => no 30 no such layer
+goto 99 => ok 4/4 dirty 0
+layer remove 2 => ok 5/5 dirty 0
+tile 2 0 0 => no 30 no such layer
+layer move 1 0 => ok 6/6 dirty 0
+undo => ok 5/6 dirty 0
+undo => ok 4/6 dirty 0
+tile 2 0 0 => no 31 layer of another kind
+layer add tile Ground => ok 5/5 dirty 0
+tile 3 0 0 => tile 0",
         // A layer that is removed keeps its cells.
         "new town 4 3 16 16 town.tsj => ok 0/0 clean 0
 layer add tile Walls => ok 1/1 dirty 0
@@ -21,29 +35,8 @@ layer remove 2 => ok 3/3 dirty 0
 tile 2 1 1 => no 30 no such layer
 undo => ok 2/3 dirty 0
 tile 2 1 1 => tile 7 ---- 1 6",
-    ];
-    for rows in scripts {
-        let (told, wanted) = told_and_wanted(rt.alloc(), rows)?;
-        assert_eq!(rt; told.as_str(), wanted.as_str(), "at {rows}");
-    }
-    Ok(())
-}
-
-#[test]
-fn keeps_the_edges_of_layers(rt: HostRuntime) -> Result<(), Fail> {
-    let rows = "status => ok none clean
-undotext => text
-redotext => text
-text 0 => no 10 no active document
-goto 0 => no 10 no active document
-clean => no 10 no active document
-dirty => no 10 no active document
-clear => no 10 no active document
-layer remove 1 => no 10 no active document
-new town 4 3 16 16 town.tsj => ok 0/0 clean 0
-dirty => ok 0/0 dirty 0
-clear => ok 0/0 clean 0
-status => ok 0/0 clean 0
+        // What is no step, and what is one; the last layer may go.
+        "new town 4 3 16 16 town.tsj => ok 0/0 clean 0
 layer rename 1 Tile Layer 1 => ok 0/0 clean 0
 layer show 1 yes => ok 0/0 clean 0
 layer move 1 0 => ok 1/1 dirty 0
@@ -55,10 +48,9 @@ layer remove 1 => no 30 no such layer
 undo => ok 2/3 dirty 0
 redotext => text remove layer
 undotext => text rename layer
-text 2 => text Remove Layer";
-    let (told, wanted) = told_and_wanted(rt.alloc(), rows)?;
-    assert_eq!(rt; told.as_str(), wanted.as_str());
-    Ok(())
+text 2 => text Remove Layer",
+    ];
+    assert_scripts(&rt, rt.alloc(), &scripts, &STEPS)
 }
 
 #[test]

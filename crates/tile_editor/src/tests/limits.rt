@@ -1,184 +1,54 @@
-use super::{WHOLE, heard, stretched};
+use super::{WHOLE, assert_scripts, heard, stretched};
 use std::test::Fail;
 
+// In a row, `{x*3}` stands for `xxx`.
 #[test]
 fn keeps_the_limits(rt: HostRuntime) -> Result<(), Fail> {
-    let alloc = rt.alloc();
-    let cases = [
-        // names and texts, by bytes
-        (
-            "new ",
-            "n",
-            64,
-            " 1 1 1 1 s",
-            "ok 0/0 clean 0\n1 lines, 1 replies",
-        ),
-        (
-            "new ",
-            "n",
-            65,
-            " 1 1 1 1 s",
-            "no 4 bad word\n1 lines, 1 replies",
-        ),
-        (
-            "new a 1 1 1 1 ",
-            "t",
-            200,
-            "\n",
-            "ok 0/0 clean 0\n1 lines, 1 replies",
-        ),
-        (
-            "new a 1 1 1 1 ",
-            "t",
-            201,
-            "\n",
-            "no 4 bad word\n1 lines, 1 replies",
-        ),
-        (
-            "new a 1 1 1 1 ",
-            "\u{fc}",
-            100,
-            "\n",
-            "ok 0/0 clean 0\n1 lines, 1 replies",
-        ),
-        (
-            "new a 1 1 1 1 ",
-            "\u{fc}",
-            101,
-            "\n",
-            "no 4 bad word\n1 lines, 1 replies",
-        ),
-        // widths of a block
-        (
-            "stamp 1 0 0 4096 5",
-            ",5",
-            4095,
-            "",
-            "no 10 no active document\n1 lines, 1 replies",
-        ),
-        (
-            "stamp 1 0 0 4096 5",
-            ",5",
-            4094,
-            "",
-            "no 4 bad word\n1 lines, 1 replies",
-        ),
-        (
-            "stamp 1 0 0 4097 5",
-            ",5",
-            4096,
-            "",
-            "no 4 bad word\n1 lines, 1 replies",
-        ),
-        (
-            "stamp 1 0 0 1 5",
-            ",5",
-            4096,
-            "",
-            "no 10 no active document\n1 lines, 1 replies",
-        ),
-        (
-            "new town 4 3 16 16 town.tsj\nstamp 1 0 0 4096 5",
-            ",6",
-            8191,
-            "\ntile 1 3 1\ntile 1 3 2\n",
-            "ok 0/0 clean 0\nok 1/1 dirty 0\ntile 6 ---- 1 5\ntile 0\n4 lines, 4 replies",
-        ),
-        // lines
-        (
-            "",
-            "#",
-            65_535,
-            "\nundo\n",
-            "no 10 no active document\n2 lines, 1 replies",
-        ),
-        ("", "#", 65_535, "", "1 lines, 0 replies"),
-        (
-            "",
-            "#",
-            65_536,
-            "\nundo\n",
-            "no 1 line too long\nno 10 no active document\n2 lines, 2 replies",
-        ),
-        (
-            "",
-            "#",
-            65_536,
-            "",
-            "no 1 line too long\n1 lines, 1 replies",
-        ),
-        ("", " ", 65_535, "\n", "1 lines, 0 replies"),
-        (
-            "",
-            " ",
-            65_536,
-            "\n",
-            "no 1 line too long\n1 lines, 1 replies",
-        ),
-        (
-            "",
-            "u",
-            65_535,
-            "\n",
-            "no 3 unknown command\n1 lines, 1 replies",
-        ),
-        (
-            "undo\n",
-            "u",
-            200_000,
-            "\n\nundo",
-            "no 10 no active document\nno 1 line too long\nno 10 no active document\n4 lines, 3 replies",
-        ),
+    let scripts = [
+        // Names and texts by bytes, widths of a block, lines.
+        "new {n*65} 1 1 1 1 s => no 4 bad word
+new a 1 1 1 1 {t*201} => no 4 bad word
+new a 1 1 1 1 {\u{fc}*101} => no 4 bad word
+stamp 1 0 0 4096 5{,5*4095} => no 10 no active document
+stamp 1 0 0 4096 5{,5*4094} => no 4 bad word
+stamp 1 0 0 4097 5{,5*4096} => no 4 bad word
+stamp 1 0 0 1 5{,5*4096} => no 10 no active document
+layer add tile {n*200} => no 10 no active document
+layer add tile {n*201} => no 4 bad word
+layer rename 1 { *200} => no 10 no active document
+layer rename 1 { *201} => no 4 bad word
+{u*65535} => no 3 unknown command
+{u*65536} => no 1 line too long
+{ *65535}
+{ *65536} => no 1 line too long
+{#*65535}
+{#*65536} => no 1 line too long
+
+undo => no 10 no active document
+{u*200000} => no 1 line too long",
+        "new {n*64} 1 1 1 1 s => ok 0/0 clean 0
+{#*65535}",
+        "new a 1 1 1 1 {t*200} => ok 0/0 clean 0",
+        "new a 1 1 1 1 {\u{fc}*100} => ok 0/0 clean 0",
+        "new town 4 3 16 16 town.tsj => ok 0/0 clean 0
+stamp 1 0 0 4096 5{,6*8191} => ok 1/1 dirty 0
+tile 1 3 1 => tile 6 ---- 1 5
+tile 1 3 2 => tile 0",
     ];
-    for (front, piece, count, back, wanted) in cases {
-        let bytes = stretched(
-            alloc,
-            front.as_bytes(),
-            piece.as_bytes(),
-            count,
-            back.as_bytes(),
-        )?;
-        for step in [997, WHOLE] {
-            let got = heard(alloc, &bytes, step)?;
-            assert_eq!(rt;
-                got.as_str(),
-                wanted,
-                "at {front} with {count} of {piece} by {step}"
-            );
-        }
-    }
-    Ok(())
+    assert_scripts(&rt, rt.alloc(), &scripts, &[997, WHOLE])
 }
 
+// Whether a line is too long counts first.
 #[test]
 fn hears_only_utf8(rt: HostRuntime) -> Result<(), Fail> {
     let alloc = rt.alloc();
-    let row_26 = stretched(
-        alloc,
-        b"frob\nstamp 1 0 0 2 5,6,7\nstamp 1 0 0 1 05\n",
-        b"#",
-        65_536,
-        b"\n\xff\n\n# note\n",
-    )?;
-    let got = heard(alloc, &row_26, WHOLE)?;
+    let front = b"#\xff\n# \xc3\nundo\xff\n#\xc3\xbc\n\xff\n\n";
+    let mut session = stretched(alloc, front, b"#", 65_534, b"\xff\n")?;
+    session.extend_from_slice(&stretched(alloc, b"", b"\xff", 65_536, b"\n")?)?;
+    let told = heard(alloc, &session, WHOLE)?;
     assert_eq!(rt;
-        got.as_str(),
-        "no 3 unknown command\nno 4 bad word\nno 4 bad word\nno 1 line too long\nno 2 not UTF-8\n7 lines, 5 replies"
-    );
-    let got = heard(alloc, b"#\xff\n# \xc3\nundo\xff\n#\xc3\xbc", WHOLE)?;
-    assert_eq!(rt;
-        got.as_str(),
-        "no 2 not UTF-8\nno 2 not UTF-8\nno 2 not UTF-8\n4 lines, 3 replies"
-    );
-    let long = stretched(alloc, b"", b"\xff", 65_536, b"\n")?;
-    assert_eq!(rt;
-        heard(alloc, &long, WHOLE)?.as_str(),
-        "no 1 line too long\n1 lines, 1 replies"
-    );
-    let short = stretched(alloc, b"", b"#", 65_534, b"\xff\n")?;
-    assert_eq!(rt;
-        heard(alloc, &short, WHOLE)?.as_str(),
-        "no 2 not UTF-8\n1 lines, 1 replies"
+        told.as_str(),
+        "no 2 not UTF-8\nno 2 not UTF-8\nno 2 not UTF-8\nno 2 not UTF-8\nno 2 not UTF-8\nno 1 line too long\n8 lines, 6 replies"
     );
     Ok(())
 }

@@ -1,4 +1,4 @@
-use super::{ROW_1, told_and_wanted};
+use super::{ROW_1, STEPS, assert_scripts};
 use std::test::Fail;
 
 #[test]
@@ -43,11 +43,7 @@ new city 2 2 16 16 c.tsj => no 11 name taken
 new city 5000 2 16 16 c.tsj => no 11 name taken
 new city 5000 2 16 16 => no 4 bad word",
     ];
-    for rows in scripts {
-        let (told, wanted) = told_and_wanted(rt.alloc(), rows)?;
-        assert_eq!(rt; told.as_str(), wanted.as_str(), "at {rows}");
-    }
-    Ok(())
+    assert_scripts(&rt, rt.alloc(), &scripts, &STEPS)
 }
 
 #[test]
@@ -85,11 +81,7 @@ redo => ok 2/3 dirty 0
 redo => ok 3/3 dirty 0
 tile 1 2 0 => tile 7 ---- 1 6",
     ];
-    for rows in scripts {
-        let (told, wanted) = told_and_wanted(rt.alloc(), rows)?;
-        assert_eq!(rt; told.as_str(), wanted.as_str(), "at {rows}");
-    }
-    Ok(())
+    assert_scripts(&rt, rt.alloc(), &scripts, &STEPS)
 }
 
 #[test]
@@ -127,11 +119,7 @@ tile 1 0 0 => tile 4294967295 hvdr 1 268435454",
 stamp 1 4095 255 1 5 => ok 1/1 dirty 0
 tile 1 4095 255 => tile 5 ---- 1 4",
     ];
-    for rows in scripts {
-        let (told, wanted) = told_and_wanted(rt.alloc(), rows)?;
-        assert_eq!(rt; told.as_str(), wanted.as_str(), "at {rows}");
-    }
-    Ok(())
+    assert_scripts(&rt, rt.alloc(), &scripts, &STEPS)
 }
 
 #[test]
@@ -173,9 +161,5 @@ new a 1 1 1 1 a\u{7f}b => no 4 bad word
 undo => no 10 no active document
 new a.-_Z9 1 4096 65535 65535   two  texts  => ok 0/0 clean 0",
     ];
-    for rows in scripts {
-        let (told, wanted) = told_and_wanted(rt.alloc(), rows)?;
-        assert_eq!(rt; told.as_str(), wanted.as_str(), "at {rows}");
-    }
-    Ok(())
+    assert_scripts(&rt, rt.alloc(), &scripts, &STEPS)
 }

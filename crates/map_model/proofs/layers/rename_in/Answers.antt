@@ -1,4 +1,4 @@
-use Rattle.std.proofs.Common.{◌≡◌, List, ℕ, sym, ap, ◌∙◌}
+use Rattle.std.proofs.Common.{List, ℕ, sym, ap, ◌∙◌}
 use Rattle.std.specs.List.{slice_set}
 use Rattle.map_model.specs.Layers.{layer_with_name}
 use Rattle.map_model.specs.Parts.{has_id}

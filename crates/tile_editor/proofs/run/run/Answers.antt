@@ -1,5 +1,5 @@
-use Rattle.std.proofs.Common.{◌≡◌, ◌<◌, sym, ap, ◌∙◌, refl, arith, rules, Some}
-use Rattle.lines.specs.Lines.{FindsLine, budget, input_left}
+use Rattle.std.proofs.Common.{◌≡◌, ◌<◌, sym, ap, ◌∙◌, arith, Some}
+use Rattle.lines.specs.Lines.{budget}
 use Rattle.command_api.specs.contracts.command.BoxDynCommandCommand.TheImpl.{change-value}
 use Rattle.command_api.specs.Law.{Change}
 use Rattle.layer_commands.specs.Changes.{add_change, remove_change, rename_change, show_change, move_change}

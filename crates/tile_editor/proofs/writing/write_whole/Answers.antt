@@ -1,4 +1,4 @@
-use Rattle.std.proofs.Common.{◌≡◌, ◌++◌, ap, ◌∙◌, sym}
+use Rattle.std.proofs.Common.{◌++◌, ap, ◌∙◌, sym}
 use Rattle.std.proofs.lemmas.List.{take_rest}
 use Rattle.tile_editor.proofs.Appending.{takes_more}
 use Rattle.tile_editor.proofs.writing.write_whole.Goals as goal

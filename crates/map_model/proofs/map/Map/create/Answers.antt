@@ -1,4 +1,3 @@
-use Rattle.std.proofs.Common.{◌≡◌, List, sym, ap, ◌∙◌}
 use Rattle.map_model.proofs.NewMaps.{new_map-IsWellFormed}
 use Rattle.map_model.proofs.map.Map.create.Goals as goal
 

@@ -1,4 +1,4 @@
-use Rattle.std.proofs.Common.{◌≡◌, ◌<◌, ◌+◌, ◌*◌, length-set, rules}
+use Rattle.std.proofs.Common.{◌≡◌, ◌<◌, ◌+◌, ◌*◌, rules}
 use Rattle.map_model.specs.CellEdits.{with_value}
 use Rattle.map_model.specs.Parts.{HasTiles}
 use Rattle.map_model.specs.WellFormed.{IsTileValue}

@@ -3,7 +3,7 @@ use Rattle.map_model.specs.Layers.{with_next_ids}
 use Rattle.map_model.specs.NewMap.{new_map}
 use Rattle.map_model.specs.WellFormed.{IsWellFormed}
 use Rattle.map_model.proofs.NewMaps.{new_map-IsWellFormed}
-use Rattle.layer_commands.proofs.add.tests.refuses_ids_above_the_last.Goals as goal
+use Rattle.library_tests.proofs.layers.refuses_ids_above_the_last.Goals as goal
 
 -- the town with the greatest next layer id
 last-IsWellFormed : (source : List ℕ) → IsWellFormed (with_next_ids 2147483647 1 (new_map 4 3 16 16 source))

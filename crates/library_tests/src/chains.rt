@@ -1,4 +1,4 @@
-use super::*;
+use link_chain::{Chain, Loose};
 use std::alloc::{AllocError, Global};
 use std::test::Fail;
 

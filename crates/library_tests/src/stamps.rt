@@ -1,14 +1,8 @@
-use super::*;
-use map_model::{CellEdit, Document, Map, MapText};
-use std::alloc::{AllocError, Global};
+use crate::towns::town;
+use edits::{Block, EditFault, stamp_change, tiles_of_layer};
+use map_model::CellEdit;
 use std::test::Fail;
 use tile_id::Gid;
-
-// The document of the line `new town 4 3 16 16 town.tsj`.
-fn town(alloc: Global) -> Result<Document, AllocError> {
-    let source = MapText::new(String::from_str(alloc, "town.tsj")?);
-    Ok(Document::new(Map::create(alloc, 4, 3, 16, 16, source)?))
-}
 
 #[test]
 fn changes_what_differs(rt: HostRuntime) -> Result<(), Fail> {

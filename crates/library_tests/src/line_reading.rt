@@ -1,4 +1,4 @@
-use crate::{Found, LineReader};
+use lines::{Found, LineReader};
 use std::alloc::{AllocError, Global};
 use std::io;
 use std::io::Read;
