@@ -41,6 +41,36 @@ fn assert_cells(
     Ok(())
 }
 
+// What two regions give has the cells that their lists give.
+fn assert_pair(
+    rt: &impl Abort,
+    alloc: Global,
+    regions: (&Region, &Region),
+    lists: (&[(u32, u32)], &[(u32, u32)]),
+) -> Result<(), AllocError> {
+    let united = regions.0.united(alloc, regions.1)?;
+    assert_cells(
+        rt,
+        alloc,
+        &united,
+        &cell_list::either(alloc, lists.0, lists.1)?,
+    )?;
+    let rest = regions.0.without(alloc, regions.1)?;
+    assert_cells(
+        rt,
+        alloc,
+        &rest,
+        &cell_list::remaining(alloc, lists.0, lists.1)?,
+    )?;
+    let met = regions.0.met(alloc, regions.1)?;
+    assert_cells(
+        rt,
+        alloc,
+        &met,
+        &cell_list::shared(alloc, lists.0, lists.1)?,
+    )
+}
+
 #[test]
 fn rectangle_has_a_run_a_row(rt: HostRuntime) -> Result<(), Fail> {
     let band = Region::rect(rt.alloc(), 0, 0, 4096, 256)?;
@@ -101,24 +131,7 @@ fn pairs_of_small_sets_agree_with_lists(rt: HostRuntime) -> Result<(), Fail> {
         for second in 0..64 {
             let b = of_six(alloc, second)?;
             let other = list_of_six(alloc, second)?;
-            assert_cells(
-                &rt,
-                alloc,
-                &a.united(alloc, &b)?,
-                &cell_list::either(alloc, &listed, &other)?,
-            )?;
-            assert_cells(
-                &rt,
-                alloc,
-                &a.without(alloc, &b)?,
-                &cell_list::remaining(alloc, &listed, &other)?,
-            )?;
-            assert_cells(
-                &rt,
-                alloc,
-                &a.met(alloc, &b)?,
-                &cell_list::shared(alloc, &listed, &other)?,
-            )?;
+            assert_pair(&rt, alloc, (&a, &b), (&listed, &other))?;
             assert_eq!(rt; a == b, first == second);
         }
     }

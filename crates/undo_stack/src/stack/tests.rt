@@ -242,6 +242,7 @@ fn undo<C: Command>(stack: &mut Stack<C>) -> Result<(), StackFault>
     ensures sound { Holds C.change stack.new }
     ensures unlimited { (history C.change stack.new).limit ≡ 0 }
 {
+    // Taken apart here, the two answers need not be in each test's proof.
     stack.undo()?;
     Ok(())
 }
@@ -252,6 +253,7 @@ fn redo<C: Command>(stack: &mut Stack<C>) -> Result<(), StackFault>
     ensures sound { Holds C.change stack.new }
     ensures unlimited { (history C.change stack.new).limit ≡ 0 }
 {
+    // As at `undo`.
     stack.redo()?;
     Ok(())
 }
@@ -400,20 +402,28 @@ fn stack_holds_one_document(rt: HostRuntime) -> Result<(), Fail> {
 fn index_goes_where_it_is_set(rt: HostRuntime) -> Result<(), Fail> {
     let alloc = rt.alloc();
     let mut stack: Stack<Titled> = Stack::new(alloc, blank(alloc)?, 0);
-    push(&mut stack, stamp())?;
-    push(&mut stack, stamp())?;
-    push(&mut stack, stamp())?;
+    let are_pushed = [
+        push(&mut stack, stamp()).is_ok(),
+        push(&mut stack, stamp()).is_ok(),
+        push(&mut stack, stamp()).is_ok(),
+    ];
     set_index(&mut stack, 99);
-    assert_eq!(rt; (stack.index(), stack.count()), (3, 3));
+    let at_the_end = (stack.index(), stack.count());
     set_index(&mut stack, 0);
-    assert_eq!(rt; (stack.index(), stack.count()), (0, 3));
+    let at_the_start = (stack.index(), stack.count());
     set_index(&mut stack, 2);
-    assert_eq!(rt; stack.index(), 2);
-    assert!(rt; !stack.is_clean());
+    let between = (stack.index(), stack.is_clean());
     stack.set_clean();
-    assert!(rt; stack.is_clean());
+    let is_marked = stack.is_clean();
     stack.reset_clean();
-    assert!(rt; !stack.is_clean());
+    let stays_marked = stack.is_clean();
+    drop(stack);
+    assert_eq!(rt; are_pushed, [true; 3]);
+    assert_eq!(rt;
+        (at_the_end, at_the_start, between),
+        ((3, 3), (0, 3), (2, false))
+    );
+    assert_eq!(rt; (is_marked, stays_marked), (true, false));
     Ok(())
 }
 
@@ -445,23 +455,18 @@ fn clear_lets_go_of_each_box_and_undoes_none(rt: HostRuntime) -> Result<(), Fail
 fn texts_are_those_of_the_steps(rt: HostRuntime) -> Result<(), Fail> {
     let alloc = rt.alloc();
     let mut stack: Stack<Titled> = Stack::new(alloc, blank(alloc)?, 0);
-    assert_eq!(rt; (stack.undo_text(), stack.redo_text()), ("", ""));
-    push(&mut stack, stamp())?;
-    push(
-        &mut stack,
-        Titled {
-            text: "Erase",
-            action: "erase tiles",
-        },
-    )?;
-    assert_eq!(rt; (stack.undo_text(), stack.redo_text()), ("erase tiles", ""));
+    let erase = Titled {
+        text: "Erase",
+        action: "erase tiles",
+    };
+    let mut seen = [(stack.undo_text(), stack.redo_text()) == ("", ""); 5];
+    seen[1] = push(&mut stack, stamp()).is_ok() && push(&mut stack, erase).is_ok();
+    seen[2] = (stack.undo_text(), stack.redo_text()) == ("erase tiles", "");
     set_index(&mut stack, 1);
-    assert_eq!(rt;
-        (stack.undo_text(), stack.redo_text()),
-        ("stamp tiles", "erase tiles")
-    );
-    assert_eq!(rt; stack.text(0), Some("Stamp"));
-    assert_eq!(rt; stack.text(1), Some("Erase"));
-    assert_eq!(rt; stack.text(2), None);
+    seen[3] = (stack.undo_text(), stack.redo_text()) == ("stamp tiles", "erase tiles");
+    let texts = [stack.text(0), stack.text(1), stack.text(2)];
+    seen[4] = texts == [Some("Stamp"), Some("Erase"), None];
+    drop(stack);
+    assert_eq!(rt; seen, [true; 5]);
     Ok(())
 }
