@@ -334,9 +334,55 @@ fn each_box_is_let_go_of_once(rt: HostRuntime) -> Result<(), Fail> {
     Ok(())
 }
 
-// Want of memory for what the test itself makes ends it well, so that each allocation can be made to fail in turn.
+// What a push onto a new stack leaves where it is refused: the index, the count, and that there is nothing to redo; and
+// how often the command was turned and let go of.
+fn refused_at_first(
+    alloc: Global,
+    counts: &Rc<Counts>,
+    document: Document,
+) -> Option<((usize, usize), bool, (u32, u32, u32))> {
+    let command: Box<dyn Command> = new_probe(alloc, counts).ok()?;
+    let mut stack: Stack<Box<dyn Command>> = Stack::new(alloc, document, 0);
+    if push(&mut stack, command).is_ok() {
+        return None;
+    }
+    let has_no_more = redo(&mut stack).is_err();
+    Some(((stack.index(), stack.count()), has_no_more, counts.all()))
+}
+
+// What a push below an undone step leaves where it is refused: that the step is redone; and how often both commands were
+// turned and let go of.
+fn refused_below_a_step(
+    alloc: Global,
+    first: &Rc<Counts>,
+    second: &Rc<Counts>,
+    document: Document,
+) -> Option<(bool, (u32, u32, u32), (u32, u32, u32))> {
+    let step: Box<dyn Command> = new_probe(alloc, first).ok()?;
+    let command: Box<dyn Command> = new_probe(alloc, second).ok()?;
+    let mut stack: Stack<Box<dyn Command>> = Stack::new(alloc, document, 0);
+    let is_there = push(&mut stack, step).is_ok() && undo(&mut stack).is_ok();
+    if !is_there || push(&mut stack, command).is_ok() {
+        return None;
+    }
+    let is_redone = redo(&mut stack).is_ok();
+    Some((is_redone, first.all(), second.all()))
+}
+
+// Want of memory for what the tests themselves make ends them well, so that each allocation can be refused in turn.
 #[test]
-fn refused_push_leaves_the_stack(rt: HostRuntime) {
+fn refused_push_leaves_a_new_stack(rt: HostRuntime) {
+    let alloc = rt.alloc();
+    let (Ok(counts), Ok(document)) = (Counts::new(alloc), blank(alloc)) else {
+        return;
+    };
+    if let Some(seen) = refused_at_first(alloc, &counts, document) {
+        assert_eq!(rt; seen, ((0, 0), true, (1, 1, 1)));
+    }
+}
+
+#[test]
+fn refused_push_leaves_the_step_above(rt: HostRuntime) {
     let alloc = rt.alloc();
     let (Ok(first), Ok(second), Ok(document)) = (
         Counts::new(alloc),
@@ -345,32 +391,9 @@ fn refused_push_leaves_the_stack(rt: HostRuntime) {
     ) else {
         return;
     };
-    let mut stack: Stack<Box<dyn Command>> = Stack::new(alloc, document, 0);
-    let Ok(command) = new_probe(alloc, &first) else {
-        return;
-    };
-    let command: Box<dyn Command> = command;
-    if push(&mut stack, command).is_err() {
-        assert_eq!(rt; first.all(), (1, 1, 1));
-        assert_eq!(rt; (stack.index(), stack.count()), (0, 0));
-        assert_eq!(rt; redo(&mut stack), Err(StackFault::NothingToRedo));
-        return;
+    if let Some(seen) = refused_below_a_step(alloc, &first, &second, document) {
+        assert_eq!(rt; seen, (true, (2, 1, 0), (1, 1, 1)));
     }
-    let _ = undo(&mut stack);
-    let Ok(command) = new_probe(alloc, &second) else {
-        assert_eq!(rt; redo(&mut stack), Ok(()));
-        return;
-    };
-    let command: Box<dyn Command> = command;
-    if push(&mut stack, command).is_err() {
-        assert_eq!(rt; second.all(), (1, 1, 1));
-        assert_eq!(rt; redo(&mut stack), Ok(()));
-        assert_eq!(rt; first.all(), (2, 1, 0));
-        return;
-    }
-    assert_eq!(rt; first.all(), (1, 1, 1));
-    assert_eq!(rt; second.all(), (1, 0, 0));
-    assert_eq!(rt; redo(&mut stack), Err(StackFault::NothingToRedo));
 }
 
 #[test]
