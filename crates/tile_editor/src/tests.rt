@@ -186,8 +186,8 @@ fn read_script(alloc: Global, rows: &str) -> Result<Script, Fail> {
     Ok(script)
 }
 
-/// What a run tells on a script's rows, and what it is to tell. The session is read in each of the steps, and then without its last
-/// newline, which changes nothing; of what the readings tell it is the first that is wrong.
+/// What a run tells on a script's rows, and what it is to tell. The session is read in each of the steps, and then
+/// without its last newline, which changes nothing; of what the readings tell it is the first that is wrong.
 fn told_and_wanted(alloc: Global, rows: &str, steps: &[usize]) -> Result<(String, String), Fail> {
     let script = read_script(alloc, rows)?;
     let Script {

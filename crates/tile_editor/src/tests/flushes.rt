@@ -23,6 +23,7 @@ fn flush_faults_come_behind_whole_replies(rt: HostRuntime) -> Result<(), Fail> {
             let sink = Sink::new(alloc, WHOLE, MANY, flushes_left);
             let told = taken(alloc, source, sink, false)?;
             let Some(text) = told.strip_suffix("write failed") else {
+                assert_eq!(rt; told.strip_suffix("done"), Some(script.replies.as_str()));
                 break;
             };
             assert!(rt; script.replies.starts_with(text));
