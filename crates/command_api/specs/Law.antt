@@ -1,12 +1,12 @@
 -- The law of a command.
 --
--- A command has two texts, a tag or none, and a vanishing, and it follows the step before it or does not. It fits some
+-- A command has names: two texts, a tag or none, a vanishing, and whether it follows the step before it. It fits some
 -- documents for redo and some for undo. Redo and undo each ask that it fits the document for that call. Afterwards it
 -- fits the new document for the other call, and that one would give the old document back. The names stay.
 --
 -- One that never vanishes is never obsolete. One that vanishes when equal is obsolete exactly where turning it, redo or
 -- undo, leaves the document that it fits as it is.
-use Rattle.std.specs.Prelude.{◌≡◌, ℕ, List, Option, Bool, true, false}
+use Rattle.std.specs.Prelude.{◌≡◌, ◌↔◌, ℕ, List, Option, None, Bool, true, false}
 use Rattle.map_model.specs.Document.{DocumentParts}
 use Rattle.command_api.specs.Tag.{Tag}
 
@@ -15,13 +15,22 @@ pub data Vanishing : Type 0 where
   Never : Vanishing
   WhenEqual : Vanishing
 
--- what a command is: its names, whether it is obsolete, the documents that it fits, and what they turn to
-pub record Change : Type 1 where
+-- the names of a command: its text for lists, the text of its action, its tag, when it vanishes, and whether it follows
+-- the step before it
+pub record Names : Type 0 where
   pub text : List ℕ
   pub action : List ℕ
   pub tag : Option Tag
   pub vanishing : Vanishing
   pub follows : Bool
+
+-- the names of a command that has no tag and follows nothing
+abbrev pub untagged : List ℕ → List ℕ → Vanishing → Names
+untagged text action vanishing = record { text = text; action = action; tag = None; vanishing = vanishing; follows = false }
+
+-- what a command is: its names, whether it is obsolete, the documents that it fits, and what they turn to
+pub record Change : Type 1 where
+  pub names : Names
   pub obsolete : Bool
   pub redone : DocumentParts → DocumentParts
   pub undone : DocumentParts → DocumentParts
@@ -35,36 +44,28 @@ IsSettled WhenEqual obsolete here there = (obsolete ≡ true → there ≡ here)
 
 -- being obsolete is settled at each document that the command fits
 pub record IsLawful (c : Change) : Type 0 where
-  pub redo : (d : DocumentParts) → c.fits_redo d → IsSettled c.vanishing c.obsolete d (c.redone d)
-  pub undo : (d : DocumentParts) → c.fits_undo d → IsSettled c.vanishing c.obsolete d (c.undone d)
-
--- w has the names of v
-pub record SameNames (v w : Change) : Type 0 where
-  pub text : w.text ≡ v.text
-  pub action : w.action ≡ v.action
-  pub tag : w.tag ≡ v.tag
-  pub vanishing : w.vanishing ≡ v.vanishing
-  pub follows : w.follows ≡ v.follows
+  pub redo : (d : DocumentParts) → c.fits_redo d → IsSettled c.names.vanishing c.obsolete d (c.redone d)
+  pub undo : (d : DocumentParts) → c.fits_undo d → IsSettled c.names.vanishing c.obsolete d (c.undone d)
 
 -- redo made the command v the command w, and the document d the document e
 pub record IsRedone (v w : Change) (d e : DocumentParts) : Type 0 where
   pub document : e ≡ v.redone d
   pub fits : w.fits_undo e
   pub back : w.undone e ≡ d
-  pub names : SameNames v w
+  pub names : w.names ≡ v.names
 
 -- undo made the command v the command w, and the document d the document e
 pub record IsUndone (v w : Change) (d e : DocumentParts) : Type 0 where
   pub document : e ≡ v.undone d
   pub fits : w.fits_redo e
   pub back : w.redone e ≡ d
-  pub names : SameNames v w
+  pub names : w.names ≡ v.names
 
 -- w does what v does
 pub record IsSame (v w : Change) : Type 0 where
-  pub names : SameNames v w
+  pub names : w.names ≡ v.names
   pub obsolete : w.obsolete ≡ v.obsolete
   pub redone : (d : DocumentParts) → w.redone d ≡ v.redone d
   pub undone : (d : DocumentParts) → w.undone d ≡ v.undone d
-  pub fits_redo : (d : DocumentParts) → v.fits_redo d → w.fits_redo d
-  pub fits_undo : (d : DocumentParts) → v.fits_undo d → w.fits_undo d
+  pub fits_redo : (d : DocumentParts) → v.fits_redo d ↔ w.fits_redo d
+  pub fits_undo : (d : DocumentParts) → v.fits_undo d ↔ w.fits_undo d

@@ -1,3 +1,4 @@
 pub mod Tag
 pub mod Law
 pub mod Making
+pub mod Exchange

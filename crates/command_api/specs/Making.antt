@@ -1,23 +1,17 @@
--- Commands as an edit makes them.
-use Rattle.std.specs.Prelude.{◌≡◌, ℕ, List, Option, Bool, Result, Ok}
+-- Commands as an edit makes them, and how an edit is refused.
+use Rattle.std.specs.Prelude.{◌≡◌, Result, Ok, Err, IsOk}
 use Rattle.map_model.specs.Document.{DocumentParts}
-use Rattle.command_api.specs.Law.{Change, Vanishing}
-use Rattle.command_api.specs.Tag.{Tag}
+use Rattle.command_api.specs.Law.{Change, Names}
+use Rattle.command_api.specs.declared.fault.EditFault.{EditFault}
+use Rattle.command_api.specs.declared.fault.EditFault.TheVariants.{NoMemory}
 
--- what a command is called, what it changes, when it vanishes, and whether it follows the step before it
-pub record Names : Type 0 where
-  pub text : List ℕ
-  pub action : List ℕ
-  pub tag : Option Tag
-  pub vanishing : Vanishing
-  pub follows : Bool
-
--- the command, not made yet, leads from the document d to where an edit leads, and has these names
-pub record Makes {E : Type 0} (names : Names) (d : DocumentParts) (after : Result DocumentParts E) (c : Change) : Type 0 where
+-- the command, not made yet, leads from the document d to where an edit leads, and has the edit's names
+pub record Makes {E : Type 0} (edit : Names) (d : DocumentParts) (after : Result DocumentParts E) (c : Change) : Type 0 where
   pub fits : c.fits_redo d
   pub document : after ≡ Ok (c.redone d)
-  pub text : c.text ≡ names.text
-  pub action : c.action ≡ names.action
-  pub tag : c.tag ≡ names.tag
-  pub vanishing : c.vanishing ≡ names.vanishing
-  pub follows : c.follows ≡ names.follows
+  pub names : c.names ≡ edit
+
+-- a refusal is the edit's own, or want of memory, which comes only where the edit is not refused
+abbrev pub IsRefusalOf : Result DocumentParts EditFault → EditFault → Type 0
+IsRefusalOf after NoMemory = IsOk after
+IsRefusalOf after fault = after ≡ Err fault

@@ -14,15 +14,15 @@ pub trait Command: Drop {
 
     /// The text that stands for the command in a list of steps. It stays the same for as long as the command lives.
     fn text(&self) -> &str
-        ensures { result.now ≡ (change self.now).text };
+        ensures { result.now ≡ (change self.now).names.text };
 
     /// The text that names the action, for undo and redo. It stays the same for as long as the command lives.
     fn action_text(&self) -> &str
-        ensures { result.now ≡ (change self.now).action };
+        ensures { result.now ≡ (change self.now).names.action };
 
     /// The id of the kind of change, at least 0, or -1 where the command has no tag.
     fn id(&self) -> i32
-        ensures { result ≡ id_of (change self.now).tag };
+        ensures { result ≡ id_of (change self.now).names.tag };
 
     /// Whether the command changes nothing and may be let go of.
     fn obsolete(&self) -> bool

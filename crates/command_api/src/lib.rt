@@ -4,5 +4,9 @@
 #![tactic(auto)]
 
 mod command;
+mod exchange;
+mod fault;
 
 pub use command::Command;
+pub use exchange::{Exchange, Label};
+pub use fault::EditFault;

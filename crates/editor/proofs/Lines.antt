@@ -7,7 +7,7 @@ use Rattle.std.specs.List.{join_with_byte}
 use Rattle.map_model.specs.Document.{DocumentParts}
 use Rattle.edits.specs.Blocks.{ValueBlock}
 use Rattle.edits.specs.Stamping.{after_stamp}
-use Rattle.edits.specs.declared.fault.EditFault.{EditFault}
+use Rattle.command_api.specs.declared.fault.EditFault.{EditFault}
 use Rattle.paint_commands.specs.Painting.{stamp_names}
 use Rattle.command_api.specs.Law.{Change}
 use Rattle.command_api.specs.Making.{Names, Makes}

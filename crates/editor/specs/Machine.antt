@@ -9,10 +9,10 @@ use Rattle.map_model.specs.Parts.{layer_of, cell_of}
 use Rattle.map_model.specs.Tilesets.{tileset_of}
 use Rattle.map_model.specs.WellFormed.{IsSize, IsTileSize}
 use Rattle.edits.specs.Stamping.{after_stamp, tile_layer_fault}
-use Rattle.edits.specs.declared.fault.EditFault.{EditFault}
-use Rattle.edits.specs.declared.fault.EditFault.TheVariants as edit_faults
+use Rattle.command_api.specs.declared.fault.EditFault.{EditFault}
+use Rattle.command_api.specs.declared.fault.EditFault.TheVariants as edit_faults
 use Rattle.command_api.specs.Making.{Names}
-use Rattle.layer_commands.specs.After.{after_add, after_remove, after_rename, after_show, after_move}
+use Rattle.edits.specs.LayerEdits.{after_add, after_remove, after_rename, after_show, after_move}
 use Rattle.layer_commands.specs.Changes.{add_names, remove_names, rename_names, show_names, move_names}
 use Rattle.paint_commands.specs.Painting.{stamp_names}
 use Rattle.undo_stack.specs.History.{Step, History, new_history, current, count, is_clean}

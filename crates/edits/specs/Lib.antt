@@ -1,5 +1,5 @@
 pub mod Blocks
 pub mod Difference
+pub mod LayerEdits
 pub mod Laying
-pub mod Refusing
 pub mod Stamping

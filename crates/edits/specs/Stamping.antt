@@ -10,8 +10,8 @@ use Rattle.map_model.specs.Parts.{layer_of, HasTiles, with_tiles}
 use Rattle.map_model.specs.Tilesets.{tileset_of}
 use Rattle.map_model.specs.WellFormed.{IsWellFormed}
 use Rattle.edits.specs.declared.change.CellChange.{CellChange}
-use Rattle.edits.specs.declared.fault.EditFault.{EditFault}
-use Rattle.edits.specs.declared.fault.EditFault.TheVariants.{NoSuchLayer, LayerOfAnotherKind, UnknownTile, OutOfRange, TooMany, NoMemory}
+use Rattle.command_api.specs.declared.fault.EditFault.{EditFault}
+use Rattle.command_api.specs.declared.fault.EditFault.TheVariants.{NoSuchLayer, LayerOfAnotherKind, UnknownTile, OutOfRange, TooMany, NoMemory}
 use Rattle.edits.specs.Blocks.{ValueBlock, value_over}
 use Rattle.edits.specs.Difference.{difference_in}
 

@@ -3,11 +3,10 @@
 
 mod block;
 mod change;
-mod fault;
 mod laid;
 mod stamp;
 
 pub use block::Block;
 pub use change::{CellChange, CellEdits};
-pub use fault::EditFault;
+pub use command_api::EditFault;
 pub use stamp::{stamp_change, tiles_of_layer};

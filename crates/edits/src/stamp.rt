@@ -6,7 +6,7 @@ ghost use Rattle.edits.specs.Stamping.{IsBlock, IsStampChange, IsStampRefusal, i
 
 use crate::block::{Block, Span};
 use crate::change::{CellChange, CellEdits};
-use crate::fault::EditFault;
+use command_api::EditFault;
 use crate::laid::Laid;
 use map_model::{Document, Map};
 use std::alloc::Global;

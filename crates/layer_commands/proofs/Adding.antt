@@ -15,7 +15,7 @@ use Rattle.map_model.proofs.Keeps.{numbered-keeps}
 use Rattle.map_model.proofs.NewMaps.{new_layer-IsLayer}
 use Rattle.command_api.specs.Law.{IsUndone}
 use Rattle.command_api.specs.Making.{Makes}
-use Rattle.layer_commands.specs.After.{with_map, with_last, next_layer, after_add}
+use Rattle.edits.specs.LayerEdits.{with_map, with_last, next_layer, after_add}
 use Rattle.layer_commands.specs.Changes.{without_last, CanBeAdded, IsAdded, add_change, add_names}
 
 -- ---- made

@@ -8,7 +8,7 @@ use Rattle.map_model.specs.Layers.{layer_name, layer_with_name, layer_with_visib
 use Rattle.map_model.specs.Parts.{has_id, layer_of, with_layer}
 use Rattle.map_model.proofs.Turns.{change_first-change_first, find-change_first, change_first-along, change_first-same}
 use Rattle.command_api.specs.Law.{IsRedone, IsUndone, IsLawful}
-use Rattle.layer_commands.specs.After.{with_map}
+use Rattle.edits.specs.LayerEdits.{with_map}
 use Rattle.layer_commands.specs.Changes.{IsSameName, HasNamed, HasShown, rename_change, show_change}
 
 -- ---- one part of the layer with an id

@@ -16,7 +16,7 @@ use Rattle.map_model.proofs.Changes.{remove-insert, insert-remove, slice_get-ins
 use Rattle.map_model.proofs.Keeps.{moved-keeps}
 use Rattle.command_api.specs.Law.{IsRedone, IsUndone}
 use Rattle.command_api.specs.Making.{Makes}
-use Rattle.layer_commands.specs.After.{with_map, put_in, moved, after_move}
+use Rattle.edits.specs.LayerEdits.{with_map, put_in, moved, after_move}
 use Rattle.layer_commands.specs.Changes.{held, CanBeRemoved, IsRemoved, CanBeMoved, remove_change, move_change, move_names}
 
 pub some_at : (o : Option Layer) → IsSome o → (l : Layer) × (o ≡ Some l)

@@ -14,7 +14,7 @@ use Rattle.layer_commands.specs.declared.remove.RemoveLayer.{RemoveLayer}
 use Rattle.layer_commands.specs.declared.move_layer.MoveLayer.{MoveLayer}
 use Rattle.layer_commands.specs.declared.rename.RenameLayer.{RenameLayer}
 use Rattle.layer_commands.specs.declared.show.ShowLayer.{ShowLayer}
-use Rattle.layer_commands.specs.After.{with_map, with_last, put_in, moved}
+use Rattle.edits.specs.LayerEdits.{with_map, with_last, put_in, moved}
 
 -- ---- names
 -- none has a tag, and none follows

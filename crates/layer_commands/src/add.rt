@@ -1,8 +1,8 @@
 ghost use Rattle.std.specs.Prelude.{◌≡◌, Some, IfOk, IfErr};
 ghost use Rattle.map_model.specs.NewMap.{new_layer};
-ghost use Rattle.edits.specs.Refusing.{IsRefusalOf};
+ghost use Rattle.command_api.specs.Making.{IsRefusalOf};
 ghost use Rattle.command_api.specs.Making.{Makes};
-ghost use Rattle.layer_commands.specs.After.{after_add};
+ghost use Rattle.edits.specs.LayerEdits.{after_add};
 ghost use Rattle.layer_commands.specs.Changes.{add_change, add_names};
 
 use command_api::Command;

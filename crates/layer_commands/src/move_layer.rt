@@ -1,7 +1,7 @@
 ghost use Rattle.std.specs.Prelude.{◌≡◌, Err, IfOk, IfErr};
 ghost use Rattle.map_model.specs.WellFormed.{IsWellFormed};
 ghost use Rattle.command_api.specs.Making.{Makes};
-ghost use Rattle.layer_commands.specs.After.{after_move, moved, with_map};
+ghost use Rattle.edits.specs.LayerEdits.{after_move, moved, with_map};
 ghost use Rattle.layer_commands.specs.Changes.{move_change, move_names, CanBeMoved};
 
 use command_api::Command;

@@ -1,6 +1,6 @@
 ghost use Rattle.std.specs.Prelude.{◌≡◌, Err, IfOk, IfErr};
 ghost use Rattle.command_api.specs.Making.{Makes};
-ghost use Rattle.layer_commands.specs.After.{after_remove};
+ghost use Rattle.edits.specs.LayerEdits.{after_remove};
 ghost use Rattle.layer_commands.specs.Changes.{remove_change, remove_names};
 
 use command_api::Command;

@@ -1,7 +1,7 @@
 ghost use Rattle.std.specs.Prelude.{◌≡◌, IfOk, IfErr};
-ghost use Rattle.edits.specs.Refusing.{IsRefusalOf};
+ghost use Rattle.command_api.specs.Making.{IsRefusalOf};
 ghost use Rattle.command_api.specs.Making.{Makes};
-ghost use Rattle.layer_commands.specs.After.{after_rename};
+ghost use Rattle.edits.specs.LayerEdits.{after_rename};
 ghost use Rattle.layer_commands.specs.Changes.{rename_change, rename_names};
 
 use command_api::Command;

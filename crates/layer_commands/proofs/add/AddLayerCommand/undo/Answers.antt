@@ -1,6 +1,6 @@
 use Rattle.std.proofs.Common.{◌≡◌, ◌-◌, length, refl, ◌∙◌}
 use Rattle.std.specs.List.{slice_get}
-use Rattle.layer_commands.specs.After.{with_map}
+use Rattle.edits.specs.LayerEdits.{with_map}
 use Rattle.layer_commands.specs.Changes.{without_last}
 use Rattle.layer_commands.proofs.Adding.{unadded}
 use Rattle.layer_commands.proofs.add.AddLayerCommand.undo.Goals as goal

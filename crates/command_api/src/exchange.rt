@@ -1,0 +1,80 @@
+ghost use Rattle.std.specs.Prelude.{◌≡◌, negsuc};
+
+use crate::command::Command;
+use map_model::Document;
+
+/// What a command is called: the text that stands for it in a list of steps, the text that names its action, and the id
+/// of the kind of change, at least 0, or -1 where the command has no tag.
+#[derive(Clone, Copy)]
+pub struct Label {
+    pub text: &'static str,
+    pub action: &'static str,
+    pub id: i32,
+}
+
+impl Label {
+    /// The label of a command that has no tag.
+    pub fn untagged(text: &'static str, action: &'static str) -> Label
+        ensures text { result.text.now ≡ text.now }
+        ensures action { result.action.now ≡ action.now }
+        ensures id { result.id ≡ negsuc 0 }
+    {
+        Label {
+            text,
+            action,
+            id: -1,
+        }
+    }
+}
+
+/// A command that is its own reverse: what it holds and a part of the document change places, when it is made and when it
+/// is turned back.
+pub trait Exchange: Drop {
+    ghost use Rattle.command_api.specs.Exchange.{Exchange as ExchangeParts, IsExchanged, IsLabelOf, FitsExchange};
+
+    /// What the command is, and what it does to a document.
+    ghost exchange_parts: { Self → ExchangeParts };
+
+    /// What the command is called.
+    fn label(&self) -> Label
+        ensures { IsLabelOf (exchange_parts self.now).names result };
+
+    /// Whether the command changes nothing and may be let go of.
+    fn is_settled(&self) -> bool
+        ensures { result ≡ (exchange_parts self.now).obsolete };
+
+    /// Exchanges what the command holds and its part of the document.
+    fn exchange(&mut self, document: &mut Document)
+        requires { FitsExchange (exchange_parts self.old) document.old }
+        ensures { IsExchanged (exchange_parts self.old) (exchange_parts self.new) document.old document.new };
+}
+
+impl<E: Exchange> Command for E {
+    ghost use Rattle.command_api.specs.Exchange.{change_of};
+
+    ghost change = { λ c. change_of (E.exchange_parts c) };
+
+    fn text(&self) -> &str {
+        self.label().text
+    }
+
+    fn action_text(&self) -> &str {
+        self.label().action
+    }
+
+    fn id(&self) -> i32 {
+        self.label().id
+    }
+
+    fn obsolete(&self) -> bool {
+        self.is_settled()
+    }
+
+    fn redo(&mut self, document: &mut Document) {
+        self.exchange(document)
+    }
+
+    fn undo(&mut self, document: &mut Document) {
+        self.exchange(document)
+    }
+}
