@@ -5,18 +5,4 @@
 #[cfg(test)]
 mod chains;
 #[cfg(test)]
-mod layers;
-#[cfg(test)]
-mod line_forms;
-#[cfg(test)]
 mod line_reading;
-#[cfg(test)]
-mod maps;
-#[cfg(test)]
-mod replies;
-#[cfg(test)]
-mod stamps;
-#[cfg(test)]
-mod told;
-#[cfg(test)]
-mod towns;
