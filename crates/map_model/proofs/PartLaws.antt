@@ -1,9 +1,10 @@
 -- The laws of parts.
 use Rattle.std.proofs.Common.{◌≡◌, ℕ, nat_eq, Bool, Option, Some, None, option_map, option_and_then, find, refl, sym, ap, ◌∙◌, subst}
 use Rattle.map_model.specs.declared.parts.Layer.{Layer}
+use Rattle.map_model.specs.Layers.{layer_name, layer_with_name, layer_visible, layer_with_visible}
 use Rattle.map_model.specs.Parts.{has_id}
 use Rattle.map_model.proofs.Turns.{change_first-change_first, find-change_first, change_first-along, change_first-same}
-use Rattle.map_model.specs.Part.{Part, IsPart, AreApart, whole, inner, of_first, layers, of_layer, next_layer_id, next_object_id}
+use Rattle.map_model.specs.Part.{Part, IsPart, AreApart, whole, inner, of_first, layers, of_layer, next_layer_id, next_object_id, name, visible}
 
 some-eq : {V : Type 0} (v w : V) → Some v ≡ Some w → v ≡ w
 some-eq v w e = cc
@@ -55,6 +56,12 @@ layers-next_layer_id = record { get-left = λ g d. refl; get-right = λ f d. ref
 
 pub of_layer-laws : {V : Type 0} (id : ℕ) (p : Part Layer V) → ((f : V → V) (l : Layer) → (p.update f l).id ≡ l.id) → IsPart p → IsPart (of_layer id p)
 of_layer-laws id p stays ps = inner-laws layers (of_first (has_id id) p) layers-laws (of_first-laws (has_id id) p (λ f l. ap (λ n. nat_eq n id) (stays f l)) ps)
+
+pub name-laws : (id : ℕ) → IsPart (of_layer id name)
+name-laws id = of_layer-laws id name (λ f l. refl) (whole-laws layer_name layer_with_name (λ v l. refl) (λ l. refl) (λ v w l. refl))
+
+pub visible-laws : (id : ℕ) → IsPart (of_layer id visible)
+visible-laws id = of_layer-laws id visible (λ f l. refl) (whole-laws layer_visible layer_with_visible (λ v l. refl) (λ l. refl) (λ v w l. refl))
 
 -- a part that is read by a map
 pub mapped : {A V : Type 0} (f : A → V) (o : Option A) (v : V) → option_map f o ≡ Some v → option_and_then (λ a. Some (f a)) o ≡ Some v

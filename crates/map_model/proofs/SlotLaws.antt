@@ -2,9 +2,11 @@
 use Rattle.std.proofs.Common.{◌≡◌, ℕ, ◌+◌, ◌-◌, ◌<◌, ◌≤◌, List, length, Option, Some, None, IsSome, IsSomeAnd, option_and_then, refl, ap, ◌∙◌, arith}
 use Rattle.std.specs.List.{slice_get, insert, remove}
 use Rattle.std.proofs.lemmas.List.Edits.{length-remove}
+use Rattle.map_model.specs.declared.place.LayerPlace.{LayerPlace}
 use Rattle.map_model.specs.Document.{DocumentParts}
-use Rattle.map_model.specs.Part.{Part, IsPart, AreApart}
-use Rattle.map_model.specs.Slot.{Slot, IsSlot, place_in, next_in}
+use Rattle.map_model.specs.Part.{Part, IsPart, AreApart, layers, next_layer_id}
+use Rattle.map_model.specs.Slot.{IsSlot, place_in, next_in, layer_slot, next_layer_slot}
+use Rattle.map_model.proofs.PartLaws.{layers-laws, next_layer_id-laws, layers-next_layer_id}
 use Rattle.map_model.proofs.Changes.{remove-insert, insert-remove, slice_get-insert, length-insert, slice_get-within, slice_get-Some, within-removed}
 
 -- ---- places in a list
@@ -85,3 +87,10 @@ next_in-laws {X = X} p ids laws id-laws apart id = record {
     found : (x : X) (o : Option (List X)) → option_and_then (λ xs. slice_get xs (length xs - 1)) o ≡ Some x → (xs : List X) × ((o ≡ Some xs) × (slice_get xs (length xs - 1) ≡ Some x))
     found x None e = cc
     found x (Some xs) e = (xs, (refl, e))
+
+-- ---- slots of layers
+pub layer_slot-laws : (place : LayerPlace) → IsSlot (layer_slot place)
+layer_slot-laws place = place_in-laws layers layers-laws place.at
+
+pub next_layer_slot-laws : (id : ℕ) → IsSlot (next_layer_slot id)
+next_layer_slot-laws = next_in-laws layers next_layer_id layers-laws next_layer_id-laws layers-next_layer_id
