@@ -4,7 +4,7 @@ use Rattle.std.proofs.lemmas.List.{take-set, drop-set, take_more_set}
 use Rattle.map_model.specs.Document.{DocumentParts}
 use Rattle.command_api.specs.Law.{Change, IsRedone, IsUndone}
 use Rattle.undo_stack.specs.Row.{before, steps_of, FitsDown, FitsUp}
-use Rattle.undo_stack.proofs.Rows.{before-append, steps_down-append, FitsDown-pop, FitsDown-push, step_at-same, take_last, drop_first, drop_past}
+use Rattle.undo_stack.proofs.Rows.{before-append, steps_down-append, FitsDown-pop, FitsDown-push, take_last, drop_first, drop_past}
 
 -- a row at the place i and the document d became another one, at j and e, with the same documents and steps
 pub record IsMoved {B : Type 0} (f : B → Change) (xs : List B) (i : ℕ) (d : DocumentParts) (ys : List B) (j : ℕ) (e : DocumentParts) : Type 0 where
@@ -31,7 +31,7 @@ moved_back f xs v w j d e p q h k t =
       down = rw (take-set xs j w, t.document) down.0;
       up = rw (drop-set xs j w h) (t.fits, rw t.back q);
       base = rw (take-set xs j w, t.document, took) (sym (before-append f (take j xs) v d));
-      steps = rw (take-set xs j w, drop-set xs j w h, took, steps_down-append f (take j xs) v d, step_at-same (f v) (f w) ((f w).redone e) t.names, t.back, t.document, append_assoc) refl;
+      steps = rw (take-set xs j w, drop-set xs j w h, took, steps_down-append f (take j xs) v d, t.names, t.back, t.document, append_assoc) refl;
     }
 
 -- the change at the place is redone
@@ -44,7 +44,7 @@ moved_on f xs v w j d e p q h k t =
       down = rw (take_more_set xs j w h) (FitsDown-push f (take j xs) w e (rw t.back p) t.fits);
       up = rw (drop_past xs w j, t.document) up.1;
       base = rw (take_more_set xs j w h, before-append f (take j xs) w e, t.back) refl;
-      steps = rw (take_more_set xs j w h, drop_past xs w j, first, steps_down-append f (take j xs) w e, step_at-same (f v) (f w) e t.names, t.back, t.document, append_assoc) refl;
+      steps = rw (take_more_set xs j w h, drop_past xs w j, first, steps_down-append f (take j xs) w e, t.names, t.back, t.document, append_assoc) refl;
     }
 
 -- the same by the place above the change

@@ -3,7 +3,7 @@
 use Rattle.std.specs.Prelude.{ℕ, List, [], ◌∷◌, ◌++◌, take, drop}
 use Rattle.map_model.specs.Document.{DocumentParts}
 use Rattle.command_api.specs.Law.{Change}
-use Rattle.undo_stack.specs.History.{Step, step_at}
+use Rattle.undo_stack.specs.History.{Step, step_named}
 
 -- the document before a row that led to d
 abbrev pub before : {B : Type 0} → (B → Change) → List B → DocumentParts → DocumentParts
@@ -13,12 +13,12 @@ before f (x ∷ xs) d = (f x).undone (before f xs d)
 -- the steps of a row that led to d
 abbrev pub steps_down : {B : Type 0} → (B → Change) → List B → DocumentParts → List Step
 steps_down f [] d = []
-steps_down f (x ∷ xs) d = step_at (f x) (before f xs d) ∷ steps_down f xs d
+steps_down f (x ∷ xs) d = step_named (f x).names (before f xs d) ∷ steps_down f xs d
 
 -- the steps of a row that leads on from d
 abbrev pub steps_up : {B : Type 0} → (B → Change) → List B → DocumentParts → List Step
 steps_up f [] d = []
-steps_up f (x ∷ xs) d = step_at (f x) ((f x).redone d) ∷ steps_up f xs ((f x).redone d)
+steps_up f (x ∷ xs) d = step_named (f x).names ((f x).redone d) ∷ steps_up f xs ((f x).redone d)
 
 -- each change of a row that led to d fits for undo
 abbrev pub FitsDown : {B : Type 0} → (B → Change) → List B → DocumentParts → Type 0

@@ -14,7 +14,7 @@ pub enum Entry<C> {
 impl<C: Command> Entry<C> {
     /// The text that stands for the entry in a list of steps.
     pub fn text(&self) -> &str
-        ensures { result.now ≡ (entry_change C.change self.now).text }
+        ensures { result.now ≡ (entry_change C.change self.now).names.text }
     {
         match self {
             Entry::Command(command) => command.text(),
@@ -23,7 +23,7 @@ impl<C: Command> Entry<C> {
 
     /// The text that names the action, for undo and redo.
     pub fn action_text(&self) -> &str
-        ensures { result.now ≡ (entry_change C.change self.now).action }
+        ensures { result.now ≡ (entry_change C.change self.now).names.action }
     {
         match self {
             Entry::Command(command) => command.action_text(),
