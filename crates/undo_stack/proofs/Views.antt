@@ -5,13 +5,12 @@ use Rattle.map_model.specs.Document.{DocumentParts}
 use Rattle.command_api.specs.Law.{Change}
 use Rattle.undo_stack.specs.History.{History, current}
 use Rattle.undo_stack.specs.Moving.{moved, redo_answer, cleared}
-use Rattle.undo_stack.specs.Row.{steps_of}
+use Rattle.undo_stack.specs.Row.{steps_of, IsMoved}
 use Rattle.undo_stack.specs.Entries.{entry_change}
 use Rattle.undo_stack.specs.Sound.{history_of, IsTurnable}
 use Rattle.undo_stack.specs.declared.entry.Entry.{Entry}
 use Rattle.undo_stack.specs.declared.stack.StackFault.TheVariants.{NothingToRedo}
 use Rattle.undo_stack.proofs.Rows.{last_after-down, take-steps, length-steps}
-use Rattle.undo_stack.proofs.Turns.{IsMoved}
 
 -- the current document is the one that the entries lead to
 pub current-view : {C : Type 0} (f : C → Change) (d : DocumentParts) (es : List (Entry C)) (n : ℕ) (clean : Option ℕ) (limit : ℕ) → n ≤ length es → current (history_of f d es n clean limit) ≡ d

@@ -6,7 +6,7 @@ ghost use Rattle.undo_stack.specs.Moving.{moved, StepsBack, StepsOn, GoesTo, Mar
 ghost use Rattle.undo_stack.specs.Reading.{text_at, action_of, undo_text_of, redo_text_of};
 ghost use Rattle.undo_stack.specs.Stacks.{history, Holds};
 
-use crate::entry::Entry;
+use crate::entry::{Entry, redo_up, undo_down};
 use command_api::Command;
 use map_model::Document;
 use std::alloc::{AllocError, Global};
@@ -288,9 +288,10 @@ impl<C: Command> Stack<C> {
         ensures history { history C.change self.new
             ≡ moved (min index (history C.change self.old).position) (history C.change self.old) }
     {
-        while self.index > index {
-            self.step_back();
-        }
+        let index = index.min(self.index);
+        let row = self.entries.make_contiguous();
+        undo_down(row, &mut self.document, self.index, index);
+        self.index = index;
     }
 
     // Redoes until the index is at least this one, or the count.
@@ -300,10 +301,10 @@ impl<C: Command> Stack<C> {
         ensures history { history C.change self.new
             ≡ moved (max (min index (length (history C.change self.old).steps)) (history C.change self.old).position) (history C.change self.old) }
     {
-        let index = index.min(self.entries.len());
-        while self.index < index {
-            self.step_on();
-        }
+        let index = index.min(self.entries.len()).max(self.index);
+        let row = self.entries.make_contiguous();
+        redo_up(row, &mut self.document, self.index, index);
+        self.index = index;
     }
 
     // Turns the step below the index back, and lowers the index by one.
