@@ -2,3 +2,5 @@ pub mod Tag
 pub mod Law
 pub mod Making
 pub mod Exchange
+pub mod Swap
+pub mod Link

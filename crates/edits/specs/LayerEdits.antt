@@ -4,16 +4,12 @@ use Rattle.map_model.specs.declared.parts.Layer.{Layer}
 use Rattle.map_model.specs.declared.parts.LayerKind.{LayerKind}
 use Rattle.map_model.specs.declared.parts.MapParts.{MapParts}
 use Rattle.map_model.specs.declared.place.LayerPlace.{LayerPlace}
-use Rattle.map_model.specs.Document.{DocumentParts}
+use Rattle.map_model.specs.Document.{DocumentParts, with_map}
 use Rattle.map_model.specs.Layers.{place_of, layer_at, last_place, with_layer_at, without_layer_at, layer_with_name, layer_with_visible, with_next_ids}
 use Rattle.map_model.specs.NewMap.{new_layer}
 use Rattle.map_model.specs.Parts.{layer_of, with_layer}
 use Rattle.command_api.specs.declared.fault.EditFault.{EditFault}
 use Rattle.command_api.specs.declared.fault.EditFault.TheVariants.{NoSuchLayer, OutOfRange, TooMany}
-
--- the document with f of its map
-abbrev pub with_map : (MapParts → MapParts) → DocumentParts → DocumentParts
-with_map f d = record d { map = f d.map }
 
 -- ---- a layer more
 -- the layer goes last, and the next layer id is one higher

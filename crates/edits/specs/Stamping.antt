@@ -5,13 +5,13 @@ use Rattle.map_model.specs.declared.parts.Body.{Body}
 use Rattle.map_model.specs.declared.parts.Body.TheVariants.{Tiles, Objects, Other}
 use Rattle.map_model.specs.declared.parts.Layer.{Layer}
 use Rattle.map_model.specs.declared.parts.MapParts.{MapParts}
-use Rattle.map_model.specs.Document.{DocumentParts}
+use Rattle.map_model.specs.Document.{DocumentParts, with_map}
 use Rattle.map_model.specs.Parts.{layer_of, HasTiles, with_tiles}
 use Rattle.map_model.specs.Tilesets.{tileset_of}
 use Rattle.map_model.specs.WellFormed.{IsWellFormed}
 use Rattle.edits.specs.declared.change.CellChange.{CellChange}
 use Rattle.command_api.specs.declared.fault.EditFault.{EditFault}
-use Rattle.command_api.specs.declared.fault.EditFault.TheVariants.{NoSuchLayer, LayerOfAnotherKind, UnknownTile, OutOfRange, TooMany, NoMemory}
+use Rattle.command_api.specs.declared.fault.EditFault.TheVariants.{NoSuchLayer, LayerOfAnotherKind, UnknownTile}
 use Rattle.edits.specs.Blocks.{ValueBlock, value_over}
 use Rattle.edits.specs.Difference.{difference_in}
 
@@ -62,7 +62,7 @@ answer_by None d = Ok d
 answer_by (Some fault) d = Err fault
 
 abbrev pub after_stamp : DocumentParts → ℕ → ValueBlock → Result DocumentParts EditFault
-after_stamp d id block = answer_by (stamp_fault d.map id block) (record d { map = stamped_map id block d.map })
+after_stamp d id block = answer_by (stamp_fault d.map id block) (with_map (stamped_map id block) d)
 
 -- ---- what the calls answer
 -- a block that a line can spell: its width is 1 to 4,096, and its values, fewer than 2 ^ 32, are whole rows
@@ -79,12 +79,3 @@ pub record IsStampChange (m : MapParts) (id : ℕ) (block : ValueBlock) (change 
   pub accepted : stamp_fault m id block ≡ None
   pub layer : change.layer ≡ id
   pub cells : change.cells ≡ difference_in id m (stamped_map id block m)
-
--- a refusal is that of the stamp, or want of memory, which comes only where the stamp is not refused
-abbrev pub IsStampRefusal : MapParts → ℕ → ValueBlock → EditFault → Type 0
-IsStampRefusal m id block NoMemory = stamp_fault m id block ≡ None
-IsStampRefusal m id block NoSuchLayer = stamp_fault m id block ≡ Some NoSuchLayer
-IsStampRefusal m id block LayerOfAnotherKind = stamp_fault m id block ≡ Some LayerOfAnotherKind
-IsStampRefusal m id block UnknownTile = stamp_fault m id block ≡ Some UnknownTile
-IsStampRefusal m id block OutOfRange = ⊥
-IsStampRefusal m id block TooMany = ⊥

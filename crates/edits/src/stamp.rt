@@ -2,12 +2,13 @@ ghost use Rattle.std.specs.Prelude.{◌≡◌, IfOk, IfErr, MatchResult, None, S
 ghost use Rattle.std.specs.List.{list_all};
 ghost use Rattle.map_model.specs.Parts.{layer_of, tiles_in, HasTiles};
 ghost use Rattle.edits.specs.Blocks.{block_of};
-ghost use Rattle.edits.specs.Stamping.{IsBlock, IsStampChange, IsStampRefusal, is_known, tile_layer_fault};
+ghost use Rattle.command_api.specs.Making.{IsRefusalOf};
+ghost use Rattle.edits.specs.Stamping.{IsBlock, IsStampChange, after_stamp, is_known, tile_layer_fault};
 
 use crate::block::{Block, Span};
 use crate::change::{CellChange, CellEdits};
-use command_api::EditFault;
 use crate::laid::Laid;
+use command_api::EditFault;
 use map_model::{Document, Map};
 use std::alloc::Global;
 use tile_id::Gid;
@@ -56,7 +57,7 @@ pub fn stamp_change(
 ) -> Result<CellChange, EditFault>
     requires { IsBlock (block_of block.now) }
     ensures change { IfOk result (IsStampChange document.now.map layer (block_of block.now)) }
-    ensures refusal { IfErr result (IsStampRefusal document.now.map layer (block_of block.now)) }
+    ensures refusal { IfErr result (IsRefusalOf (after_stamp document.now layer (block_of block.now))) }
 {
     let map = document.map();
     let tiles = tiles_of_layer(map, layer)?;

@@ -1,5 +1,5 @@
--- Layers that are taken out and put in again.
-use Rattle.std.proofs.Common.{◌≡◌, [], option_map, ℕ, ◌<◌, ◌≤◌, length, true, false, Option, Some, None, IsSome, IsSomeAnd, refl, ap, ◌∙◌, subst, arith}
+-- A layer that is moved.
+use Rattle.std.proofs.Common.{◌≡◌, [], option_map, ℕ, ◌<◌, ◌≤◌, length, Option, Some, None, IsSome, refl, ap, ◌∙◌, subst, arith}
 use Rattle.std.specs.List.{insert, remove, position}
 use Rattle.std.proofs.lemmas.Bool.{lt-ltb}
 use Rattle.std.proofs.lemmas.List.Edits.{length-remove}
@@ -8,65 +8,20 @@ use Rattle.map_model.specs.NewMap.{empty_object_layer}
 use Rattle.map_model.specs.declared.parts.Layer.{Layer}
 use Rattle.map_model.specs.declared.parts.MapParts.{MapParts}
 use Rattle.map_model.specs.declared.place.LayerPlace.{LayerPlace}
-use Rattle.map_model.specs.Document.{DocumentParts}
+use Rattle.map_model.specs.Document.{DocumentParts, with_map}
 use Rattle.map_model.specs.Layers.{layer_at, place_of, with_layer_at, without_layer_at}
 use Rattle.map_model.specs.Parts.{has_id}
 use Rattle.map_model.specs.WellFormed.{IsWellFormed}
-use Rattle.map_model.proofs.Changes.{remove-insert, insert-remove, slice_get-insert, slice_get-within, slice_get-Some, length-insert, within-removed}
+use Rattle.map_model.proofs.Changes.{remove-insert, insert-remove, slice_get-insert, slice_get-within, slice_get-Some, length-insert}
 use Rattle.map_model.proofs.Keeps.{moved-keeps}
-use Rattle.command_api.specs.Law.{IsRedone, IsUndone}
+use Rattle.command_api.specs.Exchange.{IsExchanged}
 use Rattle.command_api.specs.Making.{Makes}
-use Rattle.edits.specs.LayerEdits.{with_map, put_in, moved, after_move}
-use Rattle.layer_commands.specs.Changes.{held, CanBeRemoved, IsRemoved, CanBeMoved, remove_change, move_change, move_names}
+use Rattle.edits.specs.LayerEdits.{put_in, moved, after_move}
+use Rattle.layer_commands.specs.Changes.{CanBeMoved, move_exchange, move_change, move_names}
 
 pub some_at : (o : Option Layer) → IsSome o → (l : Layer) × (o ≡ Some l)
 some_at None h = cc
 some_at (Some l) h = (l, refl)
-
--- ---- removed
--- the layer at a place, put in again
-pub put_in-removed : (place : LayerPlace) (l : Layer) (m : MapParts) → layer_at m place ≡ Some l → with_layer_at place l (without_layer_at place m) ≡ m
-put_in-removed place l m e = ap (λ ls. record m { layers = ls }) (insert-remove m.layers place.at l e)
-
-pub removed-IsRemoved : (place : LayerPlace) (l : Layer) (m : MapParts) → layer_at m place ≡ Some l → CanBeRemoved place m → IsRemoved place l (without_layer_at place m)
-removed-IsRemoved place l m e h = record {
-  room = (within-removed m.layers place.at (slice_get-within m.layers place.at l e)).0;
-  before = rw (put_in-removed place l m e) h.before;
-}
-
-pub removed-put_in : (place : LayerPlace) (l : Layer) (m : MapParts) → IsRemoved place l m → without_layer_at place (with_layer_at place l m) ≡ m
-removed-put_in place l m h = ap (λ ls. record m { layers = ls }) (remove-insert m.layers place.at l h.room)
-
-pub put_in-CanBeRemoved : (place : LayerPlace) (l : Layer) (m : MapParts) → IsRemoved place l m → CanBeRemoved place (with_layer_at place l m)
-put_in-CanBeRemoved place l m h = record {
-  there = rw (slice_get-insert m.layers place.at l h.room) refl;
-  before = h.before;
-}
-
-pub removed : (place : LayerPlace) (old : Option (Option Layer)) (loose : Option Layer) (d e : DocumentParts) → CanBeRemoved place d.map → loose ≡ layer_at d.map place
-    → e ≡ with_map (without_layer_at place) d → IsRedone (remove_change (record { place = place; layer = old })) (remove_change (record { place = place; layer = Some loose })) d e
-removed place old loose d e can given is =
-    let found = some_at (layer_at d.map place) can.there in
-    let whole : loose ≡ Some found.0 = given ∙ found.1 in
-    record {
-      document = is;
-      fits = rw (is, whole) (removed-IsRemoved place found.0 d.map found.1 can);
-      back = rw (is, whole) (ap (λ m. record d { map = m }) (put_in-removed place found.0 d.map found.1));
-      names = record { text = refl; action = refl; tag = refl; vanishing = refl; follows = refl };
-    }
-
-pub restored : (place : LayerPlace) (old new : Option (Option Layer)) (loose : Option Layer) (d e : DocumentParts) → old ≡ Some loose → new ≡ None
-    → IsSomeAnd (held old) (λ l. IsRemoved place l d.map) → IsSomeAnd loose (λ l. e ≡ record d { map = with_layer_at place l d.map })
-    → IsUndone (remove_change (record { place = place; layer = old })) (remove_change (record { place = place; layer = new })) d e
-restored place old new None d e is none has made = absurd made
-restored place old new (Some l) d e is none has made =
-    let was : IsRemoved place l d.map = rw is at has in
-    record {
-      document = rw is made;
-      fits = rw (none, made) (refl, put_in-CanBeRemoved place l d.map was);
-      back = rw made (ap (λ m. record d { map = m }) (removed-put_in place l d.map was));
-      names = record { text = refl; action = refl; tag = refl; vanishing = refl; follows = refl };
-    }
 
 -- ---- moved
 pub moved-at : (from to : LayerPlace) (l : Layer) (m : MapParts) → layer_at m from ≡ Some l → moved from to m ≡ with_layer_at to l (without_layer_at from m)
@@ -113,22 +68,15 @@ moved-CanBeMoved from to m h =
       after = rw (moved-moved from to m h) h.before;
     }
 
-pub move_made : (from to : LayerPlace) (d e : DocumentParts) → CanBeMoved from to d.map → e ≡ with_map (moved from to) d
-    → IsRedone (move_change (record { from = from; to = to; is_made = false })) (move_change (record { from = from; to = to; is_made = true })) d e
-move_made from to d e can is = record {
+pub move_turned : (from to : LayerPlace) (d e : DocumentParts) → CanBeMoved from to d.map → e ≡ with_map (moved from to) d
+    → IsExchanged (move_exchange (record { from = from; to = to })) (move_exchange (record { from = to; to = from })) d e
+move_turned from to d e can is = record {
   document = is;
-  fits = (refl, rw is (moved-CanBeMoved from to d.map can));
+  fits = rw is (moved-CanBeMoved from to d.map can);
   back = rw is (ap (λ m. record d { map = m }) (moved-moved from to d.map can));
-  names = record { text = refl; action = refl; tag = refl; vanishing = refl; follows = refl };
-}
-
-pub move_unmade : (from to : LayerPlace) (d e : DocumentParts) → CanBeMoved to from d.map → e ≡ with_map (moved to from) d
-    → IsUndone (move_change (record { from = from; to = to; is_made = true })) (move_change (record { from = from; to = to; is_made = false })) d e
-move_unmade from to d e can is = record {
-  document = is;
-  fits = (refl, rw is (moved-CanBeMoved to from d.map can));
-  back = rw is (ap (λ m. record d { map = m }) (moved-moved to from d.map can));
-  names = record { text = refl; action = refl; tag = refl; vanishing = refl; follows = refl };
+  names = refl;
+  obsolete = refl;
+  made = refl;
 }
 
 -- ---- a move that is asked for
@@ -136,7 +84,7 @@ abbrev at_of : Option LayerPlace → ℕ
 at_of None = 0
 at_of (Some place) = place.at
 
-place_of-there : (m : MapParts) (id : ℕ) (place : LayerPlace) → place_of m id ≡ Some place → IsSome (layer_at m place)
+pub place_of-there : (m : MapParts) (id : ℕ) (place : LayerPlace) → place_of m id ≡ Some place → IsSome (layer_at m place)
 place_of-there m id place e = by_position (position (has_id id) m.layers) refl e
   where
     by_position : (o : Option ℕ) → position (has_id id) m.layers ≡ o → option_map (λ at. record { at = at }) o ≡ Some place → IsSome (layer_at m place)
@@ -148,15 +96,17 @@ place_of-there m id place e = by_position (position (has_id id) m.layers) refl e
         rw there.1 refl
 
 pub move_asked : (d : DocumentParts) (id to : ℕ) (from : LayerPlace) → place_of d.map id ≡ Some from → to < length d.map.layers → IsWellFormed d.map
-    → Makes move_names d (after_move d id to) (move_change (record { from = from; to = record { at = to }; is_made = false }))
+    → Makes move_names d (after_move d id to) (move_change (record { from = from; to = record { at = to } }))
 move_asked d id to from e room h =
     let there = place_of-there d.map id from e in
     record {
-      fits = (refl, record { there = there; room = room; before = h; after = moved-IsWellFormed from (record { at = to }) d.map there h });
+      fits = (
+        λ q. cc,
+        record {
+          fits = record { there = there; room = room; before = h; after = moved-IsWellFormed from (record { at = to }) d.map there h };
+          settled = refl;
+        },
+      );
       document = rw (e, lt-ltb to (length d.map.layers) room) refl;
-      text = refl;
-      action = refl;
-      tag = refl;
-      vanishing = refl;
-      follows = refl;
+      names = refl;
     }

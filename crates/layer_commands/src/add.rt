@@ -3,9 +3,9 @@ ghost use Rattle.map_model.specs.NewMap.{new_layer};
 ghost use Rattle.command_api.specs.Making.{IsRefusalOf};
 ghost use Rattle.command_api.specs.Making.{Makes};
 ghost use Rattle.edits.specs.LayerEdits.{after_add};
-ghost use Rattle.layer_commands.specs.Changes.{add_change, add_names};
+ghost use Rattle.layer_commands.specs.Changes.{add_change, add_exchange, add_names};
 
-use command_api::Command;
+use command_api::{Exchange, Label};
 use edits::EditFault;
 use link_chain::Loose;
 use map_model::{Document, Layer, LayerKind, LayerPlace, MapText};
@@ -68,45 +68,29 @@ fn loose_layer(
     Loose::new(alloc, layer).map_err(|_| AllocError)
 }
 
-impl Command for AddLayer {
-    ghost change = { add_change };
+impl Exchange for AddLayer {
+    ghost exchange_parts = { add_exchange };
 
-    fn text(&self) -> &str {
-        "Add Layer"
+    fn label(&self) -> Label {
+        Label::untagged("Add Layer", "add layer")
     }
 
-    fn action_text(&self) -> &str {
-        "add layer"
-    }
-
-    fn id(&self) -> i32 {
-        -1
-    }
-
-    fn obsolete(&self) -> bool {
+    fn is_settled(&self) -> bool {
         false
     }
 
-    fn redo(&mut self, document: &mut Document) {
+    fn exchange(&mut self, document: &mut Document) {
         let parts = document.map().parts();
-        let place = LayerPlace {
-            at: parts.layers.len(),
-        };
-        let next_object = parts.next_object_id;
-        let Some(layer) = self.layer.take() else {
-            unreachable!();
-        };
-        document.set_next_ids(self.id + 1, next_object);
-        document.insert_layer(place, layer);
-    }
-
-    fn undo(&mut self, document: &mut Document) {
-        let parts = document.map().parts();
-        let place = LayerPlace {
-            at: parts.layers.len() - 1,
-        };
-        let next_object = parts.next_object_id;
-        self.layer = Some(document.take_layer(place));
-        document.set_next_ids(self.id, next_object);
+        let (count, next_object) = (parts.layers.len(), parts.next_object_id);
+        match self.layer.take() {
+            Some(layer) => {
+                document.set_next_ids(self.id + 1, next_object);
+                document.insert_layer(LayerPlace { at: count }, layer);
+            }
+            None => {
+                self.layer = Some(document.take_layer(LayerPlace { at: count - 1 }));
+                document.set_next_ids(self.id, next_object);
+            }
+        }
     }
 }

@@ -1,19 +1,18 @@
 ghost use Rattle.std.specs.Prelude.{◌≡◌, Err, IfOk, IfErr};
-ghost use Rattle.map_model.specs.WellFormed.{IsWellFormed};
 ghost use Rattle.command_api.specs.Making.{Makes};
-ghost use Rattle.edits.specs.LayerEdits.{after_move, moved, with_map};
-ghost use Rattle.layer_commands.specs.Changes.{move_change, move_names, CanBeMoved};
+ghost use Rattle.edits.specs.LayerEdits.{after_move};
+ghost use Rattle.layer_commands.specs.Changes.{move_change, move_exchange, move_names};
 
-use command_api::Command;
+use command_api::{Exchange, Label};
 use edits::EditFault;
 use map_model::{Document, LayerPlace};
+use std::mem;
 
 /// A layer is moved to another place.
 #[derive(Drop)]
 pub struct MoveLayer {
     from: LayerPlace,
     to: LayerPlace,
-    is_made: bool,
 }
 
 impl MoveLayer {
@@ -36,47 +35,24 @@ impl MoveLayer {
         Ok(MoveLayer {
             from,
             to: LayerPlace { at },
-            is_made: false,
         })
     }
 }
 
-// Takes the layer at one place out, and puts it in at the other.
-fn move_in(document: &mut Document, from: LayerPlace, to: LayerPlace)
-    requires { CanBeMoved from to document.old.map }
-    ensures document { document.new ≡ with_map (moved from to) document.old }
-    ensures well_formed { IsWellFormed document.new.map }
-{
-    let layer = document.take_layer(from);
-    document.insert_layer(to, layer);
-}
+impl Exchange for MoveLayer {
+    ghost exchange_parts = { move_exchange };
 
-impl Command for MoveLayer {
-    ghost change = { move_change };
-
-    fn text(&self) -> &str {
-        "Move Layer"
+    fn label(&self) -> Label {
+        Label::untagged("Move Layer", "move layer")
     }
 
-    fn action_text(&self) -> &str {
-        "move layer"
-    }
-
-    fn id(&self) -> i32 {
-        -1
-    }
-
-    fn obsolete(&self) -> bool {
+    fn is_settled(&self) -> bool {
         false
     }
 
-    fn redo(&mut self, document: &mut Document) {
-        move_in(document, self.from, self.to);
-        self.is_made = true;
-    }
-
-    fn undo(&mut self, document: &mut Document) {
-        move_in(document, self.to, self.from);
-        self.is_made = false;
+    fn exchange(&mut self, document: &mut Document) {
+        let layer = document.take_layer(self.from);
+        document.insert_layer(self.to, layer);
+        mem::swap(&mut self.from, &mut self.to);
     }
 }

@@ -1,9 +1,9 @@
 ghost use Rattle.std.specs.Prelude.{◌≡◌, Err, IfOk, IfErr};
 ghost use Rattle.command_api.specs.Making.{Makes};
 ghost use Rattle.edits.specs.LayerEdits.{after_remove};
-ghost use Rattle.layer_commands.specs.Changes.{remove_change, remove_names};
+ghost use Rattle.layer_commands.specs.Changes.{remove_change, remove_exchange, remove_names};
 
-use command_api::Command;
+use command_api::{Exchange, Label};
 use edits::EditFault;
 use link_chain::Loose;
 use map_model::{Document, Layer, LayerPlace};
@@ -33,33 +33,21 @@ impl RemoveLayer {
     }
 }
 
-impl Command for RemoveLayer {
-    ghost change = { remove_change };
+impl Exchange for RemoveLayer {
+    ghost exchange_parts = { remove_exchange };
 
-    fn text(&self) -> &str {
-        "Remove Layer"
+    fn label(&self) -> Label {
+        Label::untagged("Remove Layer", "remove layer")
     }
 
-    fn action_text(&self) -> &str {
-        "remove layer"
-    }
-
-    fn id(&self) -> i32 {
-        -1
-    }
-
-    fn obsolete(&self) -> bool {
+    fn is_settled(&self) -> bool {
         false
     }
 
-    fn redo(&mut self, document: &mut Document) {
-        self.layer = Some(document.take_layer(self.place));
-    }
-
-    fn undo(&mut self, document: &mut Document) {
-        let Some(layer) = self.layer.take() else {
-            unreachable!();
-        };
-        document.insert_layer(self.place, layer);
+    fn exchange(&mut self, document: &mut Document) {
+        match self.layer.take() {
+            Some(layer) => document.insert_layer(self.place, layer),
+            None => self.layer = Some(document.take_layer(self.place)),
+        }
     }
 }

@@ -2,9 +2,9 @@ ghost use Rattle.std.specs.Prelude.{◌≡◌, IfOk, IfErr};
 ghost use Rattle.command_api.specs.Making.{IsRefusalOf};
 ghost use Rattle.command_api.specs.Making.{Makes};
 ghost use Rattle.edits.specs.LayerEdits.{after_rename};
-ghost use Rattle.layer_commands.specs.Changes.{rename_change, rename_names};
+ghost use Rattle.layer_commands.specs.Changes.{rename_change, rename_exchange, rename_names};
 
-use command_api::Command;
+use command_api::{Exchange, Label};
 use edits::EditFault;
 use map_model::{Document, MapText};
 use std::alloc::Global;
@@ -46,30 +46,18 @@ impl RenameLayer {
     }
 }
 
-impl Command for RenameLayer {
-    ghost change = { rename_change };
+impl Exchange for RenameLayer {
+    ghost exchange_parts = { rename_exchange };
 
-    fn text(&self) -> &str {
-        "Rename Layer"
+    fn label(&self) -> Label {
+        Label::untagged("Rename Layer", "rename layer")
     }
 
-    fn action_text(&self) -> &str {
-        "rename layer"
-    }
-
-    fn id(&self) -> i32 {
-        -1
-    }
-
-    fn obsolete(&self) -> bool {
+    fn is_settled(&self) -> bool {
         self.is_same
     }
 
-    fn redo(&mut self, document: &mut Document) {
-        document.swap_layer_name(self.layer, &mut self.name);
-    }
-
-    fn undo(&mut self, document: &mut Document) {
+    fn exchange(&mut self, document: &mut Document) {
         document.swap_layer_name(self.layer, &mut self.name);
     }
 }

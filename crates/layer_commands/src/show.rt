@@ -1,18 +1,19 @@
 ghost use Rattle.std.specs.Prelude.{◌≡◌, Err, IfOk, IfErr};
 ghost use Rattle.command_api.specs.Making.{Makes};
 ghost use Rattle.edits.specs.LayerEdits.{after_show};
-ghost use Rattle.layer_commands.specs.Changes.{show_change, show_names};
+ghost use Rattle.layer_commands.specs.Changes.{show_change, show_exchange, show_names};
 
-use command_api::Command;
+use command_api::{Exchange, Label};
 use edits::EditFault;
 use map_model::Document;
 
-/// A layer is shown or hidden.
+/// A layer is shown or hidden. The command holds the visibility that the layer does not have.
 #[derive(Drop)]
 pub struct ShowLayer {
     layer: u32,
-    before: bool,
-    after: bool,
+    visible: bool,
+    // Whether the layer's visibility and the command's are the same.
+    is_same: bool,
 }
 
 impl ShowLayer {
@@ -26,38 +27,31 @@ impl ShowLayer {
         match document.map().layer(layer) {
             Some(shown) => Ok(ShowLayer {
                 layer,
-                before: shown.visible,
-                after: visible,
+                visible,
+                is_same: shown.visible == visible,
             }),
             None => Err(EditFault::NoSuchLayer),
         }
     }
 }
 
-impl Command for ShowLayer {
-    ghost change = { show_change };
+impl Exchange for ShowLayer {
+    ghost exchange_parts = { show_exchange };
 
-    fn text(&self) -> &str {
-        "Show Layer"
+    fn label(&self) -> Label {
+        Label::untagged("Show Layer", "show layer")
     }
 
-    fn action_text(&self) -> &str {
-        "show layer"
+    fn is_settled(&self) -> bool {
+        self.is_same
     }
 
-    fn id(&self) -> i32 {
-        -1
-    }
-
-    fn obsolete(&self) -> bool {
-        self.before == self.after
-    }
-
-    fn redo(&mut self, document: &mut Document) {
-        document.set_visible(self.layer, self.after);
-    }
-
-    fn undo(&mut self, document: &mut Document) {
-        document.set_visible(self.layer, self.before);
+    fn exchange(&mut self, document: &mut Document) {
+        let Some(layer) = document.map().layer(self.layer) else {
+            unreachable!();
+        };
+        let visible = layer.visible;
+        document.set_visible(self.layer, self.visible);
+        self.visible = visible;
     }
 }

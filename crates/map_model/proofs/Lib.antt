@@ -3,5 +3,7 @@ pub mod Changes
 pub mod Keeps
 pub mod Listings
 pub mod NewMaps
+pub mod PartLaws
+pub mod SlotLaws
 pub mod TilesetLemmas
 pub mod Turns

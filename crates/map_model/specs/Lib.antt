@@ -6,6 +6,8 @@ pub mod Keeping
 pub mod Layers
 pub mod Lists
 pub mod NewMap
+pub mod Part
 pub mod Parts
+pub mod Slot
 pub mod Tilesets
 pub mod WellFormed

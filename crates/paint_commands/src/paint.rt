@@ -2,12 +2,11 @@ ghost use Rattle.std.specs.Prelude.{◌≡◌, IfOk, IfErr};
 ghost use Rattle.map_model.specs.Document.{DocumentParts};
 ghost use Rattle.edits.specs.Blocks.{block_of};
 ghost use Rattle.edits.specs.Difference.{difference_in};
-ghost use Rattle.edits.specs.Stamping.{after_stamp, IsBlock, IsStampRefusal};
-ghost use Rattle.command_api.specs.Law.{Change};
-ghost use Rattle.command_api.specs.Making.{Makes};
-ghost use Rattle.paint_commands.specs.Painting.{paint_change, painted_layer, stamp_names};
+ghost use Rattle.edits.specs.Stamping.{after_stamp, IsBlock};
+ghost use Rattle.command_api.specs.Making.{IsRefusalOf, Makes};
+ghost use Rattle.paint_commands.specs.Painting.{paint_change, paint_exchange, painted_layer, side_of, stamp_names};
 
-use command_api::Command;
+use command_api::{Exchange, Label};
 use edits::{Block, CellEdits, EditFault, stamp_change};
 use map_model::{CellEdit, Document, Side};
 use std::alloc::Global;
@@ -45,7 +44,7 @@ impl PaintCommand {
     ) -> Result<PaintCommand, EditFault>
         requires { IsBlock (block_of block.now) }
         ensures command { IfOk result (λ c. Makes (stamp_names layer follows) document.now (after_stamp document.now layer (block_of block.now)) (paint_change c)) }
-        ensures refusal { IfErr result (IsStampRefusal document.now.map layer (block_of block.now)) }
+        ensures refusal { IfErr result (IsRefusalOf (after_stamp document.now layer (block_of block.now))) }
     {
         let change = stamp_change(alloc, document, layer, block)?;
         Ok(PaintCommand {
@@ -69,38 +68,33 @@ impl PaintCommand {
     }
 }
 
-impl Command for PaintCommand {
-    ghost change = { paint_change };
+// The side to which the cells are set next.
+fn side_to_put(is_made: bool) -> Side
+    ensures { result ≡ side_of is_made }
+{
+    if is_made { Side::Before } else { Side::After }
+}
 
-    fn text(&self) -> &str {
+impl Exchange for PaintCommand {
+    ghost exchange_parts = { paint_exchange };
+
+    fn label(&self) -> Label {
         match self.kind {
-            PaintKind::Stamp => "Stamp",
+            PaintKind::Stamp => Label {
+                text: "Stamp",
+                action: "stamp tiles",
+                id: 1,
+            },
         }
     }
 
-    fn action_text(&self) -> &str {
-        match self.kind {
-            PaintKind::Stamp => "stamp tiles",
-        }
-    }
-
-    fn id(&self) -> i32 {
-        match self.kind {
-            PaintKind::Stamp => 1,
-        }
-    }
-
-    fn obsolete(&self) -> bool {
+    fn is_settled(&self) -> bool {
         self.cells.as_slice().is_empty()
     }
 
-    fn redo(&mut self, document: &mut Document) {
-        document.put_edits(self.layer, self.cells.as_slice(), Side::After);
-        self.is_made = true;
-    }
-
-    fn undo(&mut self, document: &mut Document) {
-        document.put_edits(self.layer, self.cells.as_slice(), Side::Before);
-        self.is_made = false;
+    fn exchange(&mut self, document: &mut Document) {
+        let side = side_to_put(self.is_made);
+        document.put_edits(self.layer, self.cells.as_slice(), side);
+        self.is_made = !self.is_made;
     }
 }

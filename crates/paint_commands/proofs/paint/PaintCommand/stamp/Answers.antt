@@ -1,6 +1,6 @@
-use Rattle.std.proofs.Common.{refl}
+use Rattle.std.proofs.Common.{refl, false}
 use Rattle.edits.specs.Blocks.{block_of}
-use Rattle.paint_commands.proofs.Paints.{stamp-fits, stamp-document}
+use Rattle.paint_commands.proofs.Paints.{stamp-IsDifference, stamp-document, difference-settled}
 use Rattle.paint_commands.proofs.paint.PaintCommand.stamp.Goals as goal
 
 pub returns-clause-command : goal.returns-clause-command
@@ -9,12 +9,9 @@ returns-clause-command c =
     let block = block_of c.args.block.now in
     let cells = c.in_ok-change.change.cells in
     let is = c.in_ok-change.ensures.change in
+    let fits = stamp-IsDifference c.args.layer block cells d is.cells is.tiles is.well_formed in
     record {
-      fits = (refl, stamp-fits c.args.layer block cells d is.cells is.tiles is.well_formed);
+      fits = (λ e. cc, record { fits = fits; settled = difference-settled false c.args.layer cells d fits });
       document = stamp-document c.args.layer block cells d is.accepted is.cells is.tiles is.well_formed;
-      text = refl;
-      action = refl;
-      tag = refl;
-      vanishing = refl;
-      follows = refl;
+      names = refl;
     }

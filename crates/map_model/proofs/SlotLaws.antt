@@ -1,0 +1,87 @@
+-- The laws of slots.
+use Rattle.std.proofs.Common.{◌≡◌, ℕ, ◌+◌, ◌-◌, ◌<◌, ◌≤◌, List, length, Option, Some, None, IsSome, IsSomeAnd, option_and_then, refl, ap, ◌∙◌, arith}
+use Rattle.std.specs.List.{slice_get, insert, remove}
+use Rattle.std.proofs.lemmas.List.Edits.{length-remove}
+use Rattle.map_model.specs.Document.{DocumentParts}
+use Rattle.map_model.specs.Part.{Part, IsPart, AreApart}
+use Rattle.map_model.specs.Slot.{Slot, IsSlot, place_in, next_in}
+use Rattle.map_model.proofs.Changes.{remove-insert, insert-remove, slice_get-insert, length-insert, slice_get-within, slice_get-Some, within-removed}
+
+-- ---- places in a list
+pub place_in-laws : {X : Type 0} (p : Part DocumentParts (List X)) → IsPart p → (k : ℕ) → IsSlot (place_in p k)
+place_in-laws {X = X} p laws k = record {
+  there = λ d h. h;
+  filled = λ x d h. let s = room (p.get d) h in
+      rw (laws.get-update (λ xs. insert xs k x) s.0 d s.1.0) (rw (slice_get-insert s.0 k x s.1.1) refl);
+  without-with = λ x d h. let s = room (p.get d) h in
+      laws.update-update (λ xs. remove xs k) (λ xs. insert xs k x) d
+      ∙ laws.update-same (λ xs. remove (insert xs k x) k) s.0 d s.1.0 (remove-insert s.0 k x s.1.1);
+  freed = λ x d h e. let s = place x (p.get d) e in
+      rw (laws.get-update (λ xs. remove xs k) s.0 d s.1.0) (within-removed s.0 k (slice_get-within s.0 k x s.1.1)).0;
+  with-without = λ x d h e. let s = place x (p.get d) e in
+      laws.update-update (λ xs. insert xs k x) (λ xs. remove xs k) d
+      ∙ laws.update-same (λ xs. insert (remove xs k) k x) s.0 d s.1.0 (insert-remove s.0 k x s.1.1);
+}
+  where
+    room : (o : Option (List X)) → IsSomeAnd o (λ xs. k ≤ length xs) → (xs : List X) × ((o ≡ Some xs) × (k ≤ length xs))
+    room None h = absurd h
+    room (Some xs) h = (xs, (refl, h))
+
+    place : (x : X) (o : Option (List X)) → option_and_then (λ xs. slice_get xs k) o ≡ Some x → (xs : List X) × ((o ≡ Some xs) × (slice_get xs k ≡ Some x))
+    place x None e = cc
+    place x (Some xs) e = (xs, (refl, e))
+
+-- ---- the place behind a list
+last_there : {X : Type 0} (xs : List X) → 0 < length xs → IsSome (slice_get xs (length xs - 1))
+last_there xs h = let there = slice_get-Some xs (length xs - 1) (omega (arith, h)) in rw there.1 refl
+
+module _ {X : Type 0} (xs : List X) (x : X) where
+  remove-last : remove (insert xs (length xs) x) (length (insert xs (length xs) x) - 1) ≡ xs
+  remove-last =
+      let place : length (insert xs (length xs) x) - 1 ≡ length xs = let more = length-insert xs (length xs) x in omega arith in
+      ap (remove (insert xs (length xs) x)) place ∙ remove-insert xs (length xs) x (omega arith)
+
+  insert-last : slice_get xs (length xs - 1) ≡ Some x → insert (remove xs (length xs - 1)) (length (remove xs (length xs - 1))) x ≡ xs
+  insert-last there =
+      let within = slice_get-within xs (length xs - 1) x there in
+      let place : length (remove xs (length xs - 1)) ≡ length xs - 1 = let less = length-remove xs (length xs - 1) within in omega arith in
+      ap (λ k. insert (remove xs (length xs - 1)) k x) place ∙ insert-remove xs (length xs - 1) x there
+
+pub next_in-laws : {X : Type 0} (p : Part DocumentParts (List X)) (ids : Part DocumentParts ℕ) → IsPart p → IsPart ids → AreApart p ids → (id : ℕ) → IsSlot (next_in p ids id)
+next_in-laws {X = X} p ids laws id-laws apart id = record {
+  there = λ d h. let s = some_list (p.get d) h.1 in rw s.1.0 (last_there s.0 s.1.1);
+  filled = λ x d h. let s = some (p.get d) h.1 in (
+    id-laws.get-update (λ n. n + 1) id (p.update (more x) d) (apart.get-right (more x) d ∙ h.0),
+    rw (apart.get-left (λ n. n + 1) (p.update (more x) d), laws.get-update (more x) s.0 d s.1) (let l = length-insert s.0 (length s.0) x in omega arith),
+  );
+  without-with = λ x d h. let s = some (p.get d) h.1 in
+      ap (ids.update (λ n. id)) (apart.swapped less (λ n. n + 1) (p.update (more x) d) ∙ ap (ids.update (λ n. n + 1)) (
+      laws.update-update less (more x) d ∙ laws.update-same (λ xs. less (more x xs)) s.0 d s.1 (remove-last s.0 x)))
+      ∙ id-laws.update-update (λ n. id) (λ n. n + 1) d ∙ id-laws.update-same (λ n. id) id d h.0 refl;
+  freed = λ x d h e. let s = some_list (p.get d) h.1 in (
+    id-laws.get-update (λ n. id) (id + 1) (p.update less d) (apart.get-right less d ∙ h.0),
+    rw (apart.get-left (λ n. id) (p.update less d), laws.get-update less s.0 d s.1.0) refl,
+  );
+  with-without = λ x d h e. let s = found x (p.get d) e in
+      ap (ids.update (λ n. n + 1)) (apart.swapped (more x) (λ n. id) (p.update less d) ∙ ap (ids.update (λ n. id)) (
+      laws.update-update (more x) less d ∙ laws.update-same (λ xs. more x (less xs)) s.0 d s.1.0 (insert-last s.0 x s.1.1)))
+      ∙ id-laws.update-update (λ n. n + 1) (λ n. id) d ∙ id-laws.update-same (λ n. id + 1) (id + 1) d h.0 refl;
+}
+  where
+    more : X → List X → List X
+    more x xs = insert xs (length xs) x
+
+    less : List X → List X
+    less xs = remove xs (length xs - 1)
+
+    some : (o : Option (List X)) → IsSome o → (xs : List X) × (o ≡ Some xs)
+    some None h = cc
+    some (Some xs) h = (xs, refl)
+
+    some_list : (o : Option (List X)) → IsSomeAnd o (λ xs. 0 < length xs) → (xs : List X) × ((o ≡ Some xs) × (0 < length xs))
+    some_list None h = absurd h
+    some_list (Some xs) h = (xs, (refl, h))
+
+    found : (x : X) (o : Option (List X)) → option_and_then (λ xs. slice_get xs (length xs - 1)) o ≡ Some x → (xs : List X) × ((o ≡ Some xs) × (slice_get xs (length xs - 1) ≡ Some x))
+    found x None e = cc
+    found x (Some xs) e = (xs, (refl, e))

@@ -1,0 +1,56 @@
+-- Parts: what can be read of a value, and changed there.
+use Rattle.std.specs.Prelude.{◌≡◌, ℕ, List, Bool, Option, Some, option_and_then, find}
+use Rattle.map_model.specs.declared.parts.Layer.{Layer}
+use Rattle.map_model.specs.Document.{DocumentParts}
+use Rattle.map_model.specs.Lists.{change_first}
+use Rattle.map_model.specs.Parts.{has_id}
+
+-- a part of A: its value, where there is one, and A with a function of that value in its place
+pub record Part (A V : Type 0) : Type 0 where
+  pub get : A → Option V
+  pub update : (V → V) → A → A
+
+-- the laws of a part
+pub record IsPart {A V : Type 0} (p : Part A V) : Type 0 where
+  pub get-update : (f : V → V) (v : V) (a : A) → p.get a ≡ Some v → p.get (p.update f a) ≡ Some (f v)
+  pub update-same : (f : V → V) (v : V) (a : A) → p.get a ≡ Some v → f v ≡ v → p.update f a ≡ a
+  pub update-update : (f g : V → V) (a : A) → p.update f (p.update g a) ≡ p.update (λ v. f (g v)) a
+
+-- two parts of one value that do not meet
+pub record AreApart {A V W : Type 0} (p : Part A V) (q : Part A W) : Type 0 where
+  pub get-left : (g : W → W) (a : A) → p.get (q.update g a) ≡ p.get a
+  pub get-right : (f : V → V) (a : A) → q.get (p.update f a) ≡ q.get a
+  pub swapped : (f : V → V) (g : W → W) (a : A) → p.update f (q.update g a) ≡ q.update g (p.update f a)
+
+-- a value put in
+abbrev pub put : {A V : Type 0} → Part A V → V → A → A
+put p v = p.update (λ own. v)
+
+-- a part that is always there
+abbrev pub whole : {A V : Type 0} → (A → V) → (V → A → A) → Part A V
+whole get set = record { get = λ a. Some (get a); update = λ f a. set (f (get a)) a }
+
+-- a part of a part
+abbrev pub inner : {A V W : Type 0} → Part A V → Part V W → Part A W
+inner p q = record { get = λ a. option_and_then q.get (p.get a); update = λ f. p.update (q.update f) }
+
+-- a part of the first element that passes a test
+abbrev pub of_first : {A V : Type 0} → (A → Bool) → Part A V → Part (List A) V
+of_first test p = record { get = λ xs. option_and_then p.get (find test xs); update = λ f. change_first test (p.update f) }
+
+-- ---- parts of a document
+-- the layers
+abbrev pub layers : Part DocumentParts (List Layer)
+layers = whole (λ d. d.map.layers) (λ ls d. record d { map = record d.map { layers = ls } })
+
+-- a part of the layer with an id
+abbrev pub of_layer : {V : Type 0} → ℕ → Part Layer V → Part DocumentParts V
+of_layer id p = inner layers (of_first (has_id id) p)
+
+-- the next layer id
+abbrev pub next_layer_id : Part DocumentParts ℕ
+next_layer_id = whole (λ d. d.map.next_layer_id) (λ n d. record d { map = record d.map { next_layer_id = n } })
+
+-- the next object id
+abbrev pub next_object_id : Part DocumentParts ℕ
+next_object_id = whole (λ d. d.map.next_object_id) (λ n d. record d { map = record d.map { next_object_id = n } })

@@ -1,0 +1,41 @@
+-- Slots: places of a document at which a thing can be put in, and taken out.
+use Rattle.std.specs.Prelude.{◌≡◌, ℕ, ◌+◌, ◌-◌, ◌<◌, ◌≤◌, List, length, slice_get, Option, Some, IsSome, IsSomeAnd, option_and_then}
+use Rattle.std.specs.List.{insert, remove}
+use Rattle.map_model.specs.Document.{DocumentParts}
+use Rattle.map_model.specs.Part.{Part}
+
+-- a place at which a thing can stand: the document with one there and without it, and when it is free and filled
+pub record Slot (X : Type 0) : Type 1 where
+  pub item : DocumentParts → Option X
+  pub with_item : X → DocumentParts → DocumentParts
+  pub without_item : DocumentParts → DocumentParts
+  pub is_free : DocumentParts → Type 0
+  pub is_filled : DocumentParts → Type 0
+
+-- the laws of a slot
+pub record IsSlot {X : Type 0} (s : Slot X) : Type 0 where
+  pub there : (d : DocumentParts) → s.is_filled d → IsSome (s.item d)
+  pub filled : (x : X) (d : DocumentParts) → s.is_free d → s.is_filled (s.with_item x d)
+  pub without-with : (x : X) (d : DocumentParts) → s.is_free d → s.without_item (s.with_item x d) ≡ d
+  pub freed : (x : X) (d : DocumentParts) → s.is_filled d → s.item d ≡ Some x → s.is_free (s.without_item d)
+  pub with-without : (x : X) (d : DocumentParts) → s.is_filled d → s.item d ≡ Some x → s.with_item x (s.without_item d) ≡ d
+
+-- the place k of a list
+abbrev pub place_in : {X : Type 0} → Part DocumentParts (List X) → ℕ → Slot X
+place_in p k = record {
+  item = λ d. option_and_then (λ xs. slice_get xs k) (p.get d);
+  with_item = λ x. p.update (λ xs. insert xs k x);
+  without_item = p.update (λ xs. remove xs k);
+  is_free = λ d. IsSomeAnd (p.get d) (λ xs. k ≤ length xs);
+  is_filled = λ d. IsSome (option_and_then (λ xs. slice_get xs k) (p.get d));
+}
+
+-- the place behind a list, for a thing with the next id, which is one higher once it is there
+abbrev pub next_in : {X : Type 0} → Part DocumentParts (List X) → Part DocumentParts ℕ → ℕ → Slot X
+next_in p ids id = record {
+  item = λ d. option_and_then (λ xs. slice_get xs (length xs - 1)) (p.get d);
+  with_item = λ x d. ids.update (λ n. n + 1) (p.update (λ xs. insert xs (length xs) x) d);
+  without_item = λ d. ids.update (λ n. id) (p.update (λ xs. remove xs (length xs - 1)) d);
+  is_free = λ d. (ids.get d ≡ Some id) × IsSome (p.get d);
+  is_filled = λ d. (ids.get d ≡ Some (id + 1)) × IsSomeAnd (p.get d) (λ xs. 0 < length xs);
+}
