@@ -1,3 +1,4 @@
+pub mod Digits
 pub mod Numbers
 pub mod Signs
 pub mod Decimals
@@ -8,9 +9,7 @@ pub mod Cutting
 pub mod Counting
 pub mod Checked
 pub mod Reading
-pub mod LayersSpelled
-pub mod Spelled
 pub mod Taken
-pub mod Telling
-pub mod LayersTold
-pub mod Told
+pub mod Rooms
+pub mod Forms
+pub mod Laws

@@ -1,17 +1,18 @@
 -- Words without a space, and the words of what is spelled with them.
-use Rattle.std.proofs.Common.{◌≡◌, ℕ, suc, ◌+◌, ◌^◌, ◌<◌, true, false, eqb, ltb, ◌&&◌, List, [], ◌∷◌, ◌++◌, length, get_or, All, ℤ, pos, negsuc, refl, ap, ◌∙◌, arith, lit<}
-use Rattle.std.specs.List.{AllByRecursion, list_all}
+use Rattle.std.proofs.Common.{◌≡◌, ℕ, suc, ◌+◌, ◌^◌, ◌<◌, true, false, eqb, ltb, ◌&&◌, List, [], ◌∷◌, ◌++◌, length, get_or, All, ℤ, pos, negsuc, refl, sym, ap, ◌∙◌, subst, arith, lit<}
+use Rattle.std.specs.List.{AllByRecursion, list_all, onto_first}
 use Rattle.std.specs.Fmt.{decimal, signed_decimal}
 use Rattle.std.specs.Char.{is_ascii_digit}
 use Rattle.std.specs.Str.{IsUtf8}
-use Rattle.std.proofs.lemmas.Str.{IsUtf8-append, IsUtf8-from_ascii}
+use Rattle.std.proofs.lemmas.Str.{IsUtf8-nil, IsUtf8-append, IsUtf8-take, IsUtf8-drop, IsUtf8-from_ascii, IsCharBoundary-before_ascii, IsCharBoundary-after_ascii}
 use Rattle.std.proofs.lemmas.Str.Ascii.{IsAscii-from_all}
 use Rattle.std.proofs.lemmas.Int.{ints}
 use Rattle.std.proofs.lemmas.Fmt.{digits_decimal}
 use Rattle.std.proofs.lemmas.List.{length-append}
 use Rattle.std.proofs.lemmas.List.Elements.{All-from_recursion, recursion_from_All}
-use Rattle.std.proofs.lemmas.List.Splits.{slice_split_at, slice_split_none}
-use Rattle.std.proofs.lemmas.Bool.{ne_eqb, and_parts, ltb-true}
+use Rattle.std.proofs.lemmas.List.Splits.{slice_split_at, slice_split_none, join_with_byte-slice_split}
+use Rattle.std.proofs.lemmas.Bool.{ne_eqb, and_parts, ltb-true, cond_both}
+use Rattle.std.proofs.Math.Seq.{take-append_seam, drop-append-add, get_or-append_seam}
 use Rattle.std.proofs.lemmas.Bool.Decides.{nat_tests}
 use Rattle.session.specs.Words.{words, is_name_byte}
 use Rattle.session.specs.Spelling.{spaced, IsCoordinate, IsName}
@@ -56,11 +57,17 @@ plain_all (b ∷ name) h = (name_byte b h.0, plain_all name h.1)
 pub plain_name : (name : List ℕ) → IsName name → Plain name
 plain_name name h = record { bytes = plain_all name (recursion_from_All (λ b. is_name_byte b ≡ true) name h.bytes) }
 
-no_space : (word : List ℕ) → Plain word → All (λ b. eqb b 32 ≡ false) word
-no_space word h = λ k d l. let at = All-from_recursion IsPlain word h.bytes k d l in ne_eqb (get_or word k d) 32 (λ e. omega (arith, at.0, e))
+-- a word of a text
+pub record Clean (word : List ℕ) : Type 0 where
+  pub no_space : AllByRecursion (λ b. eqb b 32 ≡ false) word
+  pub utf8 : IsUtf8 word
 
-utf8_plain : (word : List ℕ) → Plain word → IsUtf8 word
-utf8_plain word h = IsUtf8-from_ascii word (IsAscii-from_all word (λ k d l. (All-from_recursion IsPlain word h.bytes k d l).1))
+no_space : (word : List ℕ) → AllByRecursion IsPlain word → AllByRecursion (λ b. eqb b 32 ≡ false) word
+no_space [] h = tt
+no_space (b ∷ word) h = (ne_eqb b 32 (λ e. omega (arith, h.0.0, e)), no_space word h.1)
+
+pub clean : (word : List ℕ) → Plain word → Clean word
+clean word h = record { no_space = no_space word h.bytes; utf8 = IsUtf8-from_ascii word (IsAscii-from_all word (λ k d l. (All-from_recursion IsPlain word h.bytes k d l).1)) }
 
 space : IsUtf8 (32 ∷ [])
 space = IsUtf8-from_ascii (32 ∷ []) (IsAscii-from_all (32 ∷ []) (All-from_recursion (λ b. b < 128) (32 ∷ []) (lit< tt, tt)))
@@ -76,23 +83,43 @@ plain_tested (b ∷ word) h =
 pub plain_literal : (word : List ℕ) → list_all (λ b. ltb 32 b && ltb b 128) word ≡ true → Plain word
 plain_literal word h = record { bytes = plain_tested word h }
 
--- the words of a line whose words are plain
-pub words-spaced : (word : List ℕ) (more : List (List ℕ)) → AllByRecursion Plain (word ∷ more) → words (spaced (word ∷ more)) ≡ word ∷ more
-words-spaced word [] h = slice_split_none (λ b. eqb b 32) word (no_space word h.0)
-words-spaced word (next ∷ more) h = slice_split_at (λ b. eqb b 32) word 32 (spaced (next ∷ more)) (no_space word h.0) refl ∙ ap (λ ws. word ∷ ws) (words-spaced next more h.1)
+-- words with spaces between them are the words of that text
+pub words-spaced : (word : List ℕ) (more : List (List ℕ)) → AllByRecursion Clean (word ∷ more) → words (spaced (word ∷ more)) ≡ word ∷ more
+words-spaced word [] h = slice_split_none (λ b. eqb b 32) word (All-from_recursion _ word h.0.no_space)
+words-spaced word (next ∷ more) h = slice_split_at (λ b. eqb b 32) word 32 (spaced (next ∷ more)) (All-from_recursion _ word h.0.no_space) refl ∙ ap (λ ws. word ∷ ws) (words-spaced next more h.1)
 
--- the words of a line whose last part is any text
-pub words-before : (word : List ℕ) (more : List (List ℕ)) (text : List ℕ) → AllByRecursion Plain (word ∷ more) → words (spaced ((word ∷ more) ++ text ∷ [])) ≡ (word ∷ more) ++ words text
-words-before word [] text h = slice_split_at (λ b. eqb b 32) word 32 text (no_space word h.0) refl
-words-before word (next ∷ more) text h = slice_split_at (λ b. eqb b 32) word 32 (spaced ((next ∷ more) ++ text ∷ [])) (no_space word h.0) refl ∙ ap (λ ws. word ∷ ws) (words-before next more text h.1)
+pub utf8-spaced : (ws : List (List ℕ)) → AllByRecursion Clean ws → IsUtf8 (spaced ws)
+utf8-spaced [] h = IsUtf8-nil
+utf8-spaced (word ∷ []) h = h.0.utf8
+utf8-spaced (word ∷ next ∷ more) h = IsUtf8-append word (32 ∷ spaced (next ∷ more)) h.0.utf8 (IsUtf8-append (32 ∷ []) (spaced (next ∷ more)) space (utf8-spaced (next ∷ more) h.1))
 
-pub utf8-spaced : (word : List ℕ) (more : List (List ℕ)) → AllByRecursion Plain (word ∷ more) → IsUtf8 (spaced (word ∷ more))
-utf8-spaced word [] h = utf8_plain word h.0
-utf8-spaced word (next ∷ more) h = IsUtf8-append word (32 ∷ spaced (next ∷ more)) (utf8_plain word h.0) (IsUtf8-append (32 ∷ []) (spaced (next ∷ more)) space (utf8-spaced next more h.1))
+-- what stands before a space, and behind it
+utf8_before : (word rest : List ℕ) → IsUtf8 (word ++ 32 ∷ rest) → IsUtf8 word
+utf8_before word rest u =
+    let bs = word ++ 32 ∷ rest in
+    let inside : length word < length bs = omega (arith, length-append word (32 ∷ rest)) in
+    let ascii : get_or bs (length word) 0 < 128 = omega (arith, get_or-append_seam word 32 rest 0) in
+    subst IsUtf8 (take-append_seam word (32 ∷ rest)) (IsUtf8-take bs (length word) u (IsCharBoundary-before_ascii bs (length word) inside ascii))
 
-pub utf8-before : (word : List ℕ) (more : List (List ℕ)) (text : List ℕ) → AllByRecursion Plain (word ∷ more) → IsUtf8 text → IsUtf8 (spaced ((word ∷ more) ++ text ∷ []))
-utf8-before word [] text h u = IsUtf8-append word (32 ∷ text) (utf8_plain word h.0) (IsUtf8-append (32 ∷ []) text space u)
-utf8-before word (next ∷ more) text h u = IsUtf8-append word (32 ∷ spaced ((next ∷ more) ++ text ∷ [])) (utf8_plain word h.0) (IsUtf8-append (32 ∷ []) (spaced ((next ∷ more) ++ text ∷ [])) space (utf8-before next more text h.1 u))
+utf8_after : (word rest : List ℕ) → IsUtf8 (word ++ 32 ∷ rest) → IsUtf8 rest
+utf8_after word rest u =
+    let bs = word ++ 32 ∷ rest in
+    let inside : length word < length bs = omega (arith, length-append word (32 ∷ rest)) in
+    let ascii : get_or bs (length word) 0 < 128 = omega (arith, get_or-append_seam word 32 rest 0) in
+    subst IsUtf8 (drop-append-add word (32 ∷ rest) 1) (IsUtf8-drop bs (length word + 1) u (IsCharBoundary-after_ascii bs (length word) u inside ascii))
 
-pub length-spaced : (word next : List ℕ) (more : List (List ℕ)) → length (spaced (word ∷ next ∷ more)) ≡ length word + 1 + length (spaced (next ∷ more))
-length-spaced word next more = omega (arith, length-append word (32 ∷ spaced (next ∷ more)))
+onto_no_space : (b : ℕ) (ws : List (List ℕ)) → eqb b 32 ≡ false → AllByRecursion (AllByRecursion (λ b. eqb b 32 ≡ false)) ws → AllByRecursion (AllByRecursion (λ b. eqb b 32 ≡ false)) (onto_first b ws)
+onto_no_space b [] e h = ((e, tt), tt)
+onto_no_space b (w ∷ ws) e h = ((e, h.0), h.1)
+
+words_no_space : (bytes : List ℕ) → AllByRecursion (AllByRecursion (λ b. eqb b 32 ≡ false)) (words bytes)
+words_no_space [] = (tt, tt)
+words_no_space (b ∷ bytes) = cond_both (eqb b 32) ([] ∷ words bytes) (onto_first b (words bytes)) (AllByRecursion (AllByRecursion (λ b. eqb b 32 ≡ false))) (λ is. (tt, words_no_space bytes)) (λ is. onto_no_space b (words bytes) is (words_no_space bytes))
+
+clean_from : (ws : List (List ℕ)) → AllByRecursion (AllByRecursion (λ b. eqb b 32 ≡ false)) ws → IsUtf8 (spaced ws) → AllByRecursion Clean ws
+clean_from [] h u = tt
+clean_from (w ∷ []) h u = (record { no_space = h.0; utf8 = u }, tt)
+clean_from (w ∷ v ∷ ws) h u = (record { no_space = h.0; utf8 = utf8_before w (spaced (v ∷ ws)) u }, clean_from (v ∷ ws) h.1 (utf8_after w (spaced (v ∷ ws)) u))
+
+pub clean_words : (bytes : List ℕ) → IsUtf8 bytes → AllByRecursion Clean (words bytes)
+clean_words bytes u = clean_from (words bytes) (words_no_space bytes) (subst IsUtf8 (sym (join_with_byte-slice_split 32 bytes)) u)

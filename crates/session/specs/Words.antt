@@ -13,10 +13,18 @@ use Rattle.map_model.specs.declared.parts.LayerKind.TheVariants as kinds
 abbrev pub words : List ℕ → List (List ℕ)
 words bytes = slice_split (λ b. b == 32) bytes
 
+-- a byte, and no leading zero
+abbrev pub is_numeral_front : List ℕ → Bool
+is_numeral_front word = nat_lt 0 (length word) && (length word == 1 || not (slice_index word 0 == 48))
+
 -- `0`, or digits without a leading zero
 abbrev pub is_numeral : List ℕ → Bool
-is_numeral word =
-    nat_lt 0 (length word) && (length word == 1 || not (slice_index word 0 == 48)) && list_all is_ascii_digit word
+is_numeral word = is_numeral_front word && list_all is_ascii_digit word
+
+-- the value of digits, where it is below 2^32
+abbrev pub digits_of : List ℕ → Option ℕ
+digits_of word =
+    if list_all is_ascii_digit word && nat_lt (digits_value 10 word) (2 ^ 32) then Some (digits_value 10 word) else None
 
 -- the number that a word is: a numeral below 2^32
 unfoldable pub number_of : List ℕ → Option ℕ

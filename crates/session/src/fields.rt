@@ -1,4 +1,4 @@
-ghost use Rattle.session.specs.Grammar.{Gives, number_at, coordinate_at, block_at, name_at, text_at, ends_at};
+ghost use Rattle.session.specs.Grammar.{Gives, number_at, coordinate_at, rows_at, block_at, name_at, text_at, ends_at};
 ghost use Rattle.std.specs.Prelude.{◌≡◌};
 ghost use Rattle.session.specs.Words.{words_left, is_block};
 
@@ -18,7 +18,7 @@ pub fn number_field<'a>(rest: Option<&'a str>) -> Result<(u32, Option<&'a str>),
     let Some(rest) = rest else {
         return Err(LineFault::BadWord);
     };
-    let (word, rest) = cut(rest, ' ');
+    let (word, rest) = cut(rest, b' ');
     match number(word) {
         Some(n) => Ok((n, rest)),
         None => Err(LineFault::BadWord),
@@ -33,7 +33,7 @@ pub fn coordinate_field<'a>(rest: Option<&'a str>) -> Result<(i32, Option<&'a st
     let Some(rest) = rest else {
         return Err(LineFault::BadWord);
     };
-    let (word, rest) = cut(rest, ' ');
+    let (word, rest) = cut(rest, b' ');
     match coordinate(word) {
         Some(z) => Ok((z, rest)),
         None => Err(LineFault::BadWord),
@@ -51,17 +51,17 @@ fn is_block_of(width: u32, count: usize) -> bool
 }
 
 /// The values of a block of that width, and what is left of the line.
-#[tactic(auto, unfolding(crate::specs::Grammar::block_at))]
-pub fn block_field<'a>(
+#[tactic(auto, unfolding(crate::specs::Grammar::rows_at))]
+fn rows_field<'a>(
     width: u32,
     rest: Option<&'a str>,
 ) -> Result<(Gids<'a>, Option<&'a str>), LineFault>
-    ensures { Gives (λ x. (x.0, words_left x.1)) result (block_at width (words_left rest.entry)) }
+    ensures { Gives (λ x. ((width, x.0), words_left x.1)) result (rows_at width (words_left rest.entry)) }
 {
     let Some(rest) = rest else {
         return Err(LineFault::BadWord);
     };
-    let (word, rest) = cut(rest, ' ');
+    let (word, rest) = cut(rest, b' ');
     let Some(values) = Gids::of_word(word) else {
         return Err(LineFault::BadWord);
     };
@@ -69,6 +69,16 @@ pub fn block_field<'a>(
         return Err(LineFault::BadWord);
     }
     Ok((values, rest))
+}
+
+/// The width of a block, its values, and what is left of the line.
+#[tactic(auto, unfolding(crate::specs::Grammar::block_at))]
+pub fn block_field<'a>(rest: Option<&'a str>) -> Result<(u32, Gids<'a>, Option<&'a str>), LineFault>
+    ensures { Gives (λ x. ((x.0, x.1), words_left x.2)) result (block_at (words_left rest.entry)) }
+{
+    let (width, rest) = number_field(rest)?;
+    let (values, rest) = rows_field(width, rest)?;
+    Ok((width, values, rest))
 }
 
 /// A document's name, and what is left of the line.
@@ -79,7 +89,7 @@ pub fn name_field<'a>(rest: Option<&'a str>) -> Result<(Text<'a>, Option<&'a str
     let Some(rest) = rest else {
         return Err(LineFault::BadWord);
     };
-    let (word, rest) = cut(rest, ' ');
+    let (word, rest) = cut(rest, b' ');
     if !is_name_word(word.as_bytes()) {
         return Err(LineFault::BadWord);
     }

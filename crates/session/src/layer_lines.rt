@@ -1,4 +1,5 @@
-ghost use Rattle.session.specs.Grammar.{Gives, kind_at, answer_at, add_layer_of, remove_layer_of, rename_layer_of, show_layer_of, move_layer_of, layer_of};
+ghost use Rattle.session.specs.declared.line.LineFault.TheVariants.{BadWord};
+ghost use Rattle.session.specs.Grammar.{choose, layer_lines, Gives, read, kind_at, answer_at, add_layer_form, move_layer_form, remove_layer_form, rename_layer_form, show_layer_form};
 ghost use Rattle.std.specs.Prelude.{◌≡◌};
 ghost use Rattle.session.specs.Words.{words_left, kind_of, answer_of};
 
@@ -25,7 +26,7 @@ fn kind_field<'a>(rest: Option<&'a str>) -> Result<(LayerKind, Option<&'a str>),
     let Some(rest) = rest else {
         return Err(LineFault::BadWord);
     };
-    let (word, rest) = cut(rest, ' ');
+    let (word, rest) = cut(rest, b' ');
     match kind(word) {
         Some(kind) => Ok((kind, rest)),
         None => Err(LineFault::BadWord),
@@ -50,43 +51,39 @@ fn answer_field<'a>(rest: Option<&'a str>) -> Result<(bool, Option<&'a str>), Li
     let Some(rest) = rest else {
         return Err(LineFault::BadWord);
     };
-    let (word, rest) = cut(rest, ' ');
+    let (word, rest) = cut(rest, b' ');
     match answer(word) {
         Some(answer) => Ok((answer, rest)),
         None => Err(LineFault::BadWord),
     }
 }
 
-#[tactic(auto, unfolding(crate::specs::Grammar::add_layer_of))]
 fn add_layer<'a>(rest: Option<&'a str>) -> Result<Line<'a>, LineFault>
-    ensures { Gives (λ x. x) result (add_layer_of (words_left rest.entry)) }
+    ensures { Gives (λ x. x) result (read add_layer_form (words_left rest.entry)) }
 {
     let (kind, rest) = kind_field(rest)?;
     let name = text_field(rest)?;
     Ok(Line::AddLayer { kind, name })
 }
 
-#[tactic(auto, unfolding(crate::specs::Grammar::remove_layer_of))]
 fn remove_layer<'a>(rest: Option<&'a str>) -> Result<Line<'a>, LineFault>
-    ensures { Gives (λ x. x) result (remove_layer_of (words_left rest.entry)) }
+    ensures { Gives (λ x. x) result (read remove_layer_form (words_left rest.entry)) }
 {
     let (layer, rest) = number_field(rest)?;
     end_field(rest)?;
     Ok(Line::RemoveLayer { layer })
 }
 
-#[tactic(auto, unfolding(crate::specs::Grammar::rename_layer_of))]
 fn rename_layer<'a>(rest: Option<&'a str>) -> Result<Line<'a>, LineFault>
-    ensures { Gives (λ x. x) result (rename_layer_of (words_left rest.entry)) }
+    ensures { Gives (λ x. x) result (read rename_layer_form (words_left rest.entry)) }
 {
     let (layer, rest) = number_field(rest)?;
     let name = text_field(rest)?;
     Ok(Line::RenameLayer { layer, name })
 }
 
-#[tactic(auto, unfolding(crate::specs::Grammar::show_layer_of))]
 fn show_layer<'a>(rest: Option<&'a str>) -> Result<Line<'a>, LineFault>
-    ensures { Gives (λ x. x) result (show_layer_of (words_left rest.entry)) }
+    ensures { Gives (λ x. x) result (read show_layer_form (words_left rest.entry)) }
 {
     let (layer, rest) = number_field(rest)?;
     let (visible, rest) = answer_field(rest)?;
@@ -94,9 +91,8 @@ fn show_layer<'a>(rest: Option<&'a str>) -> Result<Line<'a>, LineFault>
     Ok(Line::ShowLayer { layer, visible })
 }
 
-#[tactic(auto, unfolding(crate::specs::Grammar::move_layer_of))]
 fn move_layer<'a>(rest: Option<&'a str>) -> Result<Line<'a>, LineFault>
-    ensures { Gives (λ x. x) result (move_layer_of (words_left rest.entry)) }
+    ensures { Gives (λ x. x) result (read move_layer_form (words_left rest.entry)) }
 {
     let (layer, rest) = number_field(rest)?;
     let (place, rest) = number_field(rest)?;
@@ -105,14 +101,13 @@ fn move_layer<'a>(rest: Option<&'a str>) -> Result<Line<'a>, LineFault>
 }
 
 /// The line of layers that the words behind `layer` are.
-#[tactic(auto, unfolding(crate::specs::Grammar::layer_of))]
 pub fn layer<'a>(rest: Option<&'a str>) -> Result<Line<'a>, LineFault>
-    ensures { Gives (λ x. x) result (layer_of (words_left rest.entry)) }
+    ensures { Gives (λ x. x) result (read (choose layer_lines BadWord) (words_left rest.entry)) }
 {
     let Some(rest) = rest else {
         return Err(LineFault::BadWord);
     };
-    let (action, rest) = cut(rest, ' ');
+    let (action, rest) = cut(rest, b' ');
     match action {
         "add" => add_layer(rest),
         "remove" => remove_layer(rest),

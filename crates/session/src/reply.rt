@@ -74,10 +74,14 @@ fn refusal_words(refusal: Refusal) -> &'static str
 }
 
 fn push_number(head: &mut ArrayString<512>, number: u64)
-    requires { array_string_len head.old ≤ 400 }
+    requires { array_string_len head.old ≤ 100 }
     ensures value { head.new.bytes ≡ head.old.bytes ++ decimal number }
     ensures size { array_string_len head.new ≤ array_string_len head.old + 20 }
 {
+    if number == 0 {
+        head.push_str("0");
+        return;
+    }
     let mut buffer = Buffer::new();
     head.push_str(buffer.format(number));
 }
@@ -104,7 +108,7 @@ fn letter(value: Gid, flag: u32, name: &'static str) -> &'static str
 }
 
 fn push_flags(head: &mut ArrayString<512>, value: Gid)
-    requires { array_string_len head.old ≤ 400 }
+    requires { array_string_len head.old ≤ 100 }
     ensures value { head.new.bytes ≡ head.old.bytes ++ flags_text value }
     ensures size { array_string_len head.new ≡ array_string_len head.old + 4 }
 {
@@ -115,7 +119,7 @@ fn push_flags(head: &mut ArrayString<512>, value: Gid)
 }
 
 fn push_tileset(head: &mut ArrayString<512>, base: u32, first: Option<u32>)
-    requires { array_string_len head.old ≤ 300 }
+    requires { array_string_len head.old ≤ 70 }
     ensures value { head.new.bytes ≡ head.old.bytes ++ tileset_text base first }
     ensures size { array_string_len head.new ≤ array_string_len head.old + 50 }
 {
