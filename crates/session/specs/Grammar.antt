@@ -1,5 +1,5 @@
 -- Which texts are which lines.
-use Rattle.std.specs.Prelude.{◌≡◌, ℕ, ◌^◌, ℤ, Bool, true, not, ◌||◌, ◌==◌, nat_le, List, [], ◌∷◌, length, Option, None, Some, Result, Ok, Err, codes, if◌then◌else◌}
+use Rattle.std.specs.Prelude.{◌≡◌, ℕ, ◌^◌, ℤ, Bool, true, false, not, ◌||◌, ◌==◌, nat_le, List, [], ◌∷◌, length, Option, None, Some, Result, Ok, Err, codes, if◌then◌else◌}
 use Rattle.std.specs.List.{join_with_byte, list_all}
 use Rattle.std.specs.Str.{bytes_eq, is_utf8}
 use Rattle.session.specs.declared.line.Line.{Line}
@@ -7,7 +7,7 @@ use Rattle.session.specs.declared.line.Line.TheVariants.{Quiet, New, Stamp, Tile
 use Rattle.session.specs.declared.line.LineFault.{LineFault}
 use Rattle.session.specs.declared.line.LineFault.TheVariants.{TooLong, NotUtf8, UnknownCommand, BadWord}
 use Rattle.map_model.specs.declared.parts.LayerKind.{LayerKind}
-use Rattle.session.specs.Words.{words, number_of, coordinate_of, numbers_of, is_block, is_name, is_text, kind_of, answer_of}
+use Rattle.session.specs.Words.{words, number_of, coordinate_of, numbers_of, are_rows, is_name, is_text, layer_kind_of, yes_no_of}
 
 infixl 10 ◌>>=◌
 abbrev pub ◌>>=◌ : {A B : Type 0} → Result A LineFault → (A → Result B LineFault) → Result B LineFault
@@ -33,7 +33,7 @@ coordinate_at (w ∷ ws) = word_is (coordinate_of w) >>= λ z. Ok (z, ws)
 unfoldable pub rows_at : ℕ → List (List ℕ) → Result ((ℕ × List ℕ) × List (List ℕ)) LineFault
 rows_at width [] = Err BadWord
 rows_at width (w ∷ ws) =
-    word_is (numbers_of w) >>= λ values. if is_block width (length values) then Ok ((width, values), ws) else Err BadWord
+    word_is (numbers_of w) >>= λ values. if are_rows width (length values) then Ok ((width, values), ws) else Err BadWord
 
 -- the width of a block and its values, and the words after them
 unfoldable pub block_at : List (List ℕ) → Result ((ℕ × List ℕ) × List (List ℕ)) LineFault
@@ -45,20 +45,20 @@ name_at [] = Err BadWord
 name_at (w ∷ ws) = if is_name w then Ok (w, ws) else Err BadWord
 
 -- the text that all further words make
-unfoldable pub text_at : List (List ℕ) → Result (List ℕ) LineFault
-text_at [] = Err BadWord
-text_at (w ∷ ws) =
+unfoldable pub last_text_at : List (List ℕ) → Result (List ℕ) LineFault
+last_text_at [] = Err BadWord
+last_text_at (w ∷ ws) =
     if is_text (join_with_byte 32 (w ∷ ws)) then Ok (join_with_byte 32 (w ∷ ws)) else Err BadWord
 
 -- a kind of layer, and the words after it
-unfoldable pub kind_at : List (List ℕ) → Result (LayerKind × List (List ℕ)) LineFault
-kind_at [] = Err BadWord
-kind_at (w ∷ ws) = word_is (kind_of w) >>= λ kind. Ok (kind, ws)
+unfoldable pub layer_kind_at : List (List ℕ) → Result (LayerKind × List (List ℕ)) LineFault
+layer_kind_at [] = Err BadWord
+layer_kind_at (w ∷ ws) = word_is (layer_kind_of w) >>= λ kind. Ok (kind, ws)
 
 -- yes or no, and the words after it
-unfoldable pub answer_at : List (List ℕ) → Result (Bool × List (List ℕ)) LineFault
-answer_at [] = Err BadWord
-answer_at (w ∷ ws) = word_is (answer_of w) >>= λ answer. Ok (answer, ws)
+unfoldable pub yes_no_at : List (List ℕ) → Result (Bool × List (List ℕ)) LineFault
+yes_no_at [] = Err BadWord
+yes_no_at (w ∷ ws) = word_is (yes_no_of w) >>= λ answer. Ok (answer, ws)
 
 -- no further word
 unfoldable pub ends_at : List (List ℕ) → Result (Unit {0}) LineFault
@@ -71,88 +71,88 @@ Gives view (Ok x) read = read ≡ Ok (view x)
 Gives view (Err e) read = read ≡ Err e
 
 -- what a field of a line is
-pub data Kind : Type 0 where
-  Number : Kind
-  Coordinate : Kind
-  Block : Kind
-  Name : Kind
-  LayerSort : Kind
-  Answer : Kind
+pub data FieldKind : Type 0 where
+  Number : FieldKind
+  Coordinate : FieldKind
+  Block : FieldKind
+  Name : FieldKind
+  LayerSort : FieldKind
+  YesNo : FieldKind
 
-abbrev pub Value : Kind → Type 0
-Value Number = ℕ
-Value Coordinate = ℤ
-Value Block = ℕ × List ℕ
-Value Name = List ℕ
-Value LayerSort = LayerKind
-Value Answer = Bool
+abbrev pub FieldValue : FieldKind → Type 0
+FieldValue Number = ℕ
+FieldValue Coordinate = ℤ
+FieldValue Block = ℕ × List ℕ
+FieldValue Name = List ℕ
+FieldValue LayerSort = LayerKind
+FieldValue YesNo = Bool
 
 -- the field at the front of the words, and the words after it
-abbrev pub field_at : (kind : Kind) → List (List ℕ) → Result (Value kind × List (List ℕ)) LineFault
+abbrev pub field_at : (kind : FieldKind) → List (List ℕ) → Result (FieldValue kind × List (List ℕ)) LineFault
 field_at Number ws = number_at ws
 field_at Coordinate ws = coordinate_at ws
 field_at Block ws = block_at ws
 field_at Name ws = name_at ws
-field_at LayerSort ws = kind_at ws
-field_at Answer ws = answer_at ws
+field_at LayerSort ws = layer_kind_at ws
+field_at YesNo ws = yes_no_at ws
 
 -- what may follow some words: no further word, a text that all further words make, a field and what its value leads
 -- to, that word and what it leads to or else the other form, or nothing
-pub data Form : Type 0 where
-  Ends : Line → Form
-  Text : (List ℕ → Line) → Form
-  Field : (kind : Kind) → (Value kind → Form) → Form
-  Word : List ℕ → Form → Form → Form
-  Fails : LineFault → Form
+pub data LineForm : Type 0 where
+  Ends : Line → LineForm
+  Text : (List ℕ → Line) → LineForm
+  Field : (kind : FieldKind) → (FieldValue kind → LineForm) → LineForm
+  Word : List ℕ → LineForm → LineForm → LineForm
+  Fails : LineFault → LineForm
 
--- the line that words are by a form
-abbrev pub read : Form → List (List ℕ) → Result Line LineFault
+-- the line that words are by a form, or its fault
+abbrev pub read : LineForm → List (List ℕ) → Result Line LineFault
 read (Ends line) ws = ends_at ws >>= λ end. Ok line
-read (Text line) ws = text_at ws >>= λ text. Ok (line text)
+read (Text line) ws = last_text_at ws >>= λ text. Ok (line text)
 read (Field kind form) ws = field_at kind ws >>= λ value. read (form value.0) value.1
 read (Word word form other) [] = Err BadWord
 read (Word word form other) (w ∷ ws) = if bytes_eq w word then read form ws else read other (w ∷ ws)
 read (Fails fault) ws = Err fault
 
 -- one of those words with what it leads to, or else that fault
-abbrev pub choose : List (List ℕ × Form) → LineFault → Form
+abbrev pub choose : List (List ℕ × LineForm) → LineFault → LineForm
 choose [] fault = Fails fault
 choose (row ∷ rows) fault = Word row.0 row.1 (choose rows fault)
 
-abbrev pub add_layer_form : Form
+abbrev pub add_layer_form : LineForm
 add_layer_form = Field LayerSort λ kind. Text (AddLayer kind)
 
-abbrev pub remove_layer_form : Form
+abbrev pub remove_layer_form : LineForm
 remove_layer_form = Field Number λ layer. Ends (RemoveLayer layer)
 
-abbrev pub rename_layer_form : Form
+abbrev pub rename_layer_form : LineForm
 rename_layer_form = Field Number λ layer. Text (RenameLayer layer)
 
-abbrev pub show_layer_form : Form
-show_layer_form = Field Number λ layer. Field Answer λ visible. Ends (ShowLayer layer visible)
+abbrev pub show_layer_form : LineForm
+show_layer_form = Field Number λ layer. Field YesNo λ visible. Ends (ShowLayer layer visible)
 
-abbrev pub move_layer_form : Form
+abbrev pub move_layer_form : LineForm
 move_layer_form = Field Number λ layer. Field Number λ place. Ends (MoveLayer layer place)
 
-abbrev pub new_form : Form
+abbrev pub new_form : LineForm
 new_form =
     Field Name λ name. Field Number λ width. Field Number λ height. Field Number λ tile_width. Field Number λ tile_height. Text (New name width height tile_width tile_height)
 
-abbrev pub stamp_form : Form
+abbrev pub stamp_form : LineForm
 stamp_form =
-    Field Number λ layer. Field Coordinate λ x. Field Coordinate λ y. Field Block λ block. Ends (Stamp layer x y block.0 block.1)
+    Field Number λ layer. Field Coordinate λ x. Field Coordinate λ y. Field Block λ block. Ends (Stamp layer x y block.0 block.1 false)
 
-abbrev pub tile_form : Form
+abbrev pub tile_form : LineForm
 tile_form = Field Number λ layer. Field Coordinate λ x. Field Coordinate λ y. Ends (Tile layer x y)
 
-abbrev pub goto_form : Form
+abbrev pub goto_form : LineForm
 goto_form = Field Number λ index. Ends (Goto index)
 
-abbrev pub step_text_form : Form
+abbrev pub step_text_form : LineForm
 step_text_form = Field Number λ place. Ends (StepText place)
 
 -- what is done with a layer
-abbrev pub layer_lines : List (List ℕ × Form)
+abbrev pub layer_lines : List (List ℕ × LineForm)
 layer_lines =
     (codes "add", add_layer_form)
     ∷ (codes "remove", remove_layer_form)
@@ -162,7 +162,7 @@ layer_lines =
     ∷ []
 
 -- the commands
-abbrev pub commands : List (List ℕ × Form)
+abbrev pub commands : List (List ℕ × LineForm)
 commands =
     (codes "new", new_form)
     ∷ (codes "stamp", stamp_form)
@@ -181,7 +181,7 @@ commands =
     ∷ []
 
 -- the form of all lines but the quiet ones
-abbrev pub line_form : Form
+abbrev pub line_form : LineForm
 line_form = choose commands UnknownCommand
 
 -- nothing, spaces alone, or a comment

@@ -1,6 +1,6 @@
-ghost use Rattle.session.specs.Grammar.{Gives, number_at, coordinate_at, rows_at, block_at, name_at, text_at, ends_at};
+ghost use Rattle.session.specs.Grammar.{Gives, number_at, coordinate_at, rows_at, block_at, name_at, last_text_at, ends_at};
 ghost use Rattle.std.specs.Prelude.{◌≡◌};
-ghost use Rattle.session.specs.Words.{words_left, is_block};
+ghost use Rattle.session.specs.Words.{words_left, are_rows};
 
 use crate::gids::Gids;
 use crate::line::LineFault;
@@ -41,8 +41,8 @@ pub fn coordinate_field<'a>(rest: Option<&'a str>) -> Result<(i32, Option<&'a st
 }
 
 /// Whether so many values are the rows of a block of that width.
-fn is_block_of(width: u32, count: usize) -> bool
-    ensures { result ≡ is_block width count }
+fn are_rows_of(width: u32, count: usize) -> bool
+    ensures { result ≡ are_rows width count }
 {
     if width == 0 || width > WIDTH_LIMIT {
         return false;
@@ -65,7 +65,7 @@ fn rows_field<'a>(
     let Some(values) = Gids::of_word(word) else {
         return Err(LineFault::BadWord);
     };
-    if !is_block_of(width, values.len()) {
+    if !are_rows_of(width, values.len()) {
         return Err(LineFault::BadWord);
     }
     Ok((values, rest))
@@ -98,7 +98,7 @@ pub fn name_field<'a>(rest: Option<&'a str>) -> Result<(Text<'a>, Option<&'a str
 
 /// The text that is left.
 pub fn text_field<'a>(rest: Option<&'a str>) -> Result<Text<'a>, LineFault>
-    ensures { Gives (λ x. x) result (text_at (words_left rest.entry)) }
+    ensures { Gives (λ x. x) result (last_text_at (words_left rest.entry)) }
 {
     let Some(text) = rest else {
         return Err(LineFault::BadWord);

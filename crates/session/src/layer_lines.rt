@@ -1,7 +1,7 @@
 ghost use Rattle.session.specs.declared.line.LineFault.TheVariants.{BadWord};
-ghost use Rattle.session.specs.Grammar.{choose, layer_lines, Gives, read, kind_at, answer_at, add_layer_form, move_layer_form, remove_layer_form, rename_layer_form, show_layer_form};
+ghost use Rattle.session.specs.Grammar.{choose, layer_lines, Gives, read, layer_kind_at, yes_no_at, add_layer_form, move_layer_form, remove_layer_form, rename_layer_form, show_layer_form};
 ghost use Rattle.std.specs.Prelude.{◌≡◌};
-ghost use Rattle.session.specs.Words.{words_left, kind_of, answer_of};
+ghost use Rattle.session.specs.Words.{words_left, layer_kind_of, yes_no_of};
 
 use crate::fields::{end_field, number_field, text_field};
 use crate::line::{Line, LineFault};
@@ -10,7 +10,7 @@ use map_model::LayerKind;
 
 /// The kind of layer that a word is.
 fn kind(word: &str) -> Option<LayerKind>
-    ensures { result ≡ kind_of word.now }
+    ensures { result ≡ layer_kind_of word.now }
 {
     match word {
         "tile" => Some(LayerKind::Tile),
@@ -19,9 +19,9 @@ fn kind(word: &str) -> Option<LayerKind>
     }
 }
 
-#[tactic(auto, unfolding(crate::specs::Grammar::kind_at))]
+#[tactic(auto, unfolding(crate::specs::Grammar::layer_kind_at))]
 fn kind_field<'a>(rest: Option<&'a str>) -> Result<(LayerKind, Option<&'a str>), LineFault>
-    ensures { Gives (λ x. (x.0, words_left x.1)) result (kind_at (words_left rest.entry)) }
+    ensures { Gives (λ x. (x.0, words_left x.1)) result (layer_kind_at (words_left rest.entry)) }
 {
     let Some(rest) = rest else {
         return Err(LineFault::BadWord);
@@ -35,7 +35,7 @@ fn kind_field<'a>(rest: Option<&'a str>) -> Result<(LayerKind, Option<&'a str>),
 
 /// The answer that a word is.
 fn answer(word: &str) -> Option<bool>
-    ensures { result ≡ answer_of word.now }
+    ensures { result ≡ yes_no_of word.now }
 {
     match word {
         "yes" => Some(true),
@@ -44,9 +44,9 @@ fn answer(word: &str) -> Option<bool>
     }
 }
 
-#[tactic(auto, unfolding(crate::specs::Grammar::answer_at))]
+#[tactic(auto, unfolding(crate::specs::Grammar::yes_no_at))]
 fn answer_field<'a>(rest: Option<&'a str>) -> Result<(bool, Option<&'a str>), LineFault>
-    ensures { Gives (λ x. (x.0, words_left x.1)) result (answer_at (words_left rest.entry)) }
+    ensures { Gives (λ x. (x.0, words_left x.1)) result (yes_no_at (words_left rest.entry)) }
 {
     let Some(rest) = rest else {
         return Err(LineFault::BadWord);

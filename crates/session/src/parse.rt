@@ -47,6 +47,7 @@ fn stamp<'a>(rest: Option<&'a str>) -> Result<Line<'a>, LineFault>
         y,
         width,
         values,
+        follows: false,
     })
 }
 

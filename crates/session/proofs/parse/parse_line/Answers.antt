@@ -2,7 +2,7 @@ use Rattle.std.proofs.Common.{◌<◌, ◌^◌, length, cond, Ok, sym, ap, ◌�
 use Rattle.session.specs.declared.line.Line.TheVariants.{Quiet}
 use Rattle.session.specs.Words.{words}
 use Rattle.session.specs.Grammar.{read, line_form}
-use Rattle.session.proofs.Checked.{checked, refused}
+use Rattle.session.proofs.FirstChecks.{checked, refused}
 use Rattle.session.proofs.Laws.{given_says, given_spelled}
 use Rattle.session.proofs.parse.parse_line.Goals as goal
 

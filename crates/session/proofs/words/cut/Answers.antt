@@ -1,4 +1,4 @@
-use Rattle.std.proofs.Common.{◌<◌, ◌≡◌, ◌∷◌, ◌++◌, ◌+◌, ◌-◌, length, take, drop, get_or, arith, ap, sym, ◌∙◌}
+use Rattle.std.proofs.Common.{◌<◌, ◌≡◌, ◌-◌, length, take, get_or, arith, ap, ◌∙◌}
 use Rattle.std.proofs.lemmas.Str.{lead_after_ascii}
 use Rattle.session.proofs.Cutting.{cut_some, cut_none, at_cut}
 use Rattle.session.proofs.words.cut.Goals as goal

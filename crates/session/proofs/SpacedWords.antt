@@ -1,5 +1,5 @@
 -- Words without a space, and the words of what is spelled with them.
-use Rattle.std.proofs.Common.{◌≡◌, ℕ, suc, ◌+◌, ◌^◌, ◌<◌, true, false, eqb, ltb, ◌&&◌, List, [], ◌∷◌, ◌++◌, length, get_or, All, ℤ, pos, negsuc, refl, sym, ap, ◌∙◌, subst, arith, lit<}
+use Rattle.std.proofs.Common.{◌≡◌, ℕ, suc, ◌+◌, ◌^◌, ◌<◌, true, false, eqb, ltb, ◌&&◌, List, [], ◌∷◌, ◌++◌, length, get_or, ℤ, pos, negsuc, refl, sym, ap, ◌∙◌, subst, arith, lit<}
 use Rattle.std.specs.List.{AllByRecursion, list_all, onto_first}
 use Rattle.std.specs.Fmt.{decimal, signed_decimal}
 use Rattle.std.specs.Char.{is_ascii_digit}
@@ -16,7 +16,7 @@ use Rattle.std.proofs.Math.Seq.{take-append_seam, drop-append-add, get_or-append
 use Rattle.std.proofs.lemmas.Bool.Decides.{nat_tests}
 use Rattle.session.specs.Words.{words, is_name_byte}
 use Rattle.session.specs.Spelling.{spaced, IsCoordinate, IsName}
-use Rattle.session.proofs.Numbers.{tells, own}
+use Rattle.session.proofs.Digits.{digits_test, decimal_numerals}
 
 -- an ASCII byte that is neither a control nor a space
 abbrev pub IsPlain : ℕ → Type 0
@@ -29,7 +29,7 @@ pub record Plain (word : List ℕ) : Type 0 where
 plain_digits : (ds : List ℕ) → list_all is_ascii_digit ds ≡ true → AllByRecursion (λ b. (44 < b) × (b < 128)) ds
 plain_digits [] h = tt
 plain_digits (c ∷ cs) h =
-    let parts = tells.parts c cs h in
+    let parts = digits_test.parts c cs h in
     ((omega (arith, parts.0.0), omega (arith, parts.0.1)), plain_digits cs parts.1)
 
 -- no space in front of the comma
@@ -38,7 +38,7 @@ lower [] h = tt
 lower (c ∷ cs) h = ((omega (arith, h.0.0), h.0.1), lower cs h.1)
 
 pub number_bytes : (n : ℕ) → n < 2 ^ 32 → AllByRecursion (λ b. (44 < b) × (b < 128)) (decimal n)
-number_bytes n h = plain_digits (decimal n) (digits_decimal own n (omega arith))
+number_bytes n h = plain_digits (decimal n) (digits_decimal decimal_numerals n (omega arith))
 
 pub plain_number : (n : ℕ) → n < 2 ^ 32 → Plain (decimal n)
 plain_number n h = record { bytes = lower (decimal n) (number_bytes n h) }
