@@ -9,7 +9,7 @@ use Rattle.editor.specs.Machine.{Machine}
 
 -- the machine that an editor stands for
 abbrev pub machine_of : {C : Type 0} → (C → Change) → Editor C → Machine
-machine_of change editor = record { open_document = option_map (history change) editor.stack }
+machine_of change editor = record { limit = editor.limit; open_document = option_map (history change) editor.stack }
 
 -- the stack's commands fit its document, and it has no limit
 pub record IsUnlimited {C : Type 0} (change : C → Change) (s : Stack C) : Type 0 where

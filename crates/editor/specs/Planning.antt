@@ -1,9 +1,10 @@
 -- What planning a line and committing an edit say of each other.
-use Rattle.std.specs.Prelude.{◌≡◌, Option, None, Some, Ok, false, ◌⊎◌, ⊤}
+use Rattle.std.specs.Prelude.{◌≡◌, Option, None, Some, Result, Ok, false, ◌⊎◌, ⊤}
+use Rattle.map_model.specs.Document.{DocumentParts}
 use Rattle.command_api.specs.Law.{Change}
 use Rattle.layer_commands.specs.Changes.{add_change, remove_change, rename_change, show_change, move_change}
 use Rattle.paint_commands.specs.Painting.{paint_change}
-use Rattle.undo_stack.specs.History.{History, current}
+use Rattle.undo_stack.specs.History.{Step, History, current}
 use Rattle.undo_stack.specs.Pushing.{IsPushed, step_of}
 use Rattle.session.specs.declared.line.Line.{Line}
 use Rattle.session.specs.declared.reply.Refusal.{Refusal}
@@ -14,7 +15,7 @@ use Rattle.editor.specs.declared.planned.Edit.{Edit}
 use Rattle.editor.specs.declared.planned.Edit.TheVariants.{Paint, AddLayer, RemoveLayer, RenameLayer, ShowLayer, MoveLayer}
 use Rattle.editor.specs.declared.planned.Planned.{Planned}
 use Rattle.editor.specs.declared.planned.Planned.TheVariants as planned
-use Rattle.editor.specs.Machine.{Machine, Refuses, StandsAt, edit_answer, StepOfLine}
+use Rattle.editor.specs.Machine.{Machine, active_of, Refuses, StandsAt, edit_of, StepOfLine}
 
 -- what a planned edit does
 abbrev pub edit_change : Edit → Change
@@ -25,10 +26,10 @@ edit_change (RenameLayer command) = rename_change command
 edit_change (ShowLayer command) = show_change command
 edit_change (MoveLayer command) = move_change command
 
--- the command fits the open document, and follows nothing
-abbrev pub FitsOpen : Option History → Change → Type 0
-FitsOpen None c = ⊥
-FitsOpen (Some h) c = c.fits_redo (current h) × (c.follows ≡ false)
+-- the command fits the active document, and follows nothing
+abbrev pub FitsActive : Option History → Change → Type 0
+FitsActive None c = ⊥
+FitsActive (Some h) c = c.fits_redo (current h) × (c.names.follows ≡ false)
 
 -- the plan of a line that is refused
 abbrev pub refused : Refusal → Planned
@@ -38,18 +39,22 @@ refused refusal = planned.Reply (replies.Refused refusal)
 abbrev pub FitsPlan : Machine → Planned → Type 0
 FitsPlan m planned.Quiet = ⊤
 FitsPlan m (planned.Reply reply) = ⊤
-FitsPlan m (planned.Push edit) = FitsOpen m.open_document (edit_change edit)
+FitsPlan m (planned.Push edit) = FitsActive (active_of m) (edit_change edit)
 
 -- the command's step is that of the line
+abbrev pub IsEditBy : Option (DocumentParts → Result Step Refusal) → Option History → Change → Type 0
+IsEditBy None active c = ⊥
+IsEditBy (Some edit) None c = ⊥
+IsEditBy (Some edit) (Some h) c = edit (current h) ≡ Ok (step_of c (current h))
+
 abbrev pub IsEditOf : Line → Option History → Change → Type 0
-IsEditOf line None c = ⊥
-IsEditOf line (Some h) c = edit_answer line (current h) ≡ Some (Ok (step_of c (current h)))
+IsEditOf line active c = IsEditBy (edit_of line) active c
 
 -- what a plan says: the whole step of the line, or its edit, with nothing changed yet
 abbrev pub Plans : Line → Machine → Planned → Machine → Type 0
 Plans line old planned.Quiet new = StepOfLine line old None new
 Plans line old (planned.Reply reply) new = StepOfLine line old (Some reply) new
-Plans line old (planned.Push edit) new = (new ≡ old) × IsEditOf line old.open_document (edit_change edit)
+Plans line old (planned.Push edit) new = (new ≡ old) × IsEditOf line (active_of old) (edit_change edit)
 
 -- an edit or a refusal has left the machine as it was
 abbrev pub KeepsReply : Reply → Machine → Machine → Type 0
@@ -65,5 +70,5 @@ KeepsPlan (planned.Push edit) old new = new ≡ old
 abbrev pub Commits : Option History → Change → Reply → Machine → Machine → Type 0
 Commits None c reply old new = ⊥
 Commits (Some h) c reply old new =
-    ((n : History) × IsPushed h (step_of c (current h)) n × StandsAt n (Some reply) new)
+    ((n : History) × IsPushed h (step_of c (current h)) n × StandsAt n old (Some reply) new)
     ⊎ Refuses refusals.NoMemory old (Some reply) new

@@ -1,11 +1,12 @@
-ghost use Rattle.std.specs.Prelude.{◌≡◌, ◌↔◌, IsTrue, IfOk, None};
+ghost use Rattle.std.specs.Prelude.{◌≡◌, ◌↔◌, ◌⊎◌, IsTrue, IfOk, None, Some};
 ghost use Rattle.map_model.specs.NewMap.{new_map};
 ghost use Rattle.map_model.specs.WellFormed.{IsSize, IsTileSize};
 ghost use Rattle.undo_stack.specs.Stacks.{history, Holds};
 ghost use Rattle.session.specs.Spelling.{CanBeSpelled};
 ghost use Rattle.editor.specs.Editors.{machine_of, IsSound, IsUnlimited};
-ghost use Rattle.editor.specs.Machine.{state_reply, NewStep};
-ghost use Rattle.editor.specs.Planning.{Commits, FitsOpen, FitsPlan, KeepsPlan, KeepsReply, Plans};
+ghost use Rattle.session.specs.declared.reply.Refusal.TheVariants as refusals;
+ghost use Rattle.editor.specs.Machine.{active_of, started_machine, state_reply, NewStep, Refuses};
+ghost use Rattle.editor.specs.Planning.{Commits, FitsActive, FitsPlan, KeepsPlan, KeepsReply, Plans};
 
 mod planning;
 mod steps;
@@ -82,7 +83,7 @@ impl<C: Command> Editor<C> {
     pub fn new(limit: usize) -> Editor<C>
         requires { limit ≡ 0 }
         ensures sound { IsSound C.change result }
-        ensures machine { machine_of C.change result ≡ record { open_document = None } }
+        ensures machine { machine_of C.change result ≡ started_machine limit }
     {
         Editor { stack: None, limit }
     }
@@ -122,7 +123,8 @@ impl<C: Command> Editor<C> {
                 y,
                 width,
                 values,
-            } => self.plan_stamp(alloc, *layer, *x, *y, *width, values),
+                follows,
+            } => self.plan_stamp(alloc, *layer, *x, *y, *width, values, *follows),
             Line::Tile { layer, x, y } => Planned::Reply(self.tile(*layer, *x, *y)),
             Line::AddLayer { kind, name } => self.plan_add_layer(alloc, *kind, name),
             Line::RemoveLayer { layer } => self.plan_remove_layer(*layer),
@@ -146,9 +148,9 @@ impl<C: Command> Editor<C> {
     /// editor is as it was.
     pub fn commit(&mut self, command: C) -> Reply
         requires sound { IsSound C.change self.old }
-        requires fits { FitsOpen (machine_of C.change self.old).open_document (C.change command) }
+        requires fits { FitsActive (active_of (machine_of C.change self.old)) (C.change command) }
         ensures sound { IsSound C.change self.new }
-        ensures commits { Commits (machine_of C.change self.old).open_document (C.change command) result (machine_of C.change self.old) (machine_of C.change self.new) }
+        ensures commits { Commits (active_of (machine_of C.change self.old)) (C.change command) result (machine_of C.change self.old) (machine_of C.change self.new) }
     {
         match &mut self.stack {
             Some(stack) => match stack.push(command) {
@@ -165,8 +167,9 @@ impl<C: Command> Editor<C> {
     fn open_new(&mut self, alloc: Global, sizes: Sizes, source: &Text<'_>) -> Reply
         requires { IsSound C.change self.old }
         ensures sound { IsSound C.change self.new }
-        ensures step { NewStep (machine_of C.change self.old).open_document sizes.width sizes.height sizes.tile_width sizes.tile_height source.now
-            (machine_of C.change self.old) (Some result) (machine_of C.change self.new) }
+        ensures step { NewStep (active_of (machine_of C.change self.old)) sizes.width sizes.height sizes.tile_width sizes.tile_height source.now
+            (machine_of C.change self.old) (Some result) (machine_of C.change self.new)
+            ⊎ ((active_of (machine_of C.change self.old) ≡ None) × Refuses refusals.NoMemory (machine_of C.change self.old) (Some result) (machine_of C.change self.new)) }
         ensures kept { KeepsReply result (machine_of C.change self.old) (machine_of C.change self.new) }
     {
         if self.stack.is_some() {

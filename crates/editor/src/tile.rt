@@ -1,11 +1,23 @@
 // The reply to a look at a cell.
 ghost use Rattle.std.specs.Prelude.{◌≡◌};
-ghost use Rattle.editor.specs.Machine.{tile_reply};
+ghost use Rattle.editor.specs.Machine.{local_tile, tile_reply};
 
 use crate::refusal;
 use edits::tiles_of_layer;
 use map_model::Map;
-use session::{Refusal, Reply};
+use session::{LocalTile, Refusal, Reply};
+use tile_id::Gid;
+
+// The tile that a value names: the first id of its tileset, and how far the value's base is above that.
+fn local_tile(map: &Map, value: Gid) -> Option<LocalTile>
+    ensures { result ≡ local_tile map.now value }
+{
+    let tileset = map.tileset_of(value)?;
+    Some(LocalTile {
+        first_id: tileset.first_id,
+        local_id: value.base() - tileset.first_id,
+    })
+}
 
 /// The value of a cell, its flags and its tileset; refused where there is no such layer, where it is not a tile
 /// layer, and where the cell lies outside the map.
@@ -26,6 +38,6 @@ pub fn reply(map: &Map, layer: u32, x: i32, y: i32) -> Reply
     }
     Reply::Tile {
         value,
-        first: map.tileset_of(value).map(|tileset| tileset.first_id),
+        local: local_tile(map, value),
     }
 }

@@ -1,5 +1,6 @@
 -- The lines of some bytes, and what a reader of lines finds of them.
 use Rattle.std.specs.Prelude.{◌≡◌, ℕ, ◌+◌, ◌-◌, ◌*◌, ◌^◌, ◌<◌, ◌≤◌, Bool, false, cond, ◌==◌, List, [], ◌∷◌, ◌++◌, length, ⊤, ◌≢◌, All, Contains, ◌⊎◌, Option, None, Some}
+use Rattle.std.specs.List.{position_or_len}
 use Rattle.std.specs.Io.KnownBytes.{prepend_known}
 use Rattle.lines.specs.declared.reader.Found.{Found}
 use Rattle.lines.specs.declared.reader.Found.TheVariants.{Line, TooLong}
@@ -17,6 +18,10 @@ lines_of (b ∷ bytes) = cond (b == 10) ([] ∷ lines_of bytes) (onto_first b (l
 -- no byte is a newline
 abbrev pub HasNoNewline : List ℕ → Type 0
 HasNoNewline bytes = All (λ b. b ≢ 10) bytes
+
+-- the place of the first newline, or the length where there is none
+abbrev pub first_newline : List ℕ → ℕ
+first_newline bytes = position_or_len (λ b. b == 10) bytes
 
 -- lines, each with its newline
 abbrev pub joined : List (List ℕ) → List ℕ

@@ -1,8 +1,9 @@
 ghost use Rattle.std.specs.Prelude.{◌≡◌, ◌+◌, ◌-◌, ◌*◌, ◌^◌, ◌↔◌, ◌<◌, ◌≤◌, false, [], ◌∷◌, ◌++◌, length, IsTrue, IfOk, OnOk, OnErr, IfSome, IfNone, Ok, Some, None, vec_len, slice_range, take, drop};
 ghost use Rattle.std.specs.Bool.{OnTrue, OnFalse};
 ghost use Rattle.std.specs.Io.KnownBytes.{IsAtEnd, Consumes, Keeps};
-ghost use Rattle.lines.specs.Lines.{Reading, fresh, budget, HasLine, input_left, SameInput, FindsLine, HasNoNewline, SkipsLine};
+ghost use Rattle.lines.specs.Lines.{Reading, fresh, budget, HasLine, first_newline, input_left, SameInput, FindsLine, HasNoNewline, SkipsLine};
 
+use memchr::memchr;
 use std::alloc::{AllocError, Global};
 use std::io::Read;
 use std::marker::Model;
@@ -34,6 +35,8 @@ pub struct LineReader {
     end: usize,
     line_start: usize,
     line_end: usize,
+    // The place of the first newline that is pending, or the end.
+    newline: usize,
     calls: u64,
     has_ended: bool,
 }
@@ -49,17 +52,19 @@ impl Model for LineReader {
     } };
 
     ghost invariant = { λ r. (vec_len r.buffer ≡ 2 ^ 16) × (r.start ≤ r.end) × (r.end ≤ 2 ^ 16)
-        × (r.line_start ≤ r.line_end) × (r.line_end ≤ 2 ^ 16) × (r.calls ≤ 2 ^ 32) };
+        × (r.line_start ≤ r.line_end) × (r.line_end ≤ 2 ^ 16) × (r.calls ≤ 2 ^ 32)
+        × (r.newline ≡ r.start + first_newline (slice_range r.buffer.items r.start r.end)) };
 }
 
-/// The place of the first newline.
-fn newline_at(bytes: &[u8]) -> Option<usize>
-    ensures within { IfSome result (λ n. n < length bytes.now) }
-    ensures found { IfSome result (λ n. HasNoNewline (take n bytes.now)
-        × (bytes.now ≡ take n bytes.now ++ 10 ∷ drop (n + 1) bytes.now)) }
-    ensures none { IfNone result (HasNoNewline bytes.now) }
+/// The place of the first newline, or the length where there is none.
+fn newline_at(bytes: &[u8]) -> usize
+    ensures place { result ≡ first_newline bytes.now }
+    ensures within { result ≤ length bytes.now }
 {
-    bytes.iter().position(|b| *b == 10)
+    match memchr(b'\n', bytes) {
+        Some(n) => n,
+        None => bytes.len(),
+    }
 }
 
 /// Copies a part to the front, and calls `read` once for what lies behind it.
@@ -98,6 +103,7 @@ impl LineReader {
             end: 0,
             line_start: 0,
             line_end: 0,
+            newline: 0,
             calls: 0,
             has_ended: false,
         })
@@ -114,7 +120,7 @@ impl LineReader {
     pub fn has_line(&self) -> bool
         ensures { IsTrue result ↔ HasLine self.now }
     {
-        newline_at(self.pending()).is_some()
+        self.newline().is_some()
     }
 
     /// Finds the next line, if there is one: with the same reader at each call.
@@ -142,13 +148,20 @@ impl LineReader {
         self.read_on(reader)
     }
 
-    fn pending(&self) -> &[u8]
-        ensures value { result.now ≡ self.now.pending }
+    /// Where the first newline is among the bytes that are pending.
+    fn newline(&self) -> Option<usize>
+        ensures within { IfSome result (λ n. n < length self.now.pending) }
+        ensures found { IfSome result (λ n. HasNoNewline (take n self.now.pending)
+            × (self.now.pending ≡ take n self.now.pending ++ 10 ∷ drop (n + 1) self.now.pending)) }
+        ensures none { IfNone result (HasNoNewline self.now.pending) }
         ensures fits { length self.now.pending ≤ 2 ^ 16 }
         ensures calls { self.now.calls ≤ 2 ^ 32 }
     {
         let _calls = self.calls;
-        &self.buffer[self.start..self.end]
+        if self.newline >= self.end {
+            return None;
+        }
+        Some(self.newline - self.start)
     }
 
     fn pending_len(&self) -> usize
@@ -177,6 +190,7 @@ impl LineReader {
         self.line_start = self.start;
         self.line_end = self.start + len;
         self.start += len + separator;
+        self.newline = self.start + newline_at(&self.buffer[self.start..self.end]);
     }
 
     /// Lets go of all that is pending.
@@ -184,12 +198,14 @@ impl LineReader {
         ensures { self.new ≡ record self.old { pending = [] } }
     {
         self.start = self.end;
+        self.newline = self.end;
     }
 
     /// Calls `read` once.
     fn fill<R: Read>(&mut self, reader: &mut R) -> Result<(), ReadFault>
         requires room { length self.old.pending < 2 ^ 16 }
         requires goes_on { self.old.ended ≡ false }
+        requires none { HasNoNewline self.old.pending }
         ensures same { SameInput (input_left self.old (R.remaining reader.old))
             (input_left self.new (R.remaining reader.new)) }
         ensures counted { OnOk result (self.new.calls ≡ self.old.calls + 1) }
@@ -206,12 +222,14 @@ impl LineReader {
         let (start, end) = (self.start, self.end);
         self.start = 0;
         self.end = len;
+        self.newline = len;
         self.line_start = 0;
         self.line_end = 0;
         self.calls += 1;
         let n = refill(reader, &mut self.buffer, start, end)?;
         self.has_ended = n == 0;
         self.end += n;
+        self.newline = len + newline_at(&self.buffer[len..len + n]);
         Ok(())
     }
 
@@ -224,7 +242,7 @@ impl LineReader {
         ensures short { OnTrue result (length self.new.line < 2 ^ 16) }
         ensures calls { self.new.calls ≤ 2 ^ 32 }
     {
-        match newline_at(self.pending()) {
+        match self.newline() {
             Some(len) => {
                 self.give(len, 1);
                 true

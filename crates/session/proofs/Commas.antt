@@ -11,7 +11,7 @@ use Rattle.session.specs.Words.{number_of, all_numbers, numbers_of}
 use Rattle.session.specs.Spelling.{commas, IsNumber}
 use Rattle.session.proofs.Decimals.{number_of-decimal, decimal_from}
 use Rattle.session.proofs.Coordinates.{and_then_from, map_from}
-use Rattle.session.proofs.Wording.{IsPlain, Plain, number_bytes, plain_number}
+use Rattle.session.proofs.SpacedWords.{IsPlain, Plain, number_bytes, plain_number}
 
 no_comma : (n : ℕ) → n < 2 ^ 32 → All (λ b. eqb b 44 ≡ false) (decimal n)
 no_comma n h = λ k d l. let at = All-from_recursion (λ b. (44 < b) × (b < 128)) (decimal n) (number_bytes n h) k d l in ne_eqb (get_or (decimal n) k d) 44 (λ e. omega (arith, at.0, e))

@@ -9,7 +9,7 @@ use Rattle.std.proofs.lemmas.Str.Parse.{not_in_digits}
 use Rattle.std.proofs.lemmas.Bool.{le-leb, leb-true, eqb-true}
 use Rattle.session.specs.Words.{number_of, reach, within_reach, distance_of, below_zero, coordinate_of}
 use Rattle.session.specs.Spelling.{IsCoordinate}
-use Rattle.session.proofs.Numbers.{own}
+use Rattle.session.proofs.Digits.{decimal_numerals}
 use Rattle.session.proofs.Decimals.{number_of-decimal, decimal_from}
 use Rattle.session.proofs.Signs.{with_minus, without_minus}
 
@@ -40,7 +40,7 @@ distance_from word n e =
 
 no_minus : (n : ℕ) → n ≤ reach → (rest : List ℕ) → decimal n ≢ 45 ∷ rest
 no_minus n h rest e =
-    not_in_digits own (decimal n) 45 (digits_decimal own n (omega arith)) (λ r. omega (arith, r.0)) 0 (decimal_nonempty n (omega arith)) (ap (λ ds. get_or ds 0 0) e)
+    not_in_digits decimal_numerals (decimal n) 45 (digits_decimal decimal_numerals n (omega arith)) (λ r. omega (arith, r.0)) 0 (decimal_nonempty n (omega arith)) (ap (λ ds. get_or ds 0 0) e)
 
 pub coordinate_of-signed : (z : ℤ) → IsCoordinate z → coordinate_of (signed_decimal z) ≡ Some z
 coordinate_of-signed (pos n) h =
@@ -60,8 +60,8 @@ by_sign : (b : ℕ) (word : List ℕ) (z : ℤ) (t : Bool) → eqb b 45 ≡ t �
 by_sign b word z true is e =
     let inner = and_then_from below_zero (distance_of word) z e in
     let far = distance_from word inner.0 inner.1 in
-    let told = below_from inner.0 z inner.2 far.1 in
-    (told.0 ∙ ap (λ ds. 45 ∷ ds) far.0 ∙ ap (λ c. c ∷ word) (sym (eqb-true b 45 is)), told.1)
+    let below = below_from inner.0 z inner.2 far.1 in
+    (below.0 ∙ ap (λ ds. 45 ∷ ds) far.0 ∙ ap (λ c. c ∷ word) (sym (eqb-true b 45 is)), below.1)
 by_sign b word z false is e =
     let inner = map_from pos (distance_of (b ∷ word)) z e in
     let far = distance_from (b ∷ word) inner.0 inner.1 in

@@ -4,8 +4,10 @@ use Rattle.std.specs.Fmt.{decimal}
 use Rattle.std.specs.Str.Parse.{digits_value}
 use Rattle.std.proofs.lemmas.Fmt.{decimal_digit, decimal_nonempty, first_decimal, digits_decimal, digits_value-decimal, decimal-digits_value}
 use Rattle.std.proofs.lemmas.Bool.{lt-ltb, ltb-true, ne_eqb, eqb-true, eq-eqb, and_parts, or_cases, not-true, both_ways}
-use Rattle.session.specs.Words.{is_numeral, number_of}
-use Rattle.session.proofs.Numbers.{own}
+use Rattle.std.specs.Char.{is_ascii_digit}
+use Rattle.std.specs.List.{list_all}
+use Rattle.session.specs.Words.{is_numeral_front, number_of}
+use Rattle.session.proofs.Digits.{decimal_numerals}
 
 -- a number other than 0 has no 0 in front
 no_zero : (n : ℕ) → n < 2 ^ 32 → (eqb (length (decimal n)) 1 || not (eqb (get_or (decimal n) 0 0) 48)) ≡ true
@@ -15,14 +17,12 @@ no_zero (suc n) h =
     let other = ne_eqb (get_or (decimal (suc n)) 0 0) 48 (λ e. omega (arith, high, e)) in
     rw other (elim (eqb (length (decimal (suc n))) 1) as (λ t. t || true ≡ true) [ true ↦ refl | false ↦ refl ])
 
-pub numeral_decimal : (n : ℕ) → n < 2 ^ 32 → is_numeral (decimal n) ≡ true
-numeral_decimal n h =
-    let some = lt-ltb 0 (length (decimal n)) (decimal_nonempty n (omega arith)) in
-    rw (some, no_zero n h, digits_decimal own n (omega arith)) refl
+front_decimal : (n : ℕ) → n < 2 ^ 32 → is_numeral_front (decimal n) ≡ true
+front_decimal n h = rw (lt-ltb 0 (length (decimal n)) (decimal_nonempty n (omega arith)), no_zero n h) refl
 
 pub number_of-decimal : (n : ℕ) → n < 2 ^ 32 → number_of (decimal n) ≡ Some n
 unfolding number_of
-number_of-decimal n h = rw (numeral_decimal n h, digits_value-decimal own n (omega arith), lt-ltb n (2 ^ 32) h) refl
+number_of-decimal n h = rw (front_decimal n h, digits_decimal decimal_numerals n (omega arith), digits_value-decimal decimal_numerals n (omega arith), lt-ltb n (2 ^ 32) h) refl
 
 single : (word : List ℕ) → (eqb (length word) 1 || not (eqb (get_or word 0 0) 48)) ≡ true → get_or word 0 0 ≡ 48 → length word ≡ 1
 single word h e = elim (or_cases _ _ h) [
@@ -30,15 +30,15 @@ single word h e = elim (or_cases _ _ h) [
   | inr other ↦ absurd (both_ways _ (not-true _ other) (eq-eqb _ _ e))
 ]
 
-from_tests : (word : List ℕ) (n : ℕ) (a b : Bool) → is_numeral word ≡ a → ltb (digits_value 10 word) (2 ^ 32) ≡ b → cond (a && b) (Some (digits_value 10 word)) None ≡ Some n → (decimal n ≡ word) × (n < 2 ^ 32)
-from_tests word n true true is small e =
+from_tests : (word : List ℕ) (n : ℕ) (a b : Bool) → is_numeral_front word ≡ a → (list_all is_ascii_digit word && ltb (digits_value 10 word) (2 ^ 32)) ≡ b → cond a (cond b (Some (digits_value 10 word)) None) None ≡ Some n → (decimal n ≡ word) × (n < 2 ^ 32)
+from_tests word n true true is digits e =
     let value : digits_value 10 word ≡ n = cc in
-    let parts = and_parts _ _ is in
-    let front = and_parts _ _ parts.0 in
-    let below = ltb-true _ _ small in
-    (ap decimal (sym value) ∙ decimal-digits_value own word parts.1 (ltb-true _ _ front.0) (single word front.1) (omega (arith, below)), omega (arith, below, value))
-from_tests word n true false is small e = absurd cc
-from_tests word n false b is small e = absurd cc
+    let front = and_parts _ _ is in
+    let tests = and_parts _ _ digits in
+    let below = ltb-true _ _ tests.1 in
+    (ap decimal (sym value) ∙ decimal-digits_value decimal_numerals word tests.0 (ltb-true _ _ front.0) (single word front.1) (omega (arith, below)), omega (arith, below, value))
+from_tests word n true false is digits e = absurd cc
+from_tests word n false b is digits e = absurd cc
 
 -- a word that is read as a number is its decimal
 pub decimal_from : (word : List ℕ) (n : ℕ) → number_of word ≡ Some n → (decimal n ≡ word) × (n < 2 ^ 32)

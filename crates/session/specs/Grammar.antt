@@ -1,5 +1,5 @@
 -- Which texts are which lines.
-use Rattle.std.specs.Prelude.{◌≡◌, ℕ, ◌^◌, ℤ, Bool, true, not, ◌||◌, ◌==◌, nat_le, List, [], ◌∷◌, length, Option, None, Some, Result, Ok, Err, codes, if◌then◌else◌}
+use Rattle.std.specs.Prelude.{◌≡◌, ℕ, ◌^◌, ℤ, Bool, true, false, not, ◌||◌, ◌==◌, nat_le, List, [], ◌∷◌, length, Option, None, Some, Result, Ok, Err, codes, if◌then◌else◌}
 use Rattle.std.specs.List.{join_with_byte, list_all}
 use Rattle.std.specs.Str.{bytes_eq, is_utf8}
 use Rattle.session.specs.declared.line.Line.{Line}
@@ -7,7 +7,7 @@ use Rattle.session.specs.declared.line.Line.TheVariants.{Quiet, New, Stamp, Tile
 use Rattle.session.specs.declared.line.LineFault.{LineFault}
 use Rattle.session.specs.declared.line.LineFault.TheVariants.{TooLong, NotUtf8, UnknownCommand, BadWord}
 use Rattle.map_model.specs.declared.parts.LayerKind.{LayerKind}
-use Rattle.session.specs.Words.{words, number_of, coordinate_of, numbers_of, is_block, is_name, is_text, kind_of, answer_of}
+use Rattle.session.specs.Words.{words, number_of, coordinate_of, numbers_of, are_rows, is_name, is_text, layer_kind_of, yes_no_of}
 
 infixl 10 ◌>>=◌
 abbrev pub ◌>>=◌ : {A B : Type 0} → Result A LineFault → (A → Result B LineFault) → Result B LineFault
@@ -30,10 +30,14 @@ coordinate_at [] = Err BadWord
 coordinate_at (w ∷ ws) = word_is (coordinate_of w) >>= λ z. Ok (z, ws)
 
 -- the values of a block of that width, joined by commas, and the words after them
-unfoldable pub block_at : ℕ → List (List ℕ) → Result (List ℕ × List (List ℕ)) LineFault
-block_at width [] = Err BadWord
-block_at width (w ∷ ws) =
-    word_is (numbers_of w) >>= λ values. if is_block width (length values) then Ok (values, ws) else Err BadWord
+unfoldable pub rows_at : ℕ → List (List ℕ) → Result ((ℕ × List ℕ) × List (List ℕ)) LineFault
+rows_at width [] = Err BadWord
+rows_at width (w ∷ ws) =
+    word_is (numbers_of w) >>= λ values. if are_rows width (length values) then Ok ((width, values), ws) else Err BadWord
+
+-- the width of a block and its values, and the words after them
+unfoldable pub block_at : List (List ℕ) → Result ((ℕ × List ℕ) × List (List ℕ)) LineFault
+block_at ws = number_at ws >>= λ width. rows_at width.0 width.1
 
 -- a document's name, and the words after it
 unfoldable pub name_at : List (List ℕ) → Result (List ℕ × List (List ℕ)) LineFault
@@ -41,20 +45,20 @@ name_at [] = Err BadWord
 name_at (w ∷ ws) = if is_name w then Ok (w, ws) else Err BadWord
 
 -- the text that all further words make
-unfoldable pub text_at : List (List ℕ) → Result (List ℕ) LineFault
-text_at [] = Err BadWord
-text_at (w ∷ ws) =
+unfoldable pub last_text_at : List (List ℕ) → Result (List ℕ) LineFault
+last_text_at [] = Err BadWord
+last_text_at (w ∷ ws) =
     if is_text (join_with_byte 32 (w ∷ ws)) then Ok (join_with_byte 32 (w ∷ ws)) else Err BadWord
 
 -- a kind of layer, and the words after it
-unfoldable pub kind_at : List (List ℕ) → Result (LayerKind × List (List ℕ)) LineFault
-kind_at [] = Err BadWord
-kind_at (w ∷ ws) = word_is (kind_of w) >>= λ kind. Ok (kind, ws)
+unfoldable pub layer_kind_at : List (List ℕ) → Result (LayerKind × List (List ℕ)) LineFault
+layer_kind_at [] = Err BadWord
+layer_kind_at (w ∷ ws) = word_is (layer_kind_of w) >>= λ kind. Ok (kind, ws)
 
 -- yes or no, and the words after it
-unfoldable pub answer_at : List (List ℕ) → Result (Bool × List (List ℕ)) LineFault
-answer_at [] = Err BadWord
-answer_at (w ∷ ws) = word_is (answer_of w) >>= λ answer. Ok (answer, ws)
+unfoldable pub yes_no_at : List (List ℕ) → Result (Bool × List (List ℕ)) LineFault
+yes_no_at [] = Err BadWord
+yes_no_at (w ∷ ws) = word_is (yes_no_of w) >>= λ answer. Ok (answer, ws)
 
 -- no further word
 unfoldable pub ends_at : List (List ℕ) → Result (Unit {0}) LineFault
@@ -66,132 +70,124 @@ abbrev pub Gives : {X Y : Type 0} → (X → Y) → Result X LineFault → Resul
 Gives view (Ok x) read = read ≡ Ok (view x)
 Gives view (Err e) read = read ≡ Err e
 
--- name, width, height, tile width, tile height, source
-unfoldable pub new_of : List (List ℕ) → Result Line LineFault
-new_of ws = do
-  name ← name_at ws
-  width ← number_at name.1
-  height ← number_at width.1
-  tile_width ← number_at height.1
-  tile_height ← number_at tile_width.1
-  source ← text_at tile_height.1
-  Ok (New name.0 width.0 height.0 tile_width.0 tile_height.0 source)
+-- what a field of a line is
+pub data FieldKind : Type 0 where
+  Number : FieldKind
+  Coordinate : FieldKind
+  Block : FieldKind
+  Name : FieldKind
+  LayerSort : FieldKind
+  YesNo : FieldKind
 
--- layer, X, Y, width of the block, values
-unfoldable pub stamp_of : List (List ℕ) → Result Line LineFault
-stamp_of ws = do
-  layer ← number_at ws
-  x ← coordinate_at layer.1
-  y ← coordinate_at x.1
-  width ← number_at y.1
-  values ← block_at width.0 width.1
-  end ← ends_at values.1
-  Ok (Stamp layer.0 x.0 y.0 width.0 values.0)
+abbrev pub FieldValue : FieldKind → Type 0
+FieldValue Number = ℕ
+FieldValue Coordinate = ℤ
+FieldValue Block = ℕ × List ℕ
+FieldValue Name = List ℕ
+FieldValue LayerSort = LayerKind
+FieldValue YesNo = Bool
 
--- layer, X, Y
-unfoldable pub tile_of : List (List ℕ) → Result Line LineFault
-tile_of ws = do
-  layer ← number_at ws
-  x ← coordinate_at layer.1
-  y ← coordinate_at x.1
-  end ← ends_at y.1
-  Ok (Tile layer.0 x.0 y.0)
+-- the field at the front of the words, and the words after it
+abbrev pub field_at : (kind : FieldKind) → List (List ℕ) → Result (FieldValue kind × List (List ℕ)) LineFault
+field_at Number ws = number_at ws
+field_at Coordinate ws = coordinate_at ws
+field_at Block ws = block_at ws
+field_at Name ws = name_at ws
+field_at LayerSort ws = layer_kind_at ws
+field_at YesNo ws = yes_no_at ws
 
--- kind, name
-unfoldable pub add_layer_of : List (List ℕ) → Result Line LineFault
-add_layer_of ws = do
-  kind ← kind_at ws
-  name ← text_at kind.1
-  Ok (AddLayer kind.0 name)
+-- what may follow some words: no further word, a text that all further words make, a field and what its value leads
+-- to, that word and what it leads to or else the other form, or nothing
+pub data LineForm : Type 0 where
+  Ends : Line → LineForm
+  Text : (List ℕ → Line) → LineForm
+  Field : (kind : FieldKind) → (FieldValue kind → LineForm) → LineForm
+  Word : List ℕ → LineForm → LineForm → LineForm
+  Fails : LineFault → LineForm
 
--- layer
-unfoldable pub remove_layer_of : List (List ℕ) → Result Line LineFault
-remove_layer_of ws = do
-  layer ← number_at ws
-  end ← ends_at layer.1
-  Ok (RemoveLayer layer.0)
+-- the line that words are by a form, or its fault
+abbrev pub read : LineForm → List (List ℕ) → Result Line LineFault
+read (Ends line) ws = ends_at ws >>= λ end. Ok line
+read (Text line) ws = last_text_at ws >>= λ text. Ok (line text)
+read (Field kind form) ws = field_at kind ws >>= λ value. read (form value.0) value.1
+read (Word word form other) [] = Err BadWord
+read (Word word form other) (w ∷ ws) = if bytes_eq w word then read form ws else read other (w ∷ ws)
+read (Fails fault) ws = Err fault
 
--- layer, name
-unfoldable pub rename_layer_of : List (List ℕ) → Result Line LineFault
-rename_layer_of ws = do
-  layer ← number_at ws
-  name ← text_at layer.1
-  Ok (RenameLayer layer.0 name)
+-- one of those words with what it leads to, or else that fault
+abbrev pub choose : List (List ℕ × LineForm) → LineFault → LineForm
+choose [] fault = Fails fault
+choose (row ∷ rows) fault = Word row.0 row.1 (choose rows fault)
 
--- layer, yes or no
-unfoldable pub show_layer_of : List (List ℕ) → Result Line LineFault
-show_layer_of ws = do
-  layer ← number_at ws
-  visible ← answer_at layer.1
-  end ← ends_at visible.1
-  Ok (ShowLayer layer.0 visible.0)
+abbrev pub add_layer_form : LineForm
+add_layer_form = Field LayerSort λ kind. Text (AddLayer kind)
 
--- layer, place
-unfoldable pub move_layer_of : List (List ℕ) → Result Line LineFault
-move_layer_of ws = do
-  layer ← number_at ws
-  place ← number_at layer.1
-  end ← ends_at place.1
-  Ok (MoveLayer layer.0 place.0)
+abbrev pub remove_layer_form : LineForm
+remove_layer_form = Field Number λ layer. Ends (RemoveLayer layer)
 
--- what is done with a layer, and the further words
-unfoldable pub layer_of : List (List ℕ) → Result Line LineFault
-layer_of [] = Err BadWord
-layer_of (w ∷ ws) =
-    if bytes_eq w (codes "add") then add_layer_of ws
-    else if bytes_eq w (codes "remove") then remove_layer_of ws
-    else if bytes_eq w (codes "rename") then rename_layer_of ws
-    else if bytes_eq w (codes "show") then show_layer_of ws
-    else if bytes_eq w (codes "move") then move_layer_of ws
-    else Err BadWord
+abbrev pub rename_layer_form : LineForm
+rename_layer_form = Field Number λ layer. Text (RenameLayer layer)
 
--- a line of one word
-unfoldable pub bare_of : Line → List (List ℕ) → Result Line LineFault
-bare_of line ws = do
-  end ← ends_at ws
-  Ok line
+abbrev pub show_layer_form : LineForm
+show_layer_form = Field Number λ layer. Field YesNo λ visible. Ends (ShowLayer layer visible)
 
--- index
-unfoldable pub goto_of : List (List ℕ) → Result Line LineFault
-goto_of ws = do
-  index ← number_at ws
-  end ← ends_at index.1
-  Ok (Goto index.0)
+abbrev pub move_layer_form : LineForm
+move_layer_form = Field Number λ layer. Field Number λ place. Ends (MoveLayer layer place)
 
--- place
-unfoldable pub step_text_of : List (List ℕ) → Result Line LineFault
-step_text_of ws = do
-  place ← number_at ws
-  end ← ends_at place.1
-  Ok (StepText place.0)
+abbrev pub new_form : LineForm
+new_form =
+    Field Name λ name. Field Number λ width. Field Number λ height. Field Number λ tile_width. Field Number λ tile_height. Text (New name width height tile_width tile_height)
 
--- the line of a command and its further words
-unfoldable pub command_of : List ℕ → List (List ℕ) → Result Line LineFault
-command_of name ws =
-    if bytes_eq name (codes "new") then new_of ws
-    else if bytes_eq name (codes "stamp") then stamp_of ws
-    else if bytes_eq name (codes "tile") then tile_of ws
-    else if bytes_eq name (codes "layer") then layer_of ws
-    else if bytes_eq name (codes "undo") then bare_of Undo ws
-    else if bytes_eq name (codes "redo") then bare_of Redo ws
-    else if bytes_eq name (codes "goto") then goto_of ws
-    else if bytes_eq name (codes "clean") then bare_of Clean ws
-    else if bytes_eq name (codes "dirty") then bare_of Dirty ws
-    else if bytes_eq name (codes "clear") then bare_of Clear ws
-    else if bytes_eq name (codes "status") then bare_of Status ws
-    else if bytes_eq name (codes "undotext") then bare_of UndoText ws
-    else if bytes_eq name (codes "redotext") then bare_of RedoText ws
-    else if bytes_eq name (codes "text") then step_text_of ws
-    else Err UnknownCommand
+abbrev pub stamp_form : LineForm
+stamp_form =
+    Field Number λ layer. Field Coordinate λ x. Field Coordinate λ y. Field Block λ block. Ends (Stamp layer x y block.0 block.1 false)
+
+abbrev pub tile_form : LineForm
+tile_form = Field Number λ layer. Field Coordinate λ x. Field Coordinate λ y. Ends (Tile layer x y)
+
+abbrev pub goto_form : LineForm
+goto_form = Field Number λ index. Ends (Goto index)
+
+abbrev pub step_text_form : LineForm
+step_text_form = Field Number λ place. Ends (StepText place)
+
+-- what is done with a layer
+abbrev pub layer_lines : List (List ℕ × LineForm)
+layer_lines =
+    (codes "add", add_layer_form)
+    ∷ (codes "remove", remove_layer_form)
+    ∷ (codes "rename", rename_layer_form)
+    ∷ (codes "show", show_layer_form)
+    ∷ (codes "move", move_layer_form)
+    ∷ []
+
+-- the commands
+abbrev pub commands : List (List ℕ × LineForm)
+commands =
+    (codes "new", new_form)
+    ∷ (codes "stamp", stamp_form)
+    ∷ (codes "tile", tile_form)
+    ∷ (codes "layer", choose layer_lines BadWord)
+    ∷ (codes "undo", Ends Undo)
+    ∷ (codes "redo", Ends Redo)
+    ∷ (codes "goto", goto_form)
+    ∷ (codes "clean", Ends Clean)
+    ∷ (codes "dirty", Ends Dirty)
+    ∷ (codes "clear", Ends Clear)
+    ∷ (codes "status", Ends Status)
+    ∷ (codes "undotext", Ends UndoText)
+    ∷ (codes "redotext", Ends RedoText)
+    ∷ (codes "text", step_text_form)
+    ∷ []
+
+-- the form of all lines but the quiet ones
+abbrev pub line_form : LineForm
+line_form = choose commands UnknownCommand
 
 -- nothing, spaces alone, or a comment
 abbrev pub is_quiet : List ℕ → Bool
 is_quiet [] = true
 is_quiet (b ∷ bytes) = (b == 35) || list_all (λ c. c == 32) (b ∷ bytes)
-
-abbrev pub line_of_words : List (List ℕ) → Result Line LineFault
-line_of_words [] = Err UnknownCommand
-line_of_words (w ∷ ws) = command_of w ws
 
 -- the line that a text is, or its fault
 unfoldable pub line_of : List ℕ → Result Line LineFault
@@ -199,4 +195,4 @@ line_of bytes =
     if nat_le (2 ^ 16) (length bytes) then Err TooLong
     else if not (is_utf8 bytes) then Err NotUtf8
     else if is_quiet bytes then Ok Quiet
-    else line_of_words (words bytes)
+    else read line_form (words bytes)

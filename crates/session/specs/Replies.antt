@@ -1,11 +1,11 @@
 -- The text of each reply.
-use Rattle.std.specs.Prelude.{ℕ, ◌-◌, ◌==◌, List, [], ◌∷◌, ◌++◌, Option, None, Some, bit_and, codes, if◌then◌else◌, decimal}
+use Rattle.std.specs.Prelude.{ℕ, ◌==◌, List, [], ◌∷◌, ◌++◌, Option, None, Some, bit_and, codes, if◌then◌else◌, decimal}
 use Rattle.session.specs.declared.line.LineFault.TheVariants.{TooLong, NotUtf8, UnknownCommand, BadWord}
 use Rattle.session.specs.declared.reply.Refusal.{Refusal}
-use Rattle.session.specs.declared.reply.Refusal.TheVariants.{Line, NoActiveDocument, NameTaken, NothingToUndo, NothingToRedo, NoSuchLayer, LayerOfAnotherKind, OutsideTheMap, UnknownTile, OutOfRange, TooMany, NoMemory}
+use Rattle.session.specs.declared.reply.Refusal.TheVariants.{Line, NoActiveDocument, NameTaken, MacroOpen, NothingToUndo, NothingToRedo, NoSuchLayer, LayerOfAnotherKind, OutsideTheMap, UnknownTile, NoSuchObject, NoSuchProperty, NoSuchTileset, TilesetInUse, FirstIdNotAbove, OutOfRange, TooMany, NoMemory}
+use Rattle.session.specs.declared.reply.LocalTile.{LocalTile}
 use Rattle.session.specs.declared.reply.Reply.{Reply}
 use Rattle.session.specs.declared.reply.Reply.TheVariants.{State, NoDocument, Text, EmptyTile, Tile, Refused}
-use Rattle.tile_id.specs.Gid.{base_of}
 
 -- a refusal's number and its words
 abbrev pub refusal_text : Refusal → List ℕ
@@ -15,12 +15,18 @@ refusal_text (Line UnknownCommand) = codes "3 unknown command"
 refusal_text (Line BadWord) = codes "4 bad word"
 refusal_text NoActiveDocument = codes "10 no active document"
 refusal_text NameTaken = codes "11 name taken"
+refusal_text MacroOpen = codes "20 macro open"
 refusal_text NothingToUndo = codes "21 nothing to undo"
 refusal_text NothingToRedo = codes "22 nothing to redo"
 refusal_text NoSuchLayer = codes "30 no such layer"
 refusal_text LayerOfAnotherKind = codes "31 layer of another kind"
 refusal_text OutsideTheMap = codes "32 outside the map"
 refusal_text UnknownTile = codes "33 unknown tile"
+refusal_text NoSuchObject = codes "34 no such object"
+refusal_text NoSuchProperty = codes "35 no such property"
+refusal_text NoSuchTileset = codes "36 no such tileset"
+refusal_text TilesetInUse = codes "37 tileset in use"
+refusal_text FirstIdNotAbove = codes "38 first id not above the others"
 refusal_text OutOfRange = codes "39 out of range"
 refusal_text TooMany = codes "40 too many"
 refusal_text NoMemory = codes "90 no memory"
@@ -35,10 +41,10 @@ flags_text value =
     flag_letter value 0x80000000 (codes "h") ++ flag_letter value 0x40000000 (codes "v")
     ++ flag_letter value 0x20000000 (codes "d") ++ flag_letter value 0x10000000 (codes "r")
 
--- the first id of a tile's tileset, and the tile's place in it
-abbrev pub tileset_text : ℕ → Option ℕ → List ℕ
-tileset_text base None = codes "none"
-tileset_text base (Some first) = decimal first ++ codes " " ++ decimal (base - first)
+-- the first id of a tileset and the local id of its tile
+abbrev pub local_text : Option LocalTile → List ℕ
+local_text None = codes "none"
+local_text (Some tile) = decimal tile.first_id ++ codes " " ++ decimal tile.local_id
 
 -- what stands behind the head
 abbrev pub body_of : Reply → List ℕ
@@ -53,7 +59,7 @@ reply_text NoDocument = codes "ok none clean"
 reply_text (Text []) = codes "text"
 reply_text (Text (b ∷ text)) = codes "text " ++ b ∷ text
 reply_text EmptyTile = codes "tile 0"
-reply_text (Tile value first) =
+reply_text (Tile value local) =
     codes "tile " ++ decimal value ++ codes " " ++ flags_text value ++ codes " "
-    ++ tileset_text (base_of value) first
+    ++ local_text local
 reply_text (Refused refusal) = codes "no " ++ refusal_text refusal

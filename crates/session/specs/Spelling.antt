@@ -1,6 +1,6 @@
 -- How a line is spelled, and that this spelling is read.
-use Rattle.std.specs.Prelude.{◌≡◌, ◌≢◌, ℕ, ◌^◌, ◌%◌, ◌<◌, ◌≤◌, ℤ, pos, neg_ℤ, ◌≤ℤ◌, Bool, true, false, List, [], ◌∷◌, length, map, All, slice_index, IsTrue, Ok, Err, codes, decimal, ⊤}
-use Rattle.std.specs.List.{join_with_byte}
+use Rattle.std.specs.Prelude.{◌≡◌, ◌≢◌, ℕ, ◌^◌, ◌%◌, ◌<◌, ◌≤◌, ℤ, pos, neg_ℤ, ◌≤ℤ◌, Bool, true, false, List, [], ◌∷◌, length, map, All, slice_index, IsTrue, Ok, Err, codes, decimal, ⊤, ◌||◌}
+use Rattle.std.specs.List.{join_with_byte, flat_map, AllByRecursion}
 use Rattle.std.specs.Fmt.{signed_decimal}
 use Rattle.std.specs.Str.{IsUtf8}
 use Rattle.session.specs.declared.line.Line.{Line}
@@ -8,8 +8,8 @@ use Rattle.session.specs.declared.line.Line.TheVariants.{Quiet, New, Stamp, Tile
 use Rattle.session.specs.declared.line.LineFault.TheVariants.{TooLong}
 use Rattle.map_model.specs.declared.parts.LayerKind.{LayerKind}
 use Rattle.map_model.specs.declared.parts.LayerKind.TheVariants as kinds
-use Rattle.session.specs.Words.{reach, is_name_byte}
-use Rattle.session.specs.Grammar.{is_quiet, line_of}
+use Rattle.session.specs.Words.{words, reach, is_name_byte}
+use Rattle.session.specs.Grammar.{FieldKind, Number, Coordinate, Block, Name, LayerSort, YesNo, FieldValue, is_quiet, line_of}
 
 -- words with one space between each two
 abbrev pub spaced : List (List ℕ) → List ℕ
@@ -20,39 +20,74 @@ abbrev pub commas : List ℕ → List ℕ
 commas ns = join_with_byte 44 (map decimal ns)
 
 -- the word of a kind of layer
-abbrev pub kind_word : LayerKind → List ℕ
-kind_word kinds.Tile = codes "tile"
-kind_word kinds.Object = codes "object"
+abbrev pub layer_kind_word : LayerKind → List ℕ
+layer_kind_word kinds.Tile = codes "tile"
+layer_kind_word kinds.Object = codes "object"
 
--- the word of an answer
-abbrev pub answer_word : Bool → List ℕ
-answer_word true = codes "yes"
-answer_word false = codes "no"
+-- yes or no
+abbrev pub yes_no_word : Bool → List ℕ
+yes_no_word true = codes "yes"
+yes_no_word false = codes "no"
+
+-- a part of a spelled line: a word that is written out, a field with its value, a text that goes to the end, or one
+-- that no spelling has
+pub data Token : Type 0 where
+  Fixed : List ℕ → Token
+  Given : (kind : FieldKind) → FieldValue kind → Token
+  Rest : List ℕ → Token
+  Unspelled : Token
+
+-- the word of a stamp; there is none yet for one that follows
+abbrev pub stamp_word : Bool → Token
+stamp_word false = Fixed (codes "stamp")
+stamp_word true = Unspelled
+
+-- the parts of each line; a quiet one has none
+abbrev pub tokens : Line → List Token
+tokens Quiet = []
+tokens (New name width height tile_width tile_height source) =
+    Fixed (codes "new") ∷ Given Name name ∷ Given Number width ∷ Given Number height ∷ Given Number tile_width
+    ∷ Given Number tile_height ∷ Rest source ∷ []
+tokens (Stamp layer x y width values follows) =
+    stamp_word follows ∷ Given Number layer ∷ Given Coordinate x ∷ Given Coordinate y ∷ Given Block (width, values) ∷ []
+tokens (Tile layer x y) = Fixed (codes "tile") ∷ Given Number layer ∷ Given Coordinate x ∷ Given Coordinate y ∷ []
+tokens (AddLayer kind name) = Fixed (codes "layer") ∷ Fixed (codes "add") ∷ Given LayerSort kind ∷ Rest name ∷ []
+tokens (RemoveLayer layer) = Fixed (codes "layer") ∷ Fixed (codes "remove") ∷ Given Number layer ∷ []
+tokens (RenameLayer layer name) = Fixed (codes "layer") ∷ Fixed (codes "rename") ∷ Given Number layer ∷ Rest name ∷ []
+tokens (ShowLayer layer visible) =
+    Fixed (codes "layer") ∷ Fixed (codes "show") ∷ Given Number layer ∷ Given YesNo visible ∷ []
+tokens (MoveLayer layer place) =
+    Fixed (codes "layer") ∷ Fixed (codes "move") ∷ Given Number layer ∷ Given Number place ∷ []
+tokens Undo = Fixed (codes "undo") ∷ []
+tokens Redo = Fixed (codes "redo") ∷ []
+tokens (Goto index) = Fixed (codes "goto") ∷ Given Number index ∷ []
+tokens Clean = Fixed (codes "clean") ∷ []
+tokens Dirty = Fixed (codes "dirty") ∷ []
+tokens Clear = Fixed (codes "clear") ∷ []
+tokens Status = Fixed (codes "status") ∷ []
+tokens UndoText = Fixed (codes "undotext") ∷ []
+tokens RedoText = Fixed (codes "redotext") ∷ []
+tokens (StepText place) = Fixed (codes "text") ∷ Given Number place ∷ []
+
+-- the words of a field
+abbrev pub field_words : (kind : FieldKind) → FieldValue kind → List (List ℕ)
+field_words Number n = decimal n ∷ []
+field_words Coordinate z = signed_decimal z ∷ []
+field_words Block block = decimal block.0 ∷ commas block.1 ∷ []
+field_words Name name = name ∷ []
+field_words LayerSort kind = layer_kind_word kind ∷ []
+field_words YesNo answer = yes_no_word answer ∷ []
+
+-- the words of a part
+abbrev pub token_words : Token → List (List ℕ)
+token_words (Fixed word) = word ∷ []
+token_words (Given kind value) = field_words kind value
+token_words (Rest text) = words text
+token_words Unspelled = []
 
 -- the spelling of a line; a quiet one has others too
 abbrev pub spelling : Line → List ℕ
-spelling Quiet = []
-spelling (New name width height tile_width tile_height source) =
-    spaced (codes "new" ∷ name ∷ decimal width ∷ decimal height ∷ decimal tile_width ∷ decimal tile_height ∷ source ∷ [])
-spelling (Stamp layer x y width values) =
-    spaced (codes "stamp" ∷ decimal layer ∷ signed_decimal x ∷ signed_decimal y ∷ decimal width ∷ commas values ∷ [])
-spelling (Tile layer x y) = spaced (codes "tile" ∷ decimal layer ∷ signed_decimal x ∷ signed_decimal y ∷ [])
-spelling (AddLayer kind name) = spaced (codes "layer" ∷ codes "add" ∷ kind_word kind ∷ name ∷ [])
-spelling (RemoveLayer layer) = spaced (codes "layer" ∷ codes "remove" ∷ decimal layer ∷ [])
-spelling (RenameLayer layer name) = spaced (codes "layer" ∷ codes "rename" ∷ decimal layer ∷ name ∷ [])
-spelling (ShowLayer layer visible) =
-    spaced (codes "layer" ∷ codes "show" ∷ decimal layer ∷ answer_word visible ∷ [])
-spelling (MoveLayer layer place) = spaced (codes "layer" ∷ codes "move" ∷ decimal layer ∷ decimal place ∷ [])
-spelling Undo = codes "undo"
-spelling Redo = codes "redo"
-spelling (Goto index) = spaced (codes "goto" ∷ decimal index ∷ [])
-spelling Clean = codes "clean"
-spelling Dirty = codes "dirty"
-spelling Clear = codes "clear"
-spelling Status = codes "status"
-spelling UndoText = codes "undotext"
-spelling RedoText = codes "redotext"
-spelling (StepText place) = spaced (codes "text" ∷ decimal place ∷ [])
+spelling line = spaced (flat_map token_words (tokens line))
 
 -- a number that a word can be
 abbrev pub IsNumber : ℕ → Type 0
@@ -78,38 +113,44 @@ pub record IsText (text : List ℕ) : Type 0 where
   pub bytes : All (λ b. (32 ≤ b) × (b ≢ 127)) text
   pub utf8 : IsUtf8 text
 
--- the rows of a block
-pub record IsBlock (width : ℕ) (values : List ℕ) : Type 0 where
+-- the values are whole rows of a block of that width
+pub record AreRows (width : ℕ) (values : List ℕ) : Type 0 where
   pub some : 1 ≤ width
   pub narrow : width ≤ 4096
   pub rows : length values % width ≡ 0
   pub filled : 1 ≤ length values
   pub numbers : All IsNumber values
 
--- the lines that have a spelling
+-- a value that a field can be
+abbrev pub IsField : (kind : FieldKind) → FieldValue kind → Type 0
+IsField Number n = IsNumber n
+IsField Coordinate z = IsCoordinate z
+IsField Block block = AreRows block.0 block.1
+IsField Name name = IsName name
+IsField LayerSort kind = ⊤
+IsField YesNo answer = ⊤
+
+-- a part that can be spelled
+abbrev pub IsToken : Token → Type 0
+IsToken (Fixed word) = ⊤
+IsToken (Given kind value) = IsField kind value
+IsToken (Rest text) = IsText text
+IsToken Unspelled = ⊥
+
+-- whether a part is a block
+abbrev pub is_block_token : Token → Bool
+is_block_token (Given Block block) = true
+is_block_token token = false
+
+-- whether a part of a line is a block
+abbrev pub has_block : List Token → Bool
+has_block [] = false
+has_block (t ∷ ts) = has_block ts || is_block_token t
+
+-- the lines that have a spelling: their parts have one, and with a block it is not too long
 abbrev pub CanBeSpelled : Line → Type 0
-CanBeSpelled Quiet = ⊤
-CanBeSpelled (New name width height tile_width tile_height source) =
-    IsName name × IsNumber width × IsNumber height × IsNumber tile_width × IsNumber tile_height × IsText source
-CanBeSpelled (Stamp layer x y width values) =
-    IsNumber layer × IsCoordinate x × IsCoordinate y × IsBlock width values
-    × (length (spelling (Stamp layer x y width values)) < 2 ^ 16)
-CanBeSpelled (Tile layer x y) = IsNumber layer × IsCoordinate x × IsCoordinate y
-CanBeSpelled (AddLayer kind name) = IsText name
-CanBeSpelled (RemoveLayer layer) = IsNumber layer
-CanBeSpelled (RenameLayer layer name) = IsNumber layer × IsText name
-CanBeSpelled (ShowLayer layer visible) = IsNumber layer
-CanBeSpelled (MoveLayer layer place) = IsNumber layer × IsNumber place
-CanBeSpelled Undo = ⊤
-CanBeSpelled Redo = ⊤
-CanBeSpelled (Goto index) = IsNumber index
-CanBeSpelled Clean = ⊤
-CanBeSpelled Dirty = ⊤
-CanBeSpelled Clear = ⊤
-CanBeSpelled Status = ⊤
-CanBeSpelled UndoText = ⊤
-CanBeSpelled RedoText = ⊤
-CanBeSpelled (StepText place) = IsNumber place
+CanBeSpelled line =
+    AllByRecursion IsToken (tokens line) × (IsTrue (has_block (tokens line)) → length (spelling line) < 2 ^ 16)
 
 -- the bytes say the line: they are its spelling, and for a quiet line nothing, spaces alone or a comment
 abbrev pub Says : List ℕ → Line → Type 0

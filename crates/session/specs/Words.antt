@@ -13,23 +13,28 @@ use Rattle.map_model.specs.declared.parts.LayerKind.TheVariants as kinds
 abbrev pub words : List ℕ → List (List ℕ)
 words bytes = slice_split (λ b. b == 32) bytes
 
--- `0`, or digits without a leading zero
-abbrev pub is_numeral : List ℕ → Bool
-is_numeral word =
-    nat_lt 0 (length word) && (length word == 1 || not (slice_index word 0 == 48)) && list_all is_ascii_digit word
+-- a byte, and no leading zero
+abbrev pub is_numeral_front : List ℕ → Bool
+is_numeral_front word = nat_lt 0 (length word) && (length word == 1 || not (slice_index word 0 == 48))
 
--- the number that a word is: a numeral below 2^32
+-- the value of digits, where it is below 2^32
+abbrev pub digits_of : List ℕ → Option ℕ
+digits_of word =
+    if list_all is_ascii_digit word && nat_lt (digits_value 10 word) (2 ^ 32) then Some (digits_value 10 word) else None
+
+-- the number that a word is: `0`, or digits without a leading zero, of a value below 2^32
 unfoldable pub number_of : List ℕ → Option ℕ
-number_of word = if is_numeral word && nat_lt (digits_value 10 word) (2 ^ 32) then Some (digits_value 10 word) else None
+number_of word = if is_numeral_front word then digits_of word else None
 
 -- how far from 0 a coordinate may be
 abbrev pub reach : ℕ
 reach = 1000000000
 
+-- a number up to 1,000,000,000
 abbrev pub within_reach : ℕ → Option ℕ
 within_reach n = if nat_le n reach then Some n else None
 
--- a number up to 1,000,000,000
+-- the distance that a word is: a number up to 1,000,000,000
 unfoldable pub distance_of : List ℕ → Option ℕ
 distance_of word = option_and_then within_reach (number_of word)
 
@@ -55,8 +60,8 @@ unfoldable pub numbers_of : List ℕ → Option (List ℕ)
 numbers_of word = all_numbers (slice_split (λ b. b == 44) word)
 
 -- so many values are the rows of a block of that width
-abbrev pub is_block : ℕ → ℕ → Bool
-is_block width count = nat_le 1 width && nat_le width 4096 && (count % width == 0)
+abbrev pub are_rows : ℕ → ℕ → Bool
+are_rows width count = nat_le 1 width && nat_le width 4096 && (count % width == 0)
 
 -- a letter, a digit, `_`, `.` or `-`
 abbrev pub is_name_byte : ℕ → Bool
@@ -82,15 +87,15 @@ pieces_left separator None = []
 pieces_left separator (Some text) = slice_split (λ b. b == separator) text.now
 
 -- the kind of layer that a word is
-abbrev pub kind_of : List ℕ → Option LayerKind
-kind_of word =
+abbrev pub layer_kind_of : List ℕ → Option LayerKind
+layer_kind_of word =
     if bytes_eq word (codes "tile") then Some kinds.Tile
     else if bytes_eq word (codes "object") then Some kinds.Object
     else None
 
--- the answer that a word is
-abbrev pub answer_of : List ℕ → Option Bool
-answer_of word =
+-- the yes or no that a word is
+abbrev pub yes_no_of : List ℕ → Option Bool
+yes_no_of word =
     if bytes_eq word (codes "yes") then Some true
     else if bytes_eq word (codes "no") then Some false
     else None

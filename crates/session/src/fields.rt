@@ -1,6 +1,6 @@
-ghost use Rattle.session.specs.Grammar.{Gives, number_at, coordinate_at, block_at, name_at, text_at, ends_at};
+ghost use Rattle.session.specs.Grammar.{Gives, number_at, coordinate_at, rows_at, block_at, name_at, last_text_at, ends_at};
 ghost use Rattle.std.specs.Prelude.{◌≡◌};
-ghost use Rattle.session.specs.Words.{words_left, is_block};
+ghost use Rattle.session.specs.Words.{words_left, are_rows};
 
 use crate::gids::Gids;
 use crate::line::LineFault;
@@ -18,7 +18,7 @@ pub fn number_field<'a>(rest: Option<&'a str>) -> Result<(u32, Option<&'a str>),
     let Some(rest) = rest else {
         return Err(LineFault::BadWord);
     };
-    let (word, rest) = cut(rest, ' ');
+    let (word, rest) = cut(rest, b' ');
     match number(word) {
         Some(n) => Ok((n, rest)),
         None => Err(LineFault::BadWord),
@@ -33,7 +33,7 @@ pub fn coordinate_field<'a>(rest: Option<&'a str>) -> Result<(i32, Option<&'a st
     let Some(rest) = rest else {
         return Err(LineFault::BadWord);
     };
-    let (word, rest) = cut(rest, ' ');
+    let (word, rest) = cut(rest, b' ');
     match coordinate(word) {
         Some(z) => Ok((z, rest)),
         None => Err(LineFault::BadWord),
@@ -41,8 +41,8 @@ pub fn coordinate_field<'a>(rest: Option<&'a str>) -> Result<(i32, Option<&'a st
 }
 
 /// Whether so many values are the rows of a block of that width.
-fn is_block_of(width: u32, count: usize) -> bool
-    ensures { result ≡ is_block width count }
+fn are_rows_of(width: u32, count: usize) -> bool
+    ensures { result ≡ are_rows width count }
 {
     if width == 0 || width > WIDTH_LIMIT {
         return false;
@@ -51,24 +51,34 @@ fn is_block_of(width: u32, count: usize) -> bool
 }
 
 /// The values of a block of that width, and what is left of the line.
-#[tactic(auto, unfolding(crate::specs::Grammar::block_at))]
-pub fn block_field<'a>(
+#[tactic(auto, unfolding(crate::specs::Grammar::rows_at))]
+fn rows_field<'a>(
     width: u32,
     rest: Option<&'a str>,
 ) -> Result<(Gids<'a>, Option<&'a str>), LineFault>
-    ensures { Gives (λ x. (x.0, words_left x.1)) result (block_at width (words_left rest.entry)) }
+    ensures { Gives (λ x. ((width, x.0), words_left x.1)) result (rows_at width (words_left rest.entry)) }
 {
     let Some(rest) = rest else {
         return Err(LineFault::BadWord);
     };
-    let (word, rest) = cut(rest, ' ');
+    let (word, rest) = cut(rest, b' ');
     let Some(values) = Gids::of_word(word) else {
         return Err(LineFault::BadWord);
     };
-    if !is_block_of(width, values.len()) {
+    if !are_rows_of(width, values.len()) {
         return Err(LineFault::BadWord);
     }
     Ok((values, rest))
+}
+
+/// The width of a block, its values, and what is left of the line.
+#[tactic(auto, unfolding(crate::specs::Grammar::block_at))]
+pub fn block_field<'a>(rest: Option<&'a str>) -> Result<(u32, Gids<'a>, Option<&'a str>), LineFault>
+    ensures { Gives (λ x. ((x.0, x.1), words_left x.2)) result (block_at (words_left rest.entry)) }
+{
+    let (width, rest) = number_field(rest)?;
+    let (values, rest) = rows_field(width, rest)?;
+    Ok((width, values, rest))
 }
 
 /// A document's name, and what is left of the line.
@@ -79,7 +89,7 @@ pub fn name_field<'a>(rest: Option<&'a str>) -> Result<(Text<'a>, Option<&'a str
     let Some(rest) = rest else {
         return Err(LineFault::BadWord);
     };
-    let (word, rest) = cut(rest, ' ');
+    let (word, rest) = cut(rest, b' ');
     if !is_name_word(word.as_bytes()) {
         return Err(LineFault::BadWord);
     }
@@ -88,7 +98,7 @@ pub fn name_field<'a>(rest: Option<&'a str>) -> Result<(Text<'a>, Option<&'a str
 
 /// The text that is left.
 pub fn text_field<'a>(rest: Option<&'a str>) -> Result<Text<'a>, LineFault>
-    ensures { Gives (λ x. x) result (text_at (words_left rest.entry)) }
+    ensures { Gives (λ x. x) result (last_text_at (words_left rest.entry)) }
 {
     let Some(text) = rest else {
         return Err(LineFault::BadWord);

@@ -31,7 +31,7 @@ impl<'a> Gids<'a> {
         let mut rest = Some(word);
         let mut len: usize = 0;
         while let Some(text) = rest {
-            let (piece, others) = cut(text, ',');
+            let (piece, others) = cut(text, b',');
             number(piece)?;
             len += 1;
             rest = others;
@@ -81,7 +81,7 @@ impl<'a> Iterator for Values<'a> {
 
     fn next(&mut self) -> Option<Gid> {
         let rest = self.rest?;
-        let (piece, others) = cut(rest, ',');
+        let (piece, others) = cut(rest, b',');
         self.rest = others;
         match number(piece) {
             Some(value) => Some(Gid(value)),

@@ -1,6 +1,7 @@
-ghost use Rattle.session.specs.Grammar.{Gives, kind_at, answer_at, add_layer_of, remove_layer_of, rename_layer_of, show_layer_of, move_layer_of, layer_of};
+ghost use Rattle.session.specs.declared.line.LineFault.TheVariants.{BadWord};
+ghost use Rattle.session.specs.Grammar.{choose, layer_lines, Gives, read, layer_kind_at, yes_no_at, add_layer_form, move_layer_form, remove_layer_form, rename_layer_form, show_layer_form};
 ghost use Rattle.std.specs.Prelude.{◌≡◌};
-ghost use Rattle.session.specs.Words.{words_left, kind_of, answer_of};
+ghost use Rattle.session.specs.Words.{words_left, layer_kind_of, yes_no_of};
 
 use crate::fields::{end_field, number_field, text_field};
 use crate::line::{Line, LineFault};
@@ -9,7 +10,7 @@ use map_model::LayerKind;
 
 /// The kind of layer that a word is.
 fn kind(word: &str) -> Option<LayerKind>
-    ensures { result ≡ kind_of word.now }
+    ensures { result ≡ layer_kind_of word.now }
 {
     match word {
         "tile" => Some(LayerKind::Tile),
@@ -18,14 +19,14 @@ fn kind(word: &str) -> Option<LayerKind>
     }
 }
 
-#[tactic(auto, unfolding(crate::specs::Grammar::kind_at))]
+#[tactic(auto, unfolding(crate::specs::Grammar::layer_kind_at))]
 fn kind_field<'a>(rest: Option<&'a str>) -> Result<(LayerKind, Option<&'a str>), LineFault>
-    ensures { Gives (λ x. (x.0, words_left x.1)) result (kind_at (words_left rest.entry)) }
+    ensures { Gives (λ x. (x.0, words_left x.1)) result (layer_kind_at (words_left rest.entry)) }
 {
     let Some(rest) = rest else {
         return Err(LineFault::BadWord);
     };
-    let (word, rest) = cut(rest, ' ');
+    let (word, rest) = cut(rest, b' ');
     match kind(word) {
         Some(kind) => Ok((kind, rest)),
         None => Err(LineFault::BadWord),
@@ -34,7 +35,7 @@ fn kind_field<'a>(rest: Option<&'a str>) -> Result<(LayerKind, Option<&'a str>),
 
 /// The answer that a word is.
 fn answer(word: &str) -> Option<bool>
-    ensures { result ≡ answer_of word.now }
+    ensures { result ≡ yes_no_of word.now }
 {
     match word {
         "yes" => Some(true),
@@ -43,50 +44,46 @@ fn answer(word: &str) -> Option<bool>
     }
 }
 
-#[tactic(auto, unfolding(crate::specs::Grammar::answer_at))]
+#[tactic(auto, unfolding(crate::specs::Grammar::yes_no_at))]
 fn answer_field<'a>(rest: Option<&'a str>) -> Result<(bool, Option<&'a str>), LineFault>
-    ensures { Gives (λ x. (x.0, words_left x.1)) result (answer_at (words_left rest.entry)) }
+    ensures { Gives (λ x. (x.0, words_left x.1)) result (yes_no_at (words_left rest.entry)) }
 {
     let Some(rest) = rest else {
         return Err(LineFault::BadWord);
     };
-    let (word, rest) = cut(rest, ' ');
+    let (word, rest) = cut(rest, b' ');
     match answer(word) {
         Some(answer) => Ok((answer, rest)),
         None => Err(LineFault::BadWord),
     }
 }
 
-#[tactic(auto, unfolding(crate::specs::Grammar::add_layer_of))]
 fn add_layer<'a>(rest: Option<&'a str>) -> Result<Line<'a>, LineFault>
-    ensures { Gives (λ x. x) result (add_layer_of (words_left rest.entry)) }
+    ensures { Gives (λ x. x) result (read add_layer_form (words_left rest.entry)) }
 {
     let (kind, rest) = kind_field(rest)?;
     let name = text_field(rest)?;
     Ok(Line::AddLayer { kind, name })
 }
 
-#[tactic(auto, unfolding(crate::specs::Grammar::remove_layer_of))]
 fn remove_layer<'a>(rest: Option<&'a str>) -> Result<Line<'a>, LineFault>
-    ensures { Gives (λ x. x) result (remove_layer_of (words_left rest.entry)) }
+    ensures { Gives (λ x. x) result (read remove_layer_form (words_left rest.entry)) }
 {
     let (layer, rest) = number_field(rest)?;
     end_field(rest)?;
     Ok(Line::RemoveLayer { layer })
 }
 
-#[tactic(auto, unfolding(crate::specs::Grammar::rename_layer_of))]
 fn rename_layer<'a>(rest: Option<&'a str>) -> Result<Line<'a>, LineFault>
-    ensures { Gives (λ x. x) result (rename_layer_of (words_left rest.entry)) }
+    ensures { Gives (λ x. x) result (read rename_layer_form (words_left rest.entry)) }
 {
     let (layer, rest) = number_field(rest)?;
     let name = text_field(rest)?;
     Ok(Line::RenameLayer { layer, name })
 }
 
-#[tactic(auto, unfolding(crate::specs::Grammar::show_layer_of))]
 fn show_layer<'a>(rest: Option<&'a str>) -> Result<Line<'a>, LineFault>
-    ensures { Gives (λ x. x) result (show_layer_of (words_left rest.entry)) }
+    ensures { Gives (λ x. x) result (read show_layer_form (words_left rest.entry)) }
 {
     let (layer, rest) = number_field(rest)?;
     let (visible, rest) = answer_field(rest)?;
@@ -94,9 +91,8 @@ fn show_layer<'a>(rest: Option<&'a str>) -> Result<Line<'a>, LineFault>
     Ok(Line::ShowLayer { layer, visible })
 }
 
-#[tactic(auto, unfolding(crate::specs::Grammar::move_layer_of))]
 fn move_layer<'a>(rest: Option<&'a str>) -> Result<Line<'a>, LineFault>
-    ensures { Gives (λ x. x) result (move_layer_of (words_left rest.entry)) }
+    ensures { Gives (λ x. x) result (read move_layer_form (words_left rest.entry)) }
 {
     let (layer, rest) = number_field(rest)?;
     let (place, rest) = number_field(rest)?;
@@ -105,14 +101,13 @@ fn move_layer<'a>(rest: Option<&'a str>) -> Result<Line<'a>, LineFault>
 }
 
 /// The line of layers that the words behind `layer` are.
-#[tactic(auto, unfolding(crate::specs::Grammar::layer_of))]
 pub fn layer<'a>(rest: Option<&'a str>) -> Result<Line<'a>, LineFault>
-    ensures { Gives (λ x. x) result (layer_of (words_left rest.entry)) }
+    ensures { Gives (λ x. x) result (read (choose layer_lines BadWord) (words_left rest.entry)) }
 {
     let Some(rest) = rest else {
         return Err(LineFault::BadWord);
     };
-    let (action, rest) = cut(rest, ' ');
+    let (action, rest) = cut(rest, b' ');
     match action {
         "add" => add_layer(rest),
         "remove" => remove_layer(rest),

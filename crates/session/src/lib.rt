@@ -14,6 +14,6 @@ mod words;
 pub use gids::{Gids, Values};
 pub use line::{Line, LineFault};
 pub use parse::parse_line;
-pub use reply::{Refusal, Reply};
+pub use reply::{LocalTile, Refusal, Reply};
 pub use spelling::{long_is_not_read, quiet_is_read, read_is_spelled, spelled_is_read};
 pub use text::Text;

@@ -16,13 +16,15 @@ pub enum Line<'a> {
         tile_height: u32,
         source: Text<'a>,
     },
-    /// A block of values, row by row, with its upper left at (`x`, `y`).
+    /// A block of values, row by row, with its upper left at (`x`, `y`). Where it follows, it joins the step before
+    /// it, if that is of its kind; there is no command for this yet.
     Stamp {
         layer: u32,
         x: i32,
         y: i32,
         width: u32,
         values: Gids<'a>,
+        follows: bool,
     },
     /// The value of a cell.
     Tile {

@@ -1,6 +1,6 @@
-ghost use Rattle.session.specs.Grammar.{Gives, new_of, stamp_of, tile_of, bare_of, goto_of, step_text_of, command_of, is_quiet, line_of};
+ghost use Rattle.session.specs.Grammar.{Gives, read, Ends, line_form, is_quiet, line_of, goto_form, new_form, stamp_form, step_text_form, tile_form};
 ghost use Rattle.session.specs.Spelling.{Says, CanBeSpelled};
-ghost use Rattle.std.specs.Prelude.{◌≡◌, ◌==◌, IfOk};
+ghost use Rattle.std.specs.Prelude.{◌≡◌, ◌==◌, ◌∷◌, IfOk};
 ghost use Rattle.std.specs.List.{list_all};
 ghost use Rattle.session.specs.Words.{words_left};
 
@@ -14,9 +14,8 @@ use crate::words::cut;
 /// A line with so many bytes is too long.
 const LIMIT: usize = 65_536;
 
-#[tactic(auto, unfolding(crate::specs::Grammar::new_of))]
 fn new<'a>(rest: Option<&'a str>) -> Result<Line<'a>, LineFault>
-    ensures { Gives (λ x. x) result (new_of (words_left rest.entry)) }
+    ensures { Gives (λ x. x) result (read new_form (words_left rest.entry)) }
 {
     let (name, rest) = name_field(rest)?;
     let (width, rest) = number_field(rest)?;
@@ -34,15 +33,13 @@ fn new<'a>(rest: Option<&'a str>) -> Result<Line<'a>, LineFault>
     })
 }
 
-#[tactic(auto, unfolding(crate::specs::Grammar::stamp_of))]
 fn stamp<'a>(rest: Option<&'a str>) -> Result<Line<'a>, LineFault>
-    ensures { Gives (λ x. x) result (stamp_of (words_left rest.entry)) }
+    ensures { Gives (λ x. x) result (read stamp_form (words_left rest.entry)) }
 {
     let (layer, rest) = number_field(rest)?;
     let (x, rest) = coordinate_field(rest)?;
     let (y, rest) = coordinate_field(rest)?;
-    let (width, rest) = number_field(rest)?;
-    let (values, rest) = block_field(width, rest)?;
+    let (width, values, rest) = block_field(rest)?;
     end_field(rest)?;
     Ok(Line::Stamp {
         layer,
@@ -50,12 +47,12 @@ fn stamp<'a>(rest: Option<&'a str>) -> Result<Line<'a>, LineFault>
         y,
         width,
         values,
+        follows: false,
     })
 }
 
-#[tactic(auto, unfolding(crate::specs::Grammar::tile_of))]
 fn tile<'a>(rest: Option<&'a str>) -> Result<Line<'a>, LineFault>
-    ensures { Gives (λ x. x) result (tile_of (words_left rest.entry)) }
+    ensures { Gives (λ x. x) result (read tile_form (words_left rest.entry)) }
 {
     let (layer, rest) = number_field(rest)?;
     let (x, rest) = coordinate_field(rest)?;
@@ -65,35 +62,31 @@ fn tile<'a>(rest: Option<&'a str>) -> Result<Line<'a>, LineFault>
 }
 
 // A line of one word.
-#[tactic(auto, unfolding(crate::specs::Grammar::bare_of))]
 fn bare<'a>(line: Line<'a>, rest: Option<&'a str>) -> Result<Line<'a>, LineFault>
-    ensures { Gives (λ x. x) result (bare_of line.entry (words_left rest.entry)) }
+    ensures { Gives (λ x. x) result (read (Ends line.entry) (words_left rest.entry)) }
 {
     end_field(rest)?;
     Ok(line)
 }
 
-#[tactic(auto, unfolding(crate::specs::Grammar::goto_of))]
 fn goto<'a>(rest: Option<&'a str>) -> Result<Line<'a>, LineFault>
-    ensures { Gives (λ x. x) result (goto_of (words_left rest.entry)) }
+    ensures { Gives (λ x. x) result (read goto_form (words_left rest.entry)) }
 {
     let (index, rest) = number_field(rest)?;
     end_field(rest)?;
     Ok(Line::Goto { index })
 }
 
-#[tactic(auto, unfolding(crate::specs::Grammar::step_text_of))]
 fn step_text<'a>(rest: Option<&'a str>) -> Result<Line<'a>, LineFault>
-    ensures { Gives (λ x. x) result (step_text_of (words_left rest.entry)) }
+    ensures { Gives (λ x. x) result (read step_text_form (words_left rest.entry)) }
 {
     let (place, rest) = number_field(rest)?;
     end_field(rest)?;
     Ok(Line::StepText { place })
 }
 
-#[tactic(auto, unfolding(crate::specs::Grammar::command_of))]
 fn command<'a>(name: &str, rest: Option<&'a str>) -> Result<Line<'a>, LineFault>
-    ensures { Gives (λ x. x) result (command_of name.now (words_left rest.entry)) }
+    ensures { Gives (λ x. x) result (read line_form (name.now ∷ words_left rest.entry)) }
 {
     match name {
         "new" => new(rest),
@@ -148,6 +141,6 @@ pub fn parse_line(bytes: &[u8]) -> Result<Line<'_>, LineFault>
     if is_quiet_line(bytes) {
         return Ok(Line::Quiet);
     }
-    let (name, rest) = cut(text, ' ');
+    let (name, rest) = cut(text, b' ');
     command(name, rest)
 }

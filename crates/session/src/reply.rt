@@ -1,6 +1,6 @@
-ghost use Rattle.std.specs.Prelude.{◌≡◌, ◌++◌, ◌+◌, ◌-◌, ◌≤◌, ◌<◌, [], Option, length, decimal};
+ghost use Rattle.std.specs.Prelude.{◌≡◌, ◌++◌, ◌+◌, ◌≤◌, ◌<◌, [], Option, length, decimal};
 ghost use Rattle.arrayvec.specs.ArrayString.{array_string_len};
-ghost use Rattle.session.specs.Replies.{body_of, reply_text, refusal_text, flag_letter, flags_text, tileset_text};
+ghost use Rattle.session.specs.Replies.{body_of, reply_text, refusal_text, flag_letter, flags_text, local_text};
 
 use crate::line::LineFault;
 use arrayvec::ArrayString;
@@ -15,15 +15,28 @@ pub enum Refusal {
     Line(LineFault),
     NoActiveDocument,
     NameTaken,
+    MacroOpen,
     NothingToUndo,
     NothingToRedo,
     NoSuchLayer,
     LayerOfAnotherKind,
     OutsideTheMap,
     UnknownTile,
+    NoSuchObject,
+    NoSuchProperty,
+    NoSuchTileset,
+    TilesetInUse,
+    FirstIdNotAbove,
     OutOfRange,
     TooMany,
     NoMemory,
+}
+
+/// The tile of a tileset that a value names: the tileset's first global id, and the tile's local id in it.
+#[derive(Clone, Copy, Debug, PartialEq, Eq)]
+pub struct LocalTile {
+    pub first_id: u32,
+    pub local_id: u32,
 }
 
 /// What is answered to a line.
@@ -42,10 +55,10 @@ pub enum Reply {
     Text(MapText),
     /// The cell is empty.
     EmptyTile,
-    /// The cell's value, and the first id of the tileset that has it, which is not above the value's base.
+    /// The cell's value, and the tile that it names, where a tileset has it.
     Tile {
         value: Gid,
-        first: Option<u32>,
+        local: Option<LocalTile>,
     },
     Refused(Refusal),
 }
@@ -61,12 +74,18 @@ fn refusal_words(refusal: Refusal) -> &'static str
         Refusal::Line(LineFault::BadWord) => "4 bad word",
         Refusal::NoActiveDocument => "10 no active document",
         Refusal::NameTaken => "11 name taken",
+        Refusal::MacroOpen => "20 macro open",
         Refusal::NothingToUndo => "21 nothing to undo",
         Refusal::NothingToRedo => "22 nothing to redo",
         Refusal::NoSuchLayer => "30 no such layer",
         Refusal::LayerOfAnotherKind => "31 layer of another kind",
         Refusal::OutsideTheMap => "32 outside the map",
         Refusal::UnknownTile => "33 unknown tile",
+        Refusal::NoSuchObject => "34 no such object",
+        Refusal::NoSuchProperty => "35 no such property",
+        Refusal::NoSuchTileset => "36 no such tileset",
+        Refusal::TilesetInUse => "37 tileset in use",
+        Refusal::FirstIdNotAbove => "38 first id not above the others",
         Refusal::OutOfRange => "39 out of range",
         Refusal::TooMany => "40 too many",
         Refusal::NoMemory => "90 no memory",
@@ -74,10 +93,14 @@ fn refusal_words(refusal: Refusal) -> &'static str
 }
 
 fn push_number(head: &mut ArrayString<512>, number: u64)
-    requires { array_string_len head.old ≤ 400 }
+    requires { array_string_len head.old ≤ 100 }
     ensures value { head.new.bytes ≡ head.old.bytes ++ decimal number }
     ensures size { array_string_len head.new ≤ array_string_len head.old + 20 }
 {
+    if number == 0 {
+        head.push_str("0");
+        return;
+    }
     let mut buffer = Buffer::new();
     head.push_str(buffer.format(number));
 }
@@ -104,7 +127,7 @@ fn letter(value: Gid, flag: u32, name: &'static str) -> &'static str
 }
 
 fn push_flags(head: &mut ArrayString<512>, value: Gid)
-    requires { array_string_len head.old ≤ 400 }
+    requires { array_string_len head.old ≤ 100 }
     ensures value { head.new.bytes ≡ head.old.bytes ++ flags_text value }
     ensures size { array_string_len head.new ≡ array_string_len head.old + 4 }
 {
@@ -114,24 +137,24 @@ fn push_flags(head: &mut ArrayString<512>, value: Gid)
     head.push_str(letter(value, 0x1000_0000, "r"));
 }
 
-fn push_tileset(head: &mut ArrayString<512>, base: u32, first: Option<u32>)
-    requires { array_string_len head.old ≤ 300 }
-    ensures value { head.new.bytes ≡ head.old.bytes ++ tileset_text base first }
+fn push_local(head: &mut ArrayString<512>, local: Option<LocalTile>)
+    requires { array_string_len head.old ≤ 70 }
+    ensures value { head.new.bytes ≡ head.old.bytes ++ local_text local }
     ensures size { array_string_len head.new ≤ array_string_len head.old + 50 }
 {
-    match first {
-        Some(first) => {
-            push_number(head, u64::from(first));
+    match local {
+        Some(tile) => {
+            push_number(head, u64::from(tile.first_id));
             head.push_str(" ");
-            push_number(head, u64::from(base.saturating_sub(first)));
+            push_number(head, u64::from(tile.local_id));
         }
         None => head.push_str("none"),
     }
 }
 
-fn push_tile(head: &mut ArrayString<512>, value: Gid, first: Option<u32>)
+fn push_tile(head: &mut ArrayString<512>, value: Gid, local: Option<LocalTile>)
     requires { head.old.bytes ≡ [] }
-    ensures value { head.new.bytes ≡ reply_text (Reply.Tile value first) }
+    ensures value { head.new.bytes ≡ reply_text (Reply.Tile value local) }
     ensures size { array_string_len head.new ≤ 100 }
 {
     head.push_str("tile ");
@@ -139,7 +162,7 @@ fn push_tile(head: &mut ArrayString<512>, value: Gid, first: Option<u32>)
     head.push_str(" ");
     push_flags(head, value);
     head.push_str(" ");
-    push_tileset(head, value.base(), first);
+    push_local(head, local);
 }
 
 /// Writes what stands in front of a text: the word alone, where the text is empty.
@@ -171,7 +194,7 @@ impl Reply {
             Reply::NoDocument => head.push_str("ok none clean"),
             Reply::Text(text) => push_text_word(head, text.as_str()),
             Reply::EmptyTile => head.push_str("tile 0"),
-            Reply::Tile { value, first } => push_tile(head, *value, *first),
+            Reply::Tile { value, local } => push_tile(head, *value, *local),
             Reply::Refused(refusal) => {
                 head.push_str("no ");
                 head.push_str(refusal_words(*refusal));

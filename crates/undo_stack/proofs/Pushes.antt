@@ -4,13 +4,13 @@ use Rattle.std.specs.Prelude.{if◌then◌else◌, ◌↔◌}
 use Rattle.std.proofs.lemmas.List.{append-nil, length-take-le, take_all, drop_all, length-append}
 use Rattle.map_model.specs.Document.{DocumentParts}
 use Rattle.command_api.specs.Law.{Change, IsLawful, IsSettled, Vanishing, Never, WhenEqual, IsRedone}
-use Rattle.undo_stack.specs.History.{Step, step_at, History, current}
+use Rattle.undo_stack.specs.History.{Step, step_named, History, current}
 use Rattle.undo_stack.specs.Pushing.{step_of, up_to, cut, Continues, Merges, IsPushed, next_of}
 use Rattle.undo_stack.specs.Row.{before, steps_down, FitsDown}
 use Rattle.undo_stack.specs.Entries.{entry_change}
-use Rattle.undo_stack.specs.Sound.{history_of, IsSound, IsAtMost}
+use Rattle.undo_stack.specs.Sound.{history_of, IsTurnable, IsAtMost}
 use Rattle.undo_stack.specs.declared.entry.Entry.{Entry}
-use Rattle.undo_stack.proofs.Rows.{before-append, steps_down-append, FitsDown-push, last_after-down, length-down, take-steps, step_at-same}
+use Rattle.undo_stack.proofs.Rows.{before-append, steps_down-append, FitsDown-push, last_after-down, length-down, take-steps}
 
 -- an obsolete change leaves the document as it is
 pub settled-same : (v : Vanishing) (d e : DocumentParts) → IsSettled v true d e → e ≡ d
@@ -23,11 +23,11 @@ settled-back Never b d e h = h
 settled-back WhenEqual b d e h = ((λ p. sym (h.0 p)), (λ p. h.1 (sym p)))
 
 -- an edit that does not follow merges into nothing
-continues-not : (t : Option Step) (s : Step) → s.follows ≡ false → Continues t s → ⊥
+continues-not : (t : Option Step) (s : Step) → s.names.follows ≡ false → Continues t s → ⊥
 continues-not None s h c = c
-continues-not (Some t) s h c = let one : s.follows ≡ true = c.0 in cc
+continues-not (Some t) s h c = let one : s.names.follows ≡ true = c.0 in cc
 
-pub merges-not : (h : History) (s : Step) → s.follows ≡ false → (false ≡ true) ↔ Merges h s
+pub merges-not : (h : History) (s : Step) → s.names.follows ≡ false → (false ≡ true) ↔ Merges h s
 merges-not h s k = ((λ p. absurd (let bad : false ≡ true = p in let worse : ⊥ = cc in worse)), (λ m. absurd (continues-not _ s k m.continues)))
 
 at_most_if : (b : Bool) (k n : ℕ) → (b ≡ true → k ≤ n) → IsAtMost (if b then Some k else None) n
@@ -48,7 +48,7 @@ done_view f d es n clean limit h =
     let all : length es ≤ n = omega arith in
     rw (take_all n es all, drop_all n es all, append-nil (steps_down (entry_change f) es d)) refl
 
-pub done_sound : {C : Type 0} (f : C → Change) (d : DocumentParts) (es : List (Entry C)) (n : ℕ) (clean : Option ℕ) → length es ≡ n → FitsDown (entry_change f) es d → IsAtMost clean n → IsSound f d es n clean
+pub done_sound : {C : Type 0} (f : C → Change) (d : DocumentParts) (es : List (Entry C)) (n : ℕ) (clean : Option ℕ) → length es ≡ n → FitsDown (entry_change f) es d → IsAtMost clean n → IsTurnable f d es n clean
 done_sound f d es n clean h p q =
     let all : length es ≤ n = omega arith in
     record {
@@ -72,7 +72,7 @@ cut_current f d es n clean limit h =
     ap current (cut_view f d es n clean limit h) ∙ rw (take_all n row (all_done f d es n h)) (last_after-down (entry_change f) (take n es) d)
 
 -- an edit that left the document as it is
-pub pushed_gone : {C : Type 0} (f : C → Change) (d e : DocumentParts) (es : List (Entry C)) (n : ℕ) (clean : Option ℕ) (limit : ℕ) (s : Step) → n ≤ length es → s.follows ≡ false → e ≡ d → IsSettled s.vanishing true d s.after → IsPushed (history_of f d es n clean limit) s (history_of f e (take n es) n (up_to n clean) limit)
+pub pushed_gone : {C : Type 0} (f : C → Change) (d e : DocumentParts) (es : List (Entry C)) (n : ℕ) (clean : Option ℕ) (limit : ℕ) (s : Step) → n ≤ length es → s.names.follows ≡ false → e ≡ d → IsSettled s.names.vanishing true d s.after → IsPushed (history_of f d es n clean limit) s (history_of f e (take n es) n (up_to n clean) limit)
 pushed_gone f d e es n clean limit s within follows same settled =
     let len : length (take n es) ≡ n = length-take-le n es within in
     record {
@@ -84,7 +84,7 @@ pushed_gone f d e es n clean limit s within follows same settled =
     }
 
 -- an edit whose command x led from d to e
-pub pushed_added : {C : Type 0} (f : C → Change) (d e : DocumentParts) (es : List (Entry C)) (x : Entry C) (n : ℕ) (clean : Option ℕ) (s : Step) → n ≤ length es → s.follows ≡ false → (entry_change f x).undone e ≡ d → step_at (entry_change f x) e ≡ s → IsSettled s.vanishing false d s.after → IsPushed (history_of f d es n clean 0) s (history_of f e (take n es ++ x ∷ []) (n + 1) (up_to n clean) 0)
+pub pushed_added : {C : Type 0} (f : C → Change) (d e : DocumentParts) (es : List (Entry C)) (x : Entry C) (n : ℕ) (clean : Option ℕ) (s : Step) → n ≤ length es → s.names.follows ≡ false → (entry_change f x).undone e ≡ d → step_named (entry_change f x).names e ≡ s → IsSettled s.names.vanishing false d s.after → IsPushed (history_of f d es n clean 0) s (history_of f e (take n es ++ x ∷ []) (n + 1) (up_to n clean) 0)
 pushed_added f d e es x n clean s within follows back is settled =
     let k = entry_change f in
     let row = take n es ++ x ∷ [] in
@@ -103,12 +103,12 @@ pushed_added f d e es x n clean s within follows back is settled =
     }
 
 -- what an edit that left the document as it is, and one that did not, leave sound
-pub gone_sound : {C : Type 0} (f : C → Change) (d e : DocumentParts) (es : List (Entry C)) (n : ℕ) (clean : Option ℕ) → IsSound f d es n clean → e ≡ d → IsSound f e (take n es) n (up_to n clean)
+pub gone_sound : {C : Type 0} (f : C → Change) (d e : DocumentParts) (es : List (Entry C)) (n : ℕ) (clean : Option ℕ) → IsTurnable f d es n clean → e ≡ d → IsTurnable f e (take n es) n (up_to n clean)
 gone_sound f d e es n clean sound same =
     let len : length (take n es) ≡ n = length-take-le n es sound.within in
     done_sound f e (take n es) n (up_to n clean) len (rw same sound.down) (at_most-up_to n clean)
 
-pub added_sound : {C : Type 0} (f : C → Change) (d e : DocumentParts) (es : List (Entry C)) (x : Entry C) (n : ℕ) (clean : Option ℕ) → IsSound f d es n clean → (entry_change f x).undone e ≡ d → (entry_change f x).fits_undo e → IsSound f e (take n es ++ x ∷ []) (n + 1) (up_to n clean)
+pub added_sound : {C : Type 0} (f : C → Change) (d e : DocumentParts) (es : List (Entry C)) (x : Entry C) (n : ℕ) (clean : Option ℕ) → IsTurnable f d es n clean → (entry_change f x).undone e ≡ d → (entry_change f x).fits_undo e → IsTurnable f e (take n es ++ x ∷ []) (n + 1) (up_to n clean)
 added_sound f d e es x n clean sound back fits =
     let len : length (take n es) ≡ n = length-take-le n es sound.within in
     let more : length (take n es ++ x ∷ []) ≡ n + 1 = length-append (take n es) (x ∷ []) ∙ ap (λ (m : ℕ). m + 1) len in
@@ -117,19 +117,19 @@ added_sound f d e es x n clean sound back fits =
     (at_most-more (up_to n clean) n (at_most-up_to n clean))
 
 -- the step of a command, by what became of the command when it was redone
-pub redone_step : (v w : Change) (d e k : DocumentParts) → IsRedone v w d e → k ≡ d → step_of v k ≡ step_at w e
-redone_step v w d e k r at = rw (at, ← r.document) (sym (step_at-same v w e r.names))
+pub redone_step : (v w : Change) (d e k : DocumentParts) → IsRedone v w d e → k ≡ d → step_of v k ≡ step_named w.names e
+redone_step v w d e k r at = rw (at, ← r.document, r.names) refl
 
 -- whether a command that was redone is gone
-pub redone_settled : (v w : Change) (d e : DocumentParts) (b : Bool) → IsRedone v w d e → IsLawful w → w.obsolete ≡ b → IsSettled w.vanishing b d e
+pub redone_settled : (v w : Change) (d e : DocumentParts) (b : Bool) → IsRedone v w d e → IsLawful w → w.obsolete ≡ b → IsSettled w.names.vanishing b d e
 redone_settled v w d e b r law is =
     let one = law.undo e r.fits in
-    settled-back w.vanishing b e d (rw (is, r.back) at one)
+    settled-back w.names.vanishing b e d (rw (is, r.back) at one)
 
 pub pushed_as : (h k : History) (s t : Step) (n m : History) → IsPushed h s n → k ≡ h → t ≡ s → m ≡ n → IsPushed k t m
 pushed_as h k s t n m p e q r = rw (e, q, r) p
 
-pub sound_at : {C : Type 0} (f : C → Change) (d e : DocumentParts) (es ts : List (Entry C)) (n m : ℕ) (clean mark : Option ℕ) → IsSound f d es n clean → e ≡ d → ts ≡ es → m ≡ n → mark ≡ clean → IsSound f e ts m mark
+pub sound_at : {C : Type 0} (f : C → Change) (d e : DocumentParts) (es ts : List (Entry C)) (n m : ℕ) (clean mark : Option ℕ) → IsTurnable f d es n clean → e ≡ d → ts ≡ es → m ≡ n → mark ≡ clean → IsTurnable f e ts m mark
 sound_at f d e es ts n m clean mark h p q r t = rw (p, q, r, t) h
 
 pub view_at : {C : Type 0} (f : C → Change) (d e : DocumentParts) (es ts : List (Entry C)) (n m : ℕ) (clean mark : Option ℕ) (limit most : ℕ) → e ≡ d → ts ≡ es → m ≡ n → mark ≡ clean → most ≡ limit → history_of f e ts m mark most ≡ history_of f d es n clean limit

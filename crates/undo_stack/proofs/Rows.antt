@@ -2,15 +2,15 @@
 use Rattle.std.proofs.Common.{◌≡◌, ℕ, ◌+◌, ◌<◌, ◌≤◌, List, [], ◌∷◌, ◌++◌, take, drop, length, set, get_or, refl, sym, ◌∙◌, ap, arith}
 use Rattle.std.proofs.lemmas.List.{take_more, drop-set-lt, drop_more, length-append, length-take-le, take_at, take-append-drop}
 use Rattle.map_model.specs.Document.{DocumentParts}
-use Rattle.command_api.specs.Law.{Change, SameNames}
-use Rattle.undo_stack.specs.History.{step_at, last_after}
+use Rattle.command_api.specs.Law.{Change}
+use Rattle.undo_stack.specs.History.{step_named, last_after}
 use Rattle.undo_stack.specs.Row.{before, steps_down, steps_up, steps_of, FitsDown}
 
 pub before-append : {B : Type 0} (f : B → Change) (xs : List B) (x : B) (d : DocumentParts) → before f (xs ++ x ∷ []) d ≡ before f xs ((f x).undone d)
 before-append f [] x d = refl
 before-append f (y ∷ xs) x d = ap (f y).undone (before-append f xs x d)
 
-pub steps_down-append : {B : Type 0} (f : B → Change) (xs : List B) (x : B) (d : DocumentParts) → steps_down f (xs ++ x ∷ []) d ≡ steps_down f xs ((f x).undone d) ++ step_at (f x) d ∷ []
+pub steps_down-append : {B : Type 0} (f : B → Change) (xs : List B) (x : B) (d : DocumentParts) → steps_down f (xs ++ x ∷ []) d ≡ steps_down f xs ((f x).undone d) ++ step_named (f x).names d ∷ []
 steps_down-append f [] x d = refl
 steps_down-append f (y ∷ xs) x d = rw (before-append f xs x d, steps_down-append f xs x d) refl
 
@@ -23,10 +23,6 @@ FitsDown-pop f (y ∷ xs) x d h =
 pub FitsDown-push : {B : Type 0} (f : B → Change) (xs : List B) (x : B) (d : DocumentParts) → FitsDown f xs ((f x).undone d) → (f x).fits_undo d → FitsDown f (xs ++ x ∷ []) d
 FitsDown-push f [] x d h g = (g, tt)
 FitsDown-push f (y ∷ xs) x d h g = (rw (before-append f xs x d) h.0, FitsDown-push f xs x d h.1 g)
-
--- the step of a change is that of its names
-pub step_at-same : (v w : Change) (d : DocumentParts) → SameNames v w → step_at w d ≡ step_at v d
-step_at-same v w d t = rw (t.text, t.action, t.tag, t.follows, t.vanishing) refl
 
 -- the documents of a row lead to the document after it
 pub last_after-down : {B : Type 0} (f : B → Change) (xs : List B) (d : DocumentParts) → last_after (before f xs d) (steps_down f xs d) ≡ d

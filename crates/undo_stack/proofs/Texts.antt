@@ -6,7 +6,7 @@ use Rattle.std.proofs.lemmas.List.{map-append, take-append-drop}
 use Rattle.std.proofs.lemmas.Option.{slice_get-map, slice_get_read, slice_get_past}
 use Rattle.map_model.specs.Document.{DocumentParts}
 use Rattle.command_api.specs.Law.{Change}
-use Rattle.undo_stack.specs.History.{Step, step_at}
+use Rattle.undo_stack.specs.History.{Step, step_named}
 use Rattle.undo_stack.specs.Reading.{action_of, text_at}
 use Rattle.undo_stack.specs.Row.{before, steps_down, steps_up, steps_of}
 use Rattle.undo_stack.specs.Entries.{entry_change}
@@ -14,15 +14,15 @@ use Rattle.undo_stack.specs.Sound.{history_of}
 use Rattle.undo_stack.specs.declared.entry.Entry.{Entry}
 
 -- g reads of a step what p reads of the change
-map-down : {A B : Type 0} (f : B → Change) (g : Step → A) (p : B → A) → ((x : B) (d : DocumentParts) → g (step_at (f x) d) ≡ p x) → (xs : List B) (d : DocumentParts) → map g (steps_down f xs d) ≡ map p xs
+map-down : {A B : Type 0} (f : B → Change) (g : Step → A) (p : B → A) → ((x : B) (d : DocumentParts) → g (step_named (f x).names d) ≡ p x) → (xs : List B) (d : DocumentParts) → map g (steps_down f xs d) ≡ map p xs
 map-down f g p h [] d = refl
 map-down f g p h (x ∷ xs) d = rw (h x (before f xs d), map-down f g p h xs d) refl
 
-map-up : {A B : Type 0} (f : B → Change) (g : Step → A) (p : B → A) → ((x : B) (d : DocumentParts) → g (step_at (f x) d) ≡ p x) → (xs : List B) (d : DocumentParts) → map g (steps_up f xs d) ≡ map p xs
+map-up : {A B : Type 0} (f : B → Change) (g : Step → A) (p : B → A) → ((x : B) (d : DocumentParts) → g (step_named (f x).names d) ≡ p x) → (xs : List B) (d : DocumentParts) → map g (steps_up f xs d) ≡ map p xs
 map-up f g p h [] d = refl
 map-up f g p h (x ∷ xs) d = rw (h x ((f x).redone d), map-up f g p h xs ((f x).redone d)) refl
 
-map-steps : {A B : Type 0} (f : B → Change) (g : Step → A) (p : B → A) → ((x : B) (d : DocumentParts) → g (step_at (f x) d) ≡ p x) → (xs : List B) (n : ℕ) (d : DocumentParts) → map g (steps_of f xs n d) ≡ map p xs
+map-steps : {A B : Type 0} (f : B → Change) (g : Step → A) (p : B → A) → ((x : B) (d : DocumentParts) → g (step_named (f x).names d) ≡ p x) → (xs : List B) (n : ℕ) (d : DocumentParts) → map g (steps_of f xs n d) ≡ map p xs
 map-steps f g p h xs n d =
     map-append g (steps_down f (take n xs) d) (steps_up f (drop n xs) d)
     ∙ rw (map-down f g p h (take n xs) d, map-up f g p h (drop n xs) d, ← map-append p (take n xs) (drop n xs), take-append-drop n xs) refl
@@ -35,38 +35,38 @@ read_none : {A B : Type 0} (p : B → A) (xs : List B) (at : ℕ) → length xs 
 read_none p xs at h = slice_get-map p xs at ∙ ap (option_map p) (slice_get_past xs at h)
 
 -- the text for lists at the place of an entry, and past the entries
-pub text_some : {C : Type 0} (f : C → Change) (d : DocumentParts) (es : List (Entry C)) (x : Entry C) (n at : ℕ) (clean : Option ℕ) (limit : ℕ) → at < length es → x ≡ get_or es at x → Some (entry_change f x).text ≡ text_at (history_of f d es n clean limit) at
+pub text_some : {C : Type 0} (f : C → Change) (d : DocumentParts) (es : List (Entry C)) (x : Entry C) (n at : ℕ) (clean : Option ℕ) (limit : ℕ) → at < length es → x ≡ get_or es at x → Some (entry_change f x).names.text ≡ text_at (history_of f d es n clean limit) at
 text_some f d es x n at clean limit h k =
-    let p = λ (y : Entry _). (entry_change f y).text in
-    let all = map-steps (entry_change f) (λ s. s.text) p (λ y e. refl) es n d in
+    let p = λ (y : Entry _). (entry_change f y).names.text in
+    let all = map-steps (entry_change f) (λ s. s.names.text) p (λ y e. refl) es n d in
     sym (rw all (read_some p es x at h k))
 
 pub text_none : {C : Type 0} (f : C → Change) (d : DocumentParts) (es : List (Entry C)) (n at : ℕ) (clean : Option ℕ) (limit : ℕ) → length es ≤ at → None ≡ text_at (history_of f d es n clean limit) at
 text_none f d es n at clean limit h =
-    let p = λ (y : Entry _). (entry_change f y).text in
-    let all = map-steps (entry_change f) (λ s. s.text) p (λ y e. refl) es n d in
+    let p = λ (y : Entry _). (entry_change f y).names.text in
+    let all = map-steps (entry_change f) (λ s. s.names.text) p (λ y e. refl) es n d in
     sym (rw all (read_none p es at h))
 
 -- the action text of a step is what is read of it
-action_some : (o : Option Step) (t : List ℕ) → option_map (λ s. s.action) o ≡ Some t → action_of o ≡ t
+action_some : (o : Option Step) (t : List ℕ) → option_map (λ s. s.names.action) o ≡ Some t → action_of o ≡ t
 action_some None t h = absurd (let bad : None ≡ Some t = h in let worse : ⊥ = cc in worse)
 action_some (Some s) t h = cc
 
-action_none : (o : Option Step) → option_map (λ s. s.action) o ≡ None → action_of o ≡ []
+action_none : (o : Option Step) → option_map (λ s. s.names.action) o ≡ None → action_of o ≡ []
 action_none None h = refl
-action_none (Some s) h = absurd (let bad : Some s.action ≡ None = h in let worse : ⊥ = cc in worse)
+action_none (Some s) h = absurd (let bad : Some s.names.action ≡ None = h in let worse : ⊥ = cc in worse)
 
 -- the action text at the place of an entry, and past the entries
-pub action_inside : {C : Type 0} (f : C → Change) (d : DocumentParts) (es : List (Entry C)) (x : Entry C) (n at : ℕ) → at < length es → x ≡ get_or es at x → (entry_change f x).action ≡ action_of (slice_get (steps_of (entry_change f) es n d) at)
+pub action_inside : {C : Type 0} (f : C → Change) (d : DocumentParts) (es : List (Entry C)) (x : Entry C) (n at : ℕ) → at < length es → x ≡ get_or es at x → (entry_change f x).names.action ≡ action_of (slice_get (steps_of (entry_change f) es n d) at)
 action_inside f d es x n at h k =
-    let p = λ (y : Entry _). (entry_change f y).action in
-    let all = map-steps (entry_change f) (λ s. s.action) p (λ y e. refl) es n d in
+    let p = λ (y : Entry _). (entry_change f y).names.action in
+    let all = map-steps (entry_change f) (λ s. s.names.action) p (λ y e. refl) es n d in
     let steps = steps_of (entry_change f) es n d in
-    sym (action_some (slice_get steps at) (p x) (sym (slice_get-map (λ s. s.action) steps at) ∙ rw all (read_some p es x at h k)))
+    sym (action_some (slice_get steps at) (p x) (sym (slice_get-map (λ s. s.names.action) steps at) ∙ rw all (read_some p es x at h k)))
 
 pub action_past : {C : Type 0} (f : C → Change) (d : DocumentParts) (es : List (Entry C)) (n at : ℕ) → length es ≤ at → [] ≡ action_of (slice_get (steps_of (entry_change f) es n d) at)
 action_past f d es n at h =
-    let p = λ (y : Entry _). (entry_change f y).action in
-    let all = map-steps (entry_change f) (λ s. s.action) p (λ y e. refl) es n d in
+    let p = λ (y : Entry _). (entry_change f y).names.action in
+    let all = map-steps (entry_change f) (λ s. s.names.action) p (λ y e. refl) es n d in
     let steps = steps_of (entry_change f) es n d in
-    sym (action_none (slice_get steps at) (sym (slice_get-map (λ s. s.action) steps at) ∙ rw all (read_none p es at h)))
+    sym (action_none (slice_get steps at) (sym (slice_get-map (λ s. s.names.action) steps at) ∙ rw all (read_none p es at h)))

@@ -1,18 +1,10 @@
 -- Rows of changes of which one is turned.
-use Rattle.std.proofs.Common.{◌≡◌, ℕ, ◌+◌, ◌-◌, ◌<◌, ◌≤◌, List, take, drop, length, set, get_or, refl, sym, subst, arith, append_assoc, length-set}
+use Rattle.std.proofs.Common.{◌≡◌, ℕ, ◌+◌, ◌-◌, ◌<◌, ◌≤◌, List, take, drop, length, set, get_or, refl, sym, ◌∙◌, subst, arith, append_assoc, length-set}
 use Rattle.std.proofs.lemmas.List.{take-set, drop-set, take_more_set}
 use Rattle.map_model.specs.Document.{DocumentParts}
 use Rattle.command_api.specs.Law.{Change, IsRedone, IsUndone}
-use Rattle.undo_stack.specs.Row.{before, steps_of, FitsDown, FitsUp}
-use Rattle.undo_stack.proofs.Rows.{before-append, steps_down-append, FitsDown-pop, FitsDown-push, step_at-same, take_last, drop_first, drop_past}
-
--- a row at the place i and the document d became another one, at j and e, with the same documents and steps
-pub record IsMoved {B : Type 0} (f : B → Change) (xs : List B) (i : ℕ) (d : DocumentParts) (ys : List B) (j : ℕ) (e : DocumentParts) : Type 0 where
-  pub same_length : length ys ≡ length xs
-  pub down : FitsDown f (take j ys) e
-  pub up : FitsUp f (drop j ys) e
-  pub base : before f (take j ys) e ≡ before f (take i xs) d
-  pub steps : steps_of f ys j e ≡ steps_of f xs i d
+use Rattle.undo_stack.specs.Row.{FitsDown, FitsUp, IsMoved}
+use Rattle.undo_stack.proofs.Rows.{before-append, steps_down-append, FitsDown-pop, FitsDown-push, take_last, drop_first, drop_past}
 
 -- the change below the place fits, and so does the one at it
 pub fits_last : {B : Type 0} (f : B → Change) (xs : List B) (v : B) (j : ℕ) (d : DocumentParts) → FitsDown f (take (j + 1) xs) d → j < length xs → v ≡ get_or xs j v → (f v).fits_undo d
@@ -31,7 +23,7 @@ moved_back f xs v w j d e p q h k t =
       down = rw (take-set xs j w, t.document) down.0;
       up = rw (drop-set xs j w h) (t.fits, rw t.back q);
       base = rw (take-set xs j w, t.document, took) (sym (before-append f (take j xs) v d));
-      steps = rw (take-set xs j w, drop-set xs j w h, took, steps_down-append f (take j xs) v d, step_at-same (f v) (f w) ((f w).redone e) t.names, t.back, t.document, append_assoc) refl;
+      steps = rw (take-set xs j w, drop-set xs j w h, took, steps_down-append f (take j xs) v d, t.names, t.back, t.document, append_assoc) refl;
     }
 
 -- the change at the place is redone
@@ -44,7 +36,7 @@ moved_on f xs v w j d e p q h k t =
       down = rw (take_more_set xs j w h) (FitsDown-push f (take j xs) w e (rw t.back p) t.fits);
       up = rw (drop_past xs w j, t.document) up.1;
       base = rw (take_more_set xs j w h, before-append f (take j xs) w e, t.back) refl;
-      steps = rw (take_more_set xs j w h, drop_past xs w j, first, steps_down-append f (take j xs) w e, step_at-same (f v) (f w) e t.names, t.back, t.document, append_assoc) refl;
+      steps = rw (take_more_set xs j w h, drop_past xs w j, first, steps_down-append f (take j xs) w e, t.names, t.back, t.document, append_assoc) refl;
     }
 
 -- the same by the place above the change
@@ -60,3 +52,17 @@ moved_below f xs v w i d e p q k down up t =
     let inside : i - 1 < length xs = omega arith in
     let all = subst (λ (n : ℕ). FitsDown f (take n xs) d → FitsUp f (drop n xs) d → IsMoved f xs n d (set xs (i - 1) w) (i - 1) e) same (λ a b. moved_back f xs v w (i - 1) d e a b inside k t) in
     all down up
+
+-- nothing is turned
+pub moved_none : {B : Type 0} (f : B → Change) (xs : List B) (i : ℕ) (d : DocumentParts) → FitsDown f (take i xs) d → FitsUp f (drop i xs) d → IsMoved f xs i d xs i d
+moved_none f xs i d down up = record { same_length = refl; down = down; up = up; base = refl; steps = refl }
+
+-- one turn after another
+pub moved_more : {B : Type 0} (f : B → Change) (xs ys zs : List B) (i j k : ℕ) (c d e : DocumentParts) → IsMoved f xs i c ys j d → IsMoved f ys j d zs k e → IsMoved f xs i c zs k e
+moved_more f xs ys zs i j k c d e m n = record {
+  same_length = n.same_length ∙ m.same_length;
+  down = n.down;
+  up = n.up;
+  base = n.base ∙ m.base;
+  steps = n.steps ∙ m.steps;
+}

@@ -5,13 +5,12 @@ use Rattle.map_model.specs.Document.{DocumentParts}
 use Rattle.command_api.specs.Law.{Change}
 use Rattle.undo_stack.specs.History.{History, current}
 use Rattle.undo_stack.specs.Moving.{moved, redo_answer, cleared}
-use Rattle.undo_stack.specs.Row.{steps_of}
+use Rattle.undo_stack.specs.Row.{steps_of, IsMoved}
 use Rattle.undo_stack.specs.Entries.{entry_change}
-use Rattle.undo_stack.specs.Sound.{history_of, IsSound}
+use Rattle.undo_stack.specs.Sound.{history_of, IsTurnable}
 use Rattle.undo_stack.specs.declared.entry.Entry.{Entry}
 use Rattle.undo_stack.specs.declared.stack.StackFault.TheVariants.{NothingToRedo}
 use Rattle.undo_stack.proofs.Rows.{last_after-down, take-steps, length-steps}
-use Rattle.undo_stack.proofs.Turns.{IsMoved}
 
 -- the current document is the one that the entries lead to
 pub current-view : {C : Type 0} (f : C → Change) (d : DocumentParts) (es : List (Entry C)) (n : ℕ) (clean : Option ℕ) (limit : ℕ) → n ≤ length es → current (history_of f d es n clean limit) ≡ d
@@ -21,7 +20,7 @@ current-view f d es n clean limit h = rw (take-steps (entry_change f) es n d h) 
 pub moved_view : {C : Type 0} (f : C → Change) (d e : DocumentParts) (es ts : List (Entry C)) (i j : ℕ) (clean : Option ℕ) (limit : ℕ) → IsMoved (entry_change f) es i d ts j e → history_of f e ts j clean limit ≡ moved j (history_of f d es i clean limit)
 moved_view f d e es ts i j clean limit m = rw (m.base, m.steps) refl
 
-pub moved_sound : {C : Type 0} (f : C → Change) (d e : DocumentParts) (es ts : List (Entry C)) (i j : ℕ) (clean : Option ℕ) → IsSound f d es i clean → j ≤ length es → IsMoved (entry_change f) es i d ts j e → IsSound f e ts j clean
+pub moved_sound : {C : Type 0} (f : C → Change) (d e : DocumentParts) (es ts : List (Entry C)) (i j : ℕ) (clean : Option ℕ) → IsTurnable f d es i clean → j ≤ length es → IsMoved (entry_change f) es i d ts j e → IsTurnable f e ts j clean
 moved_sound f d e es ts i j clean s h m = record {
   within = rw m.same_length h;
   clean_within = rw m.same_length s.clean_within;

@@ -1,28 +1,15 @@
 -- Histories: whole documents with their names, and a position among them. Nothing here turns a document back.
 use Rattle.std.specs.Prelude.{ℕ, ◌+◌, ◌==◌, List, [], ◌∷◌, Option, Some, None, Bool, false, take, length}
 use Rattle.map_model.specs.Document.{DocumentParts}
-use Rattle.command_api.specs.Tag.{Tag}
-use Rattle.command_api.specs.Law.{Change, Vanishing}
+use Rattle.command_api.specs.Law.{Names}
 
--- a step: its names, and the document after it
+-- a step: the names of its command, and the document after it
 pub record Step : Type 0 where
-  pub text : List ℕ
-  pub action : List ℕ
-  pub tag : Option Tag
-  pub follows : Bool
-  pub vanishing : Vanishing
+  pub names : Names
   pub after : DocumentParts
 
--- the step of a change that leads to the document d
-abbrev pub step_at : Change → DocumentParts → Step
-step_at c d = record {
-  text = c.text;
-  action = c.action;
-  tag = c.tag;
-  follows = c.follows;
-  vanishing = c.vanishing;
-  after = d;
-}
+abbrev pub step_named : Names → DocumentParts → Step
+step_named names d = record { names = names; after = d }
 
 -- an open level: its texts, its document at the beginning, and its inner steps
 pub record Open : Type 0 where
@@ -49,18 +36,23 @@ abbrev pub last_after : DocumentParts → List Step → DocumentParts
 last_after d [] = d
 last_after d (s ∷ ss) = last_after s.after ss
 
--- the document at a position: the one after that many steps, and at 0 the base
+-- the document at a place in the steps: the one after that many of them, and at 0 the base
 abbrev pub document_at : History → ℕ → DocumentParts
 document_at h n = last_after h.base (take n h.steps)
+
+-- the document at the position, where the levels begin
+abbrev pub at_position : History → DocumentParts
+at_position h = document_at h h.position
 
 -- the innermost of the levels l, ls
 abbrev pub innermost : Open → List Open → Open
 innermost l [] = l
 innermost l (m ∷ ls) = innermost m ls
 
--- the current document: outside levels the one at the position, else the innermost level's last one
+-- the current document, which a stack holds: with no level open the one at the position, else the last one of the
+-- innermost level
 abbrev pub current_in : List Open → History → DocumentParts
-current_in [] h = document_at h h.position
+current_in [] h = at_position h
 current_in (l ∷ ls) h = last_after (innermost l ls).start (innermost l ls).steps
 
 abbrev pub current : History → DocumentParts

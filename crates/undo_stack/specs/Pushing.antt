@@ -10,11 +10,11 @@
 use Rattle.std.specs.Prelude.{◌≡◌, ℕ, ◌+◌, ◌-◌, List, [], ◌∷◌, ◌++◌, Option, Some, None, take, drop, length, Bool, true, false, leb, if◌then◌else◌, ◌↔◌, zero, suc}
 use Rattle.map_model.specs.Document.{DocumentParts}
 use Rattle.command_api.specs.Law.{Change, Vanishing, Never, IsSettled}
-use Rattle.undo_stack.specs.History.{Step, step_at, Open, History, last_after, document_at, innermost, current}
+use Rattle.undo_stack.specs.History.{Step, step_named, Open, History, last_after, document_at, innermost, current}
 
 -- the step of an edit that is made on the document d
 abbrev pub step_of : Change → DocumentParts → Step
-step_of c d = step_at c (c.redone d)
+step_of c d = step_named c.names (c.redone d)
 
 -- a position, lost where it is past n
 abbrev pub up_to : ℕ → Option ℕ → Option ℕ
@@ -67,7 +67,7 @@ before_target h = last_after (start_in h.levels h) (front (row_in h.levels h))
 -- t exists, the edit follows, and both have the same tag
 abbrev pub Continues : Option Step → Step → Type 0
 Continues None s = ⊥
-Continues (Some t) s = (s.follows ≡ true) × (s.tag ≡ t.tag) × (s.tag ≡ None → ⊥)
+Continues (Some t) s = (s.names.follows ≡ true) × (s.names.tag ≡ t.names.tag) × (s.names.tag ≡ None → ⊥)
 
 -- outside levels, the position is not the clean position
 abbrev pub IsUnclean : List Open → History → Type 0
@@ -81,12 +81,12 @@ pub record Merges (h : History) (s : Step) : Type 0 where
 
 abbrev pub vanishing_of : Option Step → Vanishing
 vanishing_of None = Never
-vanishing_of (Some t) = t.vanishing
+vanishing_of (Some t) = t.names.vanishing
 
 -- whether no step is left of an edit that is merged into t, or of one that is not
 abbrev pub Vanishes : Bool → Bool → History → Step → Type 0
 Vanishes true gone h s = IsSettled (vanishing_of (target h)) gone (before_target h) s.after
-Vanishes false gone h s = IsSettled s.vanishing gone (current h) s.after
+Vanishes false gone h s = IsSettled s.names.vanishing gone (current h) s.after
 
 -- a position, n lower, lost where it is below n
 abbrev pub lowered : ℕ → Option ℕ → Option ℕ

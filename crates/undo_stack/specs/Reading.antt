@@ -5,7 +5,7 @@ use Rattle.undo_stack.specs.History.{Step, Open, History}
 -- the action text of a step, empty where there is no step
 abbrev pub action_of : Option Step → List ℕ
 action_of None = []
-action_of (Some s) = s.action
+action_of (Some s) = s.names.action
 
 -- the step just below a position, and none below 0
 abbrev pub step_below : ℕ → List Step → Option Step
@@ -30,8 +30,8 @@ redo_text_of h = redo_text_in h.levels h
 
 -- the texts for lists are those of the steps, and last that of the outermost level where one is open
 abbrev pub texts_in : List Open → List Step → List (List ℕ)
-texts_in [] ss = map (λ s. s.text) ss
-texts_in (l ∷ ls) ss = map (λ s. s.text) ss ++ l.text ∷ []
+texts_in [] ss = map (λ s. s.names.text) ss
+texts_in (l ∷ ls) ss = map (λ s. s.names.text) ss ++ l.text ∷ []
 
 -- the text for lists at a place, and none past the last one
 abbrev pub text_at : History → ℕ → Option (List ℕ)

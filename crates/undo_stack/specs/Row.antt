@@ -1,9 +1,9 @@
 -- What a row of changes means at a document: the documents before it, its steps, and where it fits.
 -- A row is a list of things x, of which f x is the change.
-use Rattle.std.specs.Prelude.{ℕ, List, [], ◌∷◌, ◌++◌, take, drop}
+use Rattle.std.specs.Prelude.{◌≡◌, ℕ, List, [], ◌∷◌, ◌++◌, take, drop, length}
 use Rattle.map_model.specs.Document.{DocumentParts}
 use Rattle.command_api.specs.Law.{Change}
-use Rattle.undo_stack.specs.History.{Step, step_at}
+use Rattle.undo_stack.specs.History.{Step, step_named}
 
 -- the document before a row that led to d
 abbrev pub before : {B : Type 0} → (B → Change) → List B → DocumentParts → DocumentParts
@@ -13,12 +13,12 @@ before f (x ∷ xs) d = (f x).undone (before f xs d)
 -- the steps of a row that led to d
 abbrev pub steps_down : {B : Type 0} → (B → Change) → List B → DocumentParts → List Step
 steps_down f [] d = []
-steps_down f (x ∷ xs) d = step_at (f x) (before f xs d) ∷ steps_down f xs d
+steps_down f (x ∷ xs) d = step_named (f x).names (before f xs d) ∷ steps_down f xs d
 
 -- the steps of a row that leads on from d
 abbrev pub steps_up : {B : Type 0} → (B → Change) → List B → DocumentParts → List Step
 steps_up f [] d = []
-steps_up f (x ∷ xs) d = step_at (f x) ((f x).redone d) ∷ steps_up f xs ((f x).redone d)
+steps_up f (x ∷ xs) d = step_named (f x).names ((f x).redone d) ∷ steps_up f xs ((f x).redone d)
 
 -- each change of a row that led to d fits for undo
 abbrev pub FitsDown : {B : Type 0} → (B → Change) → List B → DocumentParts → Type 0
@@ -33,3 +33,11 @@ FitsUp f (x ∷ xs) d = (f x).fits_redo d × FitsUp f xs ((f x).redone d)
 -- the steps of a row of which the first n led to d
 abbrev pub steps_of : {B : Type 0} → (B → Change) → List B → ℕ → DocumentParts → List Step
 steps_of f xs n d = steps_down f (take n xs) d ++ steps_up f (drop n xs) d
+
+-- a row at the place i and the document d became another one, at j and e, with the same documents and steps
+pub record IsMoved {B : Type 0} (f : B → Change) (xs : List B) (i : ℕ) (d : DocumentParts) (ys : List B) (j : ℕ) (e : DocumentParts) : Type 0 where
+  pub same_length : length ys ≡ length xs
+  pub down : FitsDown f (take j ys) e
+  pub up : FitsUp f (drop j ys) e
+  pub base : before f (take j ys) e ≡ before f (take i xs) d
+  pub steps : steps_of f ys j e ≡ steps_of f xs i d

@@ -23,7 +23,7 @@ IsAtMost None n = Unit {0}
 IsAtMost (Some k) n = k ≤ n
 
 -- the positions are among the entries, and the first n entries fit for undo, the others for redo
-pub record IsSound {C : Type 0} (f : C → Change) (d : DocumentParts) (es : List (Entry C)) (n : ℕ) (clean : Option ℕ) : Type 0 where
+pub record IsTurnable {C : Type 0} (f : C → Change) (d : DocumentParts) (es : List (Entry C)) (n : ℕ) (clean : Option ℕ) : Type 0 where
   pub within : n ≤ length es
   pub clean_within : IsAtMost clean (length es)
   pub down : FitsDown (entry_change f) (take n es) d

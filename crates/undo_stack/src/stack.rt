@@ -2,11 +2,11 @@ ghost use Rattle.std.specs.Prelude.{◌≡◌, ◌≤◌, ◌<◌, ◌+◌, ◌-
 ghost use Rattle.std.specs.VecDeque.{deque_capacity};
 ghost use Rattle.undo_stack.specs.History.{new_history, current, count, is_clean};
 ghost use Rattle.undo_stack.specs.Pushing.{IsPushed, step_of, up_to};
-ghost use Rattle.undo_stack.specs.Moving.{moved, undo_answer, redo_answer, undone_by, redone_by, cleaned, uncleaned, cleared};
+ghost use Rattle.undo_stack.specs.Moving.{moved, StepsBack, StepsOn, GoesTo, MarksClean, UnmarksClean, Clears};
 ghost use Rattle.undo_stack.specs.Reading.{text_at, action_of, undo_text_of, redo_text_of};
 ghost use Rattle.undo_stack.specs.Stacks.{history, Holds};
 
-use crate::entry::Entry;
+use crate::entry::{Entry, redo_up, undo_down};
 use command_api::Command;
 use map_model::Document;
 use std::alloc::{AllocError, Global};
@@ -18,6 +18,8 @@ mod tests;
 /// Why a call on a stack is refused. The stack is then as it was.
 #[derive(Clone, Copy, PartialEq, Eq, Debug)]
 pub enum StackFault {
+    /// A macro is open.
+    MacroOpen,
     /// The index is 0: no step is below it.
     NothingToUndo,
     /// The index is the count: no step is above it.
@@ -145,7 +147,7 @@ impl<C: Command> Stack<C> {
     pub fn push(&mut self, mut command: C) -> Result<(), AllocError>
         requires sound { Holds C.change self.old }
         requires fits { (C.change command).fits_redo (current (history C.change self.old)) }
-        requires straight { (C.change command).follows ≡ false }
+        requires straight { (C.change command).names.follows ≡ false }
         requires unlimited { (history C.change self.old).limit ≡ 0 }
         ensures sound { Holds C.change self.new }
         ensures pushed { IfOk result (λ _. IsPushed
@@ -172,12 +174,12 @@ impl<C: Command> Stack<C> {
 
     /// Turns the step below the index back, and lowers the index by one. Takes no memory.
     ///
-    /// The answer is `NothingToUndo` where the index is 0.
+    /// The answer is `MacroOpen` while a macro is open, and `NothingToUndo` where the index is 0. The stack is then as it
+    /// was.
     pub fn undo(&mut self) -> Result<(), StackFault>
         requires { Holds C.change self.old }
         ensures sound { Holds C.change self.new }
-        ensures answer { result ≡ undo_answer (history C.change self.old) }
-        ensures history { history C.change self.new ≡ undone_by result (history C.change self.old) }
+        ensures step { StepsBack (history C.change self.old) result (history C.change self.new) }
     {
         if self.index == 0 {
             return Err(StackFault::NothingToUndo);
@@ -188,12 +190,12 @@ impl<C: Command> Stack<C> {
 
     /// Makes the step above the index again, and raises the index by one. Takes no memory.
     ///
-    /// The answer is `NothingToRedo` where the index is the count.
+    /// The answer is `MacroOpen` while a macro is open, and `NothingToRedo` where the index is the count. The stack is then
+    /// as it was.
     pub fn redo(&mut self) -> Result<(), StackFault>
         requires { Holds C.change self.old }
         ensures sound { Holds C.change self.new }
-        ensures answer { result ≡ redo_answer (history C.change self.old) }
-        ensures history { history C.change self.new ≡ redone_by result (history C.change self.old) }
+        ensures step { StepsOn (history C.change self.old) result (history C.change self.new) }
     {
         if self.index == self.entries.len() {
             return Err(StackFault::NothingToRedo);
@@ -236,31 +238,34 @@ impl<C: Command> Stack<C> {
 impl<C: Command> Stack<C> {
     /// Undoes or redoes until the index is this one, where a number past the count means the count. Takes no memory.
     ///
-    /// There is no answer, since nothing refuses the call: a stack takes no macros yet.
-    pub fn set_index(&mut self, index: usize)
+    /// The answer is `MacroOpen` while a macro is open, and the stack is then as it was.
+    pub fn set_index(&mut self, index: usize) -> Result<(), StackFault>
         requires { Holds C.change self.old }
         ensures sound { Holds C.change self.new }
-        ensures history { history C.change self.new
-            ≡ moved (min index (length (history C.change self.old).steps)) (history C.change self.old) }
+        ensures step { GoesTo index (history C.change self.old) result (history C.change self.new) }
     {
         self.undo_to(index);
         self.redo_to(index);
+        Ok(())
     }
 
     /// Makes the index the clean index.
-    pub fn set_clean(&mut self)
+    ///
+    /// The answer is `MacroOpen` while a macro is open, and the stack is then as it was.
+    pub fn set_clean(&mut self) -> Result<(), StackFault>
         requires { Holds C.change self.old }
         ensures sound { Holds C.change self.new }
-        ensures history { history C.change self.new ≡ cleaned (history C.change self.old) }
+        ensures step { MarksClean (history C.change self.old) result (history C.change self.new) }
     {
         self.clean = Some(self.index);
+        Ok(())
     }
 
     /// Leaves no clean index.
     pub fn reset_clean(&mut self)
         requires { Holds C.change self.old }
         ensures sound { Holds C.change self.new }
-        ensures history { history C.change self.new ≡ uncleaned (history C.change self.old) }
+        ensures step { UnmarksClean (history C.change self.old) (history C.change self.new) }
     {
         self.clean = None;
     }
@@ -269,7 +274,7 @@ impl<C: Command> Stack<C> {
     pub fn clear(&mut self)
         requires { Holds C.change self.old }
         ensures sound { Holds C.change self.new }
-        ensures history { history C.change self.new ≡ cleared (history C.change self.old) }
+        ensures step { Clears (history C.change self.old) (history C.change self.new) }
     {
         self.entries.clear();
         self.index = 0;
@@ -283,9 +288,10 @@ impl<C: Command> Stack<C> {
         ensures history { history C.change self.new
             ≡ moved (min index (history C.change self.old).position) (history C.change self.old) }
     {
-        while self.index > index {
-            self.step_back();
-        }
+        let index = index.min(self.index);
+        let row = self.entries.make_contiguous();
+        undo_down(row, &mut self.document, self.index, index);
+        self.index = index;
     }
 
     // Redoes until the index is at least this one, or the count.
@@ -295,10 +301,10 @@ impl<C: Command> Stack<C> {
         ensures history { history C.change self.new
             ≡ moved (max (min index (length (history C.change self.old).steps)) (history C.change self.old).position) (history C.change self.old) }
     {
-        let index = index.min(self.entries.len());
-        while self.index < index {
-            self.step_on();
-        }
+        let index = index.min(self.entries.len()).max(self.index);
+        let row = self.entries.make_contiguous();
+        redo_up(row, &mut self.document, self.index, index);
+        self.index = index;
     }
 
     // Turns the step below the index back, and lowers the index by one.

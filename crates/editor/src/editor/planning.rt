@@ -1,6 +1,6 @@
 // The lines that are edits: each plans its command, and changes nothing.
-ghost use Rattle.std.specs.Prelude.{◌≡◌, ◌<◌, ◌^◌, IfOk, length};
-ghost use Rattle.session.specs.Spelling.{IsBlock};
+ghost use Rattle.std.specs.Prelude.{◌≡◌, IfOk};
+ghost use Rattle.session.specs.Spelling.{CanBeSpelled};
 ghost use Rattle.session.specs.declared.line.Line.TheVariants as lines;
 ghost use Rattle.editor.specs.Editors.{machine_of, IsSound};
 ghost use Rattle.editor.specs.Planning.{FitsPlan, Plans, refused};
@@ -45,11 +45,11 @@ impl<C: Command> Editor<C> {
         y: i32,
         width: u32,
         values: &Gids<'_>,
+        follows: bool,
     ) -> Planned
         requires sound { IsSound C.change self.now }
-        requires block { IsBlock width values.now }
-        requires few { length values.now < 2 ^ 32 }
-        ensures plans { Plans (lines.Stamp layer x y width values.now) (machine_of C.change self.now) result (machine_of C.change self.now) }
+        requires spelled { CanBeSpelled (lines.Stamp layer x y width values.now follows) }
+        ensures plans { Plans (lines.Stamp layer x y width values.now follows) (machine_of C.change self.now) result (machine_of C.change self.now) }
         ensures fits { FitsPlan (machine_of C.change self.now) result }
     {
         let Some(stack) = &self.stack else {
@@ -64,7 +64,7 @@ impl<C: Command> Editor<C> {
             width,
             values: values.as_slice(),
         };
-        match PaintCommand::stamp(alloc, stack.document(), layer, &block, false) {
+        match PaintCommand::stamp(alloc, stack.document(), layer, &block, follows) {
             Ok(command) => Planned::Push(Edit::Paint(command)),
             Err(fault) => refused(refusal::of_edit(fault)),
         }

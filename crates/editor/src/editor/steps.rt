@@ -76,10 +76,10 @@ impl<C: Command> Editor<C> {
         ensures kept { KeepsReply result (machine_of C.change self.old) (machine_of C.change self.new) }
     {
         match &mut self.stack {
-            Some(stack) => {
-                stack.set_index(index as usize);
-                state_of(stack)
-            }
+            Some(stack) => match stack.set_index(index as usize) {
+                Ok(()) => state_of(stack),
+                Err(fault) => Reply::Refused(refusal::of_stack(fault)),
+            },
             None => Reply::Refused(Refusal::NoActiveDocument),
         }
     }
@@ -92,10 +92,10 @@ impl<C: Command> Editor<C> {
         ensures kept { KeepsReply result (machine_of C.change self.old) (machine_of C.change self.new) }
     {
         match &mut self.stack {
-            Some(stack) => {
-                stack.set_clean();
-                state_of(stack)
-            }
+            Some(stack) => match stack.set_clean() {
+                Ok(()) => state_of(stack),
+                Err(fault) => Reply::Refused(refusal::of_stack(fault)),
+            },
             None => Reply::Refused(Refusal::NoActiveDocument),
         }
     }

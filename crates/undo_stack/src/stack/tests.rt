@@ -1,7 +1,7 @@
 //! What no clause says: which boxes are let go of and turned, and what a refused push leaves.
 
-ghost use Rattle.std.specs.Prelude.{◌≡◌, [], None, true, false};
-ghost use Rattle.command_api.specs.Law.{Never, WhenEqual};
+ghost use Rattle.std.specs.Prelude.{◌≡◌, [], true, false};
+ghost use Rattle.command_api.specs.Law.{untagged, Never, WhenEqual};
 ghost use Rattle.undo_stack.specs.History.{current};
 ghost use Rattle.undo_stack.specs.Stacks.{history, Holds};
 
@@ -66,11 +66,7 @@ impl Drop for Probe {
 
 impl Command for Probe {
     ghost change = { λ _. record {
-      text = [];
-      action = [];
-      tag = None;
-      vanishing = Never;
-      follows = false;
+      names = untagged [] [] Never;
       obsolete = false;
       redone = λ d. d;
       undone = λ d. d;
@@ -132,11 +128,7 @@ fn new_idle(alloc: Global, counts: &Rc<Counts>) -> Result<Box<Idle>, AllocError>
 
 impl Command for Idle {
     ghost change = { λ _. record {
-      text = [];
-      action = [];
-      tag = None;
-      vanishing = WhenEqual;
-      follows = false;
+      names = untagged [] [] WhenEqual;
       obsolete = true;
       redone = λ d. d;
       undone = λ d. d;
@@ -180,11 +172,7 @@ struct Titled {
 
 impl Command for Titled {
     ghost change = { λ c. record {
-      text = c.text.now;
-      action = c.action.now;
-      tag = None;
-      vanishing = Never;
-      follows = false;
+      names = untagged c.text.now c.action.now Never;
       obsolete = false;
       redone = λ d. d;
       undone = λ d. d;
@@ -229,7 +217,7 @@ fn push<C: Command>(stack: &mut Stack<C>, command: C) -> Result<(), AllocError>
     requires sound { Holds C.change stack.old }
     requires unlimited { (history C.change stack.old).limit ≡ 0 }
     requires fits { (C.change command).fits_redo (current (history C.change stack.old)) }
-    requires straight { (C.change command).follows ≡ false }
+    requires straight { (C.change command).names.follows ≡ false }
     ensures sound { Holds C.change stack.new }
     ensures unlimited { (history C.change stack.new).limit ≡ 0 }
 {
@@ -258,13 +246,26 @@ fn redo<C: Command>(stack: &mut Stack<C>) -> Result<(), StackFault>
     Ok(())
 }
 
-fn set_index<C: Command>(stack: &mut Stack<C>, index: usize)
+fn set_index<C: Command>(stack: &mut Stack<C>, index: usize) -> Result<(), StackFault>
     requires sound { Holds C.change stack.old }
     requires unlimited { (history C.change stack.old).limit ≡ 0 }
     ensures sound { Holds C.change stack.new }
     ensures unlimited { (history C.change stack.new).limit ≡ 0 }
 {
-    stack.set_index(index);
+    // As at `undo`.
+    stack.set_index(index)?;
+    Ok(())
+}
+
+fn set_clean<C: Command>(stack: &mut Stack<C>) -> Result<(), StackFault>
+    requires sound { Holds C.change stack.old }
+    requires unlimited { (history C.change stack.old).limit ≡ 0 }
+    ensures sound { Holds C.change stack.new }
+    ensures unlimited { (history C.change stack.new).limit ≡ 0 }
+{
+    // As at `undo`.
+    stack.set_clean()?;
+    Ok(())
 }
 
 // Each turn, and how often the two commands were turned and let go of after it.
@@ -430,23 +431,23 @@ fn index_goes_where_it_is_set(rt: HostRuntime) -> Result<(), Fail> {
         push(&mut stack, stamp()).is_ok(),
         push(&mut stack, stamp()).is_ok(),
     ];
-    set_index(&mut stack, 99);
-    let at_the_end = (stack.index(), stack.count());
-    set_index(&mut stack, 0);
-    let at_the_start = (stack.index(), stack.count());
-    set_index(&mut stack, 2);
-    let between = (stack.index(), stack.is_clean());
-    stack.set_clean();
-    let is_marked = stack.is_clean();
+    let at_the_end = (set_index(&mut stack, 99).is_ok(), stack.index());
+    let at_the_start = (set_index(&mut stack, 0).is_ok(), stack.index());
+    let between = (set_index(&mut stack, 2).is_ok(), stack.index());
+    let stays_unmarked = stack.is_clean();
+    let is_marked = set_clean(&mut stack).is_ok() && stack.is_clean();
     stack.reset_clean();
     let stays_marked = stack.is_clean();
     drop(stack);
     assert_eq!(rt; are_pushed, [true; 3]);
     assert_eq!(rt;
         (at_the_end, at_the_start, between),
-        ((3, 3), (0, 3), (2, false))
+        ((true, 3), (true, 0), (true, 2))
     );
-    assert_eq!(rt; (is_marked, stays_marked), (true, false));
+    assert_eq!(rt;
+        (stays_unmarked, is_marked, stays_marked),
+        (false, true, false)
+    );
     Ok(())
 }
 
@@ -462,13 +463,16 @@ fn clear_lets_go_of_each_box_and_undoes_none(rt: HostRuntime) -> Result<(), Fail
         push(&mut stack, first).is_ok(),
         push(&mut stack, second).is_ok(),
     ];
-    set_index(&mut stack, 1);
+    let is_set = set_index(&mut stack, 1).is_ok();
     stack.reset_clean();
     stack.clear();
     let stands = (stack.index(), stack.count(), stack.is_clean());
     let counts = [below.all(), above.all()];
     drop(stack);
-    assert_eq!(rt; (are_pushed, stands), ([true, true], (0, 0, true)));
+    assert_eq!(rt;
+        (are_pushed, is_set, stands),
+        ([true, true], true, (0, 0, true))
+    );
     assert_eq!(rt; counts, [(1, 0, 1), (1, 1, 1)]);
     assert_eq!(rt; counts, [below.all(), above.all()]);
     Ok(())
@@ -482,14 +486,14 @@ fn texts_are_those_of_the_steps(rt: HostRuntime) -> Result<(), Fail> {
         text: "Erase",
         action: "erase tiles",
     };
-    let mut seen = [(stack.undo_text(), stack.redo_text()) == ("", ""); 5];
+    let mut seen = [(stack.undo_text(), stack.redo_text()) == ("", ""); 6];
     seen[1] = push(&mut stack, stamp()).is_ok() && push(&mut stack, erase).is_ok();
     seen[2] = (stack.undo_text(), stack.redo_text()) == ("erase tiles", "");
-    set_index(&mut stack, 1);
-    seen[3] = (stack.undo_text(), stack.redo_text()) == ("stamp tiles", "erase tiles");
+    seen[3] = set_index(&mut stack, 1).is_ok();
+    seen[4] = (stack.undo_text(), stack.redo_text()) == ("stamp tiles", "erase tiles");
     let texts = [stack.text(0), stack.text(1), stack.text(2)];
-    seen[4] = texts == [Some("Stamp"), Some("Erase"), None];
+    seen[5] = texts == [Some("Stamp"), Some("Erase"), None];
     drop(stack);
-    assert_eq!(rt; seen, [true; 5]);
+    assert_eq!(rt; seen, [true; 6]);
     Ok(())
 }

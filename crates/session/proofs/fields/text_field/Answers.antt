@@ -1,12 +1,12 @@
 use Rattle.std.proofs.Common.{Ok, Err, cond, refl, sym, ap, ◌∙◌}
 use Rattle.session.specs.declared.line.LineFault.TheVariants.{BadWord}
-use Rattle.session.specs.Grammar.{text_at}
+use Rattle.session.specs.Grammar.{last_text_at}
 use Rattle.session.specs.Words.{is_text}
 use Rattle.session.proofs.Cutting.{text_of_words}
 use Rattle.session.proofs.fields.text_field.Goals as goal
 
 pub returns-in_default : goal.returns-in_default
-unfolding text_at
+unfolding last_text_at
 returns-in_default c = rw c.in_default.is refl
 
 pub returns-then-not-is_text_here : goal.returns-then-not-is_text_here

@@ -1,23 +1,23 @@
 use Rattle.std.proofs.Common.{◌<◌, ◌^◌, length, cond, Ok, sym, ap, ◌∙◌, arith}
 use Rattle.session.specs.declared.line.Line.TheVariants.{Quiet}
 use Rattle.session.specs.Words.{words}
-use Rattle.session.specs.Grammar.{line_of_words}
-use Rattle.session.proofs.Checked.{checked, refused}
-use Rattle.session.proofs.Told.{given_says, given_spelled}
+use Rattle.session.specs.Grammar.{read, line_form}
+use Rattle.session.proofs.FirstChecks.{checked, refused}
+use Rattle.session.proofs.Laws.{given_says, given_spelled}
 use Rattle.session.proofs.parse.parse_line.Goals as goal
 
 pub returns-then-is_quiet_line-clause-value : goal.returns-then-is_quiet_line-clause-value
 returns-then-is_quiet_line-clause-value c =
     let bytes = c.args.bytes.now in
     let short : length bytes < 2 ^ 16 = omega (arith, c.if-bytes-ge-LIMIT.false) in
-    checked bytes short c.in-Ok.ensures.cases.1 ∙ ap (λ b. cond b (Ok Quiet) (line_of_words (words bytes))) (sym c.is_quiet_line.ensures ∙ c.if-is_quiet_line.true)
+    checked bytes short c.in-Ok.ensures.cases.1 ∙ ap (λ b. cond b (Ok Quiet) (read line_form (words bytes))) (sym c.is_quiet_line.ensures ∙ c.if-is_quiet_line.true)
 
 pub returns-clause-value : goal.returns-clause-value
 returns-clause-value c =
     let bytes = c.args.bytes.now in
     let short : length bytes < 2 ^ 16 = omega (arith, c.if-bytes-ge-LIMIT.false) in
-    let e = checked bytes short c.in-Ok.ensures.cases.1 ∙ ap (λ b. cond b (Ok Quiet) (line_of_words (words bytes))) (sym c.is_quiet_line.ensures ∙ c.if-is_quiet_line.false)
-    ∙ ap line_of_words (ap words (sym c.in-Ok.ensures.cases.0) ∙ c.cut.ensures.pieces) in
+    let e = checked bytes short c.in-Ok.ensures.cases.1 ∙ ap (λ b. cond b (Ok Quiet) (read line_form (words bytes))) (sym c.is_quiet_line.ensures ∙ c.if-is_quiet_line.false)
+    ∙ ap (read line_form) (ap words (sym c.in-Ok.ensures.cases.0) ∙ c.cut.ensures.pieces) in
     rw e c.command.ensures
 
 pub returns-clause-says : goal.returns-clause-says

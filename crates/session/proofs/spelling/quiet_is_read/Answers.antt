@@ -1,4 +1,4 @@
-use Rattle.session.proofs.Spelled.{quiet_is_read}
+use Rattle.session.proofs.Laws.{quiet_is_read}
 use Rattle.session.proofs.spelling.quiet_is_read.Goals as goal
 
 pub returns : goal.returns

@@ -1,4 +1,4 @@
-use Rattle.session.proofs.Told.{read_is_spelled}
+use Rattle.session.proofs.Laws.{read_is_spelled}
 use Rattle.session.proofs.spelling.read_is_spelled.Goals as goal
 
 pub returns : goal.returns

@@ -1,4 +1,4 @@
-use Rattle.session.proofs.Spelled.{spelled_is_read}
+use Rattle.session.proofs.Laws.{spelled_is_read}
 use Rattle.session.proofs.spelling.spelled_is_read.Goals as goal
 
 pub returns : goal.returns

@@ -4,8 +4,15 @@ use mir.Syntax.{w32}
 use mir.Val.{SFits}
 use Rattle.std.specs.Option.{option_map}
 use Rattle.undo_stack.specs.Stacks.{history}
-use Rattle.editor.proofs.Lines.{stamp-IsEditOf, stamp-FitsOpen}
+use Rattle.editor.proofs.Lines.{stamp-IsBlock, stamp-IsEditOf, stamp-FitsActive, stamp-straight}
 use Rattle.editor.proofs.editor.Editor.plan_stamp.Goals as goal
+
+pub stamp-requires : goal.stamp-requires
+stamp-requires g c =
+    let x : SFits w32 c.args.x = search rules in
+    let y : SFits w32 c.args.y = search rules in
+    rw (c.as_slice.ensures.value, c.in-Ok.ensures, to_z-of_z w32 c.args.x x, to_z-of_z w32 c.args.y y)
+    (stamp-IsBlock c.args.layer c.args.x c.args.y c.args.width c.args.values.now c.args.follows c.requires.spelled)
 
 pub returns-in-Ok-stamp-clause-plans : goal.returns-in-Ok-stamp-clause-plans
 returns-in-Ok-stamp-clause-plans g c =
@@ -13,7 +20,7 @@ returns-in-Ok-stamp-clause-plans g c =
     let y : SFits w32 c.args.y = search rules in
     let command = rw (c.as_slice.ensures.value, c.in-Ok.ensures, to_z-of_z w32 c.args.x x, to_z-of_z w32 c.args.y y) at c.in-Ok-stamp.ensures.command in (
       refl,
-      stamp-IsEditOf _ (history g.C.Command.change c.in-Some.stack) c.document.result.now c.args.layer c.args.x c.args.y c.args.width c.args.values.now _
+      stamp-IsEditOf _ (history g.C.Command.change c.in-Some.stack) c.document.result.now c.args.layer c.args.x c.args.y c.args.width c.args.values.now c.args.follows _
           (ap (option_map (history g.C.Command.change)) c.in-Some.is) c.document.ensures command,
     )
 
@@ -22,5 +29,6 @@ returns-in-Ok-stamp-clause-fits g c =
     let x : SFits w32 c.args.x = search rules in
     let y : SFits w32 c.args.y = search rules in
     let command = rw (c.as_slice.ensures.value, c.in-Ok.ensures, to_z-of_z w32 c.args.x x, to_z-of_z w32 c.args.y y) at c.in-Ok-stamp.ensures.command in
-    stamp-FitsOpen _ (history g.C.Command.change c.in-Some.stack) c.document.result.now c.args.layer
-    (record { x = c.args.x; y = c.args.y; width = c.args.width; values = c.args.values.now }) _ (ap (option_map (history g.C.Command.change)) c.in-Some.is) c.document.ensures command
+    stamp-FitsActive _ (history g.C.Command.change c.in-Some.stack) c.document.result.now c.args.layer
+    (record { x = c.args.x; y = c.args.y; width = c.args.width; values = c.args.values.now }) c.args.follows _ (ap (option_map (history g.C.Command.change)) c.in-Some.is) c.document.ensures
+    (stamp-straight c.args.layer c.args.x c.args.y c.args.width c.args.values.now c.args.follows c.requires.spelled) command

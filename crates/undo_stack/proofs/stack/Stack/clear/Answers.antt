@@ -1,7 +1,7 @@
 use Rattle.undo_stack.proofs.Views.{cleared_view}
 use Rattle.undo_stack.proofs.stack.Stack.clear.Goals as goal
 
-pub returns-clause-history : goal.returns-clause-history
-returns-clause-history g c =
+pub returns-clause-step : goal.returns-clause-step
+returns-clause-step g c =
     let s = c.args.self.now in
     cleared_view g.C.Command.change s.document s.entries.items c.clear.new.self.items s.index s.clean s.limit c.requires.within c.clear.ensures.items

@@ -1,5 +1,6 @@
 use Rattle.std.proofs.Common.{◌≡◌, ◌+◌, ◌++◌, ◌∷◌, [], take, refl, sym, ◌∙◌, ap, true, false, ℕ}
-use Rattle.undo_stack.specs.History.{step_at, current}
+use Rattle.command_api.specs.Law.{Names}
+use Rattle.undo_stack.specs.History.{step_named, current}
 use Rattle.undo_stack.specs.Pushing.{step_of, up_to}
 use Rattle.undo_stack.specs.Sound.{history_of}
 use Rattle.undo_stack.specs.Stacks.{history}
@@ -25,7 +26,7 @@ returns-then-obsolete-clause-sound g c =
     let w = f c.redo.new.self in
     let gone : w.obsolete ≡ true = sym c.obsolete.ensures.answer ∙ c.if-obsolete.true in
     let settled = redone_settled v w s.document e true c.redo.ensures c.obsolete.ensures.law gone in
-    let same : e ≡ s.document = settled-same w.vanishing s.document e settled in
+    let same : e ≡ s.document = settled-same w.names.vanishing s.document e settled in
     sound_at f e t.document (take s.index s.entries.items) t.entries.items s.index t.index (up_to s.index s.clean) t.clean
     (gone_sound f s.document e s.entries.items s.index s.clean c.requires.sound same)
     cut.document cut.entries cut.index cut.clean
@@ -43,11 +44,11 @@ returns-then-obsolete-clause-pushed g c =
     let within = c.requires.sound.within in
     let gone : w.obsolete ≡ true = sym c.obsolete.ensures.answer ∙ c.if-obsolete.true in
     let settled = redone_settled v w s.document e true c.redo.ensures c.obsolete.ensures.law gone in
-    let same : e ≡ s.document = settled-same w.vanishing s.document e settled in
-    let straight : w.follows ≡ false = c.redo.ensures.names.follows ∙ c.requires.straight in
+    let same : e ≡ s.document = settled-same w.names.vanishing s.document e settled in
+    let straight : w.names.follows ≡ false = ap (λ (n : Names). n.follows) c.redo.ensures.names ∙ c.requires.straight in
     let next = history_of f e (take s.index s.entries.items) s.index (up_to s.index s.clean) s.limit in
-    pushed_as h h (step_at w e) (step_of v (current h)) next (history f t)
-    (pushed_gone f s.document e s.entries.items s.index s.clean s.limit (step_at w e) within straight same settled)
+    pushed_as h h (step_named w.names e) (step_of v (current h)) next (history f t)
+    (pushed_gone f s.document e s.entries.items s.index s.clean s.limit (step_named w.names e) within straight same settled)
     refl
     (redone_step v w s.document e (current h) c.redo.ensures (current-view f s.document s.entries.items s.index s.clean s.limit within))
     (view_at f e t.document (take s.index s.entries.items) t.entries.items s.index t.index (up_to s.index s.clean) t.clean s.limit t.limit cut.document cut.entries cut.index cut.clean cut.limit)
@@ -91,12 +92,12 @@ returns-clause-pushed g c =
     let items = put_behind x (take s.index s.entries.items) t.entries.items c.push_back_reserved.new.self.items c.push_back_reserved.ensures.items kept in
     let stays : w.obsolete ≡ false = sym c.obsolete.ensures.answer ∙ c.if-obsolete.false in
     let settled = redone_settled v w s.document e false c.redo.ensures c.obsolete.ensures.law stays in
-    let straight : w.follows ≡ false = c.redo.ensures.names.follows ∙ c.requires.straight in
+    let straight : w.names.follows ≡ false = ap (λ (n : Names). n.follows) c.redo.ensures.names ∙ c.requires.straight in
     let old = history_of f s.document s.entries.items s.index s.clean 0 in
     let next = history_of f e (take s.index s.entries.items ++ x ∷ []) (s.index + 1) (up_to s.index s.clean) 0 in
     let step = redone_step v w s.document e (current h) c.redo.ensures (current-view f s.document s.entries.items s.index s.clean s.limit within) in
     let view = view_at f e t.document (take s.index s.entries.items ++ x ∷ []) c.push_back_reserved.new.self.items (s.index + 1) (t.index + 1) (up_to s.index s.clean) t.clean 0 t.limit document items (ap (λ (m : ℕ). m + 1) index) clean (limit ∙ c.requires.unlimited) in
     let same : h ≡ old = view_at f s.document s.document s.entries.items s.entries.items s.index s.index s.clean s.clean 0 s.limit refl refl refl refl c.requires.unlimited in
-    pushed_as old h (step_at w e) (step_of v (current h)) next _
-    (pushed_added f s.document e s.entries.items x s.index s.clean (step_at w e) within straight c.redo.ensures.back refl settled)
+    pushed_as old h (step_named w.names e) (step_of v (current h)) next _
+    (pushed_added f s.document e s.entries.items x s.index s.clean (step_named w.names e) within straight c.redo.ensures.back refl settled)
     same step view

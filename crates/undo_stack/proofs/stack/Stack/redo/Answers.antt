@@ -1,18 +1,24 @@
-use Rattle.std.proofs.Common.{arith, sym}
+use Rattle.std.proofs.Common.{arith, sym, refl}
 use Rattle.undo_stack.proofs.Views.{redo-accepted, redo-refused, step_above}
 use Rattle.undo_stack.proofs.stack.Stack.redo.Goals as goal
 
-pub returns-then-self-len-clause-answer : goal.returns-then-self-len-clause-answer
-returns-then-self-len-clause-answer g c =
+pub returns-then-self-len-clause-step : goal.returns-then-self-len-clause-step
+returns-then-self-len-clause-step g c =
     let s = c.args.self.now in
-    sym (redo-refused g.C.Command.change s.document s.entries.items s.index s.clean s.limit (omega (arith, s.entries.ok.0)))
+    record {
+      answered = sym (redo-refused g.C.Command.change s.document s.entries.items s.index s.clean s.limit (omega (arith, s.entries.ok.0)));
+      leads = refl;
+    }
 
 pub step_on-requires-clause-above : goal.step_on-requires-clause-above
 step_on-requires-clause-above g c =
     let s = c.args.self.now in
     step_above g.C.Command.change s.document s.entries.items s.index (omega (arith, c.requires.within, s.entries.ok.0))
 
-pub returns-clause-answer : goal.returns-clause-answer
-returns-clause-answer g c =
+pub returns-clause-step : goal.returns-clause-step
+returns-clause-step g c =
     let s = c.args.self.now in
-    sym (redo-accepted g.C.Command.change s.document s.entries.items s.index s.clean s.limit (omega (arith, c.requires.within, s.entries.ok.0)))
+    record {
+      answered = sym (redo-accepted g.C.Command.change s.document s.entries.items s.index s.clean s.limit (omega (arith, c.requires.within, s.entries.ok.0)));
+      leads = c.step_on.ensures.history;
+    }

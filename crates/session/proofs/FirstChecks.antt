@@ -6,9 +6,9 @@ use Rattle.std.proofs.lemmas.Bool.{lt-leb, false_from_ne_true}
 use Rattle.session.specs.declared.line.LineFault.TheVariants.{NotUtf8}
 use Rattle.session.specs.declared.line.Line.TheVariants.{Quiet}
 use Rattle.session.specs.Words.{words}
-use Rattle.session.specs.Grammar.{is_quiet, line_of, line_of_words}
+use Rattle.session.specs.Grammar.{read, line_form, is_quiet, line_of}
 
-pub checked : (bytes : List ℕ) → length bytes < 2 ^ 16 → IsUtf8 bytes → line_of bytes ≡ cond (is_quiet bytes) (Ok Quiet) (line_of_words (words bytes))
+pub checked : (bytes : List ℕ) → length bytes < 2 ^ 16 → IsUtf8 bytes → line_of bytes ≡ cond (is_quiet bytes) (Ok Quiet) (read line_form (words bytes))
 unfolding line_of
 checked bytes l u = rw (is_utf8-from_IsUtf8 bytes u, lt-leb (2 ^ 16) (length bytes) l) refl
 

@@ -1,0 +1,101 @@
+-- A form reads what is spelled by it, and what it reads is spelled so.
+use Rattle.std.proofs.Common.{◌≡◌, ℕ, cond, true, false, List, [], ◌∷◌, ◌++◌, Ok, Err, Option, Some, None, refl, sym, ap, ◌∙◌, subst}
+use Rattle.std.specs.Prelude.{IfOk, option_and_then}
+use Rattle.std.specs.List.{AllByRecursion, flat_map}
+use Rattle.std.specs.Str.{bytes_eq}
+use Rattle.std.proofs.lemmas.List.{append-nil}
+use Rattle.std.proofs.lemmas.Bool.{cond_both}
+use Rattle.std.proofs.lemmas.Slice.Eq.{bytes_eq-Decides}
+use Rattle.session.specs.declared.line.Line.{Line}
+use Rattle.session.specs.declared.line.LineFault.{LineFault}
+use Rattle.session.specs.Grammar.{FieldKind, Number, Coordinate, Block, Name, LayerSort, YesNo, FieldValue, LineForm, Ends, Text, Field, Word, Fails, choose, read, field_at, ends_at, last_text_at, ◌>>=◌}
+use Rattle.session.specs.Spelling.{Token, Fixed, Given, Rest, tokens, token_words, field_words, IsToken}
+use Rattle.session.proofs.Coordinates.{and_then_from}
+use Rattle.session.proofs.SpelledFields.{field_at-words, last_text_at-words}
+use Rattle.session.proofs.ReadFields.{if_bind, if_then, ReadField, field_is_read, ReadText, text_is_read, end_is_read}
+use Rattle.session.proofs.SpacedWords.{Clean}
+
+abbrev value_of : (kind : FieldKind) → Token → Option (FieldValue kind)
+value_of Number (Given Number n) = Some n
+value_of Coordinate (Given Coordinate z) = Some z
+value_of Block (Given Block block) = Some block
+value_of Name (Given Name name) = Some name
+value_of LayerSort (Given LayerSort kind) = Some kind
+value_of YesNo (Given YesNo answer) = Some answer
+value_of kind token = None
+
+-- the line that parts are by a form
+abbrev pub follow : LineForm → List Token → Option Line
+follow (Ends line) [] = Some line
+follow (Text line) (Rest text ∷ []) = Some (line text)
+follow (Field kind form) (token ∷ ts) = option_and_then (λ value. follow (form value) ts) (value_of kind token)
+follow (Word word form other) (Fixed w ∷ ts) = cond (bytes_eq w word) (follow form ts) (follow other (Fixed w ∷ ts))
+follow form ts = None
+
+given : (kind : FieldKind) (token : Token) (value : FieldValue kind) → value_of kind token ≡ Some value → token ≡ Given kind value
+given Number (Given Number n) v e = ap (Given Number) cc
+given Coordinate (Given Coordinate z) v e = ap (Given Coordinate) cc
+given Block (Given Block block) v e = ap (Given Block) cc
+given Name (Given Name name) v e = ap (Given Name) cc
+given LayerSort (Given LayerSort kind) v e = ap (Given LayerSort) cc
+given YesNo (Given YesNo answer) v e = ap (Given YesNo) cc
+given kind token v e = absurd cc
+
+-- the words of parts that a form follows are read by it
+pub followed_is_read : (form : LineForm) (ts : List Token) (line : Line) → follow form ts ≡ Some line → AllByRecursion IsToken ts → read form (flat_map token_words ts) ≡ Ok line
+unfolding ends_at
+followed_is_read (Ends l) [] line e h = ap Ok cc
+followed_is_read (Text l) (Rest text ∷ []) line e h = ap (λ r. r >>= λ t. Ok (l t)) (ap last_text_at (append-nil _) ∙ last_text_at-words text h.0) ∙ ap Ok cc
+followed_is_read (Field kind form) (token ∷ ts) line e h =
+    let inner = and_then_from (λ value. follow (form value) ts) (value_of kind token) line e in
+    let same = given kind token inner.0 inner.1 in
+    let fits = subst IsToken same h.0 in
+    ap (λ p. read (Field kind form) (token_words p ++ flat_map token_words ts)) same
+    ∙ ap (λ r. r >>= λ x. read (form x.0) x.1) (field_at-words kind inner.0 (flat_map token_words ts) fits)
+    ∙ followed_is_read (form inner.0) ts line inner.2 h.1
+followed_is_read (Word word form other) (Fixed w ∷ ts) line e h =
+    elim (bytes_eq w word) as (λ b. cond b (follow form ts) (follow other (Fixed w ∷ ts)) ≡ Some line → cond b (read form (flat_map token_words ts)) (read other (w ∷ flat_map token_words ts)) ≡ Ok line) [
+      | true ↦ λ e. followed_is_read form ts line e h.1
+      | false ↦ λ e. followed_is_read other (Fixed w ∷ ts) line e h
+    ] e
+followed_is_read form ts line e h = absurd cc
+
+-- the lines of a form have the parts that lead to them, behind those in front
+abbrev pub Agrees : LineForm → (List Token → List Token) → Type 0
+Agrees (Ends line) front = tokens line ≡ front []
+Agrees (Text line) front = (text : List ℕ) → tokens (line text) ≡ front (Rest text ∷ [])
+Agrees (Field kind form) front = (value : FieldValue kind) → Agrees (form value) (λ ts. front (Given kind value ∷ ts))
+Agrees (Word word form other) front = Agrees form (λ ts. front (Fixed word ∷ ts)) × Agrees other front
+Agrees (Fails fault) front = Unit {0}
+
+-- the words are those of parts, which make the line's behind those in front
+pub record Spells (front : List Token → List Token) (ws : List (List ℕ)) (line : Line) : Type 0 where
+  pub ts : List Token
+  pub are : tokens line ≡ front ts
+  pub words : ws ≡ flat_map token_words ts
+  pub fit : AllByRecursion IsToken ts
+
+clean_rest : (us ws : List (List ℕ)) → AllByRecursion Clean (us ++ ws) → AllByRecursion Clean ws
+clean_rest [] ws h = h
+clean_rest (u ∷ us) ws h = clean_rest us ws h.1
+
+pub read_is_spelled : (form : LineForm) (front : List Token → List Token) (ws : List (List ℕ)) → Agrees form front → AllByRecursion Clean ws → IfOk (read form ws) (Spells front ws)
+read_is_spelled (Ends line) front ws a h = if_bind (ends_at ws) _ (λ _. ws ≡ []) (Spells front ws) (end_is_read ws) (λ end e. record { ts = []; are = a; words = e; fit = tt })
+read_is_spelled (Text line) front ws a h = if_bind (last_text_at ws) _ (ReadText ws) (Spells front ws) (text_is_read ws h) (λ t s. record { ts = Rest t ∷ []; are = a t; words = s.words ∙ sym (append-nil _); fit = (s.fits, tt) })
+read_is_spelled (Field kind form) front ws a h =
+    if_bind (field_at kind ws) _ (ReadField kind ws) (Spells front ws) (field_is_read kind ws) (λ x t.
+    if_then (read (form x.0) x.1) (Spells (λ ts. front (Given kind x.0 ∷ ts)) x.1) (Spells front ws)
+    (read_is_spelled (form x.0) (λ ts. front (Given kind x.0 ∷ ts)) x.1 (a x.0) (clean_rest (field_words kind x.0) x.1 (subst (AllByRecursion Clean) t.words h)))
+    (λ line s. record { ts = Given kind x.0 ∷ s.ts; are = s.are; words = t.words ∙ ap (λ vs. field_words kind x.0 ++ vs) s.words; fit = (t.fits, s.fit) }))
+read_is_spelled (Word word form other) front [] a h = tt
+read_is_spelled (Word word form other) front (w ∷ ws) a h =
+    cond_both (bytes_eq w word) (read form ws) (read other (w ∷ ws)) (λ r. IfOk r (Spells front (w ∷ ws)))
+    (λ is. if_then (read form ws) (Spells (λ ts. front (Fixed word ∷ ts)) ws) (Spells front (w ∷ ws)) (read_is_spelled form (λ ts. front (Fixed word ∷ ts)) ws a.0 h.1)
+    (λ line s. record { ts = Fixed word ∷ s.ts; are = s.are; words = ap (λ v. v ∷ ws) ((bytes_eq-Decides w word).0 is) ∙ ap (λ vs. word ∷ vs) s.words; fit = (tt, s.fit) }))
+    (λ is. read_is_spelled other front (w ∷ ws) a.1 h)
+read_is_spelled (Fails fault) front ws a h = tt
+
+-- a word that is none of the rows'
+pub choose_none : (rows : List (List ℕ × LineForm)) (fault : LineFault) (w : List ℕ) (ws : List (List ℕ)) → AllByRecursion (λ row. bytes_eq w row.0 ≡ false) rows → read (choose rows fault) (w ∷ ws) ≡ Err fault
+choose_none [] fault w ws h = refl
+choose_none (row ∷ rows) fault w ws h = rw h.0 (choose_none rows fault w ws h.1)

@@ -1,0 +1,97 @@
+-- How long the parts of a line are.
+use Rattle.std.proofs.Common.{◌≡◌, ℕ, suc, ◌+◌, ◌^◌, ◌<◌, ◌≤◌, Bool, true, false, ltb, eqb, List, [], ◌∷◌, ◌++◌, length, ℤ, pos, negsuc, ap, arith, inl, inr, IsTrue, ◌||◌}
+use Rattle.std.specs.List.{AllByRecursion, flat_map}
+use Rattle.std.specs.Fmt.{decimal, signed_decimal}
+use Rattle.std.proofs.lemmas.Int.{ints}
+use Rattle.std.proofs.lemmas.Fmt.{length-decimal-le}
+use Rattle.std.proofs.lemmas.List.{length-append}
+use Rattle.std.proofs.lemmas.List.Splits.{length-slice_split, join_with_byte-slice_split}
+use Rattle.std.proofs.lemmas.Bool.{ltb-true, or_cases}
+use Rattle.map_model.specs.declared.parts.LayerKind.{LayerKind}
+use Rattle.map_model.specs.declared.parts.LayerKind.TheVariants as kinds
+use Rattle.session.specs.Words.{words}
+use Rattle.session.specs.Grammar.{FieldKind, Number, Coordinate, Block, Name, LayerSort, YesNo, FieldValue}
+use Rattle.session.specs.Spelling.{Token, Fixed, Given, Rest, Unspelled, token_words, field_words, has_block, layer_kind_word, yes_no_word, spaced, IsNumber, IsCoordinate, IsField, IsToken}
+
+-- no fewer than the bytes of a field's words
+abbrev field_room : FieldKind → ℕ
+field_room Number = 10
+field_room Coordinate = 11
+field_room Block = 2 ^ 16
+field_room Name = 64
+field_room LayerSort = 6
+field_room YesNo = 3
+
+-- no fewer than the bytes of parts, each with a space behind it
+abbrev pub room : List Token → ℕ
+room [] = 0
+room (Fixed word ∷ ts) = length word + 1 + room ts
+room (Given kind value ∷ ts) = field_room kind + 1 + room ts
+room (Rest text ∷ ts) = 200 + 1 + room ts
+room (Unspelled ∷ ts) = room ts
+
+-- the bytes of words, each with a space behind it
+total : List (List ℕ) → ℕ
+total [] = 0
+total (w ∷ ws) = length w + 1 + total ws
+
+length-spaced : (w : List ℕ) (ws : List (List ℕ)) → length (spaced (w ∷ ws)) + 1 ≡ total (w ∷ ws)
+unfolding total
+length-spaced w [] = omega arith
+length-spaced w (v ∷ ws) = omega (arith, length-append w (32 ∷ spaced (v ∷ ws)), length-spaced v ws)
+
+spaced_within : (ws : List (List ℕ)) → length (spaced ws) ≤ total ws
+unfolding total
+spaced_within [] = omega arith
+spaced_within (w ∷ ws) = omega (arith, length-spaced w ws)
+
+total-append : (us ws : List (List ℕ)) → total (us ++ ws) ≡ total us + total ws
+unfolding total
+total-append [] ws = omega arith
+total-append (u ∷ us) ws = omega (arith, total-append us ws)
+
+total_some : (ws : List (List ℕ)) → 1 ≤ length ws → total ws ≡ length (spaced ws) + 1
+total_some [] h = absurd (omega arith)
+total_some (w ∷ ws) h = omega (arith, length-spaced w ws)
+
+total-words : (text : List ℕ) → total (words text) ≡ length text + 1
+total-words text = omega (arith, total_some (words text) (omega (arith, length-slice_split (λ b. eqb b 32) text)), ap length (join_with_byte-slice_split 32 text))
+
+number_within : (n : ℕ) → IsNumber n → length (decimal n) ≤ 10
+number_within n h = length-decimal-le 10 n (omega arith) (omega arith) (omega arith)
+
+coordinate_within : (z : ℤ) → IsCoordinate z → length (signed_decimal z) ≤ 11
+coordinate_within (pos n) h = let k : n < 2 ^ 32 = omega (arith, ints, h.high) in omega (arith, number_within n k)
+coordinate_within (negsuc n) h = let k : suc n < 2 ^ 32 = omega (arith, ints, h.low) in omega (arith, number_within (suc n) k)
+
+kind_within : (kind : LayerKind) → length (layer_kind_word kind) ≤ 6
+kind_within kinds.Tile = omega arith
+kind_within kinds.Object = omega arith
+
+yes_no_within : (answer : Bool) → length (yes_no_word answer) ≤ 3
+yes_no_within true = omega arith
+yes_no_within false = omega arith
+
+field_within : (kind : FieldKind) (value : FieldValue kind) → IsField kind value → field_room kind < 2 ^ 16 → total (field_words kind value) ≤ field_room kind + 1
+unfolding total
+field_within Number n h r = omega (arith, number_within n h)
+field_within Coordinate z h r = omega (arith, coordinate_within z h)
+field_within Block block h r = absurd (omega (arith, r))
+field_within Name name h r = omega (arith, h.short)
+field_within LayerSort kind h r = omega (arith, kind_within kind)
+field_within YesNo answer h r = omega (arith, yes_no_within answer)
+
+tokens_within : (ts : List Token) → AllByRecursion IsToken ts → room ts < 2 ^ 16 → total (flat_map token_words ts) ≤ room ts
+unfolding total
+tokens_within [] h r = omega arith
+tokens_within (Fixed word ∷ ts) h r = omega (arith, tokens_within ts h.1 (omega (arith, r)))
+tokens_within (Given kind value ∷ ts) h r = omega (arith, total-append (field_words kind value) (flat_map token_words ts), field_within kind value h.0 (omega (arith, r)), tokens_within ts h.1 (omega (arith, r)))
+tokens_within (Rest text ∷ ts) h r = omega (arith, total-append (words text) (flat_map token_words ts), total-words text, h.0.short, tokens_within ts h.1 (omega (arith, r)))
+tokens_within (Unspelled ∷ ts) h r = absurd h.0
+
+-- parts without a block are short, and with one they have to be
+pub is_short : (ts : List Token) → (has_block ts || ltb (room ts) (2 ^ 16)) ≡ true → AllByRecursion IsToken ts → (IsTrue (has_block ts) → length (spaced (flat_map token_words ts)) < 2 ^ 16) → length (spaced (flat_map token_words ts)) < 2 ^ 16
+is_short ts few h short = elim (or_cases _ _ few) [
+  | inl block ↦ short block
+  | inr small ↦ let r = ltb-true _ _ small in omega (arith, r, spaced_within (flat_map token_words ts), tokens_within ts h r)
+]

@@ -1,0 +1,147 @@
+-- A field that is read from words is spelled by those words.
+use Rattle.std.proofs.Common.{◌≡◌, ◌≢◌, ℕ, true, false, cond, eqb, not, List, [], ◌∷◌, ◌++◌, length, Ok, Err, Result, Option, Some, None, refl, sym, ap, ◌∙◌, subst}
+use Rattle.std.specs.Prelude.{codes, IfOk}
+use Rattle.std.specs.Fmt.{decimal}
+use Rattle.std.specs.Str.{IsUtf8, bytes_eq}
+use Rattle.std.proofs.lemmas.Slice.Eq.{bytes_eq-Decides}
+use Rattle.std.proofs.lemmas.List.Sums.{AllPass-from_list_all}
+use Rattle.std.proofs.lemmas.Bool.{leb-true, eqb-true, eq-eqb, and_parts, not-true, both_ways, cond_both}
+use Rattle.map_model.specs.declared.parts.LayerKind.TheVariants as kinds
+use Rattle.session.specs.declared.line.LineFault.{LineFault}
+use Rattle.session.specs.declared.line.LineFault.TheVariants.{BadWord}
+use Rattle.session.specs.Words.{words, number_of, coordinate_of, numbers_of, is_name, is_name_byte, is_text, is_text_byte, are_rows, layer_kind_of, yes_no_of}
+use Rattle.session.specs.Grammar.{FieldKind, Number, Coordinate, Block, Name, LayerSort, YesNo, FieldValue, field_at, number_at, coordinate_at, rows_at, block_at, name_at, last_text_at, layer_kind_at, yes_no_at, ends_at, ◌>>=◌, word_is}
+use Rattle.session.specs.Spelling.{spaced, commas, layer_kind_word, yes_no_word, field_words, IsField, IsName, IsText, AreRows}
+use Rattle.session.proofs.Decimals.{decimal_from}
+use Rattle.session.proofs.Coordinates.{signed_from}
+use Rattle.session.proofs.Commas.{commas_from}
+use Rattle.session.proofs.SpacedWords.{Clean, words-spaced, utf8-spaced}
+use Rattle.std.specs.List.{AllByRecursion}
+
+pub if_bind : {A B : Type 0} (r : Result A LineFault) (f : A → Result B LineFault) (P : A → Type 0) (Q : B → Type 0) → IfOk r P → ((a : A) → P a → IfOk (f a) Q) → IfOk (r >>= f) Q
+if_bind (Ok a) f P Q h k = k a h
+if_bind (Err e) f P Q h k = tt
+
+pub if_then : {A : Type 0} (r : Result A LineFault) (P Q : A → Type 0) → IfOk r P → ((a : A) → P a → Q a) → IfOk r Q
+if_then (Ok a) P Q h k = k a h
+if_then (Err e) P Q h k = tt
+
+pub if_word : {A B : Type 0} (o : Option A) (f : A → Result B LineFault) (Q : B → Type 0) → ((a : A) → o ≡ Some a → IfOk (f a) Q) → IfOk (word_is o >>= f) Q
+if_word None f Q k = tt
+if_word (Some a) f Q k = k a refl
+
+-- a field with this value was read, and these words are left
+pub record ReadField (kind : FieldKind) (ws : List (List ℕ)) (x : FieldValue kind × List (List ℕ)) : Type 0 where
+  pub fits : IsField kind x.0
+  pub words : ws ≡ field_words kind x.0 ++ x.1
+
+number_is_read : (ws : List (List ℕ)) → IfOk (number_at ws) (ReadField Number ws)
+unfolding number_at
+number_is_read [] = tt
+number_is_read (w ∷ ws) = if_word (number_of w) (λ n. Ok (n, ws)) (ReadField Number (w ∷ ws)) (λ n e. let at = decimal_from w n e in record { fits = at.1; words = ap (λ v. v ∷ ws) (sym at.0) })
+
+coordinate_is_read : (ws : List (List ℕ)) → IfOk (coordinate_at ws) (ReadField Coordinate ws)
+unfolding coordinate_at
+coordinate_is_read [] = tt
+coordinate_is_read (w ∷ ws) = if_word (coordinate_of w) (λ z. Ok (z, ws)) (ReadField Coordinate (w ∷ ws)) (λ z e. let at = signed_from w z e in record { fits = at.1; words = ap (λ v. v ∷ ws) (sym at.0) })
+
+-- the rows of a block of that width were read, and these words are left
+record ReadRows (width : ℕ) (ws : List (List ℕ)) (x : (ℕ × List ℕ) × List (List ℕ)) : Type 0 where
+  width_is : x.0.0 ≡ width
+  fits : AreRows width x.0.1
+  words : ws ≡ commas x.0.1 ∷ x.1
+
+rows_is_read : (width : ℕ) (ws : List (List ℕ)) → IfOk (rows_at width ws) (ReadRows width ws)
+unfolding rows_at
+rows_is_read width [] = tt
+rows_is_read width (w ∷ ws) = if_word (numbers_of w) (λ values. cond (are_rows width (length values)) (Ok ((width, values), ws)) (Err BadWord)) (ReadRows width (w ∷ ws)) (λ values e.
+    let at = commas_from w values e in
+    cond_both (are_rows width (length values)) (Ok ((width, values), ws)) (Err BadWord) (λ r. IfOk r (ReadRows width (w ∷ ws))) (λ is.
+    let parts = and_parts _ _ is in
+    let wide = and_parts _ _ parts.0 in
+    record {
+      width_is = refl;
+      fits = record { some = leb-true _ _ wide.0; narrow = leb-true _ _ wide.1; rows = eqb-true _ _ parts.1; filled = at.some; numbers = at.numbers };
+      words = ap (λ v. v ∷ ws) (sym at.spelled);
+    }) (λ is. tt))
+
+block_is_read : (ws : List (List ℕ)) → IfOk (block_at ws) (ReadField Block ws)
+unfolding block_at
+block_is_read ws = if_bind (number_at ws) _ (ReadField Number ws) (ReadField Block ws) (number_is_read ws) (λ n t.
+    if_then (rows_at n.0 n.1) (ReadRows n.0 n.1) (ReadField Block ws) (rows_is_read n.0 n.1) (λ x r. record {
+      fits = subst (λ w. AreRows w x.0.1) (sym r.width_is) r.fits;
+      words = t.words ∙ ap (λ vs. decimal n.0 ∷ vs) r.words ∙ ap (λ w. decimal w ∷ commas x.0.1 ∷ x.1) (sym r.width_is);
+    }))
+
+pub ne_from_not : (a b : ℕ) → not (eqb a b) ≡ true → a ≢ b
+ne_from_not a b h e = both_ways _ (not-true _ h) (eq-eqb a b e)
+
+pub is_name_from : (bytes : List ℕ) → is_name bytes ≡ true → IsName bytes
+is_name_from bytes h =
+    let parts = and_parts _ _ h in
+    let dash = and_parts _ _ parts.0 in
+    let dot = and_parts _ _ dash.0 in
+    let size = and_parts _ _ dot.0 in
+    record {
+      some = leb-true _ _ size.0;
+      short = leb-true _ _ size.1;
+      no_dot = ne_from_not _ _ dot.1;
+      no_dash = ne_from_not _ _ dash.1;
+      bytes = AllPass-from_list_all is_name_byte bytes parts.1;
+    }
+
+name_is_read : (ws : List (List ℕ)) → IfOk (name_at ws) (ReadField Name ws)
+unfolding name_at
+name_is_read [] = tt
+name_is_read (w ∷ ws) = cond_both (is_name w) (Ok (w, ws)) (Err BadWord) (λ r. IfOk r (ReadField Name (w ∷ ws))) (λ is. record { fits = is_name_from w is; words = refl }) (λ is. tt)
+
+-- a choice between two words
+by_two : {A : Type 0} (word a b : List ℕ) (x y : A) (spelled : A → List ℕ) → spelled x ≡ a → spelled y ≡ b → (z : A) → cond (bytes_eq word a) (Some x) (cond (bytes_eq word b) (Some y) None) ≡ Some z → spelled z ≡ word
+by_two {A} word a b x y spelled ea eb z =
+    let Q : Option A → Type 0 = λ o. o ≡ Some z → spelled z ≡ word in
+    cond_both (bytes_eq word a) (Some x) _ Q (λ is. λ e. let same : x ≡ z = cc in ap spelled (sym same) ∙ ea ∙ sym ((bytes_eq-Decides word a).0 is)) (λ _.
+    cond_both (bytes_eq word b) (Some y) None Q (λ is. λ e. let same : y ≡ z = cc in ap spelled (sym same) ∙ eb ∙ sym ((bytes_eq-Decides word b).0 is)) (λ _. λ e. absurd cc))
+
+layer_kind_is_read : (ws : List (List ℕ)) → IfOk (layer_kind_at ws) (ReadField LayerSort ws)
+unfolding layer_kind_at
+layer_kind_is_read [] = tt
+layer_kind_is_read (w ∷ ws) = if_word (layer_kind_of w) (λ k. Ok (k, ws)) (ReadField LayerSort (w ∷ ws)) (λ k e. record { fits = tt; words = ap (λ v. v ∷ ws) (sym (by_two w (codes "tile") (codes "object") kinds.Tile kinds.Object layer_kind_word refl refl k e)) })
+
+yes_no_is_read : (ws : List (List ℕ)) → IfOk (yes_no_at ws) (ReadField YesNo ws)
+unfolding yes_no_at
+yes_no_is_read [] = tt
+yes_no_is_read (w ∷ ws) = if_word (yes_no_of w) (λ a. Ok (a, ws)) (ReadField YesNo (w ∷ ws)) (λ a e. record { fits = tt; words = ap (λ v. v ∷ ws) (sym (by_two w (codes "yes") (codes "no") true false yes_no_word refl refl a e)) })
+
+pub field_is_read : (kind : FieldKind) (ws : List (List ℕ)) → IfOk (field_at kind ws) (ReadField kind ws)
+field_is_read Number ws = number_is_read ws
+field_is_read Coordinate ws = coordinate_is_read ws
+field_is_read Block ws = block_is_read ws
+field_is_read Name ws = name_is_read ws
+field_is_read LayerSort ws = layer_kind_is_read ws
+field_is_read YesNo ws = yes_no_is_read ws
+
+pub is_text_from : (bytes : List ℕ) → is_text bytes ≡ true → IsUtf8 bytes → IsText bytes
+is_text_from bytes h u =
+    let parts = and_parts _ _ h in
+    let size = and_parts _ _ parts.0 in
+    record {
+      some = leb-true _ _ size.0;
+      short = leb-true _ _ size.1;
+      bytes = λ k d l. let at = and_parts _ _ (AllPass-from_list_all is_text_byte bytes parts.1 k d l) in (leb-true _ _ at.0, ne_from_not _ _ at.1);
+      utf8 = u;
+    }
+
+-- the words are those of a text
+pub record ReadText (ws : List (List ℕ)) (text : List ℕ) : Type 0 where
+  pub fits : IsText text
+  pub words : ws ≡ words text
+
+pub text_is_read : (ws : List (List ℕ)) → AllByRecursion Clean ws → IfOk (last_text_at ws) (ReadText ws)
+unfolding last_text_at
+text_is_read [] h = tt
+text_is_read (w ∷ ws) h = cond_both (is_text (spaced (w ∷ ws))) (Ok (spaced (w ∷ ws))) (Err BadWord) (λ r. IfOk r (ReadText (w ∷ ws))) (λ is. record { fits = is_text_from (spaced (w ∷ ws)) is (utf8-spaced (w ∷ ws) h); words = sym (words-spaced w ws h) }) (λ is. tt)
+
+pub end_is_read : (ws : List (List ℕ)) → IfOk (ends_at ws) (λ _. ws ≡ [])
+unfolding ends_at
+end_is_read [] = refl
+end_is_read (w ∷ ws) = tt

@@ -1,0 +1,94 @@
+-- What each kind of field reads of its words.
+use Rattle.std.proofs.Common.{◌≡◌, ℕ, Bool, true, false, not, List, ◌∷◌, ◌++◌, length, Ok, Some, ℤ, refl, ap, arith}
+use Rattle.std.specs.Prelude.{codes}
+use Rattle.std.specs.List.{AllByRecursion}
+use Rattle.std.specs.Fmt.{decimal, signed_decimal}
+use Rattle.std.proofs.lemmas.List.Sums.{list_all-from_AllPass}
+use Rattle.std.proofs.lemmas.Bool.{le-leb, ne_eqb, eq-eqb, and_from}
+use Rattle.map_model.specs.declared.parts.LayerKind.{LayerKind}
+use Rattle.map_model.specs.declared.parts.LayerKind.TheVariants as kinds
+use Rattle.session.specs.Words.{words, is_name, is_name_byte, is_text, is_text_byte, are_rows, layer_kind_of, yes_no_of}
+use Rattle.session.specs.Grammar.{number_at, coordinate_at, rows_at, block_at, name_at, last_text_at, layer_kind_at, yes_no_at, field_at, FieldKind, Number, Coordinate, Block, Name, LayerSort, YesNo, FieldValue}
+use Rattle.session.specs.Spelling.{commas, layer_kind_word, yes_no_word, field_words, IsField, IsNumber, IsCoordinate, IsName, IsText, AreRows}
+use Rattle.session.proofs.Decimals.{number_of-decimal}
+use Rattle.session.proofs.Coordinates.{coordinate_of-signed}
+use Rattle.session.proofs.Commas.{numbers_of-commas, plain_commas}
+use Rattle.session.proofs.SpacedWords.{Plain, Clean, clean, plain_literal, plain_number, plain_coordinate, plain_name}
+use Rattle.session.proofs.Cutting.{text_of_words}
+
+pub number_at-decimal : (n : ℕ) (ws : List (List ℕ)) → IsNumber n → number_at (decimal n ∷ ws) ≡ Ok (n, ws)
+unfolding number_at
+number_at-decimal n ws h = rw (number_of-decimal n h) refl
+
+pub coordinate_at-signed : (z : ℤ) (ws : List (List ℕ)) → IsCoordinate z → coordinate_at (signed_decimal z ∷ ws) ≡ Ok (z, ws)
+unfolding coordinate_at
+coordinate_at-signed z ws h = rw (coordinate_of-signed z h) refl
+
+block : (width : ℕ) (values : List ℕ) → AreRows width values → are_rows width (length values) ≡ true
+block width values h = and_from _ _ (and_from _ _ (le-leb 1 width h.some) (le-leb width 4096 h.narrow)) (eq-eqb _ 0 h.rows)
+
+rows_at-commas : (width : ℕ) (values : List ℕ) (ws : List (List ℕ)) → AreRows width values → rows_at width (commas values ∷ ws) ≡ Ok ((width, values), ws)
+unfolding rows_at
+rows_at-commas width values ws h = rw (numbers_of-commas values h.filled h.numbers, block width values h) refl
+
+pub block_at-words : (width : ℕ) (values : List ℕ) (ws : List (List ℕ)) → AreRows width values → block_at (decimal width ∷ commas values ∷ ws) ≡ Ok ((width, values), ws)
+unfolding block_at
+block_at-words width values ws h = rw (number_at-decimal width (commas values ∷ ws) (omega (arith, h.narrow))) (rows_at-commas width values ws h)
+
+name : (bytes : List ℕ) → IsName bytes → is_name bytes ≡ true
+name bytes h =
+    and_from _ _ (and_from _ _ (and_from _ _ (and_from _ _ (le-leb 1 (length bytes) h.some) (le-leb (length bytes) 64 h.short)) (ap not (ne_eqb _ 46 h.no_dot))) (ap not (ne_eqb _ 45 h.no_dash)))
+    (list_all-from_AllPass is_name_byte bytes h.bytes)
+
+pub name_at-name : (bytes : List ℕ) (ws : List (List ℕ)) → IsName bytes → name_at (bytes ∷ ws) ≡ Ok (bytes, ws)
+unfolding name_at
+name_at-name bytes ws h = rw (name bytes h) refl
+
+text : (bytes : List ℕ) → IsText bytes → is_text bytes ≡ true
+text bytes h =
+    and_from _ _ (and_from _ _ (le-leb 1 (length bytes) h.some) (le-leb (length bytes) 200 h.short))
+    (list_all-from_AllPass is_text_byte bytes (λ k d l. let at = h.bytes k d l in and_from _ _ (le-leb 32 _ at.0) (ap not (ne_eqb _ 127 at.1))))
+
+pub last_text_at-words : (bytes : List ℕ) → IsText bytes → last_text_at (words bytes) ≡ Ok bytes
+last_text_at-words bytes h = rw (text_of_words bytes, text bytes h) refl
+
+layer_kind_of-word : (kind : LayerKind) → layer_kind_of (layer_kind_word kind) ≡ Some kind
+layer_kind_of-word kinds.Tile = refl
+layer_kind_of-word kinds.Object = refl
+
+pub layer_kind_at-word : (kind : LayerKind) (ws : List (List ℕ)) → layer_kind_at (layer_kind_word kind ∷ ws) ≡ Ok (kind, ws)
+unfolding layer_kind_at
+layer_kind_at-word kind ws = rw (layer_kind_of-word kind) refl
+
+yes_no_of-word : (answer : Bool) → yes_no_of (yes_no_word answer) ≡ Some answer
+yes_no_of-word true = refl
+yes_no_of-word false = refl
+
+pub yes_no_at-word : (answer : Bool) (ws : List (List ℕ)) → yes_no_at (yes_no_word answer ∷ ws) ≡ Ok (answer, ws)
+unfolding yes_no_at
+yes_no_at-word answer ws = rw (yes_no_of-word answer) refl
+
+pub plain_kind : (kind : LayerKind) → Plain (layer_kind_word kind)
+plain_kind kinds.Tile = plain_literal (codes "tile") refl
+plain_kind kinds.Object = plain_literal (codes "object") refl
+
+pub plain_yes_no : (answer : Bool) → Plain (yes_no_word answer)
+plain_yes_no true = plain_literal (codes "yes") refl
+plain_yes_no false = plain_literal (codes "no") refl
+
+-- a field is read from its words
+pub field_at-words : (kind : FieldKind) (value : FieldValue kind) (ws : List (List ℕ)) → IsField kind value → field_at kind (field_words kind value ++ ws) ≡ Ok (value, ws)
+field_at-words Number n ws h = number_at-decimal n ws h
+field_at-words Coordinate z ws h = coordinate_at-signed z ws h
+field_at-words Block block ws h = block_at-words block.0 block.1 ws h
+field_at-words Name bytes ws h = name_at-name bytes ws h
+field_at-words LayerSort kind ws h = layer_kind_at-word kind ws
+field_at-words YesNo answer ws h = yes_no_at-word answer ws
+
+pub clean_field : (kind : FieldKind) (value : FieldValue kind) → IsField kind value → AllByRecursion Clean (field_words kind value)
+clean_field Number n h = (clean _ (plain_number n h), tt)
+clean_field Coordinate z h = (clean _ (plain_coordinate z h), tt)
+clean_field Block block h = (clean _ (plain_number block.0 (omega (arith, h.narrow))), (clean _ (plain_commas block.1 h.numbers), tt))
+clean_field Name bytes h = (clean _ (plain_name bytes h), tt)
+clean_field LayerSort kind h = (clean _ (plain_kind kind), tt)
+clean_field YesNo answer h = (clean _ (plain_yes_no answer), tt)

@@ -1,0 +1,14 @@
+use Rattle.std.proofs.Common.{◌-◌, ◌≤◌, length}
+use Rattle.undo_stack.specs.Row.{IsMoved}
+use Rattle.undo_stack.specs.Entries.{entry_change}
+use Rattle.undo_stack.proofs.entry.redo_up.Given as goal
+
+abbrev pub invariant-loop-at : goal.invariant-loop-at
+invariant-loop-at g l = record {
+  moved : IsMoved (entry_change g.C.Command.change) l.fn.row l.fn.from l.fn.document l.row l.at l.document;
+  below : l.at ≤ l.to;
+  within : l.to ≤ length l.row;
+}
+
+abbrev pub decreases-loop-at : goal.decreases-loop-at
+decreases-loop-at g l = l.to - l.at
