@@ -37,8 +37,10 @@ first_is bs n h = let low = h.0.high in sym (position_or_len_is (λ b. eqb b 10)
 pub first_is_none : (bs : List ℕ) → Nowhere (Passes (is_byte 10) bs) 0 (length bs) → length bs ≡ first_newline bs
 first_is_none bs h = sym (position_or_len_is (λ b. eqb b 10) bs (length bs) 0 (omega arith) (λ k l. false_from_ne_true _ (h k (omega arith) l)) (λ l. absurd (omega (arith, l))))
 
-pub first_moved : (part old : List ℕ) (i : ℕ) → part ≡ old → HasNoNewline old → length old ≡ i → i ≡ 0 + first_newline part
-first_moved part old i e h l = omega (arith, ap first_newline e, first_of_none old h, l)
+-- the newline's place in a part that begins at s: behind it, where it has none
+pub first_moved : (part old : List ℕ) (s i : ℕ) → part ≡ old → HasNoNewline old → length old ≡ i → s + i ≡ s + first_newline part
+first_moved part old s i e h l = omega (arith, ap first_newline e, first_of_none old h, l)
 
-pub first_filled : (part old more : List ℕ) (i n : ℕ) → part ≡ old ++ more → HasNoNewline old → length old ≡ i → n ≡ first_newline more → i + n ≡ 0 + first_newline part
-first_filled part old more i n e h l k = omega (arith, ap first_newline e, first-append old more h, l, k)
+-- and among the bytes that came behind it
+pub first_filled : (part old more : List ℕ) (s i n : ℕ) → part ≡ old ++ more → HasNoNewline old → length old ≡ i → n ≡ first_newline more → s + i + n ≡ s + first_newline part
+first_filled part old more s i n e h l k = omega (arith, ap first_newline e, first-append old more h, l, k)
