@@ -1,5 +1,5 @@
 -- When a reader of lines calls `read`.
-use Rattle.std.proofs.Common.{◌≡◌, ℕ, ◌<◌, ◌≤◌, List, ◌++◌, [], length, Option, Some, None, refl, sym, ap, subst, ◌∙◌, inl, inr, append_assoc, arith}
+use Rattle.std.proofs.Common.{◌≡◌, ℕ, ◌≤◌, List, ◌++◌, [], length, Option, Some, None, refl, sym, ap, subst, ◌∙◌, inl, inr, append_assoc, arith}
 use Rattle.std.specs.Prelude.{unwrap_or}
 use Rattle.std.specs.Io.KnownBytes.{Consumes, Keeps, prepend_known}
 use Rattle.std.proofs.lemmas.List.Elements.{All-append}

@@ -86,11 +86,7 @@ fn make_room(bytes: &mut [u8], start: usize, end: usize) -> usize
 }
 
 /// Calls `read` once, for what lies behind a place.
-fn read_behind<R: Read>(
-    reader: &mut R,
-    bytes: &mut [u8],
-    place: usize,
-) -> Result<usize, ReadFault>
+fn read_behind<R: Read>(reader: &mut R, bytes: &mut [u8], place: usize) -> Result<usize, ReadFault>
     requires { place < length bytes.old }
     ensures within { IfOk result (λ n. place + n ≤ length bytes.old) }
     ensures front { take place bytes.new ≡ take place bytes.old }
@@ -179,6 +175,7 @@ impl LineReader {
         ensures ready { HasLine self.old → result ≡ Ok (Some Found.Line) }
         ensures unread { HasLine self.old → reader.new ≡ reader.old }
         ensures asks { AsksInNeed self.old (R.remaining reader.old) self.new (R.remaining reader.new) }
+        ensures untouched { self.new.calls ≡ self.old.calls → reader.new ≡ reader.old }
 
         // A fault comes only where a call of `read` failed, or at the bound.
         ensures fault { OnErr result (self.new.calls < 2 ^ 32 → HasFailed self.old self.new) }
@@ -253,6 +250,7 @@ impl LineReader {
         ensures ended { IsTrue self.new.ended → IsAtEnd (R.remaining reader.new) }
         ensures err { OnErr result (self.new.ended ≡ self.old.ended) }
         ensures asks { AsksInNeed self.old (R.remaining reader.old) self.new (R.remaining reader.new) }
+        ensures untouched { self.new.calls ≡ self.old.calls → reader.new ≡ reader.old }
         ensures fault { OnErr result (self.new.calls < 2 ^ 32 → HasFailed self.old self.new) }
     {
         if self.calls >= MAX_CALLS {
@@ -306,6 +304,7 @@ impl LineReader {
         ensures spends { OnOk result (budget self.new < budget self.old) }
         ensures calls { self.new.calls ≤ 2 ^ 32 }
         ensures asks { AsksInNeed self.old (R.remaining reader.old) self.new (R.remaining reader.new) }
+        ensures untouched { self.new.calls ≡ self.old.calls → reader.new ≡ reader.old }
         ensures fault { OnErr result (self.new.calls < 2 ^ 32 → HasFailed self.old self.new) }
     {
         while !self.cut() {
@@ -328,6 +327,7 @@ impl LineReader {
         ensures spends { IfOk result (λ found. IfSome found (λ _. budget self.new < budget self.old)) }
         ensures calls { self.new.calls ≤ 2 ^ 32 }
         ensures asks { AsksInNeed self.old (R.remaining reader.old) self.new (R.remaining reader.new) }
+        ensures untouched { self.new.calls ≡ self.old.calls → reader.new ≡ reader.old }
         ensures fault { OnErr result (self.new.calls < 2 ^ 32 → HasFailed self.old self.new) }
     {
         loop {

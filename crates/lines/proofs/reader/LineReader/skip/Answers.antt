@@ -18,6 +18,7 @@ loop-self-preserved g c =
       input = skips_same _ _ _ past c.in_ok-fill.ensures.same;
       asks = asks_on c.args.self.now (g.R.Read.remaining c.args.reader.now) c.discard.new.self (g.R.Read.remaining c.loop-self.reader) c.fill.new.self (g.R.Read.remaining c.fill.new.reader) past (asks_same c.args.self.now (g.R.Read.remaining c.args.reader.now) c.loop-self.self c.discard.new.self (g.R.Read.remaining c.loop-self.reader) c.loop-self.invariant.asks calls last) c.in_ok-fill.ensures.asks;
       ended = c.in_ok-fill.ensures.ended;
+      untouched = λ e. absurd (omega (arith, e, calls, c.loop-self.invariant.called, c.in_ok-fill.ensures.counted));
       within = omega (arith, calls, c.loop-self.invariant.spent, c.in_ok-fill.ensures.counted, c.in_ok-fill.ensures.calls, c.in_ok-fill.ensures.fits);
       called = omega (arith, calls, c.loop-self.invariant.called, c.in_ok-fill.ensures.counted);
       spent = omega (arith, calls, c.loop-self.invariant.spent, c.in_ok-fill.ensures.counted);
