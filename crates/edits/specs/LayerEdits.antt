@@ -43,12 +43,12 @@ put_in None place m = m
 put_in (Some l) place m = with_layer_at place l m
 
 -- the layer at one place is taken out, and put in at the other, which is its place in the result
-abbrev pub moved : LayerPlace → LayerPlace → MapParts → MapParts
-moved from to m = put_in (layer_at m from) to (without_layer_at from m)
+abbrev pub with_layer_moved : LayerPlace → LayerPlace → MapParts → MapParts
+with_layer_moved from to m = put_in (layer_at m from) to (without_layer_at from m)
 
 abbrev pub after_move_from : DocumentParts → ℕ → Option LayerPlace → Result DocumentParts EditFault
 after_move_from d to None = Err NoSuchLayer
-after_move_from d to (Some from) = if nat_lt to (length d.map.layers) then Ok (with_map (moved from (sibling_place from to)) d) else Err OutOfRange
+after_move_from d to (Some from) = if nat_lt to (length d.map.layers) then Ok (with_map (with_layer_moved from (sibling_place from to)) d) else Err OutOfRange
 
 abbrev pub after_move : DocumentParts → ℕ → ℕ → Result DocumentParts EditFault
 after_move d id to = after_move_from d to (layer_place d.map id)

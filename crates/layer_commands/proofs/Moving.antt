@@ -14,7 +14,7 @@ use Rattle.map_model.proofs.Keeps.{moved-keeps}
 use Rattle.map_model.proofs.Places.{layer_place-there}
 use Rattle.command_api.specs.Exchange.{IsExchanged}
 use Rattle.command_api.specs.Making.{Makes}
-use Rattle.edits.specs.LayerEdits.{put_in, moved, after_move}
+use Rattle.edits.specs.LayerEdits.{put_in, with_layer_moved, after_move}
 use Rattle.layer_commands.specs.Changes.{CanBeMoved, move_exchange, move_change, move_names}
 
 pub some_at : (o : Option Layer) → IsSome o → (l : Layer) × (o ≡ Some l)
@@ -22,17 +22,17 @@ some_at None h = cc
 some_at (Some l) h = (l, refl)
 
 -- ---- moved
-pub moved-at : (from to : LayerPlace) (l : Layer) (m : MapParts) → layer_at m from ≡ Some l → moved from to m ≡ with_layer_at to l (without_layer_at from m)
-moved-at from to l m e = ap (λ o. put_in o to (without_layer_at from m)) e
+pub with_layer_moved-at : (from to : LayerPlace) (l : Layer) (m : MapParts) → layer_at m from ≡ Some l → with_layer_moved from to m ≡ with_layer_at to l (without_layer_at from m)
+with_layer_moved-at from to l m e = ap (λ o. put_in o to (without_layer_at from m)) e
 
-pub moved-IsWellFormed : (from to : LayerPlace) (m : MapParts) → IsSome (layer_at m from) → IsWellFormed m → IsWellFormed (moved from to m)
-moved-IsWellFormed from to m there h =
+pub with_layer_moved-IsWellFormed : (from to : LayerPlace) (m : MapParts) → IsSome (layer_at m from) → IsWellFormed m → IsWellFormed (with_layer_moved from to m)
+with_layer_moved-IsWellFormed from to m there h =
     let found = some_at (layer_at m from) there in
-    rw (moved-at from to found.0 m found.1) (moved-keeps m from.at to.at found.0 found.1 h)
+    rw (with_layer_moved-at from to found.0 m found.1) (moved-keeps m from.at to.at found.0 found.1 h)
 
 -- a move, and the move back
 back_at : (from to : LayerPlace) (l : Layer) (m : MapParts) → layer_at m from ≡ Some l → IsSome (layer_at m to)
-    → (layer_at (with_layer_at to l (without_layer_at from m)) to ≡ Some l) × (moved to from (with_layer_at to l (without_layer_at from m)) ≡ m)
+    → (layer_at (with_layer_at to l (without_layer_at from m)) to ≡ Some l) × (with_layer_moved to from (with_layer_at to l (without_layer_at from m)) ≡ m)
 back_at from to l m e room =
     let there = some_at (layer_at m to) room in
     let within = slice_get-within m.layers from.at l e in
@@ -42,21 +42,21 @@ back_at from to l m e room =
     let put = slice_get-insert (remove m.layers from.at) to.at l fits in
     let taken = remove-insert (remove m.layers from.at) to.at l fits in (
       put,
-      moved-at to from l (with_layer_at to l (without_layer_at from m)) put
+      with_layer_moved-at to from l (with_layer_at to l (without_layer_at from m)) put
           ∙ ap (λ ls. record m { layers = insert ls from.at l }) taken
           ∙ ap (λ ls. record m { layers = ls }) (insert-remove m.layers from.at l e),
     )
 
-pub moved-moved : (from to : LayerPlace) (m : MapParts) → CanBeMoved from to m → moved to from (moved from to m) ≡ m
-moved-moved from to m h =
+pub with_layer_moved-with_layer_moved : (from to : LayerPlace) (m : MapParts) → CanBeMoved from to m → with_layer_moved to from (with_layer_moved from to m) ≡ m
+with_layer_moved-with_layer_moved from to m h =
     let found = some_at (layer_at m from) h.there in
-    ap (moved to from) (moved-at from to found.0 m found.1) ∙ (back_at from to found.0 m found.1 h.room).1
+    ap (with_layer_moved to from) (with_layer_moved-at from to found.0 m found.1) ∙ (back_at from to found.0 m found.1 h.room).1
 
-pub moved-CanBeMoved : (from to : LayerPlace) (m : MapParts) → CanBeMoved from to m → CanBeMoved to from (moved from to m)
-moved-CanBeMoved from to m h =
+pub with_layer_moved-CanBeMoved : (from to : LayerPlace) (m : MapParts) → CanBeMoved from to m → CanBeMoved to from (with_layer_moved from to m)
+with_layer_moved-CanBeMoved from to m h =
     let found = some_at (layer_at m from) h.there in
     let l = found.0 in
-    let is = moved-at from to l m found.1 in
+    let is = with_layer_moved-at from to l m found.1 in
     let back = back_at from to l m found.1 h.room in
     let within = slice_get-within m.layers from.at l found.1 in
     let less = length-remove m.layers from.at within in
@@ -65,15 +65,15 @@ moved-CanBeMoved from to m h =
       there = rw (is, back.0) refl;
       room = let other = slice_get-Some (insert (remove m.layers from.at) to.at l) from.at (omega (arith, within, less, more)) in rw (is, other.1) refl;
       before = h.after;
-      after = rw (moved-moved from to m h) h.before;
+      after = rw (with_layer_moved-with_layer_moved from to m h) h.before;
     }
 
-pub move_turned : (from to : LayerPlace) (d e : DocumentParts) → CanBeMoved from to d.map → e ≡ with_map (moved from to) d
+pub move_turned : (from to : LayerPlace) (d e : DocumentParts) → CanBeMoved from to d.map → e ≡ with_map (with_layer_moved from to) d
     → IsExchanged (move_exchange (record { from = from; to = to })) (move_exchange (record { from = to; to = from })) d e
 move_turned from to d e can is = record {
   document = is;
-  fits = rw is (moved-CanBeMoved from to d.map can);
-  back = rw is (ap (λ m. record d { map = m }) (moved-moved from to d.map can));
+  fits = rw is (with_layer_moved-CanBeMoved from to d.map can);
+  back = rw is (ap (λ m. record d { map = m }) (with_layer_moved-with_layer_moved from to d.map can));
   names = refl;
   obsolete = refl;
   made = refl;
@@ -89,7 +89,7 @@ move_asked d id to from e room h =
       fits = (
         λ q. cc,
         record {
-          fits = record { there = there; room = rw other.1 refl; before = h; after = moved-IsWellFormed from (sibling_place from to) d.map there h };
+          fits = record { there = there; room = rw other.1 refl; before = h; after = with_layer_moved-IsWellFormed from (sibling_place from to) d.map there h };
           settled = refl;
         },
       );

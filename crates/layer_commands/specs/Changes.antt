@@ -16,7 +16,7 @@ use Rattle.layer_commands.specs.declared.move_layer.MoveLayer.{MoveLayer}
 use Rattle.layer_commands.specs.declared.rename.RenameLayer.{RenameLayer}
 use Rattle.layer_commands.specs.declared.show.ShowLayer.{ShowLayer}
 use Rattle.map_model.specs.Document.{with_map}
-use Rattle.edits.specs.LayerEdits.{moved}
+use Rattle.edits.specs.LayerEdits.{with_layer_moved}
 
 -- ---- parts of a layer that are exchanged
 abbrev pub rename_names : Names
@@ -62,7 +62,7 @@ pub record CanBeMoved (from to : LayerPlace) (m : MapParts) : Type 0 where
   pub there : IsSome (layer_at m from)
   pub room : IsSome (layer_at m to)
   pub before : IsWellFormed m
-  pub after : IsWellFormed (moved from to m)
+  pub after : IsWellFormed (with_layer_moved from to m)
 
 abbrev pub move_names : Names
 move_names = untagged (codes "Move Layer") (codes "move layer") Never
@@ -73,7 +73,7 @@ move_exchange c = record {
   names = move_names;
   obsolete = false;
   made = None;
-  exchanged = with_map (moved c.from c.to);
+  exchanged = with_map (with_layer_moved c.from c.to);
   fits = λ d. CanBeMoved c.from c.to d.map;
 }
 

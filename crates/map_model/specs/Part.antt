@@ -12,7 +12,7 @@ pub record Part (A V : Type 0) : Type 0 where
   pub update : (V → V) → A → A
 
 -- the laws of a part
-pub record IsPart {A V : Type 0} (p : Part A V) : Type 0 where
+pub record IsLawfulPart {A V : Type 0} (p : Part A V) : Type 0 where
   pub get-update : (f : V → V) (v : V) (a : A) → p.get a ≡ Some v → p.get (p.update f a) ≡ Some (f v)
   pub update-same : (f : V → V) (v : V) (a : A) → p.get a ≡ Some v → f v ≡ v → p.update f a ≡ a
   pub update-update : (f g : V → V) (a : A) → p.update f (p.update g a) ≡ p.update (λ v. f (g v)) a

@@ -15,7 +15,7 @@ pub record Slot (X : Type 0) : Type 1 where
   pub is_filled : DocumentParts → Type 0
 
 -- the laws of a slot
-pub record IsSlot {X : Type 0} (s : Slot X) : Type 0 where
+pub record IsLawfulSlot {X : Type 0} (s : Slot X) : Type 0 where
   pub there : (d : DocumentParts) → s.is_filled d → IsSome (s.item d)
   pub filled : (x : X) (d : DocumentParts) → s.is_free d → s.is_filled (s.with_item x d)
   pub without-with : (x : X) (d : DocumentParts) → s.is_free d → s.without_item (s.with_item x d) ≡ d

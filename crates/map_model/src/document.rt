@@ -65,8 +65,13 @@ impl Document {
         ensures document { self.new ≡ painted layer edits.now side self.old }
         ensures well_formed { IsWellFormed self.new.map }
     {
-        let width = self.map.parts.width as usize;
-        put_in(&mut self.map.parts.layers, layer, width, edits, side);
+        match edits {
+            [edit] => self.put_cell(layer, edit.x, edit.y, edit.value(side)),
+            _ => {
+                let width = self.map.parts.width as usize;
+                put_in(&mut self.map.parts.layers, layer, width, edits, side);
+            }
+        }
     }
 
     /// Puts a layer in at a place; those from there on stand one place higher. The map is well formed with it.

@@ -22,5 +22,5 @@ invariant_of-self-inside c =
     with_tiles-keeps c.args.layer (put_values m.width c.args.side c.args.edits.now) m c.put_in.new.layers c.put_in.ensures.layers
     (put_values-keeps m.width c.args.side c.args.edits.now c.put_in.ensures.range) c.self-inside.invariant
 
-pub returns-clause-well_formed : goal.returns-clause-well_formed
-returns-clause-well_formed c = invariant_of-self-inside c
+pub returns-in_default-clause-well_formed : goal.returns-in_default-clause-well_formed
+returns-in_default-clause-well_formed c = invariant_of-self-inside c
