@@ -85,7 +85,8 @@ fn seek<T>(before: &mut LinkedList<T>, after: &mut LinkedList<T>, at: usize)
     }
 }
 
-// The same, at another place than the one between the two lists.
+// The same, where links have to be moved.
+#[inline(never)]
 fn walk<T>(before: &mut LinkedList<T>, after: &mut LinkedList<T>, at: usize)
     requires place { at ≤ length before.old + length after.old }
     requires fits { length before.old + length after.old < 2 ^ 63 }

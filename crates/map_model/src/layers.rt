@@ -24,6 +24,14 @@ pub fn place_in(layers: &Chain<Layer>, id: u32) -> Option<usize>
             return Some(at);
         }
     }
+    place_by_walk(layers, id)
+}
+
+// The place of the layer with an id, by a walk from the first layer on.
+#[inline(never)]
+fn place_by_walk(layers: &Chain<Layer>, id: u32) -> Option<usize>
+    ensures { result ≡ position (has_id id) layers.now }
+{
     layers.iter().position(|layer| layer.id == id)
 }
 
@@ -40,6 +48,7 @@ pub fn set_in(layers: &mut Chain<Layer>, id: u32, at: usize, value: Gid)
 }
 
 /// Sets the cells of a list, in the tile layer with an id, to their values on a side.
+#[inline(never)]
 #[tactic(auto, using(crate::proofs::Changes::places))]
 pub fn put_in(layers: &mut Chain<Layer>, id: u32, width: usize, edits: &[CellEdit], side: Side)
     requires distinct { Distinct (layer_ids layers.old) }
