@@ -1,7 +1,8 @@
 -- What planning a line and committing an edit say of each other.
-use Rattle.std.specs.Prelude.{◌≡◌, Option, None, Some, Result, Ok, false, ◌⊎◌, ⊤}
+use Rattle.std.specs.Prelude.{◌≡◌, Option, None, Some, Result, Ok, Err, false, ◌⊎◌, ⊤}
 use Rattle.map_model.specs.Document.{DocumentParts}
 use Rattle.command_api.specs.Law.{Change}
+use Rattle.command_api.specs.declared.fault.EditFault.{EditFault}
 use Rattle.layer_commands.specs.Changes.{add_change, remove_change, rename_change, show_change, move_change}
 use Rattle.paint_commands.specs.Painting.{paint_change}
 use Rattle.undo_stack.specs.History.{Step, History, current}
@@ -15,7 +16,7 @@ use Rattle.editor.specs.declared.planned.Edit.{Edit}
 use Rattle.editor.specs.declared.planned.Edit.TheVariants.{Paint, AddLayer, RemoveLayer, RenameLayer, ShowLayer, MoveLayer}
 use Rattle.editor.specs.declared.planned.Planned.{Planned}
 use Rattle.editor.specs.declared.planned.Planned.TheVariants as planned
-use Rattle.editor.specs.Machine.{Machine, active_of, Refuses, StandsAt, edit_of, StepOfLine}
+use Rattle.editor.specs.Machine.{Machine, active_of, Refuses, StandsAt, edit_of, refusal_of_edit, StepOfLine}
 
 -- what a planned edit does
 abbrev pub edit_change : Edit → Change
@@ -34,6 +35,11 @@ FitsActive (Some h) c = c.fits_redo (current h) × (c.names.follows ≡ false)
 -- the plan of a line that is refused
 abbrev pub refused : Refusal → Planned
 refused refusal = planned.Reply (replies.Refused refusal)
+
+-- the plan of an edit, or of its refusal
+abbrev pub plan_of : Result Edit EditFault → Planned
+plan_of (Ok edit) = planned.Push edit
+plan_of (Err fault) = refused (refusal_of_edit fault)
 
 -- a planned edit fits
 abbrev pub FitsPlan : Machine → Planned → Type 0

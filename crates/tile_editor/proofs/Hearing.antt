@@ -1,5 +1,5 @@
 -- How a run goes on.
-use Rattle.std.proofs.Common.{◌≡◌, ℕ, ◌+◌, ◌^◌, ◌≤◌, List, [], ◌∷◌, ◌++◌, length, Option, Some, None, Result, Ok, Err, refl, sym, ap, subst, ◌∙◌, inl, inr, ◌⊎◌, append_assoc, arith}
+use Rattle.std.proofs.Common.{◌≡◌, ℕ, ◌+◌, ◌^◌, ◌≤◌, List, [], ◌∷◌, ◌++◌, length, Option, Some, None, Err, refl, sym, ap, subst, ◌∙◌, inl, inr, ◌⊎◌, append_assoc, arith}
 use Rattle.std.specs.Prelude.{option_to_list, IfSome}
 use Rattle.std.specs.Io.KnownBytes.{Appends, Keeps}
 use Rattle.std.proofs.lemmas.Bool.{le-leb}
@@ -8,25 +8,11 @@ use Rattle.std.proofs.lemmas.Grind.{flat_map-append}
 use Rattle.lines.specs.declared.reader.Found.{Found}
 use Rattle.lines.specs.declared.reader.Found.TheVariants as found
 use Rattle.lines.specs.Lines.{lines_of, FindsLine}
-use Rattle.command_api.specs.Law.{Change}
-use Rattle.undo_stack.specs.History.{History, Step, current}
-use Rattle.undo_stack.specs.Pushing.{step_of}
-use Rattle.session.specs.declared.line.Line.{Line}
-use Rattle.session.specs.declared.line.Line.TheVariants.{Stamp, AddLayer, RemoveLayer, RenameLayer, ShowLayer, MoveLayer}
-use Rattle.session.specs.declared.line.LineFault.{LineFault}
 use Rattle.session.specs.declared.line.LineFault.TheVariants.{TooLong}
-use Rattle.session.specs.declared.reply.Refusal.{Refusal}
-use Rattle.session.specs.declared.reply.Refusal.TheVariants as refusals
 use Rattle.session.specs.declared.reply.Reply.{Reply}
-use Rattle.session.specs.declared.reply.Reply.TheVariants.{Refused}
 use Rattle.session.specs.Grammar.{line_of}
-use Rattle.editor.specs.declared.editor.Editor.{Editor}
-use Rattle.editor.specs.declared.planned.Edit.{Edit}
-use Rattle.editor.specs.declared.planned.Planned.TheVariants as planned
-use Rattle.editor.specs.Editors.{machine_of, IsSound}
-use Rattle.editor.specs.Machine.{Machine, StepOfBytes, StepOf, StepOfLine, EditLine, EditsOpen, edit_answer}
-use Rattle.editor.specs.Planning.{IsEditOf, Commits, edit_change}
-use Rattle.tile_editor.specs.Runs.{start, Run, Told, Goes, PlansRead, PlansFound, StepFound, Partly, RunsAll, RunsToRead, RunsToWrite, output, reply_line}
+use Rattle.editor.specs.Machine.{Machine, started_machine, StepOfBytes}
+use Rattle.tile_editor.specs.Runs.{Run, Told, Goes, StepFound, Partly, RunsAll, RunsToRead, RunsToWrite, output, reply_line}
 use Rattle.tile_editor.proofs.Appending.{appends_more, appends_nothing}
 
 pub too_long : (long : List ℕ) → 2 ^ 16 ≤ length long → line_of long ≡ Err TooLong
@@ -57,7 +43,7 @@ told_more input line left now mid reply before after after' n k t s w =
       heard = t.heard ++ line ∷ [];
       replies = t.replies ++ option_to_list reply;
       split = t.split ∙ sym (append_assoc t.heard (line ∷ []) left);
-      run = run_more t.heard line start now mid t.replies reply t.run s;
+      run = run_more t.heard line (started_machine 0) now mid t.replies reply t.run s;
       written = subst P (sym joined) (appends_more before after after' (output t.replies) (output (option_to_list reply)) t.written w);
       lines_counted = omega (arith, t.lines_counted, length-append t.heard (line ∷ []));
       replies_counted = omega (arith, t.replies_counted, length-append t.replies (option_to_list reply));
@@ -179,104 +165,3 @@ goes_kept (Some input) (Some xs) now before after after' n k g h = record {
   lines_counted = g.lines_counted;
   replies_counted = g.replies_counted;
 }
-
--- ---- from plans to steps
-quiet_read : (read : Result Line LineFault) (old new : Machine) → PlansRead read old planned.Quiet new → StepOf read old None new
-quiet_read (Ok line) old new p = p
-quiet_read (Err fault) old new p = absurd p
-
-pub quiet_step : (f : Found) (line : List ℕ) (old new : Machine) → PlansFound f line old planned.Quiet new → StepFound f line old None new
-quiet_step found.Line line old new p = quiet_read (line_of line) old new p
-quiet_step found.TooLong line old new p = λ long size. quiet_read (line_of long) old new (p long size)
-
-reply_read : (read : Result Line LineFault) (old new : Machine) (reply : Reply) → PlansRead read old (planned.Reply reply) new → StepOf read old (Some reply) new
-reply_read (Ok line) old new reply p = p
-reply_read (Err fault) old new reply p = p
-
-reply_step : (f : Found) (line : List ℕ) (old new : Machine) (reply : Reply) → PlansFound f line old (planned.Reply reply) new → StepFound f line old (Some reply) new
-reply_step found.Line line old new reply p = reply_read (line_of line) old new reply p
-reply_step found.TooLong line old new reply p = λ long size. reply_read (line_of long) old new reply (p long size)
-
--- an accepted edit was pushed, or there was no memory
-EditLine-commit : (answer : Option (Result Step Refusal)) (h : History) (c : Change) (reply : Reply) (old new : Machine) → answer ≡ Some (Ok (step_of c (current h)))
-    → Commits (Some h) c reply old new → EditLine answer h old (Some reply) new
-EditLine-commit answer h c reply old new e (inl p) = let P : Option (Result Step Refusal) → Type 0 = λ a. EditLine a h old (Some reply) new in subst P (sym e) (inl p)
-EditLine-commit answer h c reply old new e (inr p) = let P : Option (Result Step Refusal) → Type 0 = λ a. EditLine a h old (Some reply) new in subst P (sym e) (inr p)
-
-edit_committed : (line : Line) (h : History) (old new : Machine) (c : Change) (reply : Reply) → old ≡ record { open_document = Some h } → edit_answer line (current h) ≡ Some (Ok (step_of c (current h)))
-    → Commits (Some h) c reply old new → EditsOpen line old (Some reply) new
-edit_committed line h old new c reply e a p =
-    let P : Machine → Type 0 = λ m. EditsOpen line m (Some reply) new in
-    let Q : Machine → Type 0 = λ m. Commits (Some h) c reply m new in
-    subst P (sym e) (EditLine-commit _ h c reply (record { open_document = Some h }) new a (subst Q e p))
-
--- only an edit's line is planned as an edit
-commit_line : (line : Line) (h : History) (old new : Machine) (c : Change) (reply : Reply) → old ≡ record { open_document = Some h } → edit_answer line (current h) ≡ Some (Ok (step_of c (current h)))
-    → Commits (Some h) c reply old new → StepOfLine line old (Some reply) new
-commit_line (Stamp layer x y width values) h old new c reply e a p = edit_committed (Stamp layer x y width values) h old new c reply e a p
-commit_line (AddLayer kind name) h old new c reply e a p = edit_committed (AddLayer kind name) h old new c reply e a p
-commit_line (RemoveLayer layer) h old new c reply e a p = edit_committed (RemoveLayer layer) h old new c reply e a p
-commit_line (RenameLayer layer name) h old new c reply e a p = edit_committed (RenameLayer layer name) h old new c reply e a p
-commit_line (ShowLayer layer visible) h old new c reply e a p = edit_committed (ShowLayer layer visible) h old new c reply e a p
-commit_line (MoveLayer layer place) h old new c reply e a p = edit_committed (MoveLayer layer place) h old new c reply e a p
-commit_line line h old new c reply e a p = cc
-
-commit_open : (line : Line) (open_document : Option History) (new : Machine) (c : Change) (reply : Reply) → IsEditOf line open_document c
-    → Commits open_document c reply (record { open_document = open_document }) new → StepOfLine line (record { open_document = open_document }) (Some reply) new
-commit_open line None new c reply a p = absurd a
-commit_open line (Some h) new c reply a p = commit_line line h (record { open_document = Some h }) new c reply refl a p
-
-commit_read : (read : Result Line LineFault) (old mid new : Machine) (edit : Edit) (reply : Reply) → PlansRead read old (planned.Push edit) mid
-    → Commits mid.open_document (edit_change edit) reply mid new → StepOf read old (Some reply) new
-commit_read (Ok line) old mid new edit reply p c =
-    let P : Machine → Type 0 = λ m. Commits m.open_document (edit_change edit) reply m new in
-    commit_open line old.open_document new (edit_change edit) reply p.1 (subst P p.0 c)
-commit_read (Err fault) old mid new edit reply p c = absurd p
-
-commit_step : (f : Found) (line : List ℕ) (old mid new : Machine) (edit : Edit) (reply : Reply) → PlansFound f line old (planned.Push edit) mid
-    → Commits mid.open_document (edit_change edit) reply mid new → StepFound f line old (Some reply) new
-commit_step found.Line line old mid new edit reply p c = commit_read (line_of line) old mid new edit reply p c
-commit_step found.TooLong line old mid new edit reply p c = λ long size. commit_read (line_of long) old mid new edit reply (p long size) c
-
--- where a box found no memory, the commit would have been refused as well
-refuse_open : (open_document : Option History) (line : Line) (c : Change) (old : Machine) → IsEditOf line open_document c → Commits open_document c (Refused refusals.NoMemory) old old
-refuse_open None line c old p = p
-refuse_open (Some h) line c old p = inr (refl, refl)
-
-refuse_read : (read : Result Line LineFault) (old mid : Machine) (edit : Edit) → PlansRead read old (planned.Push edit) mid → Commits mid.open_document (edit_change edit) (Refused refusals.NoMemory) mid mid
-refuse_read (Ok line) old mid edit p =
-    let P : Machine → Type 0 = λ m. IsEditOf line m.open_document (edit_change edit) in
-    refuse_open mid.open_document line (edit_change edit) mid (subst P (sym p.0) p.1)
-refuse_read (Err fault) old mid edit p = absurd p
-
-refuse_step : (f : Found) (line : List ℕ) (old mid : Machine) (edit : Edit) → PlansFound f line old (planned.Push edit) mid → StepFound f line old (Some (Refused refusals.NoMemory)) mid
-refuse_step found.Line line old mid edit p = commit_read (line_of line) old mid mid edit (Refused refusals.NoMemory) p (refuse_read (line_of line) old mid edit p)
-refuse_step found.TooLong line old mid edit p =
-    λ long size. commit_read (line_of long) old mid mid edit (Refused refusals.NoMemory) (p long size) (refuse_read (line_of long) old mid edit (p long size))
-
--- ---- the same of an editor, where equal values have other names
-pub by_reply : {C : Type 0} (change : C → Change) (f : Found) (line : List ℕ) (old : Machine) (editor editor' : Editor C) (r reply : Reply) → editor' ≡ editor → reply ≡ r
-    → PlansFound f line old (planned.Reply r) (machine_of change editor) → StepFound f line old (Some reply) (machine_of change editor')
-by_reply {C} change f line old editor editor' r reply e q p =
-    let P : Editor C → Type 0 = λ x. StepFound f line old (Some reply) (machine_of change x) in
-    let Q : Reply → Type 0 = λ x. StepFound f line old (Some x) (machine_of change editor) in
-    subst P (sym e) (subst Q (sym q) (reply_step f line old (machine_of change editor) r p))
-
-pub by_commit : {C : Type 0} (change : C → Change) (f : Found) (line : List ℕ) (old : Machine) (editor committed editor' : Editor C) (edit : Edit) (boxed : Change) (r reply : Reply)
-    → boxed ≡ edit_change edit → editor' ≡ committed → reply ≡ r → PlansFound f line old (planned.Push edit) (machine_of change editor)
-    → Commits (machine_of change editor).open_document boxed r (machine_of change editor) (machine_of change committed) → StepFound f line old (Some reply) (machine_of change editor')
-by_commit {C} change f line old editor committed editor' edit boxed r reply b e q p c =
-    let P : Editor C → Type 0 = λ x. StepFound f line old (Some reply) (machine_of change x) in
-    let Q : Reply → Type 0 = λ x. StepFound f line old (Some x) (machine_of change committed) in
-    let R : Change → Type 0 = λ x. Commits (machine_of change editor).open_document x r (machine_of change editor) (machine_of change committed) in
-    subst P (sym e) (subst Q (sym q) (commit_step f line old (machine_of change editor) (machine_of change committed) edit r p (subst R b c)))
-
-pub by_refusal : {C : Type 0} (change : C → Change) (f : Found) (line : List ℕ) (old : Machine) (editor editor' : Editor C) (edit : Edit) (reply : Reply) → editor' ≡ editor
-    → reply ≡ Refused refusals.NoMemory → PlansFound f line old (planned.Push edit) (machine_of change editor) → StepFound f line old (Some reply) (machine_of change editor')
-by_refusal {C} change f line old editor editor' edit reply e q p =
-    let P : Editor C → Type 0 = λ x. StepFound f line old (Some reply) (machine_of change x) in
-    let Q : Reply → Type 0 = λ x. StepFound f line old (Some x) (machine_of change editor) in
-    subst P (sym e) (subst Q (sym q) (refuse_step f line old (machine_of change editor) edit p))
-
-pub still_sound : {C : Type 0} (change : C → Change) (editor editor' : Editor C) → editor' ≡ editor → IsSound change editor → IsSound change editor'
-still_sound {C} change editor editor' e s = let P : Editor C → Type 0 = λ x. IsSound change x in subst P (sym e) s

@@ -2,6 +2,7 @@
 use Rattle.std.specs.Prelude.{◌≡◌, ℕ, ◌^◌, ◌≤◌, List, [], ◌∷◌, ◌++◌, length, Option, None, Some, Result, Ok, Err, ⊤, option_to_list}
 use Rattle.std.specs.List.{flat_map}
 use Rattle.std.specs.Io.KnownBytes.{Appends}
+use Rattle.command_api.specs.Law.{Change, IsSame}
 use Rattle.lines.specs.declared.reader.Found.{Found}
 use Rattle.lines.specs.declared.reader.Found.TheVariants as found
 use Rattle.lines.specs.Lines.{lines_of}
@@ -13,12 +14,9 @@ use Rattle.session.specs.Grammar.{line_of}
 use Rattle.session.specs.Replies.{reply_text}
 use Rattle.editor.specs.declared.planned.Planned.{Planned}
 use Rattle.editor.specs.declared.planned.Planned.TheVariants as planned
-use Rattle.editor.specs.Machine.{Machine, StepOfBytes, Refuses}
-use Rattle.editor.specs.Planning.{Plans}
-
--- no document is open
-abbrev pub start : Machine
-start = record { open_document = None }
+use Rattle.editor.specs.declared.planned.Edit.{Edit}
+use Rattle.editor.specs.Machine.{Machine, started_machine, StepOfBytes, Refuses}
+use Rattle.editor.specs.Planning.{Plans, edit_change}
 
 -- what the machine may reply to lines, one after another, and where it ends
 abbrev pub Run : Machine → List (List ℕ) → List Reply → Machine → Type 0
@@ -43,7 +41,7 @@ pub record Told (input : List ℕ) (left : List (List ℕ)) (now : Machine) (bef
   pub heard : List (List ℕ)
   pub replies : List Reply
   pub split : lines_of input ≡ heard ++ left
-  pub run : Run start heard replies now
+  pub run : Run (started_machine 0) heard replies now
   pub written : Appends before after (output replies)
   pub lines_counted : lines ≡ length heard
   pub replies_counted : replied ≡ length replies
@@ -96,6 +94,11 @@ OfFound found.TooLong line P = (long : List ℕ) → 2 ^ 16 ≤ length long → 
 
 abbrev pub PlansFound : Found → List ℕ → Machine → Planned → Machine → Type 0
 PlansFound found line old plan new = OfFound found line (λ bytes. PlansRead (line_of bytes) old plan new)
+
+-- the command that an edit was put into, where there is one, does what the edit does
+abbrev pub PutsSame : {C : Type 0} → (C → Change) → Edit → Option C → Type 0
+PutsSame change edit None = ⊤
+PutsSame change edit (Some command) = IsSame (edit_change edit) (change command)
 
 abbrev pub StepFound : Found → List ℕ → Machine → Option Reply → Machine → Type 0
 StepFound found line old reply new = OfFound found line (λ bytes. StepOfBytes bytes old reply new)

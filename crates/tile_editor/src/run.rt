@@ -1,10 +1,12 @@
-ghost use Rattle.std.specs.Prelude.{◌≡◌, IsErrOf, IfOk, IfSome, ◌⊎◌};
+ghost use Rattle.std.specs.Prelude.{◌≡◌, Option, IsErrOf, IfOk, IfSome, ◌⊎◌};
 ghost use Rattle.lines.specs.Lines.{lines_of};
+ghost use Rattle.editor.specs.declared.planned.Edit.{Edit};
 ghost use Rattle.editor.specs.Editors.{IsSound, machine_of};
 ghost use Rattle.editor.specs.Planning.{FitsPlan};
-ghost use Rattle.tile_editor.specs.Runs.{PlansFound, RunsAll, RunsToRead, RunsToWrite};
+ghost use Rattle.tile_editor.specs.Runs.{PlansFound, PutsSame, RunsAll, RunsToRead, RunsToWrite, StepFound};
 
 use crate::writing::{flush_if, write_reply};
+use arrayvec::ArrayString;
 use command_api::Command;
 use editor::{Edit, Editor, Planned};
 use lines::{Found, LineReader};
@@ -62,14 +64,29 @@ fn boxed<K: Command>(alloc: Global, command: K) -> Option<Box<K>>
     Box::new(alloc, command).ok()
 }
 
-// The reply to a planned edit, whose command is put into a box and committed.
-macro_rules! committed {
-    ($editor:ident, $alloc:ident, $command:ident) => {
-        match boxed($alloc, $command) {
-            Some(command) => $editor.commit(command),
-            None => Reply::Refused(Refusal::NoMemory),
-        }
-    };
+// Hears a line that was found: the reply to it, and none to a quiet one. What it plans is put into a command and
+// committed.
+fn hear<C: Command, F: FnOnce(Edit) -> Option<C>>(
+    alloc: Global,
+    editor: &mut Editor<C>,
+    found: Found,
+    line: &[u8],
+    put: F,
+) -> Option<Reply>
+    requires sound { IsSound C.change editor.old }
+    requires callable { F.IsAlwaysCallable put }
+    requires same { (edit : Edit) (command : Option C) → F.post put edit command → PutsSame C.change edit command }
+    ensures sound { IsSound C.change editor.new }
+    ensures step { StepFound found line.now (machine_of C.change editor.old) result (machine_of C.change editor.new) }
+{
+    match plan_found(alloc, editor, found, line) {
+        Planned::Quiet => None,
+        Planned::Reply(reply) => Some(reply),
+        Planned::Push(edit) => match put(edit) {
+            Some(command) => Some(editor.commit(command)),
+            None => Some(Reply::Refused(Refusal::NoMemory)),
+        },
+    }
 }
 
 /// Reads session lines to the end of the input, and writes a reply to each but the quiet ones.
@@ -102,6 +119,7 @@ pub fn run<R: Read, W: Write>(
         return Err(RunFault::Memory);
     };
     let mut editor: Editor<Box<dyn Command>> = Editor::new(0);
+    let mut head = ArrayString::<512>::new();
     let mut heard = 0u64;
     let mut replies = 0u64;
     'session: loop {
@@ -120,17 +138,23 @@ pub fn run<R: Read, W: Write>(
             Err(_) => return Err(RunFault::Read),
         };
         heard += 1;
-        let reply = match plan_found(alloc, &mut editor, found, lines.line()) {
-            Planned::Quiet => continue 'session,
-            Planned::Reply(reply) => reply,
-            Planned::Push(Edit::Paint(command)) => committed!(editor, alloc, command),
-            Planned::Push(Edit::AddLayer(command)) => committed!(editor, alloc, command),
-            Planned::Push(Edit::RemoveLayer(command)) => committed!(editor, alloc, command),
-            Planned::Push(Edit::RenameLayer(command)) => committed!(editor, alloc, command),
-            Planned::Push(Edit::ShowLayer(command)) => committed!(editor, alloc, command),
-            Planned::Push(Edit::MoveLayer(command)) => committed!(editor, alloc, command),
+        // Each kind of command is boxed by its own type.
+        let put = |edit: Edit| -> Option<Box<dyn Command>>
+            ensures { PutsSame (λ command. change command) edit result }
+        {
+            match edit {
+                Edit::Paint(command) => Some(boxed(alloc, command)?),
+                Edit::AddLayer(command) => Some(boxed(alloc, command)?),
+                Edit::RemoveLayer(command) => Some(boxed(alloc, command)?),
+                Edit::RenameLayer(command) => Some(boxed(alloc, command)?),
+                Edit::ShowLayer(command) => Some(boxed(alloc, command)?),
+                Edit::MoveLayer(command) => Some(boxed(alloc, command)?),
+            }
         };
-        if write_reply(writer, reply).is_err() {
+        let Some(reply) = hear(alloc, &mut editor, found, lines.line(), put) else {
+            continue 'session;
+        };
+        if write_reply(writer, &mut head, reply).is_err() {
             return Err(RunFault::Write);
         }
         replies += 1;

@@ -2,23 +2,15 @@ use crate::run::{RunFault, Summary, run};
 use std::alloc::{AllocError, Global};
 use std::io;
 use std::io::{BufWriter, Read, Write};
-use std::process::Abort;
 use std::test::Fail;
 
 mod faults;
 mod flushes;
-mod layers;
-mod limits;
-mod marks;
-mod rows;
 
 /// More than a test's calls, and more than its bytes.
 const MANY: u32 = 1_000_000;
 
 const WHOLE: usize = 1_000_000;
-
-/// How many bytes a read gives at most, in turn.
-const STEPS: [usize; 3] = [1, 3, WHOLE];
 
 const ROW_1: &str = "new town 4 3 16 16 town.tsj => ok 0/0 clean 0
 stamp 1 1 1 2 5,6 => ok 1/1 dirty 0
@@ -124,19 +116,6 @@ fn taken(
     told_of(alloc, &sink, &end)
 }
 
-/// The replies to a session that is read in steps, and behind them the numbers of lines and of replies.
-fn heard(alloc: Global, session: &[u8], step: usize) -> Result<String, Fail> {
-    let mut source = Source {
-        bytes: session,
-        step,
-        calls_left: MANY,
-    };
-    let mut written = Vec::new(alloc);
-    let Summary { lines, replies } = run(alloc, &mut source, &mut written)?;
-    let text = str::from_utf8(&written)?;
-    Ok(format!(in alloc; "{text}{lines} lines, {replies} replies")?)
-}
-
 fn push_line(text: &mut String, line: &str) -> Result<(), AllocError> {
     text.push_str(line)?;
     text.push('\n')
@@ -147,22 +126,6 @@ fn push_line(text: &mut String, line: &str) -> Result<(), AllocError> {
 struct Script {
     session: String,
     replies: String,
-    lines: u64,
-    replied: u64,
-}
-
-/// A line, of which `{piece*count}` stands for so many pieces.
-fn push_stretched(text: &mut String, line: &str) -> Result<(), Fail> {
-    let Some((front, rest)) = line.split_once('{') else {
-        return Ok(push_line(text, line)?);
-    };
-    let (piece, rest) = rest.split_once('*').ok_or("no piece")?;
-    let (count, back) = rest.split_once('}').ok_or("no count")?;
-    text.push_str(front)?;
-    for _ in 0..count.parse::<u32>()? {
-        text.push_str(piece)?;
-    }
-    Ok(push_line(text, back)?)
 }
 
 /// The script whose rows are `line => reply`, or a line alone where it gets no reply.
@@ -170,56 +133,15 @@ fn read_script(alloc: Global, rows: &str) -> Result<Script, Fail> {
     let mut script = Script {
         session: String::new(alloc),
         replies: String::new(alloc),
-        lines: 0,
-        replied: 0,
     };
     for row in rows.lines() {
-        script.lines = script.lines.saturating_add(1);
-        if let Some((line, reply)) = row.split_once(" => ") {
-            push_stretched(&mut script.session, line)?;
+        let (line, reply) = row.split_once(" => ").unwrap_or((row, ""));
+        push_line(&mut script.session, line)?;
+        if !reply.is_empty() {
             push_line(&mut script.replies, reply)?;
-            script.replied = script.replied.saturating_add(1);
-        } else {
-            push_stretched(&mut script.session, row)?;
         }
     }
     Ok(script)
-}
-
-/// What a run tells on a script's rows, and what it is to tell. The session is read in each of the steps, and then
-/// without its last newline, which changes nothing; of what the readings tell it is the first that is wrong.
-fn told_and_wanted(alloc: Global, rows: &str, steps: &[usize]) -> Result<(String, String), Fail> {
-    let script = read_script(alloc, rows)?;
-    let Script {
-        session,
-        replies,
-        lines,
-        replied,
-    } = &script;
-    let wanted = format!(in alloc; "{replies}{lines} lines, {replied} replies")?;
-    let bytes = session.as_bytes();
-    for step in steps {
-        let told = heard(alloc, bytes, *step)?;
-        if told != wanted {
-            return Ok((told, wanted));
-        }
-    }
-    let cut = bytes.strip_suffix(b"\n".as_slice()).unwrap_or(bytes);
-    Ok((heard(alloc, cut, WHOLE)?, wanted))
-}
-
-/// Each script is replied to as its rows say.
-fn assert_scripts(
-    rt: &impl Abort,
-    alloc: Global,
-    scripts: &[&str],
-    steps: &[usize],
-) -> Result<(), Fail> {
-    for rows in scripts {
-        let (told, wanted) = told_and_wanted(alloc, rows, steps)?;
-        assert_eq!(rt; told.as_str(), wanted.as_str(), "at {rows}");
-    }
-    Ok(())
 }
 
 /// Bytes that are many of one piece between two others.

@@ -39,13 +39,18 @@ fn write_pieces<W: Write>(writer: &mut W, head: &[u8], body: &[u8]) -> Result<()
     Ok(())
 }
 
-/// Writes a reply and a newline, and lets go of the reply: with one call of `write` where the reply has no body and the writer takes it whole.
-pub fn write_reply<W: Write>(writer: &mut W, reply: Reply) -> Result<(), WriteFault>
+/// Writes a reply and a newline, and lets go of the reply: with one call of `write` where the reply has no body and the
+/// writer takes it whole. What the head held is let go of.
+pub fn write_reply<W: Write>(
+    writer: &mut W,
+    head: &mut ArrayString<512>,
+    reply: Reply,
+) -> Result<(), WriteFault>
     ensures ok { OnOk result (Appends (W.contents writer.old) (W.contents writer.new) (reply_line reply)) }
     ensures err { OnErr result (Partly (W.contents writer.old) (W.contents writer.new)) }
 {
-    let mut head = ArrayString::<512>::new();
-    reply.write_into(&mut head);
+    head.clear();
+    reply.write_into(head);
     let body = reply.body();
     if body.is_empty() {
         head.push('\n');

@@ -3,12 +3,12 @@ ghost use Rattle.std.specs.Prelude.{◌≡◌, IfOk};
 ghost use Rattle.session.specs.Spelling.{CanBeSpelled};
 ghost use Rattle.session.specs.declared.line.Line.TheVariants as lines;
 ghost use Rattle.editor.specs.Editors.{machine_of, IsSound};
-ghost use Rattle.editor.specs.Planning.{FitsPlan, Plans, refused};
+ghost use Rattle.editor.specs.Planning.{FitsPlan, Plans, plan_of, refused};
 
 use crate::editor::Editor;
 use crate::planned::{Edit, Planned};
 use crate::refusal;
-use command_api::Command;
+use command_api::{Command, EditFault};
 use edits::Block;
 use layer_commands::{AddLayer, MoveLayer, RemoveLayer, RenameLayer, ShowLayer};
 use map_model::LayerKind;
@@ -33,6 +33,16 @@ fn refused(refusal: Refusal) -> Planned
     ensures { result ≡ refused refusal }
 {
     Planned::Reply(Reply::Refused(refusal))
+}
+
+// The plan of an edit: its command, or its refusal.
+fn planned(edit: Result<Edit, EditFault>) -> Planned
+    ensures { result ≡ plan_of edit }
+{
+    match edit {
+        Ok(edit) => Planned::Push(edit),
+        Err(fault) => refused(refusal::of_edit(fault)),
+    }
 }
 
 impl<C: Command> Editor<C> {
@@ -79,10 +89,7 @@ impl<C: Command> Editor<C> {
         let Some(stack) = &self.stack else {
             return refused(Refusal::NoActiveDocument);
         };
-        match AddLayer::new(alloc, stack.document(), kind, name.as_str()) {
-            Ok(command) => Planned::Push(Edit::AddLayer(command)),
-            Err(fault) => refused(refusal::of_edit(fault)),
-        }
+        planned(AddLayer::new(alloc, stack.document(), kind, name.as_str()).map(Edit::AddLayer))
     }
 
     // Plans a layer less.
@@ -94,10 +101,7 @@ impl<C: Command> Editor<C> {
         let Some(stack) = &self.stack else {
             return refused(Refusal::NoActiveDocument);
         };
-        match RemoveLayer::new(stack.document(), layer) {
-            Ok(command) => Planned::Push(Edit::RemoveLayer(command)),
-            Err(fault) => refused(refusal::of_edit(fault)),
-        }
+        planned(RemoveLayer::new(stack.document(), layer).map(Edit::RemoveLayer))
     }
 
     // Plans another name for a layer.
@@ -109,10 +113,9 @@ impl<C: Command> Editor<C> {
         let Some(stack) = &self.stack else {
             return refused(Refusal::NoActiveDocument);
         };
-        match RenameLayer::new(alloc, stack.document(), layer, name.as_str()) {
-            Ok(command) => Planned::Push(Edit::RenameLayer(command)),
-            Err(fault) => refused(refusal::of_edit(fault)),
-        }
+        planned(RenameLayer::new(alloc, stack.document(), layer, name.as_str()).map(
+            Edit::RenameLayer,
+        ))
     }
 
     // Plans a layer that is shown or hidden.
@@ -124,10 +127,7 @@ impl<C: Command> Editor<C> {
         let Some(stack) = &self.stack else {
             return refused(Refusal::NoActiveDocument);
         };
-        match ShowLayer::new(stack.document(), layer, visible) {
-            Ok(command) => Planned::Push(Edit::ShowLayer(command)),
-            Err(fault) => refused(refusal::of_edit(fault)),
-        }
+        planned(ShowLayer::new(stack.document(), layer, visible).map(Edit::ShowLayer))
     }
 
     // Plans a layer at another place.
@@ -139,9 +139,6 @@ impl<C: Command> Editor<C> {
         let Some(stack) = &self.stack else {
             return refused(Refusal::NoActiveDocument);
         };
-        match MoveLayer::new(stack.document(), layer, place) {
-            Ok(command) => Planned::Push(Edit::MoveLayer(command)),
-            Err(fault) => refused(refusal::of_edit(fault)),
-        }
+        planned(MoveLayer::new(stack.document(), layer, place).map(Edit::MoveLayer))
     }
 }
