@@ -1,5 +1,5 @@
 // Changes of the layer with an id in a list of layers.
-ghost use Rattle.std.specs.Prelude.{◌≡◌, ◌<◌, length, position, find, Some, IsSome, IsSomeAnd, option_map};
+ghost use Rattle.std.specs.Prelude.{◌≡◌, ◌<◌, length, position, find, Some, IfSome, IsSome, IsSomeAnd, option_map};
 ghost use Rattle.map_model.specs.Bodies.{IsTiles};
 ghost use Rattle.map_model.specs.CellEdits.{HaveRange, IsBelow, put_values, with_value};
 ghost use Rattle.map_model.specs.Layers.{layer_name, layer_with_name, layer_with_visible};
@@ -19,12 +19,10 @@ pub fn place_in(layers: &Chain<Layer>, id: u32) -> Option<usize>
     requires { Distinct (layer_ids layers.now) }
     ensures { result ≡ position (has_id id) layers.now }
 {
-    if let Some((at, layer)) = layers.here() {
-        if layer.id == id {
-            return Some(at);
-        }
+    match place_here(layers, id) {
+        Some(place) => Some(place),
+        None => place_by_walk(layers, id),
     }
-    place_by_walk(layers, id)
 }
 
 // The place of the layer with an id, by a walk from the first layer on.
@@ -35,16 +33,49 @@ fn place_by_walk(layers: &Chain<Layer>, id: u32) -> Option<usize>
     layers.iter().position(|layer| layer.id == id)
 }
 
-/// Sets a value of the tile layer with an id.
-#[tactic(auto, using(crate::proofs::Changes::places))]
+/// Sets a value of the tile layer with an id: at once where the layers were last changed there.
 pub fn set_in(layers: &mut Chain<Layer>, id: u32, at: usize, value: Gid)
     requires distinct { Distinct (layer_ids layers.old) }
     requires tiles { IsSomeAnd (find (has_id id) layers.old) (λ l. IsTiles l.body) }
     requires place { at < length (tiles_of_layer (find (has_id id) layers.old)) }
     ensures { layers.new ≡ change_first (has_id id) (layer_with_tiles (with_value at value)) layers.old }
 {
-    let place = place_in(layers, id).unwrap();
+    match place_here(layers, id) {
+        Some(place) => set_at(layers, id, place, at, value),
+        None => set_by_walk(layers, id, at, value),
+    }
+}
+
+// The place that was last changed, where the layer with the id stands there.
+fn place_here(layers: &Chain<Layer>, id: u32) -> Option<usize>
+    requires { Distinct (layer_ids layers.now) }
+    ensures { IfSome result (λ place. position (has_id id) layers.now ≡ Some place) }
+{
+    let (place, layer) = layers.here()?;
+    if layer.id == id { Some(place) } else { None }
+}
+
+// Sets a value of the tile layer with an id, which stands at this place.
+#[tactic(auto, using(crate::proofs::Changes::places))]
+fn set_at(layers: &mut Chain<Layer>, id: u32, place: usize, at: usize, value: Gid)
+    requires there { position (has_id id) layers.old ≡ Some place }
+    requires tiles { IsSomeAnd (find (has_id id) layers.old) (λ l. IsTiles l.body) }
+    requires place { at < length (tiles_of_layer (find (has_id id) layers.old)) }
+    ensures { layers.new ≡ change_first (has_id id) (layer_with_tiles (with_value at value)) layers.old }
+{
     layers.get_mut(place).body.set_tile(at, value);
+}
+
+// Sets a value of the tile layer with an id, which is found by a walk.
+#[inline(never)]
+#[tactic(auto, using(crate::proofs::Changes::places))]
+fn set_by_walk(layers: &mut Chain<Layer>, id: u32, at: usize, value: Gid)
+    requires tiles { IsSomeAnd (find (has_id id) layers.old) (λ l. IsTiles l.body) }
+    requires place { at < length (tiles_of_layer (find (has_id id) layers.old)) }
+    ensures { layers.new ≡ change_first (has_id id) (layer_with_tiles (with_value at value)) layers.old }
+{
+    let place = place_by_walk(layers, id).unwrap();
+    set_at(layers, id, place, at, value);
 }
 
 /// Sets the cells of a list, in the tile layer with an id, to their values on a side.
