@@ -1,7 +1,7 @@
 -- What a link keeps, from the laws of its slot.
 use Rattle.std.proofs.Common.{◌≡◌, Option, Some, None, IsSome, IsSomeAnd, Result, Ok, refl}
 use Rattle.map_model.specs.Document.{DocumentParts}
-use Rattle.map_model.specs.Slot.{Slot, IsSlot}
+use Rattle.map_model.specs.Slot.{Slot, IsLawfulSlot}
 use Rattle.command_api.specs.Law.{Names, Never}
 use Rattle.command_api.specs.Making.{Makes}
 use Rattle.command_api.specs.Exchange.{IsExchanged, change_of}
@@ -12,7 +12,7 @@ some_item None h = cc
 some_item (Some x) h = (x, refl)
 
 -- the held link is put in
-pub linked_in : {X : Type 0} {names : Names} {s : Slot X} {held new : Option (Option X)} {d e : DocumentParts} → IsSlot s → FitsLink s held d
+pub linked_in : {X : Type 0} {names : Names} {s : Slot X} {held new : Option (Option X)} {d e : DocumentParts} → IsLawfulSlot s → FitsLink s held d
     → (loose : Option X) → held ≡ Some loose → new ≡ None → IsSomeAnd loose (λ x. e ≡ s.with_item x d) → IsExchanged (link names s held) (link names s new) d e
 linked_in laws fits None holds none is = absurd is
 linked_in {s = s} {d = d} laws fits (Some x) holds none is =
@@ -30,7 +30,7 @@ linked_in {s = s} {d = d} laws fits (Some x) holds none is =
     )
 
 -- the item is taken out
-pub linked_out : {X : Type 0} {names : Names} {s : Slot X} {held : Option (Option X)} {loose : Option X} {d e : DocumentParts} → IsSlot s → FitsLink s held d
+pub linked_out : {X : Type 0} {names : Names} {s : Slot X} {held : Option (Option X)} {loose : Option X} {d e : DocumentParts} → IsLawfulSlot s → FitsLink s held d
     → held ≡ None → loose ≡ s.item d → e ≡ s.without_item d → IsExchanged (link names s held) (link names s (Some loose)) d e
 linked_out {s = s} {d = d} laws fits holds given is =
     let f : FitsLink s None d = rw holds at fits in

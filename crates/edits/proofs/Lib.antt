@@ -1,3 +1,4 @@
 pub mod Differences
 pub mod Layings
+pub mod RowOrder
 pub mod Turns

@@ -1,11 +1,12 @@
 -- The document after an edit of its layers, or the edit's refusal.
 use Rattle.std.specs.Prelude.{ℕ, ◌+◌, ◌*◌, List, Bool, ◌&&◌, nat_lt, Option, Some, None, is_some, Result, Ok, Err, length, if◌then◌else◌}
+use Rattle.map_model.specs.declared.limits.TheConstants.{MAX_LAYERS, MAX_NEXT_ID}
 use Rattle.map_model.specs.declared.parts.Layer.{Layer}
 use Rattle.map_model.specs.declared.parts.LayerKind.{LayerKind}
 use Rattle.map_model.specs.declared.parts.MapParts.{MapParts}
 use Rattle.map_model.specs.declared.place.LayerPlace.{LayerPlace}
 use Rattle.map_model.specs.Document.{DocumentParts, with_map}
-use Rattle.map_model.specs.Layers.{place_of, layer_at, last_place, with_layer_at, without_layer_at, layer_with_name, layer_with_visible, with_next_ids}
+use Rattle.map_model.specs.Layers.{layer_place, layer_at, last_place, sibling_place, with_layer_at, without_layer_at, layer_with_name, layer_with_visible, with_next_ids}
 use Rattle.map_model.specs.NewMap.{new_layer}
 use Rattle.map_model.specs.Parts.{layer_of, with_layer}
 use Rattle.command_api.specs.declared.fault.EditFault.{EditFault}
@@ -20,9 +21,9 @@ with_last l m = with_next_ids (m.next_layer_id + 1) m.next_object_id (with_layer
 abbrev pub next_layer : LayerKind → List ℕ → MapParts → Layer
 next_layer kind name m = new_layer kind m.next_layer_id name (m.width * m.height)
 
--- there are below 256 layers, and the next id is below its limit
+-- there may be one more layer, and one more id
 abbrev pub has_room : MapParts → Bool
-has_room m = nat_lt (length m.layers) 256 && nat_lt m.next_layer_id 2147483647
+has_room m = nat_lt (length m.layers) MAX_LAYERS && nat_lt m.next_layer_id MAX_NEXT_ID
 
 abbrev pub after_add : DocumentParts → LayerKind → List ℕ → Result DocumentParts EditFault
 after_add d kind name = if has_room d.map then Ok (with_map (with_last (next_layer kind name d.map)) d) else Err TooMany
@@ -33,7 +34,7 @@ after_remove_at d None = Err NoSuchLayer
 after_remove_at d (Some place) = Ok (with_map (without_layer_at place) d)
 
 abbrev pub after_remove : DocumentParts → ℕ → Result DocumentParts EditFault
-after_remove d id = after_remove_at d (place_of d.map id)
+after_remove d id = after_remove_at d (layer_place d.map id)
 
 -- ---- a layer at another place
 -- a layer, where there is one, put in at a place
@@ -42,15 +43,15 @@ put_in None place m = m
 put_in (Some l) place m = with_layer_at place l m
 
 -- the layer at one place is taken out, and put in at the other, which is its place in the result
-abbrev pub moved : LayerPlace → LayerPlace → MapParts → MapParts
-moved from to m = put_in (layer_at m from) to (without_layer_at from m)
+abbrev pub with_layer_moved : LayerPlace → LayerPlace → MapParts → MapParts
+with_layer_moved from to m = put_in (layer_at m from) to (without_layer_at from m)
 
 abbrev pub after_move_from : DocumentParts → ℕ → Option LayerPlace → Result DocumentParts EditFault
 after_move_from d to None = Err NoSuchLayer
-after_move_from d to (Some from) = if nat_lt to (length d.map.layers) then Ok (with_map (moved from (record { at = to })) d) else Err OutOfRange
+after_move_from d to (Some from) = if nat_lt to (length d.map.layers) then Ok (with_map (with_layer_moved from (sibling_place from to)) d) else Err OutOfRange
 
 abbrev pub after_move : DocumentParts → ℕ → ℕ → Result DocumentParts EditFault
-after_move d id to = after_move_from d to (place_of d.map id)
+after_move d id to = after_move_from d to (layer_place d.map id)
 
 -- ---- a layer changed where it stands
 abbrev pub after_change : (Layer → Layer) → DocumentParts → ℕ → Result DocumentParts EditFault

@@ -1,6 +1,7 @@
 -- What a stamp does, and why one is refused.
 use Rattle.std.specs.Prelude.{◌≡◌, ℕ, ◌/◌, ◌%◌, ◌<◌, ◌≤◌, ◌^◌, List, [], ◌∷◌, suc, Bool, ◌||◌, nat_eq, Option, Some, None, is_some, Result, Ok, Err, length, if◌then◌else◌}
 use Rattle.std.specs.List.{list_all}
+use Rattle.map_model.specs.declared.limits.TheConstants.{MAX_SIDE}
 use Rattle.map_model.specs.declared.parts.Body.{Body}
 use Rattle.map_model.specs.declared.parts.Body.TheVariants.{Tiles, Objects, Other}
 use Rattle.map_model.specs.declared.parts.Layer.{Layer}
@@ -65,10 +66,10 @@ abbrev pub after_stamp : DocumentParts → ℕ → ValueBlock → Result Documen
 after_stamp d id block = answer_by (stamp_fault d.map id block) (with_map (stamped_map id block) d)
 
 -- ---- what the calls answer
--- a block that a line can spell: its width is 1 to 4,096, and its values, fewer than 2 ^ 32, are whole rows
+-- a block that a line can spell: its width is that of a map, and its values, fewer than 2 ^ 32, are whole rows
 pub record IsBlock (block : ValueBlock) : Type 0 where
   pub wide : 1 ≤ block.width
-  pub narrow : block.width ≤ 4096
+  pub narrow : block.width ≤ MAX_SIDE
   pub whole : length block.values % block.width ≡ 0
   pub few : length block.values < 2 ^ 32
 

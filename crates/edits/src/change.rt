@@ -1,9 +1,10 @@
 ghost use Rattle.std.specs.Prelude.{◌≡◌};
+ghost use Rattle.map_model.specs.CellEdits.{AreInRowOrder};
 
 use map_model::CellEdit;
 use std::marker::Model;
 
-/// Changed cells, seen as their list.
+/// Changed cells in row order, each once, seen as their list.
 #[derive(Drop)]
 pub struct CellEdits {
     cells: Vec<CellEdit>,
@@ -12,15 +13,19 @@ pub struct CellEdits {
 impl Model for CellEdits {
     ghost use Rattle.std.specs.Prelude.{List};
     ghost use Rattle.map_model.specs.declared.edit.CellEdit.{CellEdit};
+    ghost use Rattle.map_model.specs.CellEdits.{AreInRowOrder};
 
     ghost Value = { List CellEdit };
 
     ghost view = { λ a. a.cells.items };
+
+    ghost invariant = { λ a. AreInRowOrder a.cells.items };
 }
 
 impl CellEdits {
-    /// The changed cells of a vector.
+    /// The changed cells of a vector, which are in row order, each once.
     pub fn new(cells: Vec<CellEdit>) -> CellEdits
+        requires { AreInRowOrder cells.items }
         ensures { result ≡ cells.items }
     {
         CellEdits { cells }
@@ -28,7 +33,8 @@ impl CellEdits {
 
     /// The changed cells.
     pub fn as_slice(&self) -> &[CellEdit]
-        ensures { result.now ≡ self.now }
+        ensures cells { result.now ≡ self.now }
+        ensures ordered { AreInRowOrder self.now }
     {
         self.cells.as_slice()
     }

@@ -1,5 +1,6 @@
 // A block that is laid over a tile layer, and the changes that this makes.
 ghost use Rattle.std.specs.Prelude.{◌≡◌, ◌+◌, ◌*◌, ◌<◌, ◌≤◌, ◌++◌, Some, OnOk, IfOk, length};
+ghost use Rattle.map_model.specs.CellEdits.{AreInRowOrder};
 ghost use Rattle.edits.specs.Blocks.{block_of, value_over};
 ghost use Rattle.edits.specs.Laying.{IsLaid, changes_below, changed_to};
 
@@ -70,7 +71,8 @@ impl Laid<'_> {
     /// The changes of all cells under the block, in row order.
     pub fn changes(&self, alloc: Global) -> Result<Vec<CellEdit>, AllocError>
         requires { IsLaid self.now }
-        ensures { IfOk result (λ cells. cells.items ≡ changes_below self.now (length self.now.tiles.now)) }
+        ensures cells { IfOk result (λ cells. cells.items ≡ changes_below self.now (length self.now.tiles.now)) }
+        ensures ordered { IfOk result (λ cells. AreInRowOrder cells.items) }
     {
         let mut cells = Vec::new(alloc);
         for y in self.rows.first..self.rows.end {

@@ -1,8 +1,9 @@
 ghost use Rattle.std.specs.Prelude.{◌≡◌, IfOk, IfErr, MatchResult, None, Some};
 ghost use Rattle.std.specs.List.{list_all};
+ghost use Rattle.map_model.specs.CellEdits.{AreInRowOrder};
 ghost use Rattle.map_model.specs.Parts.{layer_of, tiles_in, HasTiles};
-ghost use Rattle.edits.specs.Blocks.{block_of};
 ghost use Rattle.command_api.specs.Making.{IsRefusalOf};
+ghost use Rattle.edits.specs.Blocks.{block_of};
 ghost use Rattle.edits.specs.Stamping.{IsBlock, IsStampChange, after_stamp, is_known, tile_layer_fault};
 
 use crate::block::{Block, Span};
@@ -57,6 +58,7 @@ pub fn stamp_change(
 ) -> Result<CellChange, EditFault>
     requires { IsBlock (block_of block.now) }
     ensures change { IfOk result (IsStampChange document.now.map layer (block_of block.now)) }
+    ensures ordered { IfOk result (λ change. AreInRowOrder change.cells) }
     ensures refusal { IfErr result (IsRefusalOf (after_stamp document.now layer (block_of block.now))) }
 {
     let map = document.map();

@@ -1,6 +1,7 @@
 -- A layer that is added.
 use Rattle.std.proofs.Common.{◌≡◌, ℕ, ◌*◌, ◌<◌, List, [], length, Option, Some, refl}
 use Rattle.std.proofs.lemmas.Bool.{lt-ltb}
+use Rattle.map_model.specs.declared.limits.TheConstants.{MAX_LAYERS, MAX_NEXT_ID}
 use Rattle.map_model.specs.declared.parts.Layer.{Layer}
 use Rattle.map_model.specs.declared.parts.LayerKind.{LayerKind}
 use Rattle.map_model.specs.declared.parts.LayerKind.TheVariants as kinds
@@ -23,17 +24,17 @@ new_layer-objects : (kind : LayerKind) (id : ℕ) (name : List ℕ) (size : ℕ)
 new_layer-objects kinds.Tile id name size = refl
 new_layer-objects kinds.Object id name size = refl
 
-with_next-IsWellFormed : (kind : LayerKind) (name : List ℕ) (m : MapParts) → length m.layers < 256 → m.next_layer_id < 2147483647 → IsWellFormed m
+with_next-IsWellFormed : (kind : LayerKind) (name : List ℕ) (m : MapParts) → length m.layers < MAX_LAYERS → m.next_layer_id < MAX_NEXT_ID → IsWellFormed m
     → IsWellFormed (with_last (next_layer kind name m) m)
 with_next-IsWellFormed kind name m few below h =
     numbered-keeps m (length m.layers) (next_layer kind name m) few below (new_layer-IsLayer kind m.next_layer_id name (m.width * m.height))
     (new_layer-id kind m.next_layer_id name (m.width * m.height)) (new_layer-objects kind m.next_layer_id name (m.width * m.height)) h
 
-pub add_made : (d : DocumentParts) (kind : LayerKind) (name : List ℕ) (loose : Option Layer) → loose ≡ Some (next_layer kind name d.map) → length d.map.layers < 256
-    → d.map.next_layer_id < 2147483647 → IsWellFormed d.map
+pub add_made : (d : DocumentParts) (kind : LayerKind) (name : List ℕ) (loose : Option Layer) → loose ≡ Some (next_layer kind name d.map) → length d.map.layers < MAX_LAYERS
+    → d.map.next_layer_id < MAX_NEXT_ID → IsWellFormed d.map
     → Makes add_names d (after_add d kind name) (add_change (record { id = d.map.next_layer_id; layer = Some loose }))
 add_made d kind name loose is few below h =
     rw is (
     link_made refl (record { ready = (refl, refl); before = h; after = with_next-IsWellFormed kind name d.map few below h })
-    (rw (lt-ltb (length d.map.layers) 256 few, lt-ltb d.map.next_layer_id 2147483647 below) refl)
+    (rw (lt-ltb (length d.map.layers) MAX_LAYERS few, lt-ltb d.map.next_layer_id MAX_NEXT_ID below) refl)
     )

@@ -1,11 +1,10 @@
 -- What each command is and does.
-use Rattle.std.specs.Prelude.{◌<◌, List, ℕ, Bool, false, None, IsSome, length, codes}
-use Rattle.map_model.specs.declared.parts.Layer.{Layer}
+use Rattle.std.specs.Prelude.{false, None, IsSome, codes}
 use Rattle.map_model.specs.declared.parts.MapParts.{MapParts}
 use Rattle.map_model.specs.declared.place.LayerPlace.{LayerPlace}
-use Rattle.map_model.specs.Layers.{layer_at, layer_name, layer_with_name, layer_with_visible}
-use Rattle.map_model.specs.Part.{Part, whole, layers, of_layer, next_layer_id}
-use Rattle.map_model.specs.Slot.{place_in, next_in}
+use Rattle.map_model.specs.Layers.{layer_at}
+use Rattle.map_model.specs.Part.{of_layer, name, visible}
+use Rattle.map_model.specs.Slot.{layer_slot, next_layer_slot}
 use Rattle.map_model.specs.WellFormed.{IsWellFormed}
 use Rattle.command_api.specs.Law.{Change, Names, untagged, Never, WhenEqual}
 use Rattle.command_api.specs.Exchange.{Exchange, change_of}
@@ -17,12 +16,9 @@ use Rattle.layer_commands.specs.declared.move_layer.MoveLayer.{MoveLayer}
 use Rattle.layer_commands.specs.declared.rename.RenameLayer.{RenameLayer}
 use Rattle.layer_commands.specs.declared.show.ShowLayer.{ShowLayer}
 use Rattle.map_model.specs.Document.{with_map}
-use Rattle.edits.specs.LayerEdits.{moved}
+use Rattle.edits.specs.LayerEdits.{with_layer_moved}
 
 -- ---- parts of a layer that are exchanged
-abbrev pub name : Part Layer (List ℕ)
-name = whole layer_name layer_with_name
-
 abbrev pub rename_names : Names
 rename_names = untagged (codes "Rename Layer") (codes "rename layer") WhenEqual
 
@@ -31,9 +27,6 @@ rename_exchange c = swap rename_names (of_layer c.layer name) c.is_same c.name
 
 abbrev pub rename_change : RenameLayer → Change
 rename_change c = change_of (rename_exchange c)
-
-abbrev pub visible : Part Layer Bool
-visible = whole (λ l. l.visible) layer_with_visible
 
 abbrev pub show_names : Names
 show_names = untagged (codes "Show Layer") (codes "show layer") WhenEqual
@@ -49,7 +42,7 @@ abbrev pub add_names : Names
 add_names = untagged (codes "Add Layer") (codes "add layer") Never
 
 abbrev pub add_exchange : AddLayer → Exchange
-add_exchange c = link add_names (next_in layers next_layer_id c.id) c.layer
+add_exchange c = link add_names (next_layer_slot c.id) c.layer
 
 abbrev pub add_change : AddLayer → Change
 add_change c = change_of (add_exchange c)
@@ -58,7 +51,7 @@ abbrev pub remove_names : Names
 remove_names = untagged (codes "Remove Layer") (codes "remove layer") Never
 
 abbrev pub remove_exchange : RemoveLayer → Exchange
-remove_exchange c = link remove_names (place_in layers c.place.at) c.layer
+remove_exchange c = link remove_names (layer_slot c.place) c.layer
 
 abbrev pub remove_change : RemoveLayer → Change
 remove_change c = change_of (remove_exchange c)
@@ -67,9 +60,9 @@ remove_change c = change_of (remove_exchange c)
 -- there are layers at both places, and the map with the one moved is well formed
 pub record CanBeMoved (from to : LayerPlace) (m : MapParts) : Type 0 where
   pub there : IsSome (layer_at m from)
-  pub room : to.at < length m.layers
+  pub room : IsSome (layer_at m to)
   pub before : IsWellFormed m
-  pub after : IsWellFormed (moved from to m)
+  pub after : IsWellFormed (with_layer_moved from to m)
 
 abbrev pub move_names : Names
 move_names = untagged (codes "Move Layer") (codes "move layer") Never
@@ -80,7 +73,7 @@ move_exchange c = record {
   names = move_names;
   obsolete = false;
   made = None;
-  exchanged = with_map (moved c.from c.to);
+  exchanged = with_map (with_layer_moved c.from c.to);
   fits = λ d. CanBeMoved c.from c.to d.map;
 }
 

@@ -1,21 +1,15 @@
 ghost use Rattle.std.specs.Prelude.{◌≡◌, Some, IfOk, IfErr};
 ghost use Rattle.map_model.specs.NewMap.{new_layer};
-ghost use Rattle.command_api.specs.Making.{IsRefusalOf};
-ghost use Rattle.command_api.specs.Making.{Makes};
+ghost use Rattle.command_api.specs.Making.{IsRefusalOf, Makes};
 ghost use Rattle.edits.specs.LayerEdits.{after_add};
 ghost use Rattle.layer_commands.specs.Changes.{add_change, add_exchange, add_names};
 
 use command_api::{Exchange, Label};
 use edits::EditFault;
 use link_chain::Loose;
-use map_model::{Document, Layer, LayerKind, LayerPlace, MapText};
+use map_model::limits::{MAX_LAYERS, MAX_NEXT_ID};
+use map_model::{Document, Layer, LayerKind, MapText};
 use std::alloc::{AllocError, Global};
-
-/// The most layers of a map.
-const MOST_LAYERS: usize = 256;
-
-/// The next layer id behind which no layer is added.
-const LAST_ID: u32 = 2_147_483_647;
 
 /// A layer is added behind the last one. While it is not in the map, the command owns it.
 #[derive(Drop)]
@@ -39,7 +33,7 @@ impl AddLayer {
         ensures refusal { IfErr result (IsRefusalOf (after_add document.now kind name.now)) }
     {
         let parts = document.map().parts();
-        if parts.layers.len() >= MOST_LAYERS || parts.next_layer_id >= LAST_ID {
+        if parts.layers.len() >= MAX_LAYERS || parts.next_layer_id >= MAX_NEXT_ID {
             return Err(EditFault::TooMany);
         }
         let size = parts.width as usize * parts.height as usize;
@@ -80,15 +74,16 @@ impl Exchange for AddLayer {
     }
 
     fn exchange(&mut self, document: &mut Document) {
-        let parts = document.map().parts();
-        let (count, next_object) = (parts.layers.len(), parts.next_object_id);
+        let map = document.map();
+        let (place, next_object) = (map.last_place(), map.parts().next_object_id);
         match self.layer.take() {
             Some(layer) => {
                 document.set_next_ids(self.id + 1, next_object);
-                document.insert_layer(LayerPlace { at: count }, layer);
+                document.insert_layer(place, layer);
             }
             None => {
-                self.layer = Some(document.take_layer(LayerPlace { at: count - 1 }));
+                let last = place.sibling(place.at - 1);
+                self.layer = Some(document.take_layer(last));
                 document.set_next_ids(self.id, next_object);
             }
         }

@@ -34,7 +34,7 @@ impl MoveLayer {
         }
         Ok(MoveLayer {
             from,
-            to: LayerPlace { at },
+            to: from.sibling(at),
         })
     }
 }

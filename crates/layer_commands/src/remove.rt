@@ -24,9 +24,7 @@ impl RemoveLayer {
         ensures command { IfOk result (λ c. Makes remove_names document.now (after_remove document.now layer) (remove_change c)) }
         ensures refusal { IfErr result (λ fault. after_remove document.now layer ≡ Err fault) }
     {
-        let map = document.map();
-        let _well_formed = map.parts();
-        match map.layer_place(layer) {
+        match document.map().layer_place(layer) {
             Some(place) => Ok(RemoveLayer { place, layer: None }),
             None => Err(EditFault::NoSuchLayer),
         }

@@ -1,4 +1,4 @@
-ghost use Rattle.std.specs.Prelude.{◌≡◌, ◌+◌, ◌-◌, ◌^◌, ◌<◌, ◌≤◌, ◌++◌, [], ◌∷◌, length, take, drop, slice_get, slice_set, Some, IfOk, IfErr, IsSomeAnd};
+ghost use Rattle.std.specs.Prelude.{◌≡◌, ◌+◌, ◌-◌, ◌^◌, ◌<◌, ◌≤◌, ◌++◌, [], ◌∷◌, length, take, drop, slice_get, slice_set, Some, IfOk, IfErr, IfSome, IsSomeAnd};
 ghost use Rattle.std.specs.List.{insert, remove};
 ghost use Rattle.std.specs.Borrow.{sem};
 ghost use Rattle.link_chain.specs.Lending.{LendsItem};
@@ -80,10 +80,20 @@ fn seek<T>(before: &mut LinkedList<T>, after: &mut LinkedList<T>, at: usize)
     ensures before { before.new ≡ take at (before.old ++ after.old) }
     ensures after { after.new ≡ drop at (before.old ++ after.old) }
 {
-    let here = before.len();
-    if at == here {
-        return;
+    if at != before.len() {
+        walk(before, after, at);
     }
+}
+
+// The same, where links have to be moved.
+#[inline(never)]
+fn walk<T>(before: &mut LinkedList<T>, after: &mut LinkedList<T>, at: usize)
+    requires place { at ≤ length before.old + length after.old }
+    requires fits { length before.old + length after.old < 2 ^ 63 }
+    ensures before { before.new ≡ take at (before.old ++ after.old) }
+    ensures after { after.new ≡ drop at (before.old ++ after.old) }
+{
+    let here = before.len();
     if at < here {
         let mut moved = before.split_off(at).unwrap();
         moved.append(after).unwrap();
@@ -126,6 +136,16 @@ impl<T: Drop> Chain<T> {
             self.before.iter().nth(at).unwrap()
         } else {
             self.after.iter().nth(at - before).unwrap()
+        }
+    }
+
+    /// The place that was last changed, and the item there, found at once; `None` behind the last item.
+    pub fn here(&self) -> Option<(usize, &T)>
+        ensures { IfSome result (λ found. slice_get self.now found.0 ≡ Some found.1.now) }
+    {
+        match self.after.front() {
+            Some(item) => Some((self.before.len(), item)),
+            None => None,
         }
     }
 

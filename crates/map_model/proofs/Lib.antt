@@ -4,6 +4,7 @@ pub mod Keeps
 pub mod Listings
 pub mod NewMaps
 pub mod PartLaws
+pub mod Places
 pub mod SlotLaws
 pub mod TilesetLemmas
 pub mod Turns

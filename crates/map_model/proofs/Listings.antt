@@ -1,6 +1,8 @@
--- The lists that are read off a list of layers, piece by piece, as layers come and go.
-use Rattle.std.proofs.Common.{◌≡◌, ◌≢◌, ℕ, zero, suc, List, [], ◌∷◌, ◌++◌, Bool, true, false, cond, Some, refl, sym, ap, subst}
+-- The lists that are read off a list of layers, as a piece of that list is replaced.
+use Rattle.std.proofs.Common.{◌≡◌, ◌≢◌, ℕ, zero, suc, List, [], ◌∷◌, ◌++◌, take, drop, Bool, true, false, cond, Some, append-nil, refl, sym, ap, ◌∙◌}
 use Rattle.std.specs.List.{flat_map, slice_get, insert, remove}
+use Rattle.std.proofs.lemmas.List.{take-append-drop}
+use Rattle.std.proofs.lemmas.Grind.{flat_map-append}
 use Rattle.map_model.specs.Lists.{Each, Distinct, change_first}
 use Rattle.map_model.specs.WellFormed.{IsId, AreIds}
 
@@ -33,104 +35,74 @@ Distinct-rest : {X : Type 0} (xs ys : List X) → Distinct (xs ++ ys) → Distin
 Distinct-rest [] ys h = h
 Distinct-rest (x ∷ xs) ys h = Distinct-rest xs ys h.1
 
-Apart-append : {X : Type 0} (xs ys : List X) → Distinct (xs ++ ys) → Apart xs ys
-Apart-append [] ys h = tt
-Apart-append (x ∷ xs) ys h = (Each-rest (λ y. x ≢ y) xs ys h.0, Apart-append xs ys h.1)
+Apart-pieces : {X : Type 0} (xs ys : List X) → Distinct (xs ++ ys) → Apart xs ys
+Apart-pieces [] ys h = tt
+Apart-pieces (x ∷ xs) ys h = (Each-rest (λ y. x ≢ y) xs ys h.0, Apart-pieces xs ys h.1)
+
+Apart-append : {X : Type 0} (zs xs ys : List X) → Apart zs xs → Apart zs ys → Apart zs (xs ++ ys)
+Apart-append [] xs ys a b = tt
+Apart-append (z ∷ zs) xs ys a b = (Each-append (λ y. z ≢ y) xs ys a.0 b.0, Apart-append zs xs ys a.1 b.1)
+
+Apart-front : {X : Type 0} (zs xs ys : List X) → Apart zs (xs ++ ys) → Apart zs xs
+Apart-front [] xs ys a = tt
+Apart-front (z ∷ zs) xs ys a = (Each-front (λ y. z ≢ y) xs ys a.0, Apart-front zs xs ys a.1)
+
+Apart-rest : {X : Type 0} (zs xs ys : List X) → Apart zs (xs ++ ys) → Apart zs ys
+Apart-rest [] xs ys a = tt
+Apart-rest (z ∷ zs) xs ys a = (Each-rest (λ y. z ≢ y) xs ys a.0, Apart-rest zs xs ys a.1)
 
 Apart-none : {X : Type 0} (xs : List X) → Apart xs []
 Apart-none [] = tt
 Apart-none (x ∷ xs) = (tt, Apart-none xs)
 
-Apart-more : {X : Type 0} (xs : List X) (y : X) (ys : List X) → Each (λ x. x ≢ y) xs → Apart xs ys → Apart xs (y ∷ ys)
+Apart-more : {X : Type 0} (xs : List X) (y : X) (ys : List X) → Each (λ x. y ≢ x) xs → Apart xs ys → Apart xs (y ∷ ys)
 Apart-more [] y ys h a = tt
-Apart-more (x ∷ xs) y ys h a = ((h.0, a.0), Apart-more xs y ys h.1 a.1)
-
-Each-turned : {X : Type 0} (y : X) (xs : List X) → Each (λ x. y ≢ x) xs → Each (λ x. x ≢ y) xs
-Each-turned y [] h = tt
-Each-turned y (x ∷ xs) h = (λ e. h.0 (sym e), Each-turned y xs h.1)
+Apart-more (x ∷ xs) y ys h a = ((λ e. h.0 (sym e), a.0), Apart-more xs y ys h.1 a.1)
 
 Apart-turned : {X : Type 0} (xs ys : List X) → Apart xs ys → Apart ys xs
 Apart-turned [] ys a = Apart-none ys
-Apart-turned (x ∷ xs) ys a = Apart-more ys x xs (Each-turned x ys a.0) (Apart-turned xs ys a.1)
+Apart-turned (x ∷ xs) ys a = Apart-more ys x xs a.0 (Apart-turned xs ys a.1)
 
--- ---- the pieces of a list
+-- ---- a piece of a list replaced
+-- ys is xs with a new piece in the place of another, which has these lists before and behind it
+pub record IsReplaced {X : Type 0} (front piece new rest xs ys : List X) : Type 0 where
+  pub was : xs ≡ front ++ (piece ++ rest)
+  pub now : ys ≡ front ++ (new ++ rest)
+
+pub insert-IsReplaced : {X : Type 0} (xs : List X) (k : ℕ) (x : X) → IsReplaced (take k xs) [] (x ∷ []) (drop k xs) xs (insert xs k x)
+insert-IsReplaced xs k x = record { was = sym (take-append-drop k xs); now = refl }
+
+drop-one : {X : Type 0} (xs : List X) (k : ℕ) → drop k xs ≡ take 1 (drop k xs) ++ drop (suc k) xs
+drop-one [] zero = refl
+drop-one [] (suc k) = refl
+drop-one (x ∷ xs) zero = refl
+drop-one (x ∷ xs) (suc k) = drop-one xs k
+
+pub remove-IsReplaced : {X : Type 0} (xs : List X) (k : ℕ) → IsReplaced (take k xs) (take 1 (drop k xs)) [] (drop (suc k) xs) xs (remove xs k)
+remove-IsReplaced xs k = record { was = sym (take-append-drop k xs) ∙ ap (λ ys. take k xs ++ ys) (drop-one xs k); now = refl }
+
+take-one : {X : Type 0} (xs : List X) (k : ℕ) (x : X) → slice_get xs k ≡ Some x → take 1 (drop k xs) ≡ x ∷ []
+take-one [] zero x e = cc
+take-one [] (suc k) x e = cc
+take-one (y ∷ ys) zero x e = let same : y ≡ x = cc in ap (λ z. z ∷ []) same
+take-one (y ∷ ys) (suc k) x e = take-one ys k x e
+
 module _ {X A : Type 0} (g : X → List A) where
-  Each-flat_insert : (P : A → Type 0) (xs : List X) (k : ℕ) (x : X) → Each P (g x) → Each P (flat_map g xs) → Each P (flat_map g (insert xs k x))
-  Each-flat_insert P [] zero x h r = Each-append P (g x) [] h r
-  Each-flat_insert P [] (suc k) x h r = Each-append P (g x) [] h r
-  Each-flat_insert P (y ∷ ys) zero x h r = Each-append P (g x) (g y ++ flat_map g ys) h r
-  Each-flat_insert P (y ∷ ys) (suc k) x h r =
-      Each-append P (g y) (flat_map g (insert ys k x)) (Each-front P (g y) (flat_map g ys) r)
-      (Each-flat_insert P ys k x h (Each-rest P (g y) (flat_map g ys) r))
+  flat-pieces : (front piece rest : List X) → flat_map g (front ++ (piece ++ rest)) ≡ flat_map g front ++ (flat_map g piece ++ flat_map g rest)
+  flat-pieces front piece rest = flat_map-append g front (piece ++ rest) ∙ ap (λ qs. flat_map g front ++ qs) (flat_map-append g piece rest)
 
-  -- the pieces are apart from one another wherever the new one is put
-  Distinct-flat_insert : (xs : List X) (k : ℕ) (x : X) → Apart (g x) (flat_map g xs) → Distinct (g x) → Distinct (flat_map g xs) → Distinct (flat_map g (insert xs k x))
-  Distinct-flat_insert [] zero x a h r = Distinct-append (g x) [] a h r
-  Distinct-flat_insert [] (suc k) x a h r = Distinct-append (g x) [] a h r
-  Distinct-flat_insert (y ∷ ys) zero x a h r = Distinct-append (g x) (g y ++ flat_map g ys) a h r
-  Distinct-flat_insert (y ∷ ys) (suc k) x a h r =
-      let turned = Apart-turned (g x) (g y ++ flat_map g ys) a in
-      let below = Apart-append (g y) (flat_map g ys) r in
-      Distinct-append (g y) (flat_map g (insert ys k x))
-      (apart_all (g y) (Each-front _ (g y) (flat_map g ys) turned) below)
-      (Distinct-front (g y) (flat_map g ys) r)
-      (Distinct-flat_insert ys k x (Apart-turned (flat_map g ys) (g x) (Each-rest _ (g y) (flat_map g ys) turned)) h (Distinct-rest (g y) (flat_map g ys) r))
-    where
-      apart_all : (zs : List A) → Apart zs (g x) → Apart zs (flat_map g ys) → Apart zs (flat_map g (insert ys k x))
-      apart_all [] b c = tt
-      apart_all (z ∷ zs) b c = (Each-flat_insert (λ w. z ≢ w) ys k x b.0 c.0, apart_all zs b.1 c.1)
+  -- what is read off the list is replaced with it
+  pub flat-IsReplaced : {front piece new rest xs ys : List X} → IsReplaced front piece new rest xs ys
+      → IsReplaced (flat_map g front) (flat_map g piece) (flat_map g new) (flat_map g rest) (flat_map g xs) (flat_map g ys)
+  flat-IsReplaced {front = front} {piece = piece} {new = new} {rest = rest} r = record {
+    was = ap (flat_map g) r.was ∙ flat-pieces front piece rest;
+    now = ap (flat_map g) r.now ∙ flat-pieces front new rest;
+  }
 
-  Each-flat_remove : (P : A → Type 0) (xs : List X) (k : ℕ) → Each P (flat_map g xs) → Each P (flat_map g (remove xs k))
-  Each-flat_remove P [] zero r = r
-  Each-flat_remove P [] (suc k) r = r
-  Each-flat_remove P (y ∷ ys) zero r = Each-rest P (g y) (flat_map g ys) r
-  Each-flat_remove P (y ∷ ys) (suc k) r =
-      Each-append P (g y) (flat_map g (remove ys k)) (Each-front P (g y) (flat_map g ys) r) (Each-flat_remove P ys k (Each-rest P (g y) (flat_map g ys) r))
+  pub flat-one : (x : X) → flat_map g (x ∷ []) ≡ g x
+  flat-one x = append-nil (g x)
 
-  Apart-flat_remove : (zs : List A) (xs : List X) (k : ℕ) → Apart zs (flat_map g xs) → Apart zs (flat_map g (remove xs k))
-  Apart-flat_remove [] xs k a = tt
-  Apart-flat_remove (z ∷ zs) xs k a = (Each-flat_remove (λ w. z ≢ w) xs k a.0, Apart-flat_remove zs xs k a.1)
-
-  Distinct-flat_remove : (xs : List X) (k : ℕ) → Distinct (flat_map g xs) → Distinct (flat_map g (remove xs k))
-  Distinct-flat_remove [] zero r = r
-  Distinct-flat_remove [] (suc k) r = r
-  Distinct-flat_remove (y ∷ ys) zero r = Distinct-rest (g y) (flat_map g ys) r
-  Distinct-flat_remove (y ∷ ys) (suc k) r =
-      Distinct-append (g y) (flat_map g (remove ys k)) (Apart-flat_remove (g y) ys k (Apart-append (g y) (flat_map g ys) r))
-      (Distinct-front (g y) (flat_map g ys) r) (Distinct-flat_remove ys k (Distinct-rest (g y) (flat_map g ys) r))
-
-  -- the piece that is taken out
-  Each-flat_at : (P : A → Type 0) (xs : List X) (k : ℕ) (x : X) → slice_get xs k ≡ Some x → Each P (flat_map g xs) → Each P (g x)
-  Each-flat_at P [] zero x e r = cc
-  Each-flat_at P [] (suc k) x e r = cc
-  Each-flat_at P (y ∷ ys) zero x e r = let same : y ≡ x = cc in subst (λ (z : X). Each P (g z)) same (Each-front P (g y) (flat_map g ys) r)
-  Each-flat_at P (y ∷ ys) (suc k) x e r = Each-flat_at P ys k x e (Each-rest P (g y) (flat_map g ys) r)
-
-  Apart-flat_at : (zs : List A) (xs : List X) (k : ℕ) (x : X) → slice_get xs k ≡ Some x → Apart zs (flat_map g xs) → Apart zs (g x)
-  Apart-flat_at [] xs k x e a = tt
-  Apart-flat_at (z ∷ zs) xs k x e a = (Each-flat_at (λ w. z ≢ w) xs k x e a.0, Apart-flat_at zs xs k x e a.1)
-
-  Distinct-flat_at : (xs : List X) (k : ℕ) (x : X) → slice_get xs k ≡ Some x → Distinct (flat_map g xs) → Distinct (g x)
-  Distinct-flat_at [] zero x e r = cc
-  Distinct-flat_at [] (suc k) x e r = cc
-  Distinct-flat_at (y ∷ ys) zero x e r = let same : y ≡ x = cc in subst (λ (z : X). Distinct (g z)) same (Distinct-front (g y) (flat_map g ys) r)
-  Distinct-flat_at (y ∷ ys) (suc k) x e r = Distinct-flat_at ys k x e (Distinct-rest (g y) (flat_map g ys) r)
-
-  Apart-flat_taken : (xs : List X) (k : ℕ) (x : X) → slice_get xs k ≡ Some x → Distinct (flat_map g xs) → Apart (g x) (flat_map g (remove xs k))
-  Apart-flat_taken [] zero x e r = cc
-  Apart-flat_taken [] (suc k) x e r = cc
-  Apart-flat_taken (y ∷ ys) zero x e r =
-      let same : y ≡ x = cc in subst (λ (z : X). Apart (g z) (flat_map g ys)) same (Apart-append (g y) (flat_map g ys) r)
-  Apart-flat_taken (y ∷ ys) (suc k) x e r =
-      let before = Apart-turned (g y) (g x) (Apart-flat_at (g y) ys k x e (Apart-append (g y) (flat_map g ys) r)) in
-      let behind = Apart-flat_taken ys k x e (Distinct-rest (g y) (flat_map g ys) r) in
-      both (g x) before behind
-    where
-      both : (zs : List A) → Apart zs (g y) → Apart zs (flat_map g (remove ys k)) → Apart zs (g y ++ flat_map g (remove ys k))
-      both [] b c = tt
-      both (z ∷ zs) b c = (Each-append (λ w. z ≢ w) (g y) (flat_map g (remove ys k)) b.0 c.0, both zs b.1 c.1)
-
-  flat-change_first : (p : X → Bool) (f : X → X) → ((x : X) → g (f x) ≡ g x) → (xs : List X) → flat_map g (change_first p f xs) ≡ flat_map g xs
+  pub flat-change_first : (p : X → Bool) (f : X → X) → ((x : X) → g (f x) ≡ g x) → (xs : List X) → flat_map g (change_first p f xs) ≡ flat_map g xs
   flat-change_first p f same [] = refl
   flat-change_first p f same (x ∷ xs) =
       elim (p x) as (λ b. flat_map g (cond b (f x ∷ xs) (x ∷ change_first p f xs)) ≡ g x ++ flat_map g xs)
@@ -143,30 +115,54 @@ pub record AreNewIds (next : ℕ) (new ids : List ℕ) : Type 0 where
   pub distinct : Distinct new
   pub apart : Apart new ids
 
+pub AreNewIds-none : (next : ℕ) (ids : List ℕ) → AreNewIds next [] ids
+AreNewIds-none next ids = record { each = tt; distinct = tt; apart = tt }
+
+module _ {next : ℕ} {front piece new rest xs ys : List ℕ} (r : IsReplaced front piece new rest xs ys) (h : AreIds next xs) where
+  -- the ids are those of both other pieces and of the new one
+  pub AreIds-replaced : AreNewIds next new (front ++ rest) → AreIds next ys
+  AreIds-replaced n =
+      let each : Each (IsId next) (front ++ (piece ++ rest)) = rw (← r.was) h.each in
+      let distinct : Distinct (front ++ (piece ++ rest)) = rw (← r.was) h.distinct in
+      let behind = Distinct-rest front (piece ++ rest) distinct in
+      rw r.now (record {
+        next_low = h.next_low;
+        next_high = h.next_high;
+        each = Each-append (IsId next) front (new ++ rest) (Each-front (IsId next) front (piece ++ rest) each)
+            (Each-append (IsId next) new rest n.each (Each-rest (IsId next) piece rest (Each-rest (IsId next) front (piece ++ rest) each)));
+        distinct = Distinct-append front (new ++ rest)
+            (Apart-append front new rest (Apart-turned new front (Apart-front new front rest n.apart)) (Apart-rest front piece rest (Apart-pieces front (piece ++ rest) distinct)))
+            (Distinct-front front (piece ++ rest) distinct)
+            (Distinct-append new rest (Apart-rest new front rest n.apart) n.distinct (Distinct-rest piece rest behind));
+      })
+
+  -- the ids of the piece that is taken out are new beside the others
+  pub AreNewIds-piece : AreNewIds next piece (front ++ rest)
+  AreNewIds-piece =
+      let each : Each (IsId next) (front ++ (piece ++ rest)) = rw (← r.was) h.each in
+      let distinct : Distinct (front ++ (piece ++ rest)) = rw (← r.was) h.distinct in
+      let behind = Distinct-rest front (piece ++ rest) distinct in
+      record {
+        each = Each-front (IsId next) piece rest (Each-rest (IsId next) front (piece ++ rest) each);
+        distinct = Distinct-front piece rest behind;
+        apart = Apart-append piece front rest (Apart-turned front piece (Apart-front front piece rest (Apart-pieces front (piece ++ rest) distinct))) (Apart-pieces piece rest behind);
+      }
+
 module _ {X : Type 0} (g : X → List ℕ) (next : ℕ) where
   pub AreIds-insert : (xs : List X) (k : ℕ) (x : X) → AreNewIds next (g x) (flat_map g xs) → AreIds next (flat_map g xs) → AreIds next (flat_map g (insert xs k x))
-  AreIds-insert xs k x new h = record {
-    next_low = h.next_low;
-    next_high = h.next_high;
-    each = Each-flat_insert g (IsId next) xs k x new.each h.each;
-    distinct = Distinct-flat_insert g xs k x new.apart new.distinct h.distinct;
-  }
+  AreIds-insert xs k x new h =
+      let all : flat_map g xs ≡ flat_map g (take k xs) ++ flat_map g (drop k xs) = ap (flat_map g) (sym (take-append-drop k xs)) ∙ flat_map-append g (take k xs) (drop k xs) in
+      AreIds-replaced (flat-IsReplaced g (insert-IsReplaced xs k x)) h (rw (flat-one g x, ← all) new)
 
   pub AreIds-remove : (xs : List X) (k : ℕ) → AreIds next (flat_map g xs) → AreIds next (flat_map g (remove xs k))
-  AreIds-remove xs k h = record {
-    next_low = h.next_low;
-    next_high = h.next_high;
-    each = Each-flat_remove g (IsId next) xs k h.each;
-    distinct = Distinct-flat_remove g xs k h.distinct;
-  }
+  AreIds-remove xs k h = AreIds-replaced (flat-IsReplaced g (remove-IsReplaced xs k)) h (AreNewIds-none next (flat_map g (take k xs) ++ flat_map g (drop (suc k) xs)))
 
-  -- a piece that was taken out may be put in again
+  -- the ids of an element that was taken out may be put in again
   pub AreNewIds-taken : (xs : List X) (k : ℕ) (x : X) → slice_get xs k ≡ Some x → AreIds next (flat_map g xs) → AreNewIds next (g x) (flat_map g (remove xs k))
-  AreNewIds-taken xs k x e h = record {
-    each = Each-flat_at g (IsId next) xs k x e h.each;
-    distinct = Distinct-flat_at g xs k x e h.distinct;
-    apart = Apart-flat_taken g xs k x e h.distinct;
-  }
+  AreNewIds-taken xs k x e h =
+      let piece : flat_map g (take 1 (drop k xs)) ≡ g x = ap (flat_map g) (take-one xs k x e) ∙ flat-one g x in
+      let taken = AreNewIds-piece (flat-IsReplaced g (remove-IsReplaced xs k)) h in
+      rw (← piece, flat_map-append g (take k xs) (drop (suc k) xs)) taken
 
   pub AreIds-change_first : (p : X → Bool) (f : X → X) → ((x : X) → g (f x) ≡ g x) → (xs : List X) → AreIds next (flat_map g xs) → AreIds next (flat_map g (change_first p f xs))
   AreIds-change_first p f same xs h = rw (flat-change_first g p f same xs) h

@@ -32,7 +32,7 @@ unread-test ms (name ∷ names) e = by_member (get_member name ms) e (unread-tes
     by_member (Some d) q rest = cc
 
 -- a new layer is one of a map of so many cells
-pub new_layer-IsLayer : (kind : LayerKind) (id : ℕ) (name : List ℕ) (size : ℕ) → IsLayer size (new_layer kind id name size)
+pub new_layer-IsLayer : (kind : LayerKind) (id : ℕ) (name : List ℕ) (size : ℕ) → IsLayer layer_level size (new_layer kind id name size)
 new_layer-IsLayer kinds.Tile id name size = record {
   properties = no_properties layer_level;
   kept = record { unread = unread-test tile_layer_members (layer_names (Tiles Array [])) refl; whole = refl; shallow = omega arith };
@@ -50,10 +50,12 @@ pub new_map-IsWellFormed : (width height tile_width tile_height : ℕ) (source :
 new_map-IsWellFormed width height tile_width tile_height source size tile_size = record {
   size = size;
   tile_size = tile_size;
-  few_layers = omega arith;
-  layers = (new_layer-IsLayer kinds.Tile 1 (codes "Tile Layer 1") (width * height), tt);
-  layer_ids = record { next_low = omega arith; next_high = omega arith; each = (record { low = omega arith; high = omega arith }, tt); distinct = (tt, tt) };
-  object_ids = record { next_low = omega arith; next_high = omega arith; each = tt; distinct = tt };
+  layers = record {
+    few = omega arith;
+    each = (new_layer-IsLayer kinds.Tile 1 (codes "Tile Layer 1") (width * height), tt);
+    layer_ids = record { next_low = omega arith; next_high = omega arith; each = (record { low = omega arith; high = omega arith }, tt); distinct = (tt, tt) };
+    object_ids = record { next_low = omega arith; next_high = omega arith; each = tt; distinct = tt };
+  };
   tilesets = record {
     few = omega arith;
     each = (record { low = omega arith; high = omega arith; kept = record { unread = unread-test no_members tileset_names refl; whole = refl; shallow = omega arith } }, tt);

@@ -1,9 +1,10 @@
 -- The laws of parts.
 use Rattle.std.proofs.Common.{◌≡◌, ℕ, nat_eq, Bool, Option, Some, None, option_map, option_and_then, find, refl, sym, ap, ◌∙◌, subst}
 use Rattle.map_model.specs.declared.parts.Layer.{Layer}
+use Rattle.map_model.specs.Layers.{layer_name, layer_with_name, layer_visible, layer_with_visible}
 use Rattle.map_model.specs.Parts.{has_id}
 use Rattle.map_model.proofs.Turns.{change_first-change_first, find-change_first, change_first-along, change_first-same}
-use Rattle.map_model.specs.Part.{Part, IsPart, AreApart, whole, inner, of_first, layers, of_layer, next_layer_id, next_object_id}
+use Rattle.map_model.specs.Part.{Part, IsLawfulPart, AreApart, whole, inner, of_first, layers, of_layer, next_layer_id, next_object_id, name, visible}
 
 some-eq : {V : Type 0} (v w : V) → Some v ≡ Some w → v ≡ w
 some-eq v w e = cc
@@ -14,21 +15,21 @@ within q w None e = cc
 within q w (Some v) e = (v, (refl, e))
 
 pub whole-laws : {A V : Type 0} (get : A → V) (set : V → A → A) → ((v : V) (a : A) → get (set v a) ≡ v) → ((a : A) → set (get a) a ≡ a)
-    → ((v w : V) (a : A) → set v (set w a) ≡ set v a) → IsPart (whole get set)
+    → ((v w : V) (a : A) → set v (set w a) ≡ set v a) → IsLawfulPart (whole get set)
 whole-laws get set get-set set-get set-set = record {
   get-update = λ f v a e. ap Some (get-set (f (get a)) a ∙ ap f (some-eq (get a) v e));
   update-same = λ f v a e same. let own = some-eq (get a) v e in ap (λ w. set w a) (ap f own ∙ same ∙ sym own) ∙ set-get a;
   update-update = λ f g a. ap (λ v. set (f v) (set (g (get a)) a)) (get-set (g (get a)) a) ∙ set-set (f (g (get a))) (g (get a)) a;
 }
 
-pub inner-laws : {A V W : Type 0} (p : Part A V) (q : Part V W) → IsPart p → IsPart q → IsPart (inner p q)
+pub inner-laws : {A V W : Type 0} (p : Part A V) (q : Part V W) → IsLawfulPart p → IsLawfulPart q → IsLawfulPart (inner p q)
 inner-laws p q ps qs = record {
   get-update = λ f w a e. let s = within q.get w (p.get a) e in ap (option_and_then q.get) (ps.get-update (q.update f) s.0 a s.1.0) ∙ qs.get-update f w s.0 s.1.1;
   update-same = λ f w a e same. let s = within q.get w (p.get a) e in ps.update-same (q.update f) s.0 a s.1.0 (qs.update-same f w s.0 s.1.1 same);
   update-update = λ f g a. ps.update-update (q.update f) (q.update g) a ∙ (λ i. p.update (λ v. qs.update-update f g v i) a);
 }
 
-pub of_first-laws : {A V : Type 0} (test : A → Bool) (p : Part A V) → ((f : V → V) (a : A) → test (p.update f a) ≡ test a) → IsPart p → IsPart (of_first test p)
+pub of_first-laws : {A V : Type 0} (test : A → Bool) (p : Part A V) → ((f : V → V) (a : A) → test (p.update f a) ≡ test a) → IsLawfulPart p → IsLawfulPart (of_first test p)
 of_first-laws test p stays ps = record {
   get-update = λ f v xs e. let s = within p.get v (find test xs) e in
       ap (option_and_then p.get) (find-change_first test (p.update f) (p.update f) (stays f) xs ∙ ap (option_map (p.update f)) s.1.0) ∙ ps.get-update f v s.0 s.1.1;
@@ -41,20 +42,26 @@ of_first-laws test p stays ps = record {
 }
 
 -- ---- parts of a document
-pub layers-laws : IsPart layers
+pub layers-laws : IsLawfulPart layers
 layers-laws = whole-laws (λ d. d.map.layers) (λ ls d. record d { map = record d.map { layers = ls } }) (λ v d. refl) (λ d. refl) (λ v w d. refl)
 
-pub next_layer_id-laws : IsPart next_layer_id
+pub next_layer_id-laws : IsLawfulPart next_layer_id
 next_layer_id-laws = whole-laws (λ d. d.map.next_layer_id) (λ n d. record d { map = record d.map { next_layer_id = n } }) (λ v d. refl) (λ d. refl) (λ v w d. refl)
 
-pub next_object_id-laws : IsPart next_object_id
+pub next_object_id-laws : IsLawfulPart next_object_id
 next_object_id-laws = whole-laws (λ d. d.map.next_object_id) (λ n d. record d { map = record d.map { next_object_id = n } }) (λ v d. refl) (λ d. refl) (λ v w d. refl)
 
 pub layers-next_layer_id : AreApart layers next_layer_id
 layers-next_layer_id = record { get-left = λ g d. refl; get-right = λ f d. refl; swapped = λ f g d. refl }
 
-pub of_layer-laws : {V : Type 0} (id : ℕ) (p : Part Layer V) → ((f : V → V) (l : Layer) → (p.update f l).id ≡ l.id) → IsPart p → IsPart (of_layer id p)
+pub of_layer-laws : {V : Type 0} (id : ℕ) (p : Part Layer V) → ((f : V → V) (l : Layer) → (p.update f l).id ≡ l.id) → IsLawfulPart p → IsLawfulPart (of_layer id p)
 of_layer-laws id p stays ps = inner-laws layers (of_first (has_id id) p) layers-laws (of_first-laws (has_id id) p (λ f l. ap (λ n. nat_eq n id) (stays f l)) ps)
+
+pub name-laws : (id : ℕ) → IsLawfulPart (of_layer id name)
+name-laws id = of_layer-laws id name (λ f l. refl) (whole-laws layer_name layer_with_name (λ v l. refl) (λ l. refl) (λ v w l. refl))
+
+pub visible-laws : (id : ℕ) → IsLawfulPart (of_layer id visible)
+visible-laws id = of_layer-laws id visible (λ f l. refl) (whole-laws layer_visible layer_with_visible (λ v l. refl) (λ l. refl) (λ v w l. refl))
 
 -- a part that is read by a map
 pub mapped : {A V : Type 0} (f : A → V) (o : Option A) (v : V) → option_map f o ≡ Some v → option_and_then (λ a. Some (f a)) o ≡ Some v

@@ -2,13 +2,15 @@
 use Rattle.std.proofs.Common.{◌≡◌, ℕ, ◌+◌, ◌-◌, ◌<◌, ◌≤◌, List, length, Option, Some, None, IsSome, IsSomeAnd, option_and_then, refl, ap, ◌∙◌, arith}
 use Rattle.std.specs.List.{slice_get, insert, remove}
 use Rattle.std.proofs.lemmas.List.Edits.{length-remove}
+use Rattle.map_model.specs.declared.place.LayerPlace.{LayerPlace}
 use Rattle.map_model.specs.Document.{DocumentParts}
-use Rattle.map_model.specs.Part.{Part, IsPart, AreApart}
-use Rattle.map_model.specs.Slot.{Slot, IsSlot, place_in, next_in}
+use Rattle.map_model.specs.Part.{Part, IsLawfulPart, AreApart, layers, next_layer_id}
+use Rattle.map_model.specs.Slot.{IsLawfulSlot, place_in, next_in, layer_slot, next_layer_slot}
+use Rattle.map_model.proofs.PartLaws.{layers-laws, next_layer_id-laws, layers-next_layer_id}
 use Rattle.map_model.proofs.Changes.{remove-insert, insert-remove, slice_get-insert, length-insert, slice_get-within, slice_get-Some, within-removed}
 
 -- ---- places in a list
-pub place_in-laws : {X : Type 0} (p : Part DocumentParts (List X)) → IsPart p → (k : ℕ) → IsSlot (place_in p k)
+pub place_in-laws : {X : Type 0} (p : Part DocumentParts (List X)) → IsLawfulPart p → (k : ℕ) → IsLawfulSlot (place_in p k)
 place_in-laws {X = X} p laws k = record {
   there = λ d h. h;
   filled = λ x d h. let s = room (p.get d) h in
@@ -47,7 +49,7 @@ module _ {X : Type 0} (xs : List X) (x : X) where
       let place : length (remove xs (length xs - 1)) ≡ length xs - 1 = let less = length-remove xs (length xs - 1) within in omega arith in
       ap (λ k. insert (remove xs (length xs - 1)) k x) place ∙ insert-remove xs (length xs - 1) x there
 
-pub next_in-laws : {X : Type 0} (p : Part DocumentParts (List X)) (ids : Part DocumentParts ℕ) → IsPart p → IsPart ids → AreApart p ids → (id : ℕ) → IsSlot (next_in p ids id)
+pub next_in-laws : {X : Type 0} (p : Part DocumentParts (List X)) (ids : Part DocumentParts ℕ) → IsLawfulPart p → IsLawfulPart ids → AreApart p ids → (id : ℕ) → IsLawfulSlot (next_in p ids id)
 next_in-laws {X = X} p ids laws id-laws apart id = record {
   there = λ d h. let s = some_list (p.get d) h.1 in rw s.1.0 (last_there s.0 s.1.1);
   filled = λ x d h. let s = some (p.get d) h.1 in (
@@ -85,3 +87,10 @@ next_in-laws {X = X} p ids laws id-laws apart id = record {
     found : (x : X) (o : Option (List X)) → option_and_then (λ xs. slice_get xs (length xs - 1)) o ≡ Some x → (xs : List X) × ((o ≡ Some xs) × (slice_get xs (length xs - 1) ≡ Some x))
     found x None e = cc
     found x (Some xs) e = (xs, (refl, e))
+
+-- ---- slots of layers
+pub layer_slot-laws : (place : LayerPlace) → IsLawfulSlot (layer_slot place)
+layer_slot-laws place = place_in-laws layers layers-laws place.at
+
+pub next_layer_slot-laws : (id : ℕ) → IsLawfulSlot (next_layer_slot id)
+next_layer_slot-laws = next_in-laws layers next_layer_id layers-laws next_layer_id-laws layers-next_layer_id

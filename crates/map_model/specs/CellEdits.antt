@@ -1,5 +1,5 @@
 -- Lists of changed cells of one layer.
-use Rattle.std.specs.Prelude.{ℕ, ◌+◌, ◌*◌, ◌<◌, List, slice_set}
+use Rattle.std.specs.Prelude.{◌≡◌, ◌⊎◌, ℕ, ◌+◌, ◌*◌, ◌<◌, List, Some, slice_get, slice_set}
 use Rattle.std.specs.List.{fold}
 use Rattle.map_model.specs.declared.edit.CellEdit.{CellEdit}
 use Rattle.map_model.specs.declared.edit.Side.{Side}
@@ -8,25 +8,33 @@ use Rattle.map_model.specs.Lists.{Each}
 use Rattle.map_model.specs.WellFormed.{IsTileValue}
 
 -- the value of a changed cell on a side
-abbrev pub value_at : Side → CellEdit → ℕ
-value_at Before e = e.before
-value_at After e = e.after
+abbrev pub side_value : Side → CellEdit → ℕ
+side_value Before e = e.before
+side_value After e = e.after
 
 -- the place of a changed cell in a layer of this width, row by row
-abbrev pub place_of : ℕ → CellEdit → ℕ
-place_of width e = e.y * width + e.x
+abbrev pub cell_place : ℕ → CellEdit → ℕ
+cell_place width e = e.y * width + e.x
 
 -- the cell lies in a layer of this width with so many values
 abbrev pub IsBelow : ℕ → ℕ → CellEdit → Type 0
-IsBelow width count e = place_of width e < count
+IsBelow width count e = cell_place width e < count
 
 abbrev pub with_value : ℕ → ℕ → List ℕ → List ℕ
 with_value at value values = slice_set values at value
 
 -- the values of a layer with the cells of a list set, in order, to their values on a side
 abbrev pub put_values : ℕ → Side → List CellEdit → List ℕ → List ℕ
-put_values width side es values = fold (λ vs e. with_value (place_of width e) (value_at side e) vs) values es
+put_values width side es values = fold (λ vs e. with_value (cell_place width e) (side_value side e) vs) values es
+
+-- the cell a comes before the cell b, row by row
+abbrev pub IsBefore : CellEdit → CellEdit → Type 0
+IsBefore a b = (a.y < b.y) ⊎ ((a.y ≡ b.y) × (a.x < b.x))
+
+-- the cells are in row order, and none stands twice
+abbrev pub AreInRowOrder : List CellEdit → Type 0
+AreInRowOrder es = (i j : ℕ) (a b : CellEdit) → i < j → slice_get es i ≡ Some a → slice_get es j ≡ Some b → IsBefore a b
 
 -- the value of each cell of the list, on a side, is a tile value
 abbrev pub HaveRange : Side → List CellEdit → Type 0
-HaveRange side es = Each (λ e. IsTileValue (value_at side e)) es
+HaveRange side es = Each (λ e. IsTileValue (side_value side e)) es

@@ -7,6 +7,7 @@ use Rattle.std.specs.Prelude.{◌≡◌, ℕ, ◌+◌, ◌≤◌, List, [], ◌�
 use Rattle.serde_json.specs.Data.{Data, null, boolean, number, string, array, object, Members, depth, members_depth}
 use Rattle.serde_json.specs.Find.{get_member, as_i64}
 use Rattle.serde_json.specs.Written.{has_float, members_have_float}
+use Rattle.map_model.specs.declared.limits.TheConstants.{MAX_DEPTH}
 use Rattle.map_model.specs.declared.parts.Body.{Body}
 use Rattle.map_model.specs.declared.parts.Body.TheVariants.{Tiles, Objects, Other}
 use Rattle.map_model.specs.Lists.{Each}
@@ -15,11 +16,13 @@ use Rattle.map_model.specs.Lists.{Each}
 abbrev pub map_level : ℕ
 map_level = 1
 
+-- a layer that stands in no group
 abbrev pub layer_level : ℕ
 layer_level = map_level + 2
 
-abbrev pub object_level : ℕ
-object_level = layer_level + 2
+-- an object of a layer at this level
+abbrev pub object_level : ℕ → ℕ
+object_level layer = layer + 2
 
 abbrev pub tileset_level : ℕ
 tileset_level = map_level + 2
@@ -27,9 +30,6 @@ tileset_level = map_level + 2
 -- a property of an owner at this level
 abbrev pub property_level : ℕ → ℕ
 property_level level = level + 2
-
-abbrev pub deepest : ℕ
-deepest = 127
 
 -- ---- the names that are read or written for an owner
 abbrev pub map_names : List (List ℕ)
@@ -65,7 +65,7 @@ property_names = codes "name" ∷ codes "type" ∷ codes "value" ∷ []
 pub record AreKept (level : ℕ) (names : List (List ℕ)) (ms : Members) : Type 0 where
   pub unread : Each (λ name. get_member name ms ≡ None) names
   pub whole : members_have_float ms ≡ false
-  pub shallow : level + members_depth ms ≤ deepest
+  pub shallow : level + members_depth ms ≤ MAX_DEPTH
 
 -- a value that is no text, no truth value and no whole number from -2^63 to 2^63 - 1
 abbrev pub IsOfAnotherKind : Data → Type 0
@@ -80,4 +80,4 @@ IsOfAnotherKind (object ms) = Unit {0}
 pub record IsKeptValue (level : ℕ) (d : Data) : Type 0 where
   pub kind : IsOfAnotherKind d
   pub whole : has_float d ≡ false
-  pub shallow : level + depth d ≤ deepest
+  pub shallow : level + depth d ≤ MAX_DEPTH

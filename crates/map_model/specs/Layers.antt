@@ -7,9 +7,17 @@ use Rattle.map_model.specs.declared.parts.MapParts.{MapParts}
 use Rattle.map_model.specs.declared.place.LayerPlace.{LayerPlace}
 use Rattle.map_model.specs.Parts.{has_id}
 
+-- the place so far from the first layer
+abbrev pub top_place : ℕ → LayerPlace
+top_place at = record { at = at }
+
+-- the place so far from the first of the layers among which a place stands
+abbrev pub sibling_place : LayerPlace → ℕ → LayerPlace
+sibling_place place at = record place { at = at }
+
 -- the place of the layer with the id
-abbrev pub place_of : MapParts → ℕ → Option LayerPlace
-place_of m id = option_map (λ at. record { at = at }) (position (has_id id) m.layers)
+abbrev pub layer_place : MapParts → ℕ → Option LayerPlace
+layer_place m id = option_map top_place (position (has_id id) m.layers)
 
 -- the layer at a place
 abbrev pub layer_at : MapParts → LayerPlace → Option Layer
@@ -21,7 +29,7 @@ IsPlaceIn m place = place.at ≤ length m.layers
 
 -- the place behind the last layer
 abbrev pub last_place : MapParts → LayerPlace
-last_place m = record { at = length m.layers }
+last_place m = top_place (length m.layers)
 
 -- the map with a layer put in at a place: those from there on stand one place higher
 abbrev pub with_layer_at : LayerPlace → Layer → MapParts → MapParts
@@ -36,6 +44,9 @@ layer_name l = l.name
 
 abbrev pub layer_with_name : List ℕ → Layer → Layer
 layer_with_name name l = record l { name = name }
+
+abbrev pub layer_visible : Layer → Bool
+layer_visible l = l.visible
 
 abbrev pub layer_with_visible : Bool → Layer → Layer
 layer_with_visible visible l = record l { visible = visible }

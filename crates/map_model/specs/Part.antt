@@ -2,6 +2,7 @@
 use Rattle.std.specs.Prelude.{◌≡◌, ℕ, List, Bool, Option, Some, option_and_then, find}
 use Rattle.map_model.specs.declared.parts.Layer.{Layer}
 use Rattle.map_model.specs.Document.{DocumentParts}
+use Rattle.map_model.specs.Layers.{layer_name, layer_with_name, layer_visible, layer_with_visible}
 use Rattle.map_model.specs.Lists.{change_first}
 use Rattle.map_model.specs.Parts.{has_id}
 
@@ -11,7 +12,7 @@ pub record Part (A V : Type 0) : Type 0 where
   pub update : (V → V) → A → A
 
 -- the laws of a part
-pub record IsPart {A V : Type 0} (p : Part A V) : Type 0 where
+pub record IsLawfulPart {A V : Type 0} (p : Part A V) : Type 0 where
   pub get-update : (f : V → V) (v : V) (a : A) → p.get a ≡ Some v → p.get (p.update f a) ≡ Some (f v)
   pub update-same : (f : V → V) (v : V) (a : A) → p.get a ≡ Some v → f v ≡ v → p.update f a ≡ a
   pub update-update : (f g : V → V) (a : A) → p.update f (p.update g a) ≡ p.update (λ v. f (g v)) a
@@ -37,6 +38,13 @@ inner p q = record { get = λ a. option_and_then q.get (p.get a); update = λ f.
 -- a part of the first element that passes a test
 abbrev pub of_first : {A V : Type 0} → (A → Bool) → Part A V → Part (List A) V
 of_first test p = record { get = λ xs. option_and_then p.get (find test xs); update = λ f. change_first test (p.update f) }
+
+-- ---- parts of a layer
+abbrev pub name : Part Layer (List ℕ)
+name = whole layer_name layer_with_name
+
+abbrev pub visible : Part Layer Bool
+visible = whole layer_visible layer_with_visible
 
 -- ---- parts of a document
 -- the layers

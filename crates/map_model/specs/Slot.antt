@@ -1,8 +1,10 @@
 -- Slots: places of a document at which a thing can be put in, and taken out.
 use Rattle.std.specs.Prelude.{◌≡◌, ℕ, ◌+◌, ◌-◌, ◌<◌, ◌≤◌, List, length, slice_get, Option, Some, IsSome, IsSomeAnd, option_and_then}
 use Rattle.std.specs.List.{insert, remove}
+use Rattle.map_model.specs.declared.parts.Layer.{Layer}
+use Rattle.map_model.specs.declared.place.LayerPlace.{LayerPlace}
 use Rattle.map_model.specs.Document.{DocumentParts}
-use Rattle.map_model.specs.Part.{Part}
+use Rattle.map_model.specs.Part.{Part, layers, next_layer_id}
 
 -- a place at which a thing can stand: the document with one there and without it, and when it is free and filled
 pub record Slot (X : Type 0) : Type 1 where
@@ -13,7 +15,7 @@ pub record Slot (X : Type 0) : Type 1 where
   pub is_filled : DocumentParts → Type 0
 
 -- the laws of a slot
-pub record IsSlot {X : Type 0} (s : Slot X) : Type 0 where
+pub record IsLawfulSlot {X : Type 0} (s : Slot X) : Type 0 where
   pub there : (d : DocumentParts) → s.is_filled d → IsSome (s.item d)
   pub filled : (x : X) (d : DocumentParts) → s.is_free d → s.is_filled (s.with_item x d)
   pub without-with : (x : X) (d : DocumentParts) → s.is_free d → s.without_item (s.with_item x d) ≡ d
@@ -39,3 +41,12 @@ next_in p ids id = record {
   is_free = λ d. (ids.get d ≡ Some id) × IsSome (p.get d);
   is_filled = λ d. (ids.get d ≡ Some (id + 1)) × IsSomeAnd (p.get d) (λ xs. 0 < length xs);
 }
+
+-- ---- slots of layers
+-- the place of a layer
+abbrev pub layer_slot : LayerPlace → Slot Layer
+layer_slot place = place_in layers place.at
+
+-- the place behind the last layer
+abbrev pub next_layer_slot : ℕ → Slot Layer
+next_layer_slot id = next_in layers next_layer_id id

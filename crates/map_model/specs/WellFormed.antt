@@ -1,6 +1,7 @@
 -- When a map is well formed.
-use Rattle.std.specs.Prelude.{◌≡◌, ℕ, ◌-◌, ◌*◌, ◌^◌, ◌<◌, ◌≤◌, ℤ, pos, neg_ℤ, ◌≤ℤ◌, List, [], ◌∷◌, length, map, IfSome}
+use Rattle.std.specs.Prelude.{◌≡◌, ℕ, ◌-◌, ◌*◌, ◌^◌, ◌<◌, ◌≤◌, ℤ, pos, neg_ℤ, ◌≤ℤ◌, List, [], ◌∷◌, length, IfSome}
 use Rattle.std.specs.List.{flat_map}
+use Rattle.map_model.specs.declared.limits.TheConstants.{MAX_SIDE, MAX_CELLS, MAX_TILE_SIDE, MAX_LAYERS, MAX_OBJECTS, MAX_PROPERTIES, MAX_TILESETS, MAX_NEXT_ID, MAX_FIRST_ID, MAX_PIXELS}
 use Rattle.map_model.specs.declared.parts.PropValue.{PropValue}
 use Rattle.map_model.specs.declared.parts.PropValue.TheVariants as values
 use Rattle.map_model.specs.declared.parts.Property.{Property}
@@ -15,20 +16,20 @@ use Rattle.map_model.specs.Lists.{Each, Distinct}
 use Rattle.map_model.specs.Keeping.{AreKept, IsKeptValue, map_level, layer_level, object_level, tileset_level, property_level, map_names, layer_names, object_names, tileset_names, property_names}
 
 -- ---- sizes
--- a map is 1 to 4,096 cells wide and high, and has at most 1,048,576 cells
+-- a map is at least 1 cell wide and high
 pub record IsSize (width height : ℕ) : Type 0 where
   pub wide : 1 ≤ width
   pub high : 1 ≤ height
-  pub width_limit : width ≤ 4096
-  pub height_limit : height ≤ 4096
-  pub cells_limit : width * height ≤ 1048576
+  pub width_limit : width ≤ MAX_SIDE
+  pub height_limit : height ≤ MAX_SIDE
+  pub cells_limit : width * height ≤ MAX_CELLS
 
--- a tile is 1 to 65,535 pixels wide and high
+-- a tile is at least 1 pixel wide and high
 pub record IsTileSize (width height : ℕ) : Type 0 where
   pub wide : 1 ≤ width
   pub high : 1 ≤ height
-  pub width_limit : width ≤ 65535
-  pub height_limit : height ≤ 65535
+  pub width_limit : width ≤ MAX_TILE_SIDE
+  pub height_limit : height ≤ MAX_TILE_SIDE
 
 -- ---- ids
 -- an id from 1 on, below the next one
@@ -36,10 +37,10 @@ pub record IsId (next id : ℕ) : Type 0 where
   pub low : 1 ≤ id
   pub high : id < next
 
--- distinct ids below the next one, which is at most 2,147,483,647
+-- distinct ids below the next one
 pub record AreIds (next : ℕ) (ids : List ℕ) : Type 0 where
   pub next_low : 1 ≤ next
-  pub next_high : next ≤ 2147483647
+  pub next_high : next ≤ MAX_NEXT_ID
   pub each : Each (IsId next) ids
   pub distinct : Distinct ids
 
@@ -50,13 +51,14 @@ ids_of l = l.id ∷ []
 abbrev pub layer_ids : List Layer → List ℕ
 layer_ids ls = flat_map ids_of ls
 
-abbrev pub object_id : Object → ℕ
-object_id o = o.id
+-- the ids of an object
+abbrev pub ids_of_object : Object → List ℕ
+ids_of_object o = o.id ∷ []
 
 -- the ids of the objects in a layer, and of those in all layers
 abbrev pub object_ids_in : Body → List ℕ
 object_ids_in (Tiles e cells) = []
-object_ids_in (Objects os) = map object_id os
+object_ids_in (Objects os) = flat_map ids_of_object os
 object_ids_in Other = []
 
 abbrev pub object_ids_of : Layer → List ℕ
@@ -82,20 +84,21 @@ pub record IsProperty (level : ℕ) (p : Property) : Type 0 where
   pub value : IsValue level p.value
   pub kept : AreKept level property_names p.kept
 
-abbrev pub property_name : Property → List ℕ
-property_name p = p.name
+-- the names of a property
+abbrev pub names_of_property : Property → List (List ℕ)
+names_of_property p = p.name ∷ []
 
--- the properties of an owner at this level: at most 256, with distinct names
+-- the properties of an owner at this level, with distinct names
 pub record AreProperties (level : ℕ) (ps : List Property) : Type 0 where
-  pub few : length ps ≤ 256
+  pub few : length ps ≤ MAX_PROPERTIES
   pub each : Each (IsProperty (property_level level)) ps
-  pub distinct : Distinct (map property_name ps)
+  pub distinct : Distinct (flat_map names_of_property ps)
 
 -- ---- objects
 -- a number of an object, in pixels
 pub record IsPixels (z : ℤ) : Type 0 where
-  pub low : neg_ℤ (pos 1000000000) ≤ℤ z
-  pub high : z ≤ℤ pos 1000000000
+  pub low : neg_ℤ MAX_PIXELS ≤ℤ z
+  pub high : z ≤ℤ MAX_PIXELS
 
 pub record IsPlacing (p : Placing) : Type 0 where
   pub x : IfSome p.x IsPixels
@@ -107,48 +110,54 @@ pub record IsPlacing (p : Placing) : Type 0 where
 abbrev pub IsTileValue : ℕ → Type 0
 IsTileValue value = value < 2 ^ 32
 
-pub record IsObject (o : Object) : Type 0 where
+-- an object at this level
+pub record IsObject (level : ℕ) (o : Object) : Type 0 where
   pub placing : IsPlacing o.placing
   pub gid : IfSome o.gid IsTileValue
-  pub properties : AreProperties object_level o.properties
-  pub kept : AreKept object_level object_names o.kept
+  pub properties : AreProperties level o.properties
+  pub kept : AreKept level object_names o.kept
 
 -- ---- layers
--- a tile layer has one value for each cell of the map, and an object layer at most 4,096 objects
-abbrev pub IsBody : ℕ → Body → Type 0
-IsBody size (Tiles e cells) = (length cells ≡ size) × Each IsTileValue cells
-IsBody size (Objects os) = (length os ≤ 4096) × Each IsObject os
-IsBody size Other = Unit {0}
+-- a tile layer has one value for each cell of the map
+abbrev pub IsBody : ℕ → ℕ → Body → Type 0
+IsBody level size (Tiles e cells) = (length cells ≡ size) × Each IsTileValue cells
+IsBody level size (Objects os) = (length os ≤ MAX_OBJECTS) × Each (IsObject (object_level level)) os
+IsBody level size Other = Unit {0}
 
--- a layer of a map of so many cells
-pub record IsLayer (size : ℕ) (l : Layer) : Type 0 where
-  pub properties : AreProperties layer_level l.properties
-  pub kept : AreKept layer_level (layer_names l.body) l.kept
-  pub body : IsBody size l.body
+-- a layer at this level, of a map of so many cells
+pub record IsLayer (level size : ℕ) (l : Layer) : Type 0 where
+  pub properties : AreProperties level l.properties
+  pub kept : AreKept level (layer_names l.body) l.kept
+  pub body : IsBody level size l.body
+
+-- the layers of a map of so many cells, with these next ids
+pub record AreLayers (size next_layer next_object : ℕ) (ls : List Layer) : Type 0 where
+  pub few : length ls ≤ MAX_LAYERS
+  pub each : Each (IsLayer layer_level size) ls
+  pub layer_ids : AreIds next_layer (layer_ids ls)
+  pub object_ids : AreIds next_object (object_ids ls)
 
 -- ---- tilesets
 pub record IsTileset (t : Tileset) : Type 0 where
   pub low : 1 ≤ t.first_id
-  pub high : t.first_id ≤ 268435455
+  pub high : t.first_id ≤ MAX_FIRST_ID
   pub kept : AreKept tileset_level tileset_names t.kept
 
-abbrev pub first_id : Tileset → ℕ
-first_id t = t.first_id
+-- the first ids of a tileset
+abbrev pub first_ids_of : Tileset → List ℕ
+first_ids_of t = t.first_id ∷ []
 
--- at most 256 tilesets, with distinct first ids
+-- tilesets with distinct first ids
 pub record AreTilesets (ts : List Tileset) : Type 0 where
-  pub few : length ts ≤ 256
+  pub few : length ts ≤ MAX_TILESETS
   pub each : Each IsTileset ts
-  pub distinct : Distinct (map first_id ts)
+  pub distinct : Distinct (flat_map first_ids_of ts)
 
 -- ---- maps
 pub record IsWellFormed (m : MapParts) : Type 0 where
   pub size : IsSize m.width m.height
   pub tile_size : IsTileSize m.tile_width m.tile_height
-  pub few_layers : length m.layers ≤ 256
-  pub layers : Each (IsLayer (m.width * m.height)) m.layers
-  pub layer_ids : AreIds m.next_layer_id (layer_ids m.layers)
-  pub object_ids : AreIds m.next_object_id (object_ids m.layers)
+  pub layers : AreLayers (m.width * m.height) m.next_layer_id m.next_object_id m.layers
   pub tilesets : AreTilesets m.tilesets
   pub properties : AreProperties map_level m.properties
   pub kept : AreKept map_level map_names m.kept

@@ -1,11 +1,13 @@
 ghost use Rattle.std.specs.Prelude.{◌≡◌, ◌<◌, Some, IsSome, IsSomeAnd, option_map};
+ghost use Rattle.map_model.specs.Document.{document_of, painted, with_map};
 ghost use Rattle.map_model.specs.Layers.{IsPlaceIn, layer_at, layer_name, layer_with_name, layer_with_visible, with_layer_at, with_next_ids, without_layer_at};
 ghost use Rattle.map_model.specs.Lists.{Each};
-ghost use Rattle.map_model.specs.Parts.{HasTiles, IsWithin, layer_of, with_cell, with_edits, with_layer};
+ghost use Rattle.map_model.specs.Parts.{HasTiles, IsWithin, layer_of, with_cell, with_layer};
 ghost use Rattle.map_model.specs.WellFormed.{IsWellFormed};
 
 use crate::edit::{CellEdit, Side};
 use crate::held::MapText;
+use crate::layers::{put_in, rename_in, set_in, show_in};
 use crate::map::Map;
 use crate::parts::Layer;
 use crate::place::LayerPlace;
@@ -32,7 +34,7 @@ impl Model for Document {
 impl Document {
     /// The document of a map.
     pub fn new(map: Map) -> Document
-        ensures { result ≡ record { map = map } }
+        ensures { result ≡ document_of map }
     {
         Document { map }
     }
@@ -49,67 +51,75 @@ impl Document {
         requires tiles { HasTiles self.old.map layer }
         requires column { x < self.old.map.width }
         requires row { y < self.old.map.height }
-        ensures document { self.new ≡ record self.old { map = with_cell self.old.map layer x y value } }
+        ensures document { self.new ≡ with_map (λ m. with_cell m layer x y value) self.old }
         ensures well_formed { IsWellFormed self.new.map }
     {
-        self.map.put_cell(layer, x, y, value);
+        let at = self.map.index(x, y);
+        set_in(&mut self.map.parts.layers, layer, at, value);
     }
 
     /// Sets the cells of a list, in a tile layer, to their values on a side: one look-up for all of them.
     pub fn put_edits(&mut self, layer: u32, edits: &[CellEdit], side: Side)
         requires tiles { HasTiles self.old.map layer }
         requires inside { Each (IsWithin self.old.map) edits.now }
-        ensures document { self.new ≡ record self.old { map = with_edits self.old.map layer edits.now side } }
+        ensures document { self.new ≡ painted layer edits.now side self.old }
         ensures well_formed { IsWellFormed self.new.map }
     {
-        self.map.put_edits(layer, edits, side);
+        match edits {
+            [edit] => self.put_cell(layer, edit.x, edit.y, edit.value(side)),
+            _ => {
+                let width = self.map.parts.width as usize;
+                put_in(&mut self.map.parts.layers, layer, width, edits, side);
+            }
+        }
     }
 
     /// Puts a layer in at a place; those from there on stand one place higher. The map is well formed with it.
     pub fn insert_layer(&mut self, place: LayerPlace, layer: Loose<Layer>)
         requires place { IsPlaceIn self.old.map place }
         requires well_formed { IsSomeAnd layer (λ l. IsWellFormed (with_layer_at place l self.old.map)) }
-        ensures document { IsSomeAnd layer (λ l. self.new ≡ record self.old { map = with_layer_at place l self.old.map }) }
+        ensures document { IsSomeAnd layer (λ l. self.new ≡ with_map (with_layer_at place l) self.old) }
         ensures well_formed { IsWellFormed self.new.map }
     {
-        self.map.insert_layer(place, layer);
+        self.map.parts.layers.insert(place.at, layer);
     }
 
     /// Takes the layer at a place out; those behind it stand one place lower.
     pub fn take_layer(&mut self, place: LayerPlace) -> Loose<Layer>
         requires { IsSome (layer_at self.old.map place) }
         ensures layer { result ≡ layer_at self.old.map place }
-        ensures document { self.new ≡ record self.old { map = without_layer_at place self.old.map } }
+        ensures document { self.new ≡ with_map (without_layer_at place) self.old }
         ensures well_formed { IsWellFormed self.new.map }
     {
-        self.map.take_layer(place)
+        self.map.parts.layers.take(place.at)
     }
 
     /// Exchanges the name of the layer with an id and another name.
     pub fn swap_layer_name(&mut self, layer: u32, name: &mut MapText)
         requires { IsSome (layer_of self.old.map layer) }
         ensures given { option_map layer_name (layer_of self.old.map layer) ≡ Some name.new }
-        ensures held { self.new ≡ record self.old { map = with_layer layer (layer_with_name name.old) self.old.map } }
+        ensures document { self.new ≡ with_map (with_layer layer (layer_with_name name.old)) self.old }
         ensures well_formed { IsWellFormed self.new.map }
     {
-        self.map.swap_layer_name(layer, name);
+        rename_in(&mut self.map.parts.layers, layer, name);
     }
 
     /// Shows or hides the layer with an id.
     pub fn set_visible(&mut self, layer: u32, visible: bool)
         requires { IsSome (layer_of self.old.map layer) }
-        ensures document { self.new ≡ record self.old { map = with_layer layer (layer_with_visible visible) self.old.map } }
+        ensures document { self.new ≡ with_map (with_layer layer (layer_with_visible visible)) self.old }
         ensures well_formed { IsWellFormed self.new.map }
     {
-        self.map.set_visible(layer, visible);
+        show_in(&mut self.map.parts.layers, layer, visible);
     }
 
     /// Sets the next ids, of a layer and of an object. The map is well formed with them.
     pub fn set_next_ids(&mut self, layer: u32, object: u32)
         requires { IsWellFormed (with_next_ids layer object self.old.map) }
-        ensures document { self.new ≡ record self.old { map = with_next_ids layer object self.old.map } }
+        ensures document { self.new ≡ with_map (with_next_ids layer object) self.old }
         ensures well_formed { IsWellFormed self.new.map }
     {
-        self.map.set_next_ids(layer, object);
+        self.map.parts.next_layer_id = layer;
+        self.map.parts.next_object_id = object;
     }
 }

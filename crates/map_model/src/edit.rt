@@ -1,5 +1,5 @@
 ghost use Rattle.std.specs.Prelude.{◌≡◌};
-ghost use Rattle.map_model.specs.CellEdits.{value_at};
+ghost use Rattle.map_model.specs.CellEdits.{side_value};
 
 use tile_id::Gid;
 
@@ -22,7 +22,7 @@ pub enum Side {
 impl CellEdit {
     /// The cell's value on a side of the change.
     pub fn value(self, side: Side) -> Gid
-        ensures { result ≡ value_at side self }
+        ensures { result ≡ side_value side self }
     {
         match side {
             Side::Before => self.before,

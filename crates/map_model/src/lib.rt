@@ -9,6 +9,7 @@ mod document;
 mod edit;
 mod held;
 mod layers;
+pub mod limits;
 mod map;
 mod owner;
 mod parts;

@@ -1,19 +1,17 @@
-ghost use Rattle.std.specs.Prelude.{◌≡◌, ◌+◌, ◌*◌, ◌<◌, None, Some, IfOk, IfSome, IfNone, IsSome, IsSomeAnd, option_map};
+ghost use Rattle.std.specs.Prelude.{◌≡◌, ◌+◌, ◌*◌, ◌<◌, None, IfOk, IfSome, IfNone};
 ghost use Rattle.std.specs.Option.{option_copied};
-ghost use Rattle.map_model.specs.Layers.{IsPlaceIn, layer_at, layer_name, layer_with_name, layer_with_visible, place_of, with_layer_at, with_next_ids, without_layer_at};
-ghost use Rattle.map_model.specs.Lists.{Each};
+ghost use Rattle.map_model.specs.Layers.{last_place, layer_place};
 ghost use Rattle.map_model.specs.NewMap.{new_map};
-ghost use Rattle.map_model.specs.Parts.{layer_of, HasTiles, cell_of, with_cell, with_edits, with_layer, IsWithin};
+ghost use Rattle.map_model.specs.Parts.{layer_of, cell_of};
 ghost use Rattle.map_model.specs.Tilesets.{tileset_of, better, best_of, IsTilesetOf, HasNoTileset};
 ghost use Rattle.map_model.specs.WellFormed.{IsWellFormed, IsSize, IsTileSize};
 
 use crate::create::{first_layer, kept_by_map, one};
-use crate::edit::{CellEdit, Side};
 use crate::held::{Kept, MapText};
-use crate::layers::{place_in, put_in, rename_in, set_in, show_in};
+use crate::layers::place_in;
 use crate::parts::{Layer, MapParts, Tileset};
 use crate::place::LayerPlace;
-use link_chain::{Chain, Loose};
+use link_chain::Chain;
 use std::alloc::{AllocError, Global};
 use std::marker::Model;
 use tile_id::Gid;
@@ -21,7 +19,7 @@ use tile_id::Gid;
 /// A well-formed map, seen as the record of its parts.
 #[derive(Drop)]
 pub struct Map {
-    parts: MapParts,
+    pub(crate) parts: MapParts,
 }
 
 impl Model for Map {
@@ -64,7 +62,8 @@ impl Map {
 
     /// The place of the layer with an id.
     pub fn layer_place(&self, id: u32) -> Option<LayerPlace>
-        ensures { result ≡ place_of self.now id }
+        ensures place { result ≡ layer_place self.now id }
+        ensures well_formed { IsWellFormed self.now }
     {
         let at = place_in(&self.parts.layers, id)?;
         Some(LayerPlace { at })
@@ -94,7 +93,7 @@ impl Map {
     }
 
     // The place of a cell, row by row.
-    fn index(&self, x: u32, y: u32) -> usize
+    pub(crate) fn index(&self, x: u32, y: u32) -> usize
         requires column { x < self.now.width }
         requires row { y < self.now.height }
         ensures { result ≡ y * self.now.width + x }
@@ -102,76 +101,13 @@ impl Map {
         y as usize * self.parts.width as usize + x as usize
     }
 
-    /// Sets the value of a cell of a tile layer.
-    pub fn put_cell(&mut self, layer: u32, x: u32, y: u32, value: Gid)
-        requires tiles { HasTiles self.old layer }
-        requires column { x < self.old.width }
-        requires row { y < self.old.height }
-        ensures map { self.new ≡ with_cell self.old layer x y value }
-        ensures well_formed { IsWellFormed self.new }
+    /// The place behind the last layer.
+    pub fn last_place(&self) -> LayerPlace
+        ensures { result ≡ last_place self.now }
     {
-        let at = self.index(x, y);
-        set_in(&mut self.parts.layers, layer, at, value);
-    }
-
-    /// Sets the cells of a list, in a tile layer, to their values on a side: one look-up for all of them.
-    pub fn put_edits(&mut self, layer: u32, edits: &[CellEdit], side: Side)
-        requires tiles { HasTiles self.old layer }
-        requires inside { Each (IsWithin self.old) edits.now }
-        ensures map { self.new ≡ with_edits self.old layer edits.now side }
-        ensures well_formed { IsWellFormed self.new }
-    {
-        let width = self.parts.width as usize;
-        put_in(&mut self.parts.layers, layer, width, edits, side);
-    }
-
-    /// Puts a layer in at a place; those from there on stand one place higher. The map is well formed with it.
-    pub fn insert_layer(&mut self, place: LayerPlace, layer: Loose<Layer>)
-        requires place { IsPlaceIn self.old place }
-        requires well_formed { IsSomeAnd layer (λ l. IsWellFormed (with_layer_at place l self.old)) }
-        ensures map { IsSomeAnd layer (λ l. self.new ≡ with_layer_at place l self.old) }
-        ensures well_formed { IsWellFormed self.new }
-    {
-        self.parts.layers.insert(place.at, layer);
-    }
-
-    /// Takes the layer at a place out; those behind it stand one place lower.
-    pub fn take_layer(&mut self, place: LayerPlace) -> Loose<Layer>
-        requires { IsSome (layer_at self.old place) }
-        ensures layer { result ≡ layer_at self.old place }
-        ensures map { self.new ≡ without_layer_at place self.old }
-        ensures well_formed { IsWellFormed self.new }
-    {
-        self.parts.layers.take(place.at)
-    }
-
-    /// Exchanges the name of the layer with an id and another name.
-    pub fn swap_layer_name(&mut self, layer: u32, name: &mut MapText)
-        requires { IsSome (layer_of self.old layer) }
-        ensures given { option_map layer_name (layer_of self.old layer) ≡ Some name.new }
-        ensures held { self.new ≡ with_layer layer (layer_with_name name.old) self.old }
-        ensures well_formed { IsWellFormed self.new }
-    {
-        rename_in(&mut self.parts.layers, layer, name);
-    }
-
-    /// Shows or hides the layer with an id.
-    pub fn set_visible(&mut self, layer: u32, visible: bool)
-        requires { IsSome (layer_of self.old layer) }
-        ensures map { self.new ≡ with_layer layer (layer_with_visible visible) self.old }
-        ensures well_formed { IsWellFormed self.new }
-    {
-        show_in(&mut self.parts.layers, layer, visible);
-    }
-
-    /// Sets the next ids, of a layer and of an object. The map is well formed with them.
-    pub fn set_next_ids(&mut self, layer: u32, object: u32)
-        requires { IsWellFormed (with_next_ids layer object self.old) }
-        ensures map { self.new ≡ with_next_ids layer object self.old }
-        ensures well_formed { IsWellFormed self.new }
-    {
-        self.parts.next_layer_id = layer;
-        self.parts.next_object_id = object;
+        LayerPlace {
+            at: self.parts.layers.len(),
+        }
     }
 
     /// A map of one empty tile layer, "Tile Layer 1", and one external tileset, whose first id is 1.

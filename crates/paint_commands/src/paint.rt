@@ -1,4 +1,5 @@
 ghost use Rattle.std.specs.Prelude.{◌≡◌, IfOk, IfErr};
+ghost use Rattle.map_model.specs.CellEdits.{AreInRowOrder};
 ghost use Rattle.map_model.specs.Document.{DocumentParts};
 ghost use Rattle.edits.specs.Blocks.{block_of};
 ghost use Rattle.edits.specs.Difference.{difference_in};
@@ -63,6 +64,7 @@ impl PaintCommand {
             → result.now ≡ difference_in (painted_layer self.now) d.map ((paint_change self.now).redone d).map }
         ensures undo { (d : DocumentParts) → (paint_change self.now).fits_undo d
             → result.now ≡ difference_in (painted_layer self.now) ((paint_change self.now).undone d).map d.map }
+        ensures ordered { AreInRowOrder result.now }
     {
         self.cells.as_slice()
     }

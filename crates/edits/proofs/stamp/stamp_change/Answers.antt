@@ -28,4 +28,4 @@ returns-in-Ok-clause-change c =
     let formed : IsWellFormed m = rw c.map-map.ensures at c.parts-parts.ensures.well_formed in
     let width : c.parts-parts.result.now.width ≡ m.width = ap (λ (p : MapParts). p.width) (c.parts-parts.ensures.value ∙ c.map-map.ensures) in
     IsStampChange-laid m c.args.layer (block_of c.args.block.now) tiles c.new-in-Ok.result layer known is has formed
-    (c.new-in-Ok.ensures ∙ (rw width at c.in-Ok.ensures))
+    (c.new-in-Ok.ensures ∙ (rw width at c.in-Ok.ensures.cells))

@@ -1,0 +1,26 @@
+use Rattle.std.proofs.Common.{◌≡◌, ap, ◌∙◌}
+use Rattle.map_model.specs.declared.document.Document.TheInside.{Inside}
+use Rattle.map_model.specs.Document.{DocumentParts}
+use Rattle.map_model.specs.CellEdits.{put_values}
+use Rattle.map_model.specs.Lists.{Each}
+use Rattle.map_model.specs.Parts.{HasTiles, IsWithin}
+use Rattle.map_model.proofs.CellEdits.{put_values-keeps}
+use Rattle.map_model.proofs.Keeps.{places-within, with_tiles-keeps}
+use Rattle.map_model.proofs.document.Document.put_edits.Goals as goal
+
+pub put_in-requires-clause-places : goal.put_in-requires-clause-places
+put_in-requires-clause-places c =
+    let m = c.self-inside.inside.0.0.parts in
+    let is : m ≡ c.args.self.now.map = ap (λ (i : Inside). i.map) c.self-inside.view_is ∙ ap (λ (d : DocumentParts). d.map) c.self.view_is in
+    let tiles : HasTiles m c.args.layer = rw is c.requires.tiles in
+    let inside : Each (IsWithin m) c.args.edits.now = rw is c.requires.inside in
+    places-within m c.args.layer c.args.edits.now inside tiles c.self-inside.invariant
+
+pub invariant_of-self-inside : goal.invariant_of-self-inside
+invariant_of-self-inside c =
+    let m = c.self-inside.inside.0.0.parts in
+    with_tiles-keeps c.args.layer (put_values m.width c.args.side c.args.edits.now) m c.put_in.new.layers c.put_in.ensures.layers
+    (put_values-keeps m.width c.args.side c.args.edits.now c.put_in.ensures.range) c.self-inside.invariant
+
+pub returns-in_default-clause-well_formed : goal.returns-in_default-clause-well_formed
+returns-in_default-clause-well_formed c = invariant_of-self-inside c
