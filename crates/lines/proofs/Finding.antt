@@ -92,13 +92,23 @@ finds_last (Some xs) (Some ys) p n h e none l z s =
     let whole : xs ≡ p = h ∙ ap (λ (zs : List ℕ). p ++ zs) e ∙ append-nil p in
     (ap lines_of whole ∙ ends p (recursion_from_All IsOther p none) (omega arith) ∙ ap (λ (zs : List ℕ). zs ∷ []) (sym all) ∙ ap (λ (zs : List ℕ). take n p ∷ lines_of zs) (sym rest), omega (arith, ap length all))
 
-pub skips_on : (before k k' : Option (List ℕ)) (p q p' : List ℕ) → SkipsFront before (prepend_known p k) → HasNoNewline p → q ≡ [] → SameInput (prepend_known q k) (prepend_known p' k') → SkipsFront before (prepend_known p' k')
-skips_on None k k' p q p' s n z h = tt
-skips_on (Some xs) None k' p q p' s n z h = absurd s
-skips_on (Some xs) (Some ys) None p q p' s n z h = h
-skips_on (Some xs) (Some ys) (Some zs) p q p' s n z h =
-    let left : ys ≡ p' ++ zs = ap (λ (ws : List ℕ). ws ++ ys) (sym z) ∙ h in
-    (s.0 ++ p, All-append IsOther s.0 p s.1 n, s.2 ∙ ap (λ (ws : List ℕ). s.0 ++ (p ++ ws)) left ∙ sym (append_assoc s.0 p (p' ++ zs)))
+pub skips_past : (before k : Option (List ℕ)) (p q : List ℕ) → SkipsFront before (prepend_known p k) → HasNoNewline p → q ≡ [] → SkipsFront before (prepend_known q k)
+skips_past None k p q s n z = tt
+skips_past (Some xs) None p q s n z = s
+skips_past (Some xs) (Some ys) p q s n z =
+    (s.0 ++ p, All-append IsOther s.0 p s.1 n, s.2 ∙ sym (append_assoc s.0 p ys) ∙ ap (λ (ws : List ℕ). (s.0 ++ p) ++ (ws ++ ys)) (sym z))
+
+pub skips_same : (before mid after : Option (List ℕ)) → SkipsFront before mid → SameInput mid after → SkipsFront before after
+skips_same None mid after s h = tt
+skips_same (Some xs) None after s h = absurd s
+skips_same (Some xs) (Some ys) None s h = h
+skips_same (Some xs) (Some ys) (Some zs) s h = (s.0, s.1, s.2 ∙ ap (λ (ws : List ℕ). s.0 ++ ws) h)
+
+-- nothing is skipped where the input is the same
+pub skips_none : (before after : Option (List ℕ)) → SameInput before after → SkipsFront before after
+skips_none None after h = tt
+skips_none (Some xs) None h = h
+skips_none (Some xs) (Some ys) h = ([], λ k d l. absurd (omega (arith, l)), h)
 
 pub skips_all : (before k : Option (List ℕ)) (p q : List ℕ) → SkipsFront before (prepend_known p k) → HasNoNewline p → q ≡ [] → IsAtEnd k → SkipsLine before (prepend_known q k)
 skips_all None k p q s n z e = tt

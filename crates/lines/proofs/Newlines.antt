@@ -1,15 +1,12 @@
 -- The place of the first newline.
-use Rattle.std.proofs.Common.{◌≡◌, ◌≢◌, ℕ, ◌+◌, ◌<◌, ◌≤◌, eqb, true, false, cond, not, List, ◌∷◌, ◌++◌, length, take, drop, get_or, refl, sym, ap, ◌∙◌, subst, arith}
-use Rattle.std.specs.List.{position_or_len, prefix_len, before_first, after_first}
+use Rattle.std.proofs.Common.{◌≡◌, ℕ, ◌+◌, ◌<◌, ◌≤◌, eqb, cond, not, List, ◌∷◌, ◌++◌, length, take, drop, get_or, sym, ap, ◌∙◌, arith}
+use Rattle.std.specs.List.{before_first, after_first}
 use Rattle.std.proofs.lemmas.Bool.{ne_eqb, eq-eqb, eqb-true, eqb-false, false_from_ne_true}
 use Rattle.memchr.specs.Find.{NoneBefore, Nowhere, Passes, is_byte}
-use Rattle.std.proofs.lemmas.List.{get_or_default, get_or-take, length-take}
-use Rattle.std.proofs.lemmas.List.Sums.{prefix_len-le-length, position_or_len_is, fails_before_first, passes_at_first, split_at_first}
+use Rattle.std.proofs.lemmas.List.{get_or-take, length-take}
+use Rattle.std.proofs.lemmas.List.Sums.{position_or_len_is, fails_before_first, passes_at_first, split_at_first}
 use Rattle.std.proofs.lemmas.List.Folds.{prefix_len-append}
 use Rattle.lines.specs.Lines.{HasNoNewline, first_newline}
-
-pub first_within : (bs : List ℕ) → first_newline bs ≤ length bs
-first_within bs = prefix_len-le-length (λ b. not (eqb b 10)) bs
 
 pub first_of_none : (bs : List ℕ) → HasNoNewline bs → first_newline bs ≡ length bs
 first_of_none bs h = position_or_len_is (λ b. eqb b 10) bs (length bs) 0 (omega arith) (λ k l. ne_eqb (get_or bs k 0) 10 (h k 0 l)) (λ l. absurd (omega (arith, l)))
@@ -37,8 +34,10 @@ first_is bs n h = let low = h.0.high in sym (position_or_len_is (λ b. eqb b 10)
 pub first_is_none : (bs : List ℕ) → Nowhere (Passes (is_byte 10) bs) 0 (length bs) → length bs ≡ first_newline bs
 first_is_none bs h = sym (position_or_len_is (λ b. eqb b 10) bs (length bs) 0 (omega arith) (λ k l. false_from_ne_true _ (h k (omega arith) l)) (λ l. absurd (omega (arith, l))))
 
-pub first_moved : (part old : List ℕ) (i : ℕ) → part ≡ old → HasNoNewline old → length old ≡ i → i ≡ 0 + first_newline part
-first_moved part old i e h l = omega (arith, ap first_newline e, first_of_none old h, l)
+-- the newline's place in a part that begins at s: behind it, where it has none
+pub first_moved : (part old : List ℕ) (s i : ℕ) → part ≡ old → HasNoNewline old → length old ≡ i → s + i ≡ s + first_newline part
+first_moved part old s i e h l = omega (arith, ap first_newline e, first_of_none old h, l)
 
-pub first_filled : (part old more : List ℕ) (i n : ℕ) → part ≡ old ++ more → HasNoNewline old → length old ≡ i → n ≡ first_newline more → i + n ≡ 0 + first_newline part
-first_filled part old more i n e h l k = omega (arith, ap first_newline e, first-append old more h, l, k)
+-- and among the bytes that came behind it
+pub first_filled : (part old more : List ℕ) (s i n : ℕ) → part ≡ old ++ more → HasNoNewline old → length old ≡ i → n ≡ first_newline more → s + i + n ≡ s + first_newline part
+first_filled part old more s i n e h l k = omega (arith, ap first_newline e, first-append old more h, l, k)

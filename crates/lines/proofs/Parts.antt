@@ -28,12 +28,14 @@ two_parts xs i n =
     let h : i ≤ i + n = omega arith in
     sym (ap (λ ys. ys ++ take n (drop i xs)) (sym (take-take i (i + n) xs h)) ∙ ap (λ ys. take i front ++ ys) (sym (drop-take i n xs)) ∙ take-append-drop i front)
 
--- after more bytes are read behind the ones that were moved to the front
-pub filled : (xs old : List ℕ) (i n : ℕ) → take i xs ≡ old → slice_range xs 0 (i + n) ≡ old ++ slice_range xs i (i + n)
-filled xs old i n h =
-    let zero_off : i + n - 0 ≡ i + n = omega arith in
-    let off : i + n - i ≡ n = omega arith in
-    ap (λ m. take m xs) zero_off ∙ two_parts xs i n ∙ ap (λ ys. ys ++ take n (drop i xs)) h ∙ ap (λ m. old ++ take m (drop i xs)) (sym off)
+-- a part in two
+pub range_parts : (xs : List ℕ) (s l n : ℕ) → slice_range xs s (s + l + n) ≡ slice_range xs s (s + l) ++ slice_range xs (s + l) (s + l + n)
+range_parts xs s l n =
+    let whole : s + l + n - s ≡ l + n = omega arith in
+    let front : s + l - s ≡ l = omega arith in
+    let back : s + l + n - (s + l) ≡ n = omega arith in
+    ap (λ m. take m (drop s xs)) whole ∙ two_parts (drop s xs) l n ∙ ap (λ ys. take l (drop s xs) ++ take n ys) (drop-drop l s xs)
+    ∙ ap (λ m. take m (drop s xs) ++ take n (drop (s + l) xs)) (sym front) ∙ ap (λ m. slice_range xs s (s + l) ++ take m (drop (s + l) xs)) (sym back)
 
 -- what is to come stays the same when bytes move from the reader to the pending ones
 pub same_input : (old new more : List ℕ) (before after : Option (List ℕ)) → new ≡ old ++ more → Consumes before after more → SameInput (prepend_known old before) (prepend_known new after)
@@ -46,12 +48,9 @@ same_kept old new None after e h = tt
 same_kept old new (Some xs) None e h = h
 same_kept old new (Some xs) (Some ys) e h = ap (λ zs. old ++ zs) (sym h) ∙ ap (λ zs. zs ++ ys) (sym e)
 
-pub kept_front : (xs : List ℕ) (n : ℕ) → slice_range xs 0 n ≡ take n xs
-kept_front xs n = let e : n - 0 ≡ n = omega arith in ap (λ m. take m xs) e
-
 -- what lies in the buffer after a read, and after one that failed
-pub read_in : (items xs was old : List ℕ) (i n : ℕ) → items ≡ xs → take i xs ≡ was → was ≡ old → slice_range items 0 (i + n) ≡ old ++ slice_range xs i (i + n)
-read_in items xs was old i n same front e = ap (λ ys. slice_range ys 0 (i + n)) same ∙ filled xs old i n (front ∙ e)
+pub read_in : (items xs was old : List ℕ) (s l n : ℕ) → items ≡ xs → slice_range xs s (s + l) ≡ was → was ≡ old → slice_range items s (s + l + n) ≡ old ++ slice_range xs (s + l) (s + l + n)
+read_in items xs was old s l n same kept e = ap (λ ys. slice_range ys s (s + l + n)) same ∙ range_parts xs s l n ∙ ap (λ ys. ys ++ slice_range xs (s + l) (s + l + n)) (kept ∙ e)
 
-pub not_read : (items xs was old : List ℕ) (i : ℕ) → items ≡ xs → take i xs ≡ was → was ≡ old → slice_range items 0 i ≡ old
-not_read items xs was old i same front e = ap (λ ys. slice_range ys 0 i) same ∙ kept_front xs i ∙ front ∙ e
+pub not_read : (items xs was old : List ℕ) (s l : ℕ) → items ≡ xs → slice_range xs s (s + l) ≡ was → was ≡ old → slice_range items s (s + l) ≡ old
+not_read items xs was old s l same kept e = ap (λ ys. slice_range ys s (s + l)) same ∙ kept ∙ e

@@ -1,5 +1,5 @@
 -- The lines of some bytes, and what a reader of lines finds of them.
-use Rattle.std.specs.Prelude.{◌≡◌, ℕ, ◌+◌, ◌-◌, ◌*◌, ◌^◌, ◌<◌, ◌≤◌, Bool, false, cond, ◌==◌, List, [], ◌∷◌, ◌++◌, length, ⊤, ◌≢◌, All, Contains, ◌⊎◌, Option, None, Some}
+use Rattle.std.specs.Prelude.{◌≡◌, ℕ, ◌+◌, ◌-◌, ◌*◌, ◌^◌, ◌<◌, ◌≤◌, Bool, false, cond, ◌==◌, List, [], ◌∷◌, ◌++◌, length, ⊤, ◌≢◌, All, Contains, ◌⊎◌, Option, None, Some, unwrap_or}
 use Rattle.std.specs.List.{position_or_len}
 use Rattle.std.specs.Io.KnownBytes.{prepend_known}
 use Rattle.lines.specs.declared.reader.Found.{Found}
@@ -40,16 +40,17 @@ LinesAreCut =
     → lines_of (joined lines ++ last) ≡ lines ++ last_line last
 
 -- what a reader of lines holds: the bytes that it has read and not given, whether the input has ended, the calls of
--- `read` made so far, and the line that it gave last
+-- `read` made so far, how many bytes the last of them gave, if it did not fail, and the line that it gave last
 pub record Reading : Type 0 where
   pub pending : List ℕ
   pub ended : Bool
   pub calls : ℕ
+  pub last_read : Option ℕ
   pub line : List ℕ
 
 -- nothing was read yet
 abbrev pub fresh : Reading
-fresh = record { pending = []; ended = false; calls = 0; line = [] }
+fresh = record { pending = []; ended = false; calls = 0; last_read = None; line = [] }
 
 -- no fewer than the bytes that can still come: those that are pending, and 2^16 for each call of `read` that is left
 abbrev pub budget : Reading → ℕ
@@ -84,3 +85,28 @@ SkipsLine None new = ⊤
 SkipsLine (Some xs) None = ⊥
 SkipsLine (Some xs) (Some ys) =
     (first : List ℕ) × HasNoNewline first × ((xs ≡ first) × (ys ≡ []) ⊎ (xs ≡ first ++ 10 ∷ ys))
+
+-- no newline of the input came before its last bytes, so many, and those are followed by what is left
+abbrev pub CameWithLast : Option (List ℕ) → Option (List ℕ) → ℕ → Type 0
+CameWithLast None left count = ⊤
+CameWithLast (Some xs) None count = ⊥
+CameWithLast (Some xs) (Some ys) count =
+    (first : List ℕ) × (last : List ℕ) × HasNoNewline first × (length last ≡ count) × (xs ≡ first ++ (last ++ ys))
+
+-- the calls of `read`, and what the last of them gave, are the same
+pub record SameCalls (old new : Reading) : Type 0 where
+  pub ended : new.ended ≡ old.ended
+  pub calls : new.calls ≡ old.calls
+  pub last_read : new.last_read ≡ old.last_read
+
+-- a call of `read` was made, and it failed
+pub record HasFailed (old new : Reading) : Type 0 where
+  pub called : old.calls < new.calls
+  pub failed : new.last_read ≡ None
+
+-- Calls of `read` were made only while no whole line had come: before the last of them there was no newline. Or there
+-- was no call, and what the reader has left is the same.
+abbrev pub AsksInNeed : Reading → Option (List ℕ) → Reading → Option (List ℕ) → Type 0
+AsksInNeed old before new after =
+    (old.calls < new.calls) × CameWithLast (input_left old before) after (unwrap_or new.last_read 0)
+    ⊎ (new.calls ≡ old.calls) × (new.last_read ≡ old.last_read) × (after ≡ before)

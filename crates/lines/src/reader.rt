@@ -1,7 +1,7 @@
 ghost use Rattle.std.specs.Prelude.{◌≡◌, ◌+◌, ◌-◌, ◌*◌, ◌^◌, ◌↔◌, ◌<◌, ◌≤◌, false, [], ◌∷◌, ◌++◌, length, IsTrue, IfOk, OnOk, OnErr, IfSome, IfNone, Ok, Some, None, vec_len, slice_range, take, drop};
 ghost use Rattle.std.specs.Bool.{OnTrue, OnFalse};
 ghost use Rattle.std.specs.Io.KnownBytes.{IsAtEnd, Consumes, Keeps};
-ghost use Rattle.lines.specs.Lines.{Reading, fresh, budget, HasLine, first_newline, input_left, SameInput, FindsLine, HasNoNewline, SkipsLine};
+ghost use Rattle.lines.specs.Lines.{Reading, fresh, budget, HasLine, first_newline, input_left, SameInput, FindsLine, HasNoNewline, SkipsLine, AsksInNeed, SameCalls, HasFailed};
 
 use memchr::memchr;
 use std::alloc::{AllocError, Global};
@@ -38,6 +38,8 @@ pub struct LineReader {
     // The place of the first newline that is pending, or the end.
     newline: usize,
     calls: u64,
+    // What the last call of `read` gave: so many bytes, or none where it failed.
+    last_read: Option<usize>,
     has_ended: bool,
 }
 
@@ -48,6 +50,7 @@ impl Model for LineReader {
       pending = slice_range r.buffer.items r.start r.end;
       ended = r.has_ended;
       calls = r.calls;
+      last_read = r.last_read;
       line = slice_range r.buffer.items r.line_start r.line_end;
     } };
 
@@ -67,29 +70,58 @@ fn newline_at(bytes: &[u8]) -> usize
     }
 }
 
-/// Copies a part to the front, and calls `read` once for what lies behind it.
+/// Makes room behind a part: moves it to the front where it is empty, or ends where the bytes end. Gives its place.
+fn make_room(bytes: &mut [u8], start: usize, end: usize) -> usize
+    requires order { start ≤ end }
+    requires within { end ≤ length bytes.old }
+    requires room { end - start < length bytes.old }
+    ensures room { result + (end - start) < length bytes.old }
+    ensures same { slice_range bytes.new result (result + (end - start)) ≡ slice_range bytes.old start end }
+{
+    if start < end && end < bytes.len() {
+        return start;
+    }
+    bytes.copy_within(start..end, 0);
+    0
+}
+
+/// Calls `read` once, for what lies behind a place.
+fn read_behind<R: Read>(reader: &mut R, bytes: &mut [u8], place: usize) -> Result<usize, ReadFault>
+    requires { place < length bytes.old }
+    ensures within { IfOk result (λ n. place + n ≤ length bytes.old) }
+    ensures front { take place bytes.new ≡ take place bytes.old }
+    ensures ok { IfOk result (λ n. Consumes (R.remaining reader.old) (R.remaining reader.new)
+        (slice_range bytes.new place (place + n))) }
+    ensures ended { IfOk result (λ n. n ≡ 0 → IsAtEnd (R.remaining reader.new)) }
+    ensures err { OnErr result (Keeps (R.remaining reader.old) (R.remaining reader.new)) }
+{
+    match reader.read(&mut bytes[place..]) {
+        Ok(n) => Ok(n),
+        Err(_) => Err(ReadFault),
+    }
+}
+
+/// Makes room behind a part, and calls `read` once for what lies there. Gives the part's place, too.
 fn refill<R: Read>(
     reader: &mut R,
     bytes: &mut [u8],
     start: usize,
     end: usize,
-) -> Result<usize, ReadFault>
+) -> (usize, Result<usize, ReadFault>)
     requires order { start ≤ end }
     requires within { end ≤ length bytes.old }
     requires room { end - start < length bytes.old }
-    ensures within { IfOk result (λ n. end - start + n ≤ length bytes.old) }
-    ensures front { take (end - start) bytes.new ≡ slice_range bytes.old start end }
-    ensures ok { IfOk result (λ n. Consumes (R.remaining reader.old) (R.remaining reader.new)
-        (slice_range bytes.new (end - start) (end - start + n))) }
-    ensures ended { IfOk result (λ n. n ≡ 0 → IsAtEnd (R.remaining reader.new)) }
-    ensures err { OnErr result (Keeps (R.remaining reader.old) (R.remaining reader.new)) }
+    ensures room { result.0 + (end - start) < length bytes.old }
+    ensures same { slice_range bytes.new result.0 (result.0 + (end - start)) ≡ slice_range bytes.old start end }
+    ensures within { IfOk result.1 (λ n. result.0 + (end - start) + n ≤ length bytes.old) }
+    ensures ok { IfOk result.1 (λ n. Consumes (R.remaining reader.old) (R.remaining reader.new)
+        (slice_range bytes.new (result.0 + (end - start)) (result.0 + (end - start) + n))) }
+    ensures ended { IfOk result.1 (λ n. n ≡ 0 → IsAtEnd (R.remaining reader.new)) }
+    ensures err { OnErr result.1 (Keeps (R.remaining reader.old) (R.remaining reader.new)) }
 {
-    let len = end - start;
-    bytes.copy_within(start..end, 0);
-    match reader.read(&mut bytes[len..]) {
-        Ok(n) => Ok(n),
-        Err(_) => Err(ReadFault),
-    }
+    let place = make_room(bytes, start, end);
+    let read = read_behind(reader, bytes, place + (end - start));
+    (place, read)
 }
 
 impl LineReader {
@@ -105,6 +137,7 @@ impl LineReader {
             line_end: 0,
             newline: 0,
             calls: 0,
+            last_read: None,
             has_ended: false,
         })
     }
@@ -125,8 +158,9 @@ impl LineReader {
 
     /// Finds the next line, if there is one: with the same reader at each call.
     ///
-    /// It calls `read` 4,294,967,296 times at most over all calls, and the fault comes where `read` fails, also
-    /// where it was interrupted, or where it would be called once more. After a fault nothing more is to be read.
+    /// It never calls `read` while a whole line is pending, and 4,294,967,296 times at most over all calls. The fault
+    /// comes only where `read` fails, also where it was interrupted, or where it would be called once more. After a
+    /// fault nothing more is to be read.
     pub fn next<R: Read>(&mut self, reader: &mut R) -> Result<Option<Found>, ReadFault>
         requires { IsTrue self.old.ended → IsAtEnd (R.remaining reader.old) }
         ensures found { IfOk result (λ found. FindsLine (input_left self.old (R.remaining reader.old))
@@ -137,10 +171,14 @@ impl LineReader {
         ensures spends { IfOk result (λ found. IfSome found (λ _. budget self.new < budget self.old)) }
         ensures calls { self.new.calls ≤ 2 ^ 32 }
 
-        // With a whole line at hand nothing is read, and a fault comes only behind a call of `read` or at the bound.
+        // With a whole line at hand nothing is read, and no call of `read` is made once a whole line has come.
         ensures ready { HasLine self.old → result ≡ Ok (Some Found.Line) }
         ensures unread { HasLine self.old → reader.new ≡ reader.old }
-        ensures fault { OnErr result (self.new.calls < 2 ^ 32 → self.old.calls < self.new.calls) }
+        ensures asks { AsksInNeed self.old (R.remaining reader.old) self.new (R.remaining reader.new) }
+        ensures untouched { self.new.calls ≡ self.old.calls → reader.new ≡ reader.old }
+
+        // A fault comes only where a call of `read` failed, or at the bound.
+        ensures fault { OnErr result (self.new.calls < 2 ^ 32 → HasFailed self.old self.new) }
     {
         if self.cut() {
             return Ok(Some(Found::Line));
@@ -157,7 +195,6 @@ impl LineReader {
         ensures fits { length self.now.pending ≤ 2 ^ 16 }
         ensures calls { self.now.calls ≤ 2 ^ 32 }
     {
-        let _calls = self.calls;
         if self.newline >= self.end {
             return None;
         }
@@ -169,7 +206,6 @@ impl LineReader {
         ensures fits { length self.now.pending ≤ 2 ^ 16 }
         ensures calls { self.now.calls ≤ 2 ^ 32 }
     {
-        let _calls = self.calls;
         self.end - self.start
     }
 
@@ -213,23 +249,30 @@ impl LineReader {
         ensures fits { length self.new.pending ≤ 2 ^ 16 }
         ensures ended { IsTrue self.new.ended → IsAtEnd (R.remaining reader.new) }
         ensures err { OnErr result (self.new.ended ≡ self.old.ended) }
-        ensures fault { OnErr result (self.new.calls < 2 ^ 32 → self.old.calls < self.new.calls) }
+        ensures asks { AsksInNeed self.old (R.remaining reader.old) self.new (R.remaining reader.new) }
+        ensures untouched { self.new.calls ≡ self.old.calls → reader.new ≡ reader.old }
+        ensures fault { OnErr result (self.new.calls < 2 ^ 32 → HasFailed self.old self.new) }
     {
         if self.calls >= MAX_CALLS {
             return Err(ReadFault);
         }
         let len = self.end - self.start;
-        let (start, end) = (self.start, self.end);
-        self.start = 0;
-        self.end = len;
-        self.newline = len;
+        let (start, read) = refill(reader, &mut self.buffer, self.start, self.end);
+        self.start = start;
+        self.end = start + len;
+        self.newline = self.end;
         self.line_start = 0;
         self.line_end = 0;
         self.calls += 1;
-        let n = refill(reader, &mut self.buffer, start, end)?;
+        self.last_read = None;
+        let n = match read {
+            Ok(n) => n,
+            Err(fault) => return Err(fault),
+        };
+        self.last_read = Some(n);
         self.has_ended = n == 0;
+        self.newline = self.end + newline_at(&self.buffer[self.end..self.end + n]);
         self.end += n;
-        self.newline = len + newline_at(&self.buffer[len..len + n]);
         Ok(())
     }
 
@@ -237,7 +280,7 @@ impl LineReader {
     fn cut(&mut self) -> bool
         ensures found { OnTrue result (HasNoNewline self.new.line
             × (self.old.pending ≡ self.new.line ++ 10 ∷ self.new.pending)) }
-        ensures others { (self.new.ended ≡ self.old.ended) × (self.new.calls ≡ self.old.calls) }
+        ensures others { SameCalls self.old self.new }
         ensures none { OnFalse result (HasNoNewline self.old.pending × (self.new ≡ self.old)) }
         ensures short { OnTrue result (length self.new.line < 2 ^ 16) }
         ensures calls { self.new.calls ≤ 2 ^ 32 }
@@ -260,7 +303,9 @@ impl LineReader {
         ensures ended { OnOk result (IsTrue self.new.ended → IsAtEnd (R.remaining reader.new)) }
         ensures spends { OnOk result (budget self.new < budget self.old) }
         ensures calls { self.new.calls ≤ 2 ^ 32 }
-        ensures fault { OnErr result (self.new.calls < 2 ^ 32 → self.old.calls < self.new.calls) }
+        ensures asks { AsksInNeed self.old (R.remaining reader.old) self.new (R.remaining reader.new) }
+        ensures untouched { self.new.calls ≡ self.old.calls → reader.new ≡ reader.old }
+        ensures fault { OnErr result (self.new.calls < 2 ^ 32 → HasFailed self.old self.new) }
     {
         while !self.cut() {
             self.discard();
@@ -281,7 +326,9 @@ impl LineReader {
         ensures ended { OnOk result (IsTrue self.new.ended → IsAtEnd (R.remaining reader.new)) }
         ensures spends { IfOk result (λ found. IfSome found (λ _. budget self.new < budget self.old)) }
         ensures calls { self.new.calls ≤ 2 ^ 32 }
-        ensures fault { OnErr result (self.new.calls < 2 ^ 32 → self.old.calls < self.new.calls) }
+        ensures asks { AsksInNeed self.old (R.remaining reader.old) self.new (R.remaining reader.new) }
+        ensures untouched { self.new.calls ≡ self.old.calls → reader.new ≡ reader.old }
+        ensures fault { OnErr result (self.new.calls < 2 ^ 32 → HasFailed self.old self.new) }
     {
         loop {
             let len = self.pending_len();

@@ -1,14 +1,12 @@
 -- The value of digits, one by one.
-use Rattle.std.proofs.Common.{◌≡◌, ℕ, ◌+◌, ◌-◌, ◌*◌, ◌^◌, ◌<◌, ◌≤◌, Bool, true, false, cond, ◌&&◌, List, length, get_or, take, Some, None, refl, ap, ◌∙◌, arith, rules}
+use Rattle.std.proofs.Common.{◌≡◌, ℕ, ◌+◌, ◌-◌, ◌*◌, ◌^◌, ◌<◌, ◌≤◌, Bool, true, false, cond, ◌&&◌, List, length, get_or, take, Some, None, refl, arith, rules}
 use Rattle.std.specs.Char.{is_ascii_digit, digit_value}
 use Rattle.std.specs.List.{list_all}
 use Rattle.std.specs.Str.Parse.{digits_value}
-use Rattle.std.proofs.lemmas.Bool.{lt-ltb, le-ltb}
+use Rattle.std.proofs.lemmas.Bool.{le-ltb}
 use Rattle.std.proofs.lemmas.Bool.Decides.{nat_tests}
 use Rattle.std.proofs.lemmas.Int.Digits.{digits_value_more}
 use Rattle.std.proofs.lemmas.Str.Parse.{digits_value-take-le}
-use Rattle.std.proofs.lemmas.List.{take_all, get_or_default}
-use Rattle.std.proofs.lemmas.List.Sums.{list_all-from_AllPass}
 use Rattle.std.proofs.lemmas.Str.Parse.{IsNumeralModel, numerals_by_value, IsDigitsTest}
 use Rattle.session.specs.Words.{digits_of}
 
@@ -33,9 +31,3 @@ pub digits_large : (bs : List ℕ) (i : ℕ) → 2 ^ 32 ≤ digits_value 10 (tak
 digits_large bs i h =
     let l : 2 ^ 32 ≤ digits_value 10 bs = omega (arith, h, digits_value-take-le 10 bs i (omega arith)) in
     rw (le-ltb (digits_value 10 bs) (2 ^ 32) l) (and_none (list_all is_ascii_digit bs) (digits_value 10 bs))
-
-pub digits_done : (bs : List ℕ) (i n : ℕ) → length bs ≤ i → n ≡ digits_value 10 (take i bs) → n < 2 ^ 32 → ((k : ℕ) → k < i → is_ascii_digit (get_or bs k 0) ≡ true) → Some n ≡ digits_of bs
-digits_done bs i n l e s h =
-    let whole : n ≡ digits_value 10 bs = e ∙ ap (digits_value 10) (take_all i bs l) in
-    let all : list_all is_ascii_digit bs ≡ true = list_all-from_AllPass is_ascii_digit bs (λ k d m. ap is_ascii_digit (get_or_default bs k d 0 m) ∙ h k (omega (arith, l, m))) in
-    rw (all, lt-ltb (digits_value 10 bs) (2 ^ 32) (omega (arith, whole, s))) (ap Some whole)

@@ -1,4 +1,5 @@
 pub mod Digits
+pub mod FirstNumbers
 pub mod Signs
 pub mod Decimals
 pub mod Coordinates

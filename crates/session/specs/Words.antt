@@ -1,5 +1,5 @@
 -- The words of a line, and what a word can be.
-use Rattle.std.specs.Prelude.{ℕ, ◌+◌, ◌%◌, ◌^◌, Bool, true, false, not, ◌&&◌, ◌||◌, ◌==◌, nat_lt, nat_le, List, [], ◌∷◌, length, Option, None, Some, ℤ, pos, negsuc, zero, suc, option_and_then, slice_index, codes, if◌then◌else◌}
+use Rattle.std.specs.Prelude.{◌≡◌, ◌<◌, ◌≤◌, take, ℕ, ◌+◌, ◌%◌, ◌^◌, Bool, true, false, not, ◌&&◌, ◌||◌, ◌==◌, nat_lt, nat_le, List, [], ◌∷◌, length, Option, None, Some, ℤ, pos, negsuc, zero, suc, option_and_then, slice_index, codes, if◌then◌else◌}
 use Rattle.std.specs.Option.{option_map}
 use Rattle.std.specs.Borrow.{Bor}
 use Rattle.std.specs.List.{slice_split, list_all}
@@ -25,6 +25,21 @@ digits_of word =
 -- the number that a word is: `0`, or digits without a leading zero, of a value below 2^32
 unfoldable pub number_of : List ℕ → Option ℕ
 number_of word = if is_numeral_front word then digits_of word else None
+
+-- the digits in front of other bytes, if any, and their value
+pub record AreLeadingDigits (bytes : List ℕ) (len value : ℕ) : Type 0 where
+  pub within : len ≤ length bytes
+  pub digits : list_all is_ascii_digit (take len bytes) ≡ true
+  pub value_is : digits_value 10 (take len bytes) ≡ value
+  pub small : value < 2 ^ 32
+  pub end : len < length bytes → is_ascii_digit (slice_index bytes len) ≡ false
+
+-- digits in front have a value of 2^32 or more
+pub record HasLargeFront (bytes : List ℕ) : Type 0 where
+  pub len : ℕ
+  pub within : len ≤ length bytes
+  pub digits : list_all is_ascii_digit (take len bytes) ≡ true
+  pub large : 2 ^ 32 ≤ digits_value 10 (take len bytes)
 
 -- how far from 0 a coordinate may be
 abbrev pub reach : ℕ
@@ -108,3 +123,9 @@ words_left rest = pieces_left 32 rest
 abbrev pub size_left : Option (Bor (List ℕ)) → ℕ
 size_left None = 0
 size_left (Some text) = length text.now + 1
+
+-- what was found of pieces: what the first of them is, and the pieces behind it, or nothing, where it is none
+abbrev pub IsFirst : {A : Type 0} → (List ℕ → Option A) → List (List ℕ) → ℕ → Option (A × Option (Bor (List ℕ))) → Type 0
+IsFirst meaning [] separator found = ⊥
+IsFirst meaning (w ∷ ws) separator None = meaning w ≡ None
+IsFirst meaning (w ∷ ws) separator (Some x) = (meaning w ≡ Some x.0) × (ws ≡ pieces_left separator x.1)

@@ -5,7 +5,7 @@ ghost use Rattle.session.specs.Words.{words_left, are_rows};
 use crate::gids::Gids;
 use crate::line::LineFault;
 use crate::text::Text;
-use crate::words::{coordinate, cut, is_name_word, is_text_here, number};
+use crate::words::{coordinate_before, cut, is_name_word, is_text_here, number_before};
 
 /// The width of the widest block.
 const WIDTH_LIMIT: u32 = 4_096;
@@ -18,9 +18,8 @@ pub fn number_field<'a>(rest: Option<&'a str>) -> Result<(u32, Option<&'a str>),
     let Some(rest) = rest else {
         return Err(LineFault::BadWord);
     };
-    let (word, rest) = cut(rest, b' ');
-    match number(word) {
-        Some(n) => Ok((n, rest)),
+    match number_before(rest, b' ') {
+        Some(found) => Ok(found),
         None => Err(LineFault::BadWord),
     }
 }
@@ -33,9 +32,8 @@ pub fn coordinate_field<'a>(rest: Option<&'a str>) -> Result<(i32, Option<&'a st
     let Some(rest) = rest else {
         return Err(LineFault::BadWord);
     };
-    let (word, rest) = cut(rest, b' ');
-    match coordinate(word) {
-        Some(z) => Ok((z, rest)),
+    match coordinate_before(rest) {
+        Some(found) => Ok(found),
         None => Err(LineFault::BadWord),
     }
 }

@@ -2,7 +2,7 @@ ghost use Rattle.std.specs.Prelude.{◌≡◌, ℕ, List, [], Some, unwrap_or, l
 ghost use Rattle.session.specs.Words.{numbers_of, all_numbers, pieces_left};
 ghost use Rattle.std.specs.Iterator.{YieldsFirst, item_count};
 
-use crate::words::{cut, number};
+use crate::words::number_before;
 use std::marker::Model;
 use tile_id::Gid;
 
@@ -31,8 +31,7 @@ impl<'a> Gids<'a> {
         let mut rest = Some(word);
         let mut len: usize = 0;
         while let Some(text) = rest {
-            let (piece, others) = cut(text, b',');
-            number(piece)?;
+            let (_, others) = number_before(text, b',')?;
             len += 1;
             rest = others;
         }
@@ -81,11 +80,8 @@ impl<'a> Iterator for Values<'a> {
 
     fn next(&mut self) -> Option<Gid> {
         let rest = self.rest?;
-        let (piece, others) = cut(rest, b',');
+        let (value, others) = number_before(rest, b',')?;
         self.rest = others;
-        match number(piece) {
-            Some(value) => Some(Gid(value)),
-            None => None,
-        }
+        Some(Gid(value))
     }
 }

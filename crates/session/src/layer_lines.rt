@@ -9,7 +9,7 @@ use crate::words::cut;
 use map_model::LayerKind;
 
 /// The kind of layer that a word is.
-fn kind(word: &str) -> Option<LayerKind>
+fn layer_kind(word: &str) -> Option<LayerKind>
     ensures { result ≡ layer_kind_of word.now }
 {
     match word {
@@ -20,21 +20,21 @@ fn kind(word: &str) -> Option<LayerKind>
 }
 
 #[tactic(auto, unfolding(crate::specs::Grammar::layer_kind_at))]
-fn kind_field<'a>(rest: Option<&'a str>) -> Result<(LayerKind, Option<&'a str>), LineFault>
+fn layer_kind_field<'a>(rest: Option<&'a str>) -> Result<(LayerKind, Option<&'a str>), LineFault>
     ensures { Gives (λ x. (x.0, words_left x.1)) result (layer_kind_at (words_left rest.entry)) }
 {
     let Some(rest) = rest else {
         return Err(LineFault::BadWord);
     };
     let (word, rest) = cut(rest, b' ');
-    match kind(word) {
+    match layer_kind(word) {
         Some(kind) => Ok((kind, rest)),
         None => Err(LineFault::BadWord),
     }
 }
 
-/// The answer that a word is.
-fn answer(word: &str) -> Option<bool>
+/// The yes or no that a word is.
+fn yes_no(word: &str) -> Option<bool>
     ensures { result ≡ yes_no_of word.now }
 {
     match word {
@@ -45,14 +45,14 @@ fn answer(word: &str) -> Option<bool>
 }
 
 #[tactic(auto, unfolding(crate::specs::Grammar::yes_no_at))]
-fn answer_field<'a>(rest: Option<&'a str>) -> Result<(bool, Option<&'a str>), LineFault>
+fn yes_no_field<'a>(rest: Option<&'a str>) -> Result<(bool, Option<&'a str>), LineFault>
     ensures { Gives (λ x. (x.0, words_left x.1)) result (yes_no_at (words_left rest.entry)) }
 {
     let Some(rest) = rest else {
         return Err(LineFault::BadWord);
     };
     let (word, rest) = cut(rest, b' ');
-    match answer(word) {
+    match yes_no(word) {
         Some(answer) => Ok((answer, rest)),
         None => Err(LineFault::BadWord),
     }
@@ -61,7 +61,7 @@ fn answer_field<'a>(rest: Option<&'a str>) -> Result<(bool, Option<&'a str>), Li
 fn add_layer<'a>(rest: Option<&'a str>) -> Result<Line<'a>, LineFault>
     ensures { Gives (λ x. x) result (read add_layer_form (words_left rest.entry)) }
 {
-    let (kind, rest) = kind_field(rest)?;
+    let (kind, rest) = layer_kind_field(rest)?;
     let name = text_field(rest)?;
     Ok(Line::AddLayer { kind, name })
 }
@@ -86,7 +86,7 @@ fn show_layer<'a>(rest: Option<&'a str>) -> Result<Line<'a>, LineFault>
     ensures { Gives (λ x. x) result (read show_layer_form (words_left rest.entry)) }
 {
     let (layer, rest) = number_field(rest)?;
-    let (visible, rest) = answer_field(rest)?;
+    let (visible, rest) = yes_no_field(rest)?;
     end_field(rest)?;
     Ok(Line::ShowLayer { layer, visible })
 }

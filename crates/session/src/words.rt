@@ -1,7 +1,6 @@
 ghost use Rattle.std.specs.Prelude.{◌≡◌, ◌<◌, ◌∷◌, ◌==◌, ◌≤◌, ◌≢◌, ◌+◌, ◌++◌, All, take, drop, length, Some, IfSome, IfNone};
 ghost use Rattle.std.specs.List.{list_all, slice_split};
-ghost use Rattle.std.specs.Char.{is_ascii_digit};
-ghost use Rattle.session.specs.Words.{number_of, is_numeral_front, digits_of, distance_of, below_zero, reach, coordinate_of, is_name, is_name_byte, is_text, is_text_byte, pieces_left, size_left};
+ghost use Rattle.session.specs.Words.{number_of, is_numeral_front, AreLeadingDigits, HasLargeFront, IsFirst, words, distance_of, below_zero, reach, coordinate_of, is_name, is_name_byte, is_text, is_text_byte, pieces_left, size_left};
 
 /// How far from 0 a coordinate may be.
 const REACH: u32 = 1_000_000_000;
@@ -38,21 +37,24 @@ pub fn cut(text: &str, separator: u8) -> (&str, Option<&str>)
     }
 }
 
-/// The value of digits, where it is below 2^32.
-fn digits(bytes: &[u8]) -> Option<u32>
-    ensures { result ≡ digits_of bytes.now }
+/// The digits in front of other bytes: how many, and their value. There is none where it is 2^32 or more.
+fn leading_digits(bytes: &[u8]) -> Option<(usize, u32)>
+    ensures some { IfSome result (λ x. AreLeadingDigits bytes.now x.0 x.1) }
+    ensures none { IfNone result (HasLargeFront bytes.now) }
 {
+    let mut len = 0;
     let mut n: u64 = 0;
     for b in bytes {
         if !b.is_ascii_digit() {
-            return None;
+            return Some((len, n as u32));
         }
         n = n * 10 + u64::from(*b - b'0');
         if n > MAX {
             return None;
         }
+        len += 1;
     }
-    Some(n as u32)
+    Some((len, n as u32))
 }
 
 /// Whether a word has a byte, and no zero in front of others.
@@ -65,29 +67,37 @@ fn has_numeral_front(word: &[u8]) -> bool
     word.len() == 1 || word[0] != b'0'
 }
 
-/// The number that a word is.
-#[tactic(auto, unfolding(crate::specs::Words::number_of))]
-pub fn number(word: &str) -> Option<u32>
-    ensures { result ≡ number_of word.now }
+/// The number that the first piece is, and what is left behind the separator.
+pub fn number_before(text: &str, separator: u8) -> Option<(u32, Option<&str>)>
+    requires { separator < 48 }
+    ensures number { IsFirst number_of (slice_split (λ b. b == separator) text.now) separator result }
+    ensures shorter { IfSome result (λ x. size_left x.1 ≤ length text.now) }
 {
-    let bytes = word.as_bytes();
-    if !has_numeral_front(bytes) {
+    let bytes = text.as_bytes();
+    let (len, number) = leading_digits(bytes)?;
+    if !has_numeral_front(&bytes[..len]) {
         return None;
     }
-    digits(bytes)
+    if len == bytes.len() {
+        return Some((number, None));
+    }
+    if bytes[len] != separator {
+        return None;
+    }
+    Some((number, Some(&text[len + 1..])))
 }
 
-/// The number that a word is, where it is one up to 1,000,000,000.
+/// The first word's distance from 0, where it is a number up to 1,000,000,000, and what is left of the line.
 #[tactic(auto, unfolding(crate::specs::Words::distance_of))]
-fn distance(word: &str) -> Option<u32>
-    ensures value { result ≡ distance_of word.now }
-    ensures within { IfSome result (λ n. n ≤ reach) }
+fn distance_before(text: &str) -> Option<(u32, Option<&str>)>
+    ensures distance { IsFirst distance_of (words text.now) 32 result }
+    ensures within { IfSome result (λ x. x.0 ≤ reach) }
 {
-    let n = number(word)?;
-    if n > REACH {
+    let (distance, rest) = number_before(text, b' ')?;
+    if distance > REACH {
         return None;
     }
-    Some(n)
+    Some((distance, rest))
 }
 
 /// The number below 0 that is so far from it, if it is not 0.
@@ -101,13 +111,19 @@ fn negative(distance: u32) -> Option<i32>
     Some(-(distance as i32))
 }
 
-/// The coordinate that a word is, from -1,000,000,000 to 1,000,000,000.
-pub fn coordinate(word: &str) -> Option<i32>
-    ensures { result ≡ coordinate_of word.now }
+/// The coordinate that the first word is, from -1,000,000,000 to 1,000,000,000, and what is left of the line.
+pub fn coordinate_before(text: &str) -> Option<(i32, Option<&str>)>
+    ensures { IsFirst coordinate_of (words text.now) 32 result }
 {
-    match word.strip_prefix('-') {
-        Some(digits) => negative(distance(digits)?),
-        None => Some(distance(word)? as i32),
+    match text.strip_prefix('-') {
+        Some(digits) => {
+            let (distance, rest) = distance_before(digits)?;
+            Some((negative(distance)?, rest))
+        }
+        None => {
+            let (distance, rest) = distance_before(text)?;
+            Some((distance as i32, rest))
+        }
     }
 }
 

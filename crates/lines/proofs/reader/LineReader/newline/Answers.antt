@@ -1,6 +1,5 @@
-use Rattle.std.proofs.Common.{◌≡◌, ◌+◌, ◌-◌, ◌≤◌, length, arith, ap, sym, slice_range}
-use Rattle.lines.specs.Lines.{first_newline}
-use Rattle.lines.proofs.Newlines.{none_at_all, cut_at_first, first_within}
+use Rattle.std.proofs.Common.{◌-◌, arith, ap, slice_range}
+use Rattle.lines.proofs.Newlines.{none_at_all, cut_at_first}
 use Rattle.lines.proofs.Parts.{length-range}
 use Rattle.lines.proofs.reader.LineReader.newline.Goals as goal
 

@@ -1,5 +1,6 @@
-use Rattle.std.proofs.Common.{◌≡◌, ◌<◌, ◌^◌, length, IsTrue, ◌∙◌, sym, arith}
-use Rattle.lines.proofs.Finding.{finds_short, finds_long, finds_last, same_trans}
+use Rattle.std.proofs.Common.{◌≡◌, ◌<◌, ◌^◌, length, IsTrue, ◌∙◌, sym, ap, arith}
+use Rattle.lines.proofs.Finding.{finds_short, finds_long, finds_last, same_trans, skips_none}
+use Rattle.lines.proofs.Asking.{asks_same, asks_on}
 use Rattle.lines.proofs.reader.LineReader.read_on.Goals as goal
 
 pub returns-then-len-eq-CAPACITY-clause-found : goal.returns-then-len-eq-CAPACITY-clause-found
@@ -17,3 +18,23 @@ returns-then-has_ended-clause-found g c =
 
 pub returns-then-cut-clause-found : goal.returns-then-cut-clause-found
 returns-then-cut-clause-found g c = finds_short _ _ _ _ _ (same_trans _ _ _ c.loop-self.invariant.input c.in_ok-fill.ensures.same) c.if-cut.ensures.found.1 c.if-cut.ensures.found.0 c.if-cut.ensures.short
+
+pub returns-in_err-skip-clause-asks : goal.returns-in_err-skip-clause-asks
+returns-in_err-skip-clause-asks g c = asks_on c.args.self.now (g.R.Read.remaining c.args.reader.now) c.loop-self.self (g.R.Read.remaining c.loop-self.reader) c.skip.new.self (g.R.Read.remaining c.skip.new.reader) (skips_none _ _ c.loop-self.invariant.input) c.loop-self.invariant.asks c.in_err-skip.ensures.asks
+
+pub returns-then-len-eq-CAPACITY-clause-asks : goal.returns-then-len-eq-CAPACITY-clause-asks
+returns-then-len-eq-CAPACITY-clause-asks g c = asks_on c.args.self.now (g.R.Read.remaining c.args.reader.now) c.loop-self.self (g.R.Read.remaining c.loop-self.reader) c.skip.new.self (g.R.Read.remaining c.skip.new.reader) (skips_none _ _ c.loop-self.invariant.input) c.loop-self.invariant.asks c.in_ok-skip.ensures.asks
+
+pub returns-then-len-eq0-clause-asks : goal.returns-then-len-eq0-clause-asks
+returns-then-len-eq0-clause-asks g c = c.loop-self.invariant.asks
+
+pub returns-then-has_ended-clause-asks : goal.returns-then-has_ended-clause-asks
+returns-then-has_ended-clause-asks g c = asks_same c.args.self.now (g.R.Read.remaining c.args.reader.now) c.loop-self.self c.give.new.self (g.R.Read.remaining c.loop-self.reader) c.loop-self.invariant.asks (ap (λ s. s.calls) c.give.ensures) (ap (λ s. s.last_read) c.give.ensures)
+
+pub returns-in_err-fill-clause-asks : goal.returns-in_err-fill-clause-asks
+returns-in_err-fill-clause-asks g c = asks_on c.args.self.now (g.R.Read.remaining c.args.reader.now) c.loop-self.self (g.R.Read.remaining c.loop-self.reader) c.fill.new.self (g.R.Read.remaining c.fill.new.reader) (skips_none _ _ c.loop-self.invariant.input) c.loop-self.invariant.asks c.in_err-fill.ensures.asks
+
+pub returns-then-cut-clause-asks : goal.returns-then-cut-clause-asks
+returns-then-cut-clause-asks g c =
+    let on = asks_on c.args.self.now (g.R.Read.remaining c.args.reader.now) c.loop-self.self (g.R.Read.remaining c.loop-self.reader) c.fill.new.self (g.R.Read.remaining c.fill.new.reader) (skips_none _ _ c.loop-self.invariant.input) c.loop-self.invariant.asks c.in_ok-fill.ensures.asks in
+    asks_same c.args.self.now (g.R.Read.remaining c.args.reader.now) c.fill.new.self c.cut.new.self (g.R.Read.remaining c.fill.new.reader) on c.if-cut.ensures.others.calls c.if-cut.ensures.others.last_read

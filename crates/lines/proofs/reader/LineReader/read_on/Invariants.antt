@@ -1,6 +1,6 @@
-use Rattle.std.proofs.Common.{◌-◌, ◌^◌, ◌≤◌, IsTrue}
+use Rattle.std.proofs.Common.{◌≡◌, ◌-◌, ◌^◌, ◌≤◌, IsTrue}
 use Rattle.std.specs.Io.KnownBytes.{IsAtEnd}
-use Rattle.lines.specs.Lines.{input_left, SameInput, HasNoNewline, budget}
+use Rattle.lines.specs.Lines.{input_left, SameInput, HasNoNewline, budget, AsksInNeed}
 use Rattle.lines.proofs.reader.LineReader.read_on.Given as goal
 
 abbrev pub invariant-loop-self : goal.invariant-loop-self
@@ -9,6 +9,8 @@ invariant-loop-self g l = record {
   ended : IsTrue l.self.ended → IsAtEnd (g.R.Read.remaining l.reader);
   none : HasNoNewline l.self.pending;
   within : budget l.self ≤ budget l.fn.self;
+  asks : AsksInNeed l.fn.self (g.R.Read.remaining l.fn.reader) l.self (g.R.Read.remaining l.reader);
+  untouched : l.self.calls ≡ l.fn.self.calls → l.reader ≡ l.fn.reader;
   called : l.fn.self.calls ≤ l.self.calls;
 }
 

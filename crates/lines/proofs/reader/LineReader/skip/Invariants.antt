@@ -1,6 +1,6 @@
-use Rattle.std.proofs.Common.{◌-◌, ◌*◌, ◌^◌, ◌<◌, ◌≤◌, IsTrue}
+use Rattle.std.proofs.Common.{◌≡◌, ◌-◌, ◌*◌, ◌^◌, ◌<◌, ◌≤◌, IsTrue}
 use Rattle.std.specs.Io.KnownBytes.{IsAtEnd}
-use Rattle.lines.specs.Lines.{input_left, budget}
+use Rattle.lines.specs.Lines.{input_left, budget, AsksInNeed}
 use Rattle.lines.proofs.Finding.{SkipsFront}
 use Rattle.lines.proofs.reader.LineReader.skip.Given as goal
 
@@ -9,6 +9,8 @@ invariant-loop-self g l = record {
   input : SkipsFront (input_left l.fn.self (g.R.Read.remaining l.fn.reader)) (input_left l.self (g.R.Read.remaining l.reader));
   ended : IsTrue l.self.ended → IsAtEnd (g.R.Read.remaining l.reader);
   within : budget l.self ≤ budget l.fn.self;
+  asks : AsksInNeed l.fn.self (g.R.Read.remaining l.fn.reader) l.self (g.R.Read.remaining l.reader);
+  untouched : l.self.calls ≡ l.fn.self.calls → l.reader ≡ l.fn.reader;
   called : l.fn.self.calls ≤ l.self.calls;
   spent : (2 ^ 32 - l.self.calls) * 2 ^ 16 < budget l.fn.self;
 }
