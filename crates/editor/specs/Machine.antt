@@ -145,9 +145,9 @@ status_reply None = replies.NoDocument
 status_reply (Some h) = state_reply h
 
 -- a text of the active history, and the empty one where no document is active
-abbrev pub text_reply : (History → List ℕ) → Option History → Reply
-text_reply text None = replies.Text []
-text_reply text (Some h) = replies.Text (text h)
+abbrev pub active_text_reply : (History → List ℕ) → Option History → Reply
+active_text_reply text None = replies.Text []
+active_text_reply text (Some h) = replies.Text (text h)
 
 -- the text for lists of a step, where there is one
 abbrev pub step_text_reply : Option (List ℕ) → Reply
@@ -190,8 +190,8 @@ OtherStep Clean old reply new = OverActive (Moves MarksClean) (active_of old) ol
 OtherStep Dirty old reply new = OverActive (Becomes UnmarksClean) (active_of old) old reply new
 OtherStep Clear old reply new = OverActive (Becomes Clears) (active_of old) old reply new
 OtherStep Status old reply new = Answers (status_reply (active_of old)) old reply new
-OtherStep UndoText old reply new = Answers (text_reply undo_text_of (active_of old)) old reply new
-OtherStep RedoText old reply new = Answers (text_reply redo_text_of (active_of old)) old reply new
+OtherStep UndoText old reply new = Answers (active_text_reply undo_text_of (active_of old)) old reply new
+OtherStep RedoText old reply new = Answers (active_text_reply redo_text_of (active_of old)) old reply new
 OtherStep (StepText place) old reply new = OverActive (λ h. Answers (step_text_reply (text_at h place))) (active_of old) old reply new
 OtherStep line old reply new = ⊥
 

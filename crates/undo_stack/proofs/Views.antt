@@ -4,7 +4,7 @@ use Rattle.std.proofs.lemmas.Bool.{lt-ltb, le-ltb}
 use Rattle.map_model.specs.Document.{DocumentParts}
 use Rattle.command_api.specs.Law.{Change}
 use Rattle.undo_stack.specs.History.{History, current}
-use Rattle.undo_stack.specs.Moving.{moved, redo_answer, cleared}
+use Rattle.undo_stack.specs.Moving.{positioned, redo_answer, cleared}
 use Rattle.undo_stack.specs.Row.{steps_of, IsMoved}
 use Rattle.undo_stack.specs.Entries.{entry_change}
 use Rattle.undo_stack.specs.Sound.{history_of, IsTurnable}
@@ -17,7 +17,7 @@ pub current-view : {C : Type 0} (f : C → Change) (d : DocumentParts) (es : Lis
 current-view f d es n clean limit h = rw (take-steps (entry_change f) es n d h) (last_after-down (entry_change f) (take n es) d)
 
 -- entries of which one was turned
-pub moved_view : {C : Type 0} (f : C → Change) (d e : DocumentParts) (es ts : List (Entry C)) (i j : ℕ) (clean : Option ℕ) (limit : ℕ) → IsMoved (entry_change f) es i d ts j e → history_of f e ts j clean limit ≡ moved j (history_of f d es i clean limit)
+pub moved_view : {C : Type 0} (f : C → Change) (d e : DocumentParts) (es ts : List (Entry C)) (i j : ℕ) (clean : Option ℕ) (limit : ℕ) → IsMoved (entry_change f) es i d ts j e → history_of f e ts j clean limit ≡ positioned j (history_of f d es i clean limit)
 moved_view f d e es ts i j clean limit m = rw (m.base, m.steps) refl
 
 pub moved_sound : {C : Type 0} (f : C → Change) (d e : DocumentParts) (es ts : List (Entry C)) (i j : ℕ) (clean : Option ℕ) → IsTurnable f d es i clean → j ≤ length es → IsMoved (entry_change f) es i d ts j e → IsTurnable f e ts j clean
@@ -47,7 +47,7 @@ pub cleared_view : {C : Type 0} (f : C → Change) (d : DocumentParts) (es ts : 
 cleared_view f d es ts n clean limit h none = rw (none, current-view f d es n clean limit h) refl
 
 -- steps that were turned back to a place at most, and then made again up to it
-pub turned_view : (h u now : History) (i : ℕ) → h.position ≤ length h.steps → u ≡ moved (min i h.position) h → now ≡ moved (max (min i (length u.steps)) u.position) u → now ≡ moved (min i (length h.steps)) h
+pub turned_view : (h u now : History) (i : ℕ) → h.position ≤ length h.steps → u ≡ positioned (min i h.position) h → now ≡ positioned (max (min i (length u.steps)) u.position) u → now ≡ positioned (min i (length h.steps)) h
 turned_view h u now i within back on =
     let to : max (min i (length h.steps)) (min i h.position) ≡ min i (length h.steps) = omega arith in
-    on ∙ ap (λ (v : History). moved (max (min i (length v.steps)) v.position) v) back ∙ ap (λ (n : ℕ). moved n h) to
+    on ∙ ap (λ (v : History). positioned (max (min i (length v.steps)) v.position) v) back ∙ ap (λ (n : ℕ). positioned n h) to

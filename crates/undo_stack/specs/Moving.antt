@@ -33,8 +33,8 @@ abbrev pub clean_answer : History → Answer
 clean_answer h = outside h.levels (Ok tt)
 
 -- the position alone becomes n
-abbrev pub moved : ℕ → History → History
-moved n h = record h { position = n }
+abbrev pub positioned : ℕ → History → History
+positioned n h = record h { position = n }
 
 -- a refused call leaves the history as it was
 abbrev pub Leads : Answer → History → History → History → Type 0
@@ -44,17 +44,17 @@ Leads (Err fault) h next n = n ≡ h
 -- undo: one step back
 pub record StepsBack (h : History) (answer : Answer) (n : History) : Type 0 where
   pub answered : answer ≡ undo_answer h
-  pub leads : Leads answer h (moved (h.position - 1) h) n
+  pub leads : Leads answer h (positioned (h.position - 1) h) n
 
 -- redo: one step on
 pub record StepsOn (h : History) (answer : Answer) (n : History) : Type 0 where
   pub answered : answer ≡ redo_answer h
-  pub leads : Leads answer h (moved (h.position + 1) h) n
+  pub leads : Leads answer h (positioned (h.position + 1) h) n
 
 -- set index: the position becomes i, or that of the last step, where there are fewer
 pub record GoesTo (i : ℕ) (h : History) (answer : Answer) (n : History) : Type 0 where
   pub answered : answer ≡ goto_answer h
-  pub leads : Leads answer h (moved (min i (length h.steps)) h) n
+  pub leads : Leads answer h (positioned (min i (length h.steps)) h) n
 
 -- set clean: the position becomes the clean one
 pub record MarksClean (h : History) (answer : Answer) (n : History) : Type 0 where

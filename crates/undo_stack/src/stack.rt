@@ -2,7 +2,7 @@ ghost use Rattle.std.specs.Prelude.{◌≡◌, ◌≤◌, ◌<◌, ◌+◌, ◌-
 ghost use Rattle.std.specs.VecDeque.{deque_capacity};
 ghost use Rattle.undo_stack.specs.History.{new_history, current, count, is_clean};
 ghost use Rattle.undo_stack.specs.Pushing.{IsPushed, step_of, up_to};
-ghost use Rattle.undo_stack.specs.Moving.{moved, StepsBack, StepsOn, GoesTo, MarksClean, UnmarksClean, Clears};
+ghost use Rattle.undo_stack.specs.Moving.{positioned, StepsBack, StepsOn, GoesTo, MarksClean, UnmarksClean, Clears};
 ghost use Rattle.undo_stack.specs.Reading.{text_at, action_of, undo_text_of, redo_text_of};
 ghost use Rattle.undo_stack.specs.Stacks.{history, Holds};
 
@@ -286,7 +286,7 @@ impl<C: Command> Stack<C> {
         requires { Holds C.change self.old }
         ensures sound { Holds C.change self.new }
         ensures history { history C.change self.new
-            ≡ moved (min index (history C.change self.old).position) (history C.change self.old) }
+            ≡ positioned (min index (history C.change self.old).position) (history C.change self.old) }
     {
         let index = index.min(self.index);
         let row = self.entries.make_contiguous();
@@ -299,7 +299,7 @@ impl<C: Command> Stack<C> {
         requires { Holds C.change self.old }
         ensures sound { Holds C.change self.new }
         ensures history { history C.change self.new
-            ≡ moved (max (min index (length (history C.change self.old).steps)) (history C.change self.old).position) (history C.change self.old) }
+            ≡ positioned (max (min index (length (history C.change self.old).steps)) (history C.change self.old).position) (history C.change self.old) }
     {
         let index = index.min(self.entries.len()).max(self.index);
         let row = self.entries.make_contiguous();
@@ -313,7 +313,7 @@ impl<C: Command> Stack<C> {
         requires below { 0 < (history C.change self.old).position }
         ensures sound { Holds C.change self.new }
         ensures history { history C.change self.new
-            ≡ moved ((history C.change self.old).position - 1) (history C.change self.old) }
+            ≡ positioned ((history C.change self.old).position - 1) (history C.change self.old) }
     {
         self.entries[self.index - 1].undo(&mut self.document);
         self.index -= 1;
@@ -325,7 +325,7 @@ impl<C: Command> Stack<C> {
         requires above { (history C.change self.old).position < length (history C.change self.old).steps }
         ensures sound { Holds C.change self.new }
         ensures history { history C.change self.new
-            ≡ moved ((history C.change self.old).position + 1) (history C.change self.old) }
+            ≡ positioned ((history C.change self.old).position + 1) (history C.change self.old) }
     {
         self.entries[self.index].redo(&mut self.document);
         self.index += 1;

@@ -1,5 +1,5 @@
 use Rattle.std.proofs.Common.{◌≡◌, ◌∙◌, ap, arith, ℕ, length, min, max}
-use Rattle.undo_stack.specs.Moving.{moved}
+use Rattle.undo_stack.specs.Moving.{positioned}
 use Rattle.undo_stack.specs.Entries.{entry_change}
 use Rattle.undo_stack.specs.Stacks.{history}
 use Rattle.undo_stack.proofs.Rows.{length-steps}
@@ -15,4 +15,4 @@ returns-clause-history g c =
     let turned = rw c.make_contiguous-row.ensures.value at c.redo_up.ensures in
     let to : c.max-index.result ≡ max (min c.args.index (length old.steps)) s.index = omega (arith, all, c.len.ensures, c.min.ensures, c.max-index.ensures, s.entries.ok.0) in
     let kept = c.make_contiguous-row.ensures.writes_back c.redo_up.new.row (omega (arith, turned.same_length, s.entries.ok.0)) in
-    rw kept (moved_view f s.document c.redo_up.new.document s.entries.items c.redo_up.new.row s.index c.max-index.result s.clean s.limit turned ∙ ap (λ (n : ℕ). moved n old) to)
+    rw kept (moved_view f s.document c.redo_up.new.document s.entries.items c.redo_up.new.row s.index c.max-index.result s.clean s.limit turned ∙ ap (λ (n : ℕ). positioned n old) to)
