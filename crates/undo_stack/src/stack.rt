@@ -79,7 +79,6 @@ impl<C: Command> Stack<C> {
     pub fn depth(&self) -> usize
         ensures { result ≡ length (history C.change self.now).levels }
     {
-        let _ = self;
         0
     }
 
