@@ -2,7 +2,7 @@
 -- back: every accepted edit gives a new document, and undo and redo only move a position.
 use Rattle.std.specs.Prelude.{◌≡◌, ℕ, ◌-◌, List, [], ℤ, pos, negsuc, nat_eq, if◌then◌else◌, length, Option, None, Some, IsSome, Result, Ok, Err, ◌⊎◌}
 use Rattle.std.specs.Option.{option_map}
-use Rattle.map_model.specs.Document.{DocumentParts}
+use Rattle.map_model.specs.Document.{DocumentParts, document_of}
 use Rattle.map_model.specs.declared.parts.MapParts.{MapParts}
 use Rattle.map_model.specs.NewMap.{new_map}
 use Rattle.map_model.specs.Parts.{layer_of, cell_of}
@@ -94,7 +94,7 @@ OverActive P (Some h) old reply new = P h old reply new
 -- ---- a new document
 -- the history of a new document
 abbrev pub started : ℕ → ℕ → ℕ → ℕ → ℕ → List ℕ → History
-started limit width height tile_width tile_height source = new_history (record { map = new_map width height tile_width tile_height source }) limit
+started limit width height tile_width tile_height source = new_history (document_of (new_map width height tile_width tile_height source)) limit
 
 -- while a document is open its name is taken, whatever the new one is called; then the sizes must be within the limits
 abbrev pub NewStep : Option History → ℕ → ℕ → ℕ → ℕ → List ℕ → Machine → Option Reply → Machine → Type 0

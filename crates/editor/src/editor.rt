@@ -1,4 +1,5 @@
 ghost use Rattle.std.specs.Prelude.{◌≡◌, ◌↔◌, ◌⊎◌, IsTrue, IfOk, None, Some};
+ghost use Rattle.map_model.specs.Document.{document_of};
 ghost use Rattle.map_model.specs.NewMap.{new_map};
 ghost use Rattle.map_model.specs.WellFormed.{IsSize, IsTileSize};
 ghost use Rattle.undo_stack.specs.Stacks.{history, Holds};
@@ -64,7 +65,7 @@ pub fn state_of<C: Command>(stack: &Stack<C>) -> Reply
 fn new_document(alloc: Global, sizes: Sizes, source: &str) -> Result<Document, AllocError>
     requires size { IsSize sizes.width sizes.height }
     requires tile_size { IsTileSize sizes.tile_width sizes.tile_height }
-    ensures { IfOk result (λ d. d ≡ record { map = new_map sizes.width sizes.height sizes.tile_width sizes.tile_height source.now }) }
+    ensures { IfOk result (λ d. d ≡ document_of (new_map sizes.width sizes.height sizes.tile_width sizes.tile_height source.now)) }
 {
     let source = MapText::new(String::from_str(alloc, source)?);
     let map = Map::create(
