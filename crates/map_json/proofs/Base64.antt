@@ -1,0 +1,64 @@
+-- The text of base64 has no blanks, and is read again.
+use Rattle.std.proofs.Common.{◌≡◌, ℕ, zero, suc, ◌%◌, ◌<◌, Bool, true, false, not, ◌&&◌, List, [], ◌∷◌, ◌++◌, length, get_or, replicate, filter, Ok, refl, ap, ◌∙◌, arith}
+use Rattle.std.specs.List.{list_all}
+use Rattle.base64.specs.Rfc4648.{encode_symbols, padding_len}
+use Rattle.base64.specs.Engines.{standard}
+use Rattle.base64.specs.GeneralPurpose.{encode_of, decode_of, IsBytes}
+use Rattle.base64.proofs.EngineFacts.{decode_of-encode_of}
+use Rattle.map_json.specs.Cells.{is_blank, packed}
+use Rattle.map_json.specs.Trees.{bytes_of}
+
+abbrev is_kept : ℕ → Bool
+is_kept b = not (is_blank b)
+
+both : (a b : Bool) → a && b ≡ true → (a ≡ true) × (b ≡ true)
+both true b e = (refl, e)
+both false b e = absurd cc
+
+and_true : (a b : Bool) → a ≡ true → b ≡ true → a && b ≡ true
+and_true a b e f = rw (e, f) refl
+
+filter_all : (xs : List ℕ) → list_all is_kept xs ≡ true → filter is_kept xs ≡ xs
+filter_all [] e = refl
+filter_all (x ∷ xs) e = let h = both (is_kept x) (list_all is_kept xs) e in rw h.0 (ap (λ (ys : List ℕ). x ∷ ys) (filter_all xs h.1))
+
+list_all-append : (xs ys : List ℕ) → list_all is_kept xs ≡ true → list_all is_kept ys ≡ true → list_all is_kept (xs ++ ys) ≡ true
+list_all-append [] ys a b = b
+list_all-append (x ∷ xs) ys a b = let h = both (is_kept x) (list_all is_kept xs) a in and_true (is_kept x) (list_all is_kept (xs ++ ys)) h.0 (list_all-append xs ys h.1 b)
+
+list_all-replicate : (n : ℕ) → list_all is_kept (replicate n 61) ≡ true
+list_all-replicate zero = refl
+list_all-replicate (suc n) = list_all-replicate n
+
+-- no element of such a table is blank, nor what is past its end
+at_kept : (t : List ℕ) → list_all is_kept t ≡ true → (i : ℕ) → is_kept (get_or t i 0) ≡ true
+at_kept [] e i = refl
+at_kept (x ∷ t) e zero = (both (is_kept x) (list_all is_kept t) e).0
+at_kept (x ∷ t) e (suc i) = at_kept t (both (is_kept x) (list_all is_kept t) e).1 i
+
+module _ (t : List ℕ) (table : (i : ℕ) → is_kept (get_or t i 0) ≡ true) where
+  symbols_kept : (m : List ℕ) → list_all is_kept (encode_symbols t m) ≡ true
+  unfolding encode_symbols
+  symbols_kept [] = refl
+  symbols_kept (a ∷ []) = rw (table, table) refl
+  symbols_kept (a ∷ b ∷ []) = rw (table, table, table) refl
+  symbols_kept (a ∷ b ∷ c ∷ rest) = rw (table, table, table, table) (symbols_kept rest)
+
+packed-encode_of : (m : List ℕ) → packed (encode_of standard m) ≡ encode_of standard m
+packed-encode_of m =
+    let table = at_kept standard.encode_table refl in
+    filter_all (encode_of standard m) (list_all-append (encode_symbols standard.encode_table m) (replicate (padding_len (length m)) 61) (symbols_kept standard.encode_table table m) (list_all-replicate (padding_len (length m))))
+
+pub decoded_again : (m : List ℕ) → IsBytes m → decode_of standard (packed (encode_of standard m)) ≡ Ok m
+decoded_again m bytes = ap (decode_of standard) (packed-encode_of m) ∙ decode_of-encode_of standard m refl bytes
+
+below_256 : (n : ℕ) → n % 256 < 256
+below_256 n = omega arith
+
+pub IsBytes-bytes_of : (cells : List ℕ) → IsBytes (bytes_of cells)
+IsBytes-bytes_of [] i = omega arith
+IsBytes-bytes_of (c ∷ cs) zero = below_256 _
+IsBytes-bytes_of (c ∷ cs) (suc zero) = below_256 _
+IsBytes-bytes_of (c ∷ cs) (suc (suc zero)) = below_256 _
+IsBytes-bytes_of (c ∷ cs) (suc (suc (suc zero))) = below_256 _
+IsBytes-bytes_of (c ∷ cs) (suc (suc (suc (suc i)))) = IsBytes-bytes_of cs i

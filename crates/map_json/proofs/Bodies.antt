@@ -1,0 +1,40 @@
+-- What a layer holds, read from what is left after the members of every layer were taken out.
+use Rattle.std.proofs.Common.{◌≡◌, ℕ, List, [], ◌∷◌, bytes_eq, false, Bool, true, ◌||◌, refl, ◌∙◌, true≢false}
+use Rattle.std.specs.Prelude.{codes}
+use Rattle.std.specs.List.{list_any}
+use Rattle.serde_json.specs.Data.{Members}
+use Rattle.serde_json.specs.Find.{get_member}
+use Rattle.map_model.specs.Keeping.{common_names, body_names, layer_names}
+use Rattle.map_model.specs.declared.parts.Body.{Body}
+use Rattle.map_json.specs.declared.body.LayerType.{LayerType}
+use Rattle.map_json.specs.declared.body.LayerType.TheVariants.{TileLayer, ObjectGroup, ImageLayer}
+use Rattle.map_json.specs.Members.{without, without_all}
+use Rattle.map_json.specs.Reading.{tiles_of, objects_of, body_by}
+use Rattle.map_json.proofs.MembersLemmas.{get_member-without}
+
+stays_at : (b : Bool) (q k : List ℕ) (r : Bool) (ms : Members) → bytes_eq q k ≡ b → b || r ≡ false → get_member q (without k ms) ≡ get_member q ms
+stays_at true q k r ms e h = absurd (true≢false h)
+stays_at false q k r ms e h = get_member-without q k ms e
+
+rest_at : (b r : Bool) → b || r ≡ false → r ≡ false
+rest_at true r h = absurd (true≢false h)
+rest_at false r h = h
+
+-- a member of another name stays
+pub get_member-without_all : (q : List ℕ) (ks : List (List ℕ)) (ms : Members) → list_any (bytes_eq q) ks ≡ false → get_member q (without_all ks ms) ≡ get_member q ms
+get_member-without_all q [] ms e = refl
+get_member-without_all q (k ∷ ks) ms e =
+    get_member-without_all q ks (without k ms) (rest_at (bytes_eq q k) (list_any (bytes_eq q) ks) e) ∙ stays_at (bytes_eq q k) q k (list_any (bytes_eq q) ks) ms refl e
+
+pub body_by_common : (kind : LayerType) (width height : ℕ) (ms : Members) → body_by kind width height (without_all common_names ms) ≡ body_by kind width height ms
+unfolding tiles_of objects_of
+body_by_common TileLayer width height ms =
+    let stays : (q : List ℕ) → list_any (bytes_eq q) common_names ≡ false → get_member q (without_all common_names ms) ≡ get_member q ms = λ q e. get_member-without_all q common_names ms e in
+    rw (stays (codes "encoding") refl, stays (codes "compression") refl, stays (codes "width") refl, stays (codes "height") refl, stays (codes "data") refl) refl
+body_by_common ObjectGroup width height ms = rw (get_member-without_all (codes "objects") common_names ms refl) refl
+body_by_common ImageLayer width height ms = refl
+
+pub without_layer_names : (b : Body) (ms : Members) → without_all (layer_names b) ms ≡ without_all (body_names b) (without_all common_names ms)
+without_layer_names b ms = refl
+
+pub ruleset common = (body_by_common, without_layer_names)

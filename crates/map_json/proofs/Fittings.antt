@@ -1,0 +1,232 @@
+-- A map that was read, with the tests passed that take all of it, is well formed.
+use Rattle.std.proofs.Common.{◌≡◌, ℕ, ◌*◌, ◌≤◌, List, [], ◌∷◌, map, length, Bool, true, false, not, ◌&&◌, Ordering, Less, Equal, Greater, nat_cmp, Some, Ok, true≢false, refl, sym, ap, ◌∙◌, subst, arith}
+use Rattle.std.specs.Prelude.{◌==◌, codes, nat_le, nat_lt}
+use Rattle.std.specs.List.{list_all, flat_map}
+use Rattle.std.specs.Cmp.Lexicographic.{slice_cmp}
+use Rattle.std.specs.Ordering.{match_ordering}
+use Rattle.std.proofs.lemmas.Bool.{leb-true}
+use Rattle.std.proofs.lemmas.List.Folds.{list_all-append}
+use Rattle.serde_json.specs.Data.{Data, null, boolean, number, string, array, object, Members, no_members, member, depth}
+use Rattle.serde_json.specs.Find.{get_member, as_object}
+use Rattle.serde_json.specs.Written.{members_have_float}
+use Rattle.map_model.specs.declared.limits.TheConstants.{MAX_SIDE, MAX_CELLS, MAX_TILE_SIDE, MAX_LAYERS, MAX_TILESETS, MAX_NEXT_ID, MAX_PROPERTIES}
+use Rattle.map_model.specs.declared.parts.Property.{Property}
+use Rattle.map_model.specs.declared.parts.Object.{Object}
+use Rattle.map_model.specs.declared.parts.Body.{Body}
+use Rattle.map_model.specs.declared.parts.Body.TheVariants.{Tiles, Objects, Other}
+use Rattle.map_model.specs.declared.parts.Layer.{Layer}
+use Rattle.map_model.specs.declared.parts.MapParts.{MapParts}
+use Rattle.map_model.specs.Lists.{Each}
+use Rattle.map_model.specs.Keeping.{AreKept, map_level, layer_level, object_level, map_names}
+use Rattle.map_model.specs.WellFormed.{IsSize, IsTileSize, IsTileset, AreProperties, IsObject, IsBody, IsLayer, IsWellFormed, names_of_property, ids_of, layer_ids, ids_of_object, object_ids_in, object_ids_of, object_ids, first_ids_of}
+use Rattle.map_json.specs.Members.{without, without_all}
+use Rattle.map_json.specs.declared.fault.MapRefusal.TheVariants.{Fraction, Infinite, IdUsedTwice, OverLimit, NotAMap}
+use Rattle.map_json.specs.Steps.{or_refused, check, required, absent_means}
+use Rattle.map_json.specs.Scalars.{whole_at, truth_at}
+use Rattle.map_json.specs.Entries.{entries_at}
+use Rattle.map_json.specs.Reading.{property_at, properties_of, tileset_at, layer_at}
+use Rattle.map_json.specs.Distinctness.{are_distinct, lists_in, lists_of_layer, property_lists, are_named_apart, has_no_double, are_below_next}
+use Rattle.map_json.specs.Maps.{version_has_fraction, has_fraction, is_map_type, parts_of, consistent, map_of}
+use Rattle.map_json.proofs.Fine.{AreFineMembers, IsReadTree}
+use Rattle.map_json.proofs.FineLemmas.{IsFine-get_member, members_have_float-fine, members_depth-fine, AreFineMembers-read, AreReadMembers-without, members_depth-without}
+use Rattle.map_json.proofs.MembersLemmas.{get_member-without, LacksAll-without_all, without-absent}
+use Rattle.map_json.proofs.Words.{both}
+use Rattle.map_json.proofs.Sound.{by_bind, ok_is, or_refused_ok, required_ok, chosen, required_whole_sound, entries_sound, WereRead, properties_sound}
+use Rattle.map_json.proofs.Owners.{WasReadObject, tileset_sound}
+use Rattle.map_json.proofs.Layers.{WasReadBody, WasReadLayer, layer_sound}
+use Rattle.map_json.proofs.Apart.{either_false, Distinct-numbers, Distinct-texts, Each-flat_map, AreIds-read}
+
+-- ---- names that differ within each owner
+AreProperties-read : (level : ℕ) (ps : List Property) → WereRead level ps → are_named_apart ps ≡ true → AreProperties level ps
+AreProperties-read level ps h e = record { few = h.few; each = h.each; distinct = Distinct-texts (flat_map names_of_property ps) e }
+
+Each-IsObject : (level : ℕ) (os : List Object) → Each (WasReadObject level) os → list_all are_named_apart (map (λ (o : Object). o.properties) os) ≡ true → Each (IsObject level) os
+Each-IsObject level [] h e = tt
+Each-IsObject level (o ∷ os) h e =
+    let f = both (are_named_apart o.properties) (list_all are_named_apart (map (λ (p : Object). p.properties) os)) e in
+    (record { placing = h.0.placing; gid = h.0.gid; properties = AreProperties-read level o.properties h.0.properties f.0; kept = h.0.kept }, Each-IsObject level os h.1 f.1)
+
+IsBody-read : (level size : ℕ) (b : Body) → WasReadBody level size b → list_all are_named_apart (lists_in b) ≡ true → IsBody level size b
+IsBody-read level size (Tiles e cells) h f = h
+IsBody-read level size (Objects os) h f = (h.0, Each-IsObject (object_level level) os h.1 f)
+IsBody-read level size Other h f = tt
+
+IsLayer-read : (level size : ℕ) (l : Layer) → WasReadLayer level size l → list_all are_named_apart (lists_of_layer l) ≡ true → IsLayer level size l
+IsLayer-read level size l h e =
+    let f = both (are_named_apart l.properties) (list_all are_named_apart (lists_in l.body)) e in
+    record { properties = AreProperties-read level l.properties h.properties f.0; kept = h.kept; body = IsBody-read level size l.body h.body f.1 }
+
+Each-IsLayer : (level size : ℕ) (ls : List Layer) → Each (WasReadLayer level size) ls → list_all are_named_apart (flat_map lists_of_layer ls) ≡ true → Each (IsLayer level size) ls
+Each-IsLayer level size [] h e = tt
+Each-IsLayer level size (l ∷ ls) h e =
+    let f = both (list_all are_named_apart (lists_of_layer l)) (list_all are_named_apart (flat_map lists_of_layer ls)) (sym (list_all-append are_named_apart (lists_of_layer l) (flat_map lists_of_layer ls)) ∙ e) in
+    (IsLayer-read level size l h.0 f.0, Each-IsLayer level size ls h.1 f.1)
+
+-- ---- ids from 1 on
+low_in : (level size : ℕ) (b : Body) → WasReadBody level size b → Each (λ id. 1 ≤ id) (object_ids_in b)
+low_in level size (Tiles e cells) h = tt
+low_in level size (Objects os) h = Each-flat_map (λ id. 1 ≤ id) (WasReadObject (object_level level)) ids_of_object (λ o g. (g.low, tt)) os h.1
+low_in level size Other h = tt
+
+-- ---- the members but the version
+without_less : (o : Ordering) (n : ℕ) (l : List ℕ) (d : Data) (rest : Members) → AreFineMembers n (match_ordering o (member l d rest) rest (member l d rest)) → AreFineMembers n rest
+without_less Less n l d rest h = h.1
+without_less Equal n l d rest h = h
+without_less Greater n l d rest h = h.1
+
+without_other : (o : Ordering) (n : ℕ) (l : List ℕ) (d : Data) (rest new : Members) → AreFineMembers n (match_ordering o (member l d rest) rest (member l d rest)) → AreFineMembers n new
+    → AreFineMembers n (match_ordering o (member l d new) new (member l d new))
+without_other Less n l d rest new h g = (h.0, g)
+without_other Equal n l d rest new h g = g
+without_other Greater n l d rest new h g = (h.0, g)
+
+without_kept : (o : Ordering) (n : ℕ) (v l : List ℕ) (d : Data) (rest : Members) → AreFineMembers n (without v rest) → AreFineMembers n (without v (member l d rest))
+    → AreFineMembers n (without v (match_ordering o (member l d rest) rest (member l d rest)))
+without_kept Less n v l d rest h g = g
+without_kept Equal n v l d rest h g = h
+without_kept Greater n v l d rest h g = g
+
+fine_without : (n : ℕ) (v k : List ℕ) (ms : Members) → AreFineMembers n (without v ms) → AreFineMembers n (without v (without k ms))
+fine_without n v k no_members h = tt
+fine_without n v k (member l d ms) h =
+    let more = fine_without n v k ms (without_less (slice_cmp nat_cmp v l) n l d (without v ms) h) in
+    without_kept (slice_cmp nat_cmp k l) n v l d (without k ms) more (without_other (slice_cmp nat_cmp v l) n l d (without v ms) (without v (without k ms)) h more)
+
+fine_without_all : (n : ℕ) (v : List ℕ) (ks : List (List ℕ)) (ms : Members) → AreFineMembers n (without v ms) → AreFineMembers n (without v (without_all ks ms))
+fine_without_all n v [] ms h = h
+fine_without_all n v (k ∷ ks) ms h = fine_without_all n v ks (without k ms) (fine_without n v k ms h)
+
+kept_of_map : (ms : Members) → AreFineMembers 126 (without (codes "version") ms) → AreKept map_level map_names (without_all map_names ms)
+kept_of_map ms h =
+    let lacks = LacksAll-without_all map_names ms in
+    let fine = subst (λ (x : Members). AreFineMembers 126 x) (without-absent (codes "version") (without_all map_names ms) lacks.1.1.1.1.1.1.1.1.1.1.1.0) (fine_without_all 126 (codes "version") map_names ms h) in
+    let deep = members_depth-fine 126 (without_all map_names ms) fine in
+    record { unread = lacks; whole = members_have_float-fine 126 (without_all map_names ms) fine; shallow = omega arith }
+
+-- ---- maps
+-- a map that was read, but for what must differ over all of it
+record WasReadMap (m : MapParts) : Type 0 where
+  size : IsSize m.width m.height
+  tile_size : IsTileSize m.tile_width m.tile_height
+  next_layer_low : 1 ≤ m.next_layer_id
+  next_layer_high : m.next_layer_id ≤ MAX_NEXT_ID
+  next_object_low : 1 ≤ m.next_object_id
+  next_object_high : m.next_object_id ≤ MAX_NEXT_ID
+  layers_few : length m.layers ≤ MAX_LAYERS
+  layers : Each (WasReadLayer layer_level (m.width * m.height)) m.layers
+  tilesets_few : length m.tilesets ≤ MAX_TILESETS
+  tilesets : Each IsTileset m.tilesets
+  properties : WereRead map_level m.properties
+  kept : AreKept map_level map_names m.kept
+
+parts_sound : (ms : Members) (m : MapParts) → AreFineMembers 126 (without (codes "version") ms) → parts_of ms ≡ Ok m → WasReadMap m
+unfolding parts_of
+parts_sound ms m fine e =
+    let others = without (codes "version") ms in
+    by_bind (required (whole_at 1 MAX_SIDE) (get_member (codes "width") ms)) _ m e (λ width width_is e1.
+    by_bind (required (whole_at 1 MAX_SIDE) (get_member (codes "height") ms)) _ m e1 (λ height height_is e2.
+    by_bind (check (nat_le (width * height) MAX_CELLS) OverLimit) _ m e2 (λ a a_is e3.
+    by_bind (required (whole_at 1 MAX_TILE_SIDE) (get_member (codes "tilewidth") ms)) _ m e3 (λ tile_width tile_width_is e4.
+    by_bind (required (whole_at 1 MAX_TILE_SIDE) (get_member (codes "tileheight") ms)) _ m e4 (λ tile_height tile_height_is e5.
+    by_bind (absent_means false truth_at (get_member (codes "infinite") ms)) _ m e5 (λ infinite infinite_is e6.
+    by_bind (check (not infinite) Infinite) _ m e6 (λ b b_is e7.
+    by_bind (required (whole_at 1 MAX_NEXT_ID) (get_member (codes "nextlayerid") ms)) _ m e7 (λ next_layer_id next_layer_is e8.
+    by_bind (required (whole_at 1 MAX_NEXT_ID) (get_member (codes "nextobjectid") ms)) _ m e8 (λ next_object_id next_object_is e9.
+    by_bind (required (entries_at MAX_LAYERS (layer_at width height)) (get_member (codes "layers") ms)) _ m e9 (λ layers layers_is e10.
+    by_bind (required (entries_at MAX_TILESETS tileset_at) (get_member (codes "tilesets") ms)) _ m e10 (λ tilesets tilesets_is e11.
+    by_bind (properties_of ms) _ m e11 (λ properties properties_is e12.
+    let w = required_whole_sound 1 MAX_SIDE (get_member (codes "width") ms) width width_is in
+    let h = required_whole_sound 1 MAX_SIDE (get_member (codes "height") ms) height height_is in
+    let cells = chosen (nat_le (width * height) MAX_CELLS) (Ok tt) OverLimit a a_is in
+    let tw = required_whole_sound 1 MAX_TILE_SIDE (get_member (codes "tilewidth") ms) tile_width tile_width_is in
+    let th = required_whole_sound 1 MAX_TILE_SIDE (get_member (codes "tileheight") ms) tile_height tile_height_is in
+    let next_layer = required_whole_sound 1 MAX_NEXT_ID (get_member (codes "nextlayerid") ms) next_layer_id next_layer_is in
+    let next_object = required_whole_sound 1 MAX_NEXT_ID (get_member (codes "nextobjectid") ms) next_object_id next_object_is in
+    let layers_in = required_ok (entries_at MAX_LAYERS (layer_at width height)) (get_member (codes "layers") ms) layers layers_is in
+    let layers_fine = IsFine-get_member 126 (codes "layers") others layers_in.0 fine (get_member-without (codes "layers") (codes "version") ms refl ∙ layers_in.1) in
+    let layers_read = entries_sound (WasReadLayer layer_level (width * height)) (layer_at width height) 125 (layer_sound layer_level 120 (omega arith) width height) MAX_LAYERS layers_in.0 layers layers_fine layers_in.2 in
+    let tilesets_in = required_ok (entries_at MAX_TILESETS tileset_at) (get_member (codes "tilesets") ms) tilesets tilesets_is in
+    let tilesets_fine = IsFine-get_member 126 (codes "tilesets") others tilesets_in.0 fine (get_member-without (codes "tilesets") (codes "version") ms refl ∙ tilesets_in.1) in
+    let tilesets_read = entries_sound IsTileset tileset_at 125 (tileset_sound 124 (omega arith)) MAX_TILESETS tilesets_in.0 tilesets tilesets_fine tilesets_in.2 in
+    let properties_in : properties_of others ≡ Ok properties = ap (absent_means [] (entries_at MAX_PROPERTIES property_at)) (get_member-without (codes "properties") (codes "version") ms refl) ∙ properties_is in
+    let kept = without_all map_names ms in
+    let made : WasReadMap (record { width = width; height = height; tile_width = tile_width; tile_height = tile_height; layers = layers; tilesets = tilesets; properties = properties; next_layer_id = next_layer_id; next_object_id = next_object_id; kept = kept }) = record {
+      size = record { wide = w.0; high = h.0; width_limit = w.1; height_limit = h.1; cells_limit = leb-true (width * height) MAX_CELLS cells.0 };
+      tile_size = record { wide = tw.0; high = th.0; width_limit = tw.1; height_limit = th.1 };
+      next_layer_low = next_layer.0;
+      next_layer_high = next_layer.1;
+      next_object_low = next_object.0;
+      next_object_high = next_object.1;
+      layers_few = layers_read.0;
+      layers = layers_read.1;
+      tilesets_few = tilesets_read.0;
+      tilesets = tilesets_read.1;
+      properties = properties_sound map_level 124 (omega arith) others properties fine properties_in;
+      kept = kept_of_map ms fine;
+    } in
+    subst WasReadMap (ok_is (record { width = width; height = height; tile_width = tile_width; tile_height = tile_height; layers = layers; tilesets = tilesets; properties = properties; next_layer_id = next_layer_id; next_object_id = next_object_id; kept = kept }) m e12) made))))))))))))
+
+consistent_sound : (p m : MapParts) → consistent p ≡ Ok m → (p ≡ m) × (has_no_double p ≡ true) × (are_below_next p ≡ true)
+unfolding consistent
+consistent_sound p m e =
+    by_bind (check (has_no_double p) IdUsedTwice) _ m e (λ a a_is e1.
+    by_bind (check (are_below_next p) OverLimit) _ m e1 (λ b b_is e2.
+    (ok_is p m e2, (chosen (has_no_double p) (Ok tt) IdUsedTwice a a_is).0, (chosen (are_below_next p) (Ok tt) OverLimit b b_is).0)))
+
+IsWellFormed-read : (m : MapParts) → WasReadMap m → has_no_double m ≡ true → are_below_next m ≡ true → IsWellFormed m
+IsWellFormed-read m h apart below =
+    let layers_apart = are_distinct (λ a b. a == b) (layer_ids m.layers) in
+    let objects_apart = are_distinct (λ a b. a == b) (object_ids m.layers) in
+    let tilesets_apart = are_distinct (λ a b. a == b) (flat_map first_ids_of m.tilesets) in
+    let named_apart = list_all are_named_apart (property_lists m) in
+    let a = both (layers_apart && objects_apart && tilesets_apart) named_apart apart in
+    let b = both (layers_apart && objects_apart) tilesets_apart a.0 in
+    let c = both layers_apart objects_apart b.0 in
+    let d = both (are_named_apart m.properties) (list_all are_named_apart (flat_map lists_of_layer m.layers)) a.1 in
+    let f = both (list_all (λ id. nat_lt id m.next_layer_id) (layer_ids m.layers)) (list_all (λ id. nat_lt id m.next_object_id) (object_ids m.layers)) below in
+    let size = m.width * m.height in
+    record {
+      size = h.size;
+      tile_size = h.tile_size;
+      layers = record {
+        few = h.layers_few;
+        each = Each-IsLayer layer_level size m.layers h.layers d.1;
+        layer_ids = AreIds-read m.next_layer_id (layer_ids m.layers) h.next_layer_low h.next_layer_high
+            (Each-flat_map (λ id. 1 ≤ id) (WasReadLayer layer_level size) ids_of (λ l g. (g.low, tt)) m.layers h.layers) c.0 f.0;
+        object_ids = AreIds-read m.next_object_id (object_ids m.layers) h.next_object_low h.next_object_high
+            (Each-flat_map (λ id. 1 ≤ id) (WasReadLayer layer_level size) object_ids_of (λ l g. low_in layer_level size l.body g.body) m.layers h.layers) c.1 f.1;
+      };
+      tilesets = record { few = h.tilesets_few; each = h.tilesets; distinct = Distinct-numbers (flat_map first_ids_of m.tilesets) b.1 };
+      properties = AreProperties-read map_level m.properties h.properties d.0;
+      kept = h.kept;
+    }
+
+not_true : (b : Bool) → not b ≡ true → b ≡ false
+not_true true e = absurd (true≢false (sym e))
+not_true false e = refl
+
+root_fine : (d : Data) (ms : Members) → as_object d ≡ Some ms → has_fraction d ≡ false → IsReadTree d → depth d ≤ 127 → AreFineMembers 126 (without (codes "version") ms)
+root_fine null ms is e h le = absurd cc
+root_fine (boolean b) ms is e h le = absurd cc
+root_fine (number x) ms is e h le = absurd cc
+root_fine (string s) ms is e h le = absurd cc
+root_fine (array ds) ms is e h le = absurd cc
+root_fine (object ks) ms is e h le =
+    let same : ks ≡ ms = cc in
+    let f = either_false (members_have_float (without (codes "version") ks)) (version_has_fraction (get_member (codes "version") ks)) e in
+    let less = members_depth-without (codes "version") ks in
+    subst (λ (x : Members). AreFineMembers 126 (without (codes "version") x)) same
+    (AreFineMembers-read 126 (without (codes "version") ks) (AreReadMembers-without (codes "version") ks h) f.0 (omega arith))
+
+-- what a tree says is well formed
+pub IsWellFormed-map_of : (d : Data) (m : MapParts) → IsReadTree d → depth d ≤ 127 → map_of d ≡ Ok m → IsWellFormed m
+unfolding map_of
+IsWellFormed-map_of d m h le e =
+    by_bind (check (not (has_fraction d)) Fraction) _ m e (λ a a_is e1.
+    by_bind (or_refused NotAMap (as_object d)) _ m e1 (λ ms object e2.
+    by_bind (check (is_map_type (get_member (codes "type") ms)) NotAMap) _ m e2 (λ b b_is e3.
+    by_bind (parts_of ms) _ m e3 (λ p p_is e4.
+    let whole = not_true (has_fraction d) (chosen (not (has_fraction d)) (Ok tt) Fraction a a_is).0 in
+    let fine = root_fine d ms (or_refused_ok NotAMap (as_object d) ms object) whole h le in
+    let c = consistent_sound p m e4 in
+    subst IsWellFormed c.0 (IsWellFormed-read p (parts_sound ms p fine p_is) c.1 c.2)))))

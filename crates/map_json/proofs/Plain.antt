@@ -1,0 +1,220 @@
+-- What is written has whole numbers alone, and nests no deeper than a reader allows.
+use Rattle.std.proofs.Common.{◌≡◌, ℕ, suc, ◌+◌, ◌*◌, ◌≤◌, ℤ, pos, negsuc, List, [], ◌∷◌, Option, Some, None, Ordering, Less, Equal, Greater, nat_cmp, Bool, false, Result, Ok, Err, refl, ap, ◌∙◌, arith}
+use Rattle.std.specs.Prelude.{codes, IfOk}
+use Rattle.std.specs.Option.{option_map}
+use Rattle.std.specs.Cmp.Lexicographic.{slice_cmp}
+use Rattle.std.specs.Ordering.{match_ordering}
+use Rattle.serde_json.specs.Data.{Data, boolean, number, string, object, Items, Members, no_members, member, put, depth, items_depth, members_depth}
+use Rattle.serde_json.specs.Find.{of_integer}
+use Rattle.serde_json.specs.Read.{read, max_depth}
+use Rattle.serde_json.specs.Written.{has_float, items_have_float, members_have_float, compact_text}
+use Rattle.map_model.specs.declared.limits.TheConstants.{MAX_DEPTH}
+use Rattle.map_model.specs.declared.parts.Encoding.{Encoding}
+use Rattle.map_model.specs.declared.parts.Encoding.TheVariants.{Array, Base64}
+use Rattle.map_model.specs.declared.parts.PropValue.{PropValue}
+use Rattle.map_model.specs.declared.parts.PropValue.TheVariants as values
+use Rattle.map_model.specs.declared.parts.Property.{Property}
+use Rattle.map_model.specs.declared.parts.Object.{Object}
+use Rattle.map_model.specs.declared.parts.Body.{Body}
+use Rattle.map_model.specs.declared.parts.Body.TheVariants.{Tiles, Objects, Other}
+use Rattle.map_model.specs.declared.parts.Layer.{Layer}
+use Rattle.map_model.specs.declared.parts.Tileset.{Tileset}
+use Rattle.map_model.specs.declared.parts.MapParts.{MapParts}
+use Rattle.map_model.specs.Lists.{Each}
+use Rattle.map_model.specs.Keeping.{AreKept, map_level, layer_level, tileset_level, object_level, property_level, tileset_names, object_names, property_names, layer_names, map_names}
+use Rattle.map_model.specs.WellFormed.{IsValue, IsProperty, AreProperties, IsObject, IsBody, IsLayer, IsTileset, IsWellFormed}
+use Rattle.map_json.specs.Members.{with_own, put_some}
+use Rattle.map_json.specs.Trees.{items_by, array_by, whole_tree, value_tree, property_own, property_tree, properties_member, object_own, object_tree, tileset_own, tileset_tree, cells_tree, encoding_member, body_own, layer_own, layer_tree, map_own, tree_of}
+use Rattle.map_json.proofs.Own.{put_whole}
+
+-- each number is whole, and nothing is more than n deep
+abbrev pub IsPlain : ℕ → Data → Type 0
+IsPlain n d = (has_float d ≡ false) × (depth d ≤ n)
+
+abbrev ArePlainItems : ℕ → Items → Type 0
+ArePlainItems n ds = (items_have_float ds ≡ false) × (items_depth ds ≤ n)
+
+abbrev ArePlain : ℕ → Members → Type 0
+ArePlain n ms = (members_have_float ms ≡ false) × (members_depth ms ≤ n)
+
+abbrev IsPlainOwn : ℕ → Option Data → Type 0
+IsPlainOwn n None = Unit {0}
+IsPlainOwn n (Some d) = IsPlain n d
+
+abbrev ArePlainOwn : ℕ → List (List ℕ × Option Data) → Type 0
+ArePlainOwn n [] = Unit {0}
+ArePlainOwn n (p ∷ ps) = IsPlainOwn n p.1 × ArePlainOwn n ps
+
+-- ---- members that are put
+put_depth_at : (o : Ordering) (n : ℕ) (k l : List ℕ) (d e : Data) (ms rest : Members) → depth d ≤ n → depth e ≤ n → members_depth ms ≤ n → members_depth rest ≤ n
+    → members_depth (match_ordering o (member k d (member l e ms)) (member l d ms) (member l e rest)) ≤ n
+put_depth_at Less n k l d e ms rest hd he h g = omega arith
+put_depth_at Equal n k l d e ms rest hd he h g = omega arith
+put_depth_at Greater n k l d e ms rest hd he h g = omega arith
+
+members_depth-put : (n : ℕ) (k : List ℕ) (d : Data) (ms : Members) → depth d ≤ n → members_depth ms ≤ n → members_depth (put k d ms) ≤ n
+members_depth-put n k d no_members hd h = omega arith
+members_depth-put n k d (member l e ms) hd h = put_depth_at (slice_cmp nat_cmp k l) n k l d e ms (put k d ms) hd (omega arith) (omega arith) (members_depth-put n k d ms hd (omega arith))
+
+put_plain : (n : ℕ) (k : List ℕ) (o : Option Data) (ms : Members) → IsPlainOwn n o → ArePlain n ms → ArePlain n (put_some k o ms)
+put_plain n k None ms h g = g
+put_plain n k (Some d) ms h g = (put_whole k d ms h.0 g.0, members_depth-put n k d ms h.1 g.1)
+
+with_own_plain : (n : ℕ) (t : List (List ℕ × Option Data)) (kept : Members) → ArePlainOwn n t → ArePlain n kept → ArePlain n (with_own t kept)
+with_own_plain n [] kept h g = g
+with_own_plain n (p ∷ ps) kept h g = put_plain n p.0 p.1 (with_own ps kept) h.0 (with_own_plain n ps kept h.1 g)
+
+object_plain : (n : ℕ) (t : List (List ℕ × Option Data)) (kept : Members) → ArePlainOwn n t → ArePlain n kept → IsPlain (suc n) (object (with_own t kept))
+object_plain n t kept h g = let all = with_own_plain n t kept h g in (all.0, omega arith)
+
+kept_plain : (level n : ℕ) (names : List (List ℕ)) (ms : Members) → level + n ≡ MAX_DEPTH → AreKept level names ms → ArePlain n ms
+kept_plain level n names ms room h = let deep = h.shallow in (h.whole, omega arith)
+
+-- ---- scalars and lists
+text_plain : (n : ℕ) (s : List ℕ) → IsPlain n (string s)
+text_plain n s = (refl, omega arith)
+
+truth_plain : (n : ℕ) (b : Bool) → IsPlain n (boolean b)
+truth_plain n b = (refl, omega arith)
+
+whole_plain : (n k : ℕ) → IsPlain n (whole_tree k)
+whole_plain n k = (refl, omega arith)
+
+integer_plain : (n : ℕ) (z : ℤ) → IsPlain n (number (of_integer z))
+integer_plain n (pos k) = (refl, omega arith)
+integer_plain n (negsuc k) = (refl, omega arith)
+
+optional_plain : {A : Type 0} (n : ℕ) (f : A → Data) → ((x : A) → IsPlain n (f x)) → (o : Option A) → IsPlainOwn n (option_map f o)
+optional_plain n f plain None = tt
+optional_plain n f plain (Some x) = plain x
+
+module _ {A : Type 0} (P : A → Type 0) (n : ℕ) (f : A → Data) (plain : (x : A) → P x → IsPlain n (f x)) where
+  items_plain : (xs : List A) → Each P xs → ArePlainItems n (items_by f xs)
+  items_plain [] h = (refl, omega arith)
+  items_plain (x ∷ xs) h =
+      let one = plain x h.0 in
+      let more = items_plain xs h.1 in
+      let a = one.1 in
+      let b = more.1 in
+      (rw (one.0, more.0) refl, omega arith)
+
+  array_plain : (xs : List A) → Each P xs → IsPlain (suc n) (array_by f xs)
+  array_plain xs h = let all = items_plain xs h in let deep = all.1 in (all.0, omega arith)
+
+-- ---- owners
+value_plain : (level n : ℕ) (v : PropValue) → level + n ≡ MAX_DEPTH → IsValue level v → IsPlain n (value_tree v)
+value_plain level n (values.Text s) room h = text_plain n s
+value_plain level n (values.Whole z) room h = integer_plain n z
+value_plain level n (values.Truth b) room h = truth_plain n b
+value_plain level n (values.Other d) room h = let deep = h.shallow in (h.whole, omega arith)
+
+property_plain : (level n : ℕ) → level + n ≡ MAX_DEPTH → (p : Property) → IsProperty level p → IsPlain (suc n) (property_tree p)
+unfolding property_tree
+property_plain level n room p h =
+    object_plain n (property_own p) p.kept (text_plain n p.name, (text_plain n p.kind, (value_plain level n p.value room h.value, tt))) (kept_plain level n property_names p.kept room h.kept)
+
+properties_plain : (level n : ℕ) → property_level level + n ≡ MAX_DEPTH → (ps : List Property) → AreProperties level ps → IsPlainOwn (suc (suc n)) (properties_member ps)
+properties_plain level n room [] h = tt
+properties_plain level n room (p ∷ ps) h = array_plain (IsProperty (property_level level)) (suc n) property_tree (property_plain (property_level level) n room) (p ∷ ps) h.each
+
+object_tree_plain : (level n : ℕ) → property_level level + n ≡ MAX_DEPTH → (o : Object) → IsObject level o → IsPlain (suc (suc (suc n))) (object_tree o)
+unfolding object_tree
+object_tree_plain level n room o h =
+    let m = suc (suc n) in
+    let pixels = optional_plain m (λ z. number (of_integer z)) (integer_plain m) in
+    object_plain m (object_own o) o.kept (
+      whole_plain m o.id,
+      (
+        pixels o.placing.x,
+        (
+          pixels o.placing.y,
+          (
+            pixels o.placing.width,
+            (
+              pixels o.placing.height,
+              (optional_plain m string (text_plain m) o.name, (optional_plain m boolean (truth_plain m) o.visible, (optional_plain m whole_tree (whole_plain m) o.gid, (properties_plain level n room o.properties h.properties, tt)))),
+            ),
+          ),
+        ),
+      ),
+    )
+    (kept_plain level m object_names o.kept (omega arith) h.kept)
+
+tileset_plain : (t : Tileset) → IsTileset t → IsPlain 125 (tileset_tree t)
+unfolding tileset_tree
+tileset_plain t h = object_plain 124 (tileset_own t) t.kept (whole_plain 124 t.first_id, (optional_plain 124 string (text_plain 124) t.source, tt)) (kept_plain tileset_level 124 tileset_names t.kept refl h.kept)
+
+numbers_plain : (n : ℕ) (ns : List ℕ) → ArePlainItems n (items_by whole_tree ns)
+numbers_plain n [] = (refl, omega arith)
+numbers_plain n (k ∷ ks) = let more = numbers_plain n ks in let deep = more.1 in (more.0, omega arith)
+
+cells_plain : (n : ℕ) (e : Encoding) (cells : List ℕ) → IsPlain (suc n) (cells_tree e cells)
+cells_plain n Array cells = let all = numbers_plain n cells in let deep = all.1 in (all.0, omega arith)
+cells_plain n Base64 cells = (refl, omega arith)
+
+encoding_plain : (n : ℕ) (e : Encoding) → IsPlainOwn n (encoding_member e)
+encoding_plain n Array = tt
+encoding_plain n Base64 = text_plain n (codes "base64")
+
+body_plain : (level n size width height : ℕ) → property_level (object_level level) + n ≡ MAX_DEPTH → (b : Body) → IsBody level size b → ArePlainOwn (suc (suc (suc (suc n)))) (body_own width height b)
+body_plain level n size width height room (Tiles e cells) h =
+    let m = suc (suc (suc (suc n))) in
+    (encoding_plain m e, (tt, (whole_plain m width, (whole_plain m height, (cells_plain (suc (suc (suc n))) e cells, tt)))))
+body_plain level n size width height room (Objects os) h =
+    (array_plain (IsObject (object_level level)) (suc (suc (suc n))) object_tree (object_tree_plain (object_level level) n room) os h.1, tt)
+body_plain level n size width height room Other h = tt
+
+layer_plain : (level n size width height : ℕ) → property_level (object_level level) + n ≡ MAX_DEPTH → (l : Layer) → IsLayer level size l → IsPlain (suc (suc (suc (suc (suc n))))) (layer_tree width height l)
+unfolding layer_tree
+layer_plain level n size width height room l h =
+    let m = suc (suc (suc (suc n))) in
+    object_plain m (layer_own width height l) l.kept
+    ((refl, omega arith), (whole_plain m l.id, (text_plain m l.name, (truth_plain m l.visible, (properties_plain level (suc (suc n)) (omega arith) l.properties h.properties, body_plain level n size width height room l.body h.body)))))
+    (kept_plain level m (layer_names l.body) l.kept (omega arith) h.kept)
+
+-- the tree of a well-formed map
+pub tree_plain : (m : MapParts) → IsWellFormed m → IsPlain 127 (tree_of m)
+unfolding tree_of
+tree_plain m h =
+    let whole = whole_plain 126 in
+    let layers = array_plain (IsLayer layer_level (m.width * m.height)) 125 (layer_tree m.width m.height) (layer_plain layer_level 120 (m.width * m.height) m.width m.height refl) m.layers h.layers.each in
+    let tilesets = array_plain IsTileset 125 tileset_tree tileset_plain m.tilesets h.tilesets.each in
+    object_plain 126 (map_own m) m.kept (
+      whole m.width,
+      (
+        whole m.height,
+        (
+          whole m.tile_width,
+          (
+            whole m.tile_height,
+            (
+              truth_plain 126 false,
+              (
+                whole m.next_layer_id,
+                (
+                  whole m.next_object_id,
+                  (
+                    layers,
+                    (
+                      tilesets,
+                      (properties_plain map_level 124 refl m.properties h.properties, (text_plain 126 (codes "map"), (text_plain 126 (codes "1.10"), tt))),
+                    ),
+                  ),
+                ),
+              ),
+            ),
+          ),
+        ),
+      ),
+    )
+    (kept_plain map_level 126 map_names m.kept refl h.kept)
+
+-- ---- the bytes of such a tree
+module _ {A E : Type 0} where
+  pub text_written : (r : Result A E) (items : A → List ℕ) (d e : Data) → d ≡ e → IsPlain 127 e → IfOk r (λ b. has_float d ≡ false → items b ≡ compact_text d) → IfOk r (λ b. items b ≡ compact_text e)
+  text_written (Ok b) items d e is plain h = h (ap has_float is ∙ plain.0) ∙ ap compact_text is
+  text_written (Err x) items d e is plain h = tt
+
+  pub read_back : (r : Result A E) (items : A → List ℕ) (d e : Data) → d ≡ e → IsPlain 127 e → IfOk r (λ b. depth d ≤ max_depth → read (items b) ≡ Some d) → IfOk r (λ b. read (items b) ≡ Some e)
+  read_back (Ok b) items d e is plain h = let deep = plain.1 in let same = ap depth is in h (omega arith) ∙ ap (λ x. Some x) is
+  read_back (Err x) items d e is plain h = tt

@@ -1,0 +1,48 @@
+-- Trees and bytes of a list that grows at its end.
+use Rattle.std.proofs.Common.{◌≡◌, ℕ, ◌+◌, ◌<◌, List, [], ◌∷◌, ◌++◌, length, get_or, take, refl, sym, ap, ◌∙◌, append_assoc}
+use Rattle.std.specs.Int.{w32, to_le_bytes}
+use Rattle.std.proofs.lemmas.List.{take_more, append-nil}
+use Rattle.serde_json.specs.Data.{Data, Items, no_items, item}
+use Rattle.serde_json.specs.View.{view, items_view}
+use Rattle.serde_json.specs.declared.value.Value.{Value}
+use Rattle.map_json.specs.Trees.{items_by, bytes_of}
+
+snoc : Items → Data → Items
+snoc no_items e = item e no_items
+snoc (item d ds) e = item d (snoc ds e)
+
+items_view-push : (vs : List Value) (v : Value) → items_view (vs ++ v ∷ []) ≡ snoc (items_view vs) (view v)
+unfolding snoc
+items_view-push [] v = refl
+items_view-push (w ∷ vs) v = ap (item (view w)) (items_view-push vs v)
+
+items_by-push : {A : Type 0} (f : A → Data) (xs : List A) (x : A) → items_by f (xs ++ x ∷ []) ≡ snoc (items_by f xs) (f x)
+unfolding snoc
+items_by-push f [] x = refl
+items_by-push f (y ∷ xs) x = ap (item (f y)) (items_by-push f xs x)
+
+-- one more entry, which is x
+pub one_more_tree : {A : Type 0} (f : A → Data) (vs : List Value) (v : Value) (xs : List A) (i : ℕ) (x d : A) → i < length xs → x ≡ get_or xs i d
+    → items_view vs ≡ items_by f (take i xs) → view v ≡ f x → items_view (vs ++ v ∷ []) ≡ items_by f (take (i + 1) xs)
+one_more_tree f vs v xs i x d lt is so_far e =
+    items_view-push vs v ∙ (rw (so_far, e) (sym (items_by-push f (take i xs) x)) ∙ ap (items_by f) (ap (λ y. take i xs ++ y ∷ []) is ∙ sym (take_more xs i d lt)))
+
+bytes_of-push : (ns : List ℕ) (n : ℕ) → bytes_of (ns ++ n ∷ []) ≡ bytes_of ns ++ to_le_bytes w32 n
+bytes_of-push [] n = append-nil (to_le_bytes w32 n)
+bytes_of-push (m ∷ ns) n = ap (λ (t : List ℕ). to_le_bytes w32 m ++ t) (bytes_of-push ns n) ∙ sym (append_assoc (to_le_bytes w32 m) (bytes_of ns) (to_le_bytes w32 n))
+
+pub one_more_bytes : (ns : List ℕ) (i n d : ℕ) → i < length ns → n ≡ get_or ns i d → bytes_of (take (i + 1) ns) ≡ bytes_of (take i ns) ++ to_le_bytes w32 n
+one_more_bytes ns i n d lt is = ap bytes_of (take_more ns i d lt ∙ ap (λ y. take i ns ++ y ∷ []) (sym is)) ∙ bytes_of-push (take i ns) n
+
+-- ---- entries in front of others
+abbrev pub joined : Items → Items → Items
+joined no_items es = es
+joined (item d ds) es = item d (joined ds es)
+
+pub joined-none : (ds : Items) → joined ds no_items ≡ ds
+joined-none no_items = refl
+joined-none (item d ds) = ap (item d) (joined-none ds)
+
+pub joined-push : (vs : List Value) (v : Value) (es : Items) → joined (items_view (vs ++ v ∷ [])) es ≡ joined (items_view vs) (item (view v) es)
+joined-push [] v es = refl
+joined-push (w ∷ vs) v es = ap (item (view w)) (joined-push vs v es)

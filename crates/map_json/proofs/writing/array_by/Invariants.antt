@@ -1,0 +1,8 @@
+use Rattle.std.proofs.Common.{◌≡◌}
+use Rattle.serde_json.specs.View.{items_view}
+use Rattle.map_json.specs.Trees.{items_by}
+use Rattle.map_json.proofs.Pushes.{joined}
+use Rattle.map_json.proofs.writing.array_by.Given as goal
+
+abbrev pub invariant-loop-entry : goal.invariant-loop-entry
+invariant-loop-entry g l = joined (items_view l.values.items) (items_by (g.T.Tree.tree l.size) l.entry-iterator) ≡ items_by (g.T.Tree.tree l.size) l.entries

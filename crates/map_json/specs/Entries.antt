@@ -1,0 +1,19 @@
+-- Arrays whose entries are read one after the other.
+use Rattle.std.specs.Prelude.{ℕ, List, [], ◌∷◌, nat_le, if◌then◌else◌, Result, Ok, Err}
+use Rattle.serde_json.specs.Data.{Data, Items, no_items, item}
+use Rattle.serde_json.specs.Find.{as_array}
+use Rattle.serde_json.specs.Events.{items_len}
+use Rattle.map_json.specs.declared.fault.MapRefusal.{MapRefusal}
+use Rattle.map_json.specs.declared.fault.MapRefusal.TheVariants.{MemberOfAnotherKind, OverLimit}
+use Rattle.map_json.specs.Steps.{◌>>=◌, or_refused}
+
+-- each entry in turn
+abbrev pub each : {A : Type 0} → (Data → Result A MapRefusal) → Items → Result (List A) MapRefusal
+each read no_items = Ok []
+each read (item d ds) = read d >>= (λ x. each read ds >>= (λ xs. Ok (x ∷ xs)))
+
+-- an array that is not too long, and its entries
+abbrev pub entries_at : {A : Type 0} → ℕ → (Data → Result A MapRefusal) → Data → Result (List A) MapRefusal
+entries_at most read d = do
+  ds ← or_refused MemberOfAnotherKind (as_array d)
+  if nat_le (items_len ds) most then each read ds else Err OverLimit

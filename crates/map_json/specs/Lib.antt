@@ -1,0 +1,9 @@
+pub mod Steps
+pub mod Scalars
+pub mod Entries
+pub mod Members
+pub mod Cells
+pub mod Reading
+pub mod Distinctness
+pub mod Maps
+pub mod Trees

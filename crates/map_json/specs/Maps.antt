@@ -1,0 +1,109 @@
+-- What a file says: the map, or the first fault.
+use Rattle.std.specs.Prelude.{◌≡◌, ◌⊎◌, IsUtf8, ℕ, ◌*◌, ◌||◌, List, codes, false, Bool, not, nat_le, Option, Some, None, Result, Ok, Err}
+use Rattle.std.specs.Str.{bytes_eq}
+use Rattle.serde_json.specs.Data.{Data, null, boolean, number, string, array, object, Members}
+use Rattle.serde_json.specs.Find.{as_object, as_str, get_member}
+use Rattle.serde_json.specs.Read.{read}
+use Rattle.serde_json.specs.Written.{has_float, members_have_float}
+use Rattle.map_model.specs.declared.limits.TheConstants.{MAX_SIDE, MAX_CELLS, MAX_TILE_SIDE, MAX_LAYERS, MAX_TILESETS, MAX_NEXT_ID}
+use Rattle.map_model.specs.declared.parts.MapParts.{MapParts}
+use Rattle.map_model.specs.Keeping.{map_names}
+use Rattle.map_json.specs.declared.fault.MapRefusal.{MapRefusal}
+use Rattle.map_json.specs.declared.fault.MapRefusal.TheVariants.{NotJson, Fraction, Infinite, IdUsedTwice, OverLimit, NotAMap}
+use Rattle.map_json.specs.declared.fault.MapFault.{MapFault}
+use Rattle.map_json.specs.declared.fault.MapFault.TheVariants.{Memory, Refused}
+use Rattle.map_json.specs.Steps.{◌>>=◌, or_refused, check, required, absent_means}
+use Rattle.map_json.specs.Scalars.{whole_at, truth_at}
+use Rattle.map_json.specs.Entries.{entries_at}
+use Rattle.map_json.specs.Members.{without, without_all}
+use Rattle.map_json.specs.Reading.{properties_of, tileset_at, layer_at}
+use Rattle.map_json.specs.Distinctness.{has_no_double, are_below_next}
+
+-- ---- fractions
+-- whether a version that is no number has a number with a fraction in it
+abbrev pub version_has_fraction : Option Data → Bool
+version_has_fraction None = false
+version_has_fraction (Some null) = false
+version_has_fraction (Some (boolean b)) = false
+version_has_fraction (Some (number n)) = false
+version_has_fraction (Some (string s)) = false
+version_has_fraction (Some (array ds)) = has_float (array ds)
+version_has_fraction (Some (object ms)) = has_float (object ms)
+
+-- whether a number that is not whole stands anywhere but as the version of the root
+abbrev pub has_fraction : Data → Bool
+has_fraction null = false
+has_fraction (boolean b) = false
+has_fraction (number n) = has_float (number n)
+has_fraction (string s) = false
+has_fraction (array ds) = has_float (array ds)
+has_fraction (object ms) = members_have_float (without (codes "version") ms) || version_has_fraction (get_member (codes "version") ms)
+
+-- ---- the root
+abbrev pub is_map_text : Option (List ℕ) → Bool
+is_map_text None = false
+is_map_text (Some s) = bytes_eq s (codes "map")
+
+-- the text `map`
+abbrev pub is_map_type : Option Data → Bool
+is_map_type None = false
+is_map_type (Some d) = is_map_text (as_str d)
+
+-- the parts of a map, member by member in this order
+unfoldable pub parts_of : Members → Result MapParts MapRefusal
+parts_of ms = do
+  width ← required (whole_at 1 MAX_SIDE) (get_member (codes "width") ms)
+  height ← required (whole_at 1 MAX_SIDE) (get_member (codes "height") ms)
+  a ← check (nat_le (width * height) MAX_CELLS) OverLimit
+  tile_width ← required (whole_at 1 MAX_TILE_SIDE) (get_member (codes "tilewidth") ms)
+  tile_height ← required (whole_at 1 MAX_TILE_SIDE) (get_member (codes "tileheight") ms)
+  infinite ← absent_means false truth_at (get_member (codes "infinite") ms)
+  b ← check (not infinite) Infinite
+  next_layer_id ← required (whole_at 1 MAX_NEXT_ID) (get_member (codes "nextlayerid") ms)
+  next_object_id ← required (whole_at 1 MAX_NEXT_ID) (get_member (codes "nextobjectid") ms)
+  layers ← required (entries_at MAX_LAYERS (layer_at width height)) (get_member (codes "layers") ms)
+  tilesets ← required (entries_at MAX_TILESETS tileset_at) (get_member (codes "tilesets") ms)
+  properties ← properties_of ms
+  Ok (record {
+    width = width;
+    height = height;
+    tile_width = tile_width;
+    tile_height = tile_height;
+    layers = layers;
+    tilesets = tilesets;
+    properties = properties;
+    next_layer_id = next_layer_id;
+    next_object_id = next_object_id;
+    kept = without_all map_names ms;
+  })
+
+-- a map whose ids fit together
+unfoldable pub consistent : MapParts → Result MapParts MapRefusal
+consistent m = do
+  a ← check (has_no_double m) IdUsedTwice
+  b ← check (are_below_next m) OverLimit
+  Ok m
+
+-- what a tree says
+unfoldable pub map_of : Data → Result MapParts MapRefusal
+map_of d = do
+  a ← check (not (has_fraction d)) Fraction
+  ms ← or_refused NotAMap (as_object d)
+  b ← check (is_map_type (get_member (codes "type") ms)) NotAMap
+  m ← parts_of ms
+  consistent m
+
+-- ---- bytes
+-- the bytes are UTF-8, and the JSON text of this tree
+abbrev pub IsTreeOf : List ℕ → Data → Type 0
+IsTreeOf bytes d = IsUtf8 bytes × (read bytes ≡ Some d)
+
+-- the bytes have no tree, or their tree's first fault is this one
+abbrev pub IsRefusedAs : List ℕ → MapRefusal → Type 0
+IsRefusedAs bytes f = ((f ≡ NotJson) × (IsUtf8 bytes → read bytes ≡ None)) ⊎ ((d : Data) × IsTreeOf bytes d × (map_of d ≡ Err f))
+
+-- what the bytes say, unless memory ran out
+abbrev pub Says : List ℕ → Result MapParts MapFault → Type 0
+Says bytes (Ok m) = (d : Data) × IsTreeOf bytes d × (map_of d ≡ Ok m)
+Says bytes (Err Memory) = Unit {0}
+Says bytes (Err (Refused f)) = IsRefusedAs bytes f

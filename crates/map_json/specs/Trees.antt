@@ -1,0 +1,132 @@
+-- What is written for a map: its tree, and the text of that tree. The own members of each owner stand in the reader's order.
+use Rattle.std.specs.Prelude.{ℕ, ◌++◌, List, [], ◌∷◌, codes, false, Option, Some, None}
+use Rattle.std.specs.Option.{option_map}
+use Rattle.std.specs.Int.{w32, to_le_bytes}
+use Rattle.base64.specs.Engines.{standard}
+use Rattle.base64.specs.GeneralPurpose.{encode_of}
+use Rattle.serde_json.specs.Data.{Data, boolean, number, string, array, object, unsigned, Items, no_items, item}
+use Rattle.serde_json.specs.Find.{of_integer}
+use Rattle.serde_json.specs.Written.{compact_text}
+use Rattle.map_model.specs.declared.parts.Encoding.{Encoding}
+use Rattle.map_model.specs.declared.parts.Encoding.TheVariants.{Array, Base64}
+use Rattle.map_model.specs.declared.parts.PropValue.{PropValue}
+use Rattle.map_model.specs.declared.parts.PropValue.TheVariants as values
+use Rattle.map_model.specs.declared.parts.Property.{Property}
+use Rattle.map_model.specs.declared.parts.Object.{Object}
+use Rattle.map_model.specs.declared.parts.Body.{Body}
+use Rattle.map_model.specs.declared.parts.Body.TheVariants.{Tiles, Objects, Other}
+use Rattle.map_model.specs.declared.parts.Layer.{Layer}
+use Rattle.map_model.specs.declared.parts.Tileset.{Tileset}
+use Rattle.map_model.specs.declared.parts.MapParts.{MapParts}
+use Rattle.map_json.specs.Members.{Own, with_own}
+
+abbrev pub items_by : {A : Type 0} → (A → Data) → List A → Items
+items_by f [] = no_items
+items_by f (x ∷ xs) = item (f x) (items_by f xs)
+
+abbrev pub array_by : {A : Type 0} → (A → Data) → List A → Data
+array_by f xs = array (items_by f xs)
+
+abbrev pub whole_tree : ℕ → Data
+whole_tree n = number (unsigned n)
+
+-- ---- properties
+abbrev pub value_tree : PropValue → Data
+value_tree (values.Text s) = string s
+value_tree (values.Whole z) = number (of_integer z)
+value_tree (values.Truth b) = boolean b
+value_tree (values.Other d) = d
+
+abbrev pub property_own : Property → Own
+property_own p = (codes "name", Some (string p.name)) ∷ (codes "type", Some (string p.kind)) ∷ (codes "value", Some (value_tree p.value)) ∷ []
+
+unfoldable pub property_tree : Property → Data
+property_tree p = object (with_own (property_own p) p.kept)
+
+-- written only where there is one
+abbrev pub properties_member : List Property → Option Data
+properties_member [] = None
+properties_member (p ∷ ps) = Some (array_by property_tree (p ∷ ps))
+
+-- ---- objects
+abbrev pub object_own : Object → Own
+object_own o =
+    (codes "id", Some (whole_tree o.id))
+    ∷ (codes "x", option_map (λ z. number (of_integer z)) o.placing.x)
+    ∷ (codes "y", option_map (λ z. number (of_integer z)) o.placing.y)
+    ∷ (codes "width", option_map (λ z. number (of_integer z)) o.placing.width)
+    ∷ (codes "height", option_map (λ z. number (of_integer z)) o.placing.height)
+    ∷ (codes "name", option_map string o.name)
+    ∷ (codes "visible", option_map boolean o.visible)
+    ∷ (codes "gid", option_map whole_tree o.gid)
+    ∷ (codes "properties", properties_member o.properties)
+    ∷ []
+
+unfoldable pub object_tree : Object → Data
+object_tree o = object (with_own (object_own o) o.kept)
+
+-- ---- tilesets
+abbrev pub tileset_own : Tileset → Own
+tileset_own t = (codes "firstgid", Some (whole_tree t.first_id)) ∷ (codes "source", option_map string t.source) ∷ []
+
+unfoldable pub tileset_tree : Tileset → Data
+tileset_tree t = object (with_own (tileset_own t) t.kept)
+
+-- ---- layers
+-- four bytes a value, the least significant first
+abbrev pub bytes_of : List ℕ → List ℕ
+bytes_of [] = []
+bytes_of (n ∷ ns) = to_le_bytes w32 n ++ bytes_of ns
+
+abbrev pub cells_tree : Encoding → List ℕ → Data
+cells_tree Array cells = array_by whole_tree cells
+cells_tree Base64 cells = string (encode_of standard (bytes_of cells))
+
+abbrev pub encoding_member : Encoding → Option Data
+encoding_member Array = None
+encoding_member Base64 = Some (string (codes "base64"))
+
+abbrev pub type_word : Body → List ℕ
+type_word (Tiles e cells) = codes "tilelayer"
+type_word (Objects os) = codes "objectgroup"
+type_word Other = codes "imagelayer"
+
+abbrev pub body_own : ℕ → ℕ → Body → Own
+body_own width height (Tiles e cells) =
+    (codes "encoding", encoding_member e) ∷ (codes "compression", None) ∷ (codes "width", Some (whole_tree width)) ∷ (codes "height", Some (whole_tree height))
+    ∷ (codes "data", Some (cells_tree e cells)) ∷ []
+body_own width height (Objects os) = (codes "objects", Some (array_by object_tree os)) ∷ []
+body_own width height Other = []
+
+abbrev pub layer_own : ℕ → ℕ → Layer → Own
+layer_own width height l =
+    ((codes "type", Some (string (type_word l.body))) ∷ (codes "id", Some (whole_tree l.id)) ∷ (codes "name", Some (string l.name))
+    ∷ (codes "visible", Some (boolean l.visible)) ∷ (codes "properties", properties_member l.properties) ∷ [])
+    ++ body_own width height l.body
+
+unfoldable pub layer_tree : ℕ → ℕ → Layer → Data
+layer_tree width height l = object (with_own (layer_own width height l) l.kept)
+
+-- ---- maps
+abbrev pub map_own : MapParts → Own
+map_own m =
+    (codes "width", Some (whole_tree m.width))
+    ∷ (codes "height", Some (whole_tree m.height))
+    ∷ (codes "tilewidth", Some (whole_tree m.tile_width))
+    ∷ (codes "tileheight", Some (whole_tree m.tile_height))
+    ∷ (codes "infinite", Some (boolean false))
+    ∷ (codes "nextlayerid", Some (whole_tree m.next_layer_id))
+    ∷ (codes "nextobjectid", Some (whole_tree m.next_object_id))
+    ∷ (codes "layers", Some (array_by (layer_tree m.width m.height) m.layers))
+    ∷ (codes "tilesets", Some (array_by tileset_tree m.tilesets))
+    ∷ (codes "properties", properties_member m.properties)
+    ∷ (codes "type", Some (string (codes "map")))
+    ∷ (codes "version", Some (string (codes "1.10")))
+    ∷ []
+
+-- the tree of a map, and its text
+unfoldable pub tree_of : MapParts → Data
+tree_of m = object (with_own (map_own m) m.kept)
+
+abbrev pub text_of : MapParts → List ℕ
+text_of m = compact_text (tree_of m)

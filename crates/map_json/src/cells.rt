@@ -1,0 +1,126 @@
+// The cells of a layer, as an array or in base64.
+ghost use Rattle.std.specs.Prelude.{◌≡◌, ◌*◌, ◌≤◌, Ok, IfOk, IfErr, length};
+ghost use Rattle.base64.specs.Engines.{standard};
+ghost use Rattle.base64.specs.GeneralPurpose.{decode_of, IsDecodeFailure, IsBytes};
+ghost use Rattle.std.specs.List.{list_any};
+ghost use Rattle.serde_json.specs.View.{view as data_of, items_view};
+ghost use Rattle.map_model.specs.declared.limits.TheConstants.{MAX_CELLS};
+ghost use Rattle.map_json.specs.Steps.{Gives, GivesBy, or_refused};
+ghost use Rattle.map_json.specs.Cells.{is_blank, cell_of, cells_of, array_cells_at, base64_cells_at, packed, words_of};
+ghost use Rattle.map_json.specs.declared.fault.MapRefusal.TheVariants.{BadData};
+
+use crate::fault::{MapFault, MapRefusal};
+use base64::DecodeAllocError;
+use base64::engine::general_purpose::STANDARD;
+use map_model::Cells;
+use serde_json::Value;
+use std::alloc::{AllocError, Global};
+use tile_id::Gid;
+
+// The value of a cell that a number is.
+#[tactic(auto, unfolding(crate::specs::Cells::cell_of))]
+fn cell(value: &Value) -> Option<Gid>
+    ensures { result ≡ cell_of (data_of value.now) }
+{
+    let whole = value.as_number()?.as_u64()?;
+    if whole < 0x1_0000_0000 {
+        Some(Gid(whole as u32))
+    } else {
+        None
+    }
+}
+
+fn cells(alloc: Global, values: &Vec<Value>) -> Result<Vec<Gid>, MapFault>
+    ensures { GivesBy (λ found. found.items) result
+        (or_refused BadData (cells_of (items_view values.now.items))) }
+{
+    let mut found = Vec::with_capacity(alloc, values.len())?;
+    for value in values {
+        let Some(cell) = cell(value) else {
+            return Err(MapFault::Refused(MapRefusal::BadData));
+        };
+        found.push(cell)?;
+    }
+    Ok(found)
+}
+
+/// The cells that an array of numbers spells.
+#[tactic(auto, unfolding(crate::specs::Cells::array_cells_at))]
+pub fn array_cells(alloc: Global, value: &Value, count: usize) -> Result<Cells, MapFault>
+    ensures { Gives result (array_cells_at count (data_of value.now)) }
+{
+    let values = value.as_array().ok_or(MapRefusal::MemberOfAnotherKind)?;
+    let found = cells(alloc, values)?;
+    if found.len() != count {
+        return Err(MapFault::Refused(MapRefusal::BadData));
+    }
+    Ok(Cells::new(found))
+}
+
+fn is_blank(byte: u8) -> bool
+    ensures { result ≡ is_blank byte }
+{
+    byte == b' ' || byte == b'\t' || byte == b'\r' || byte == b'\n'
+}
+
+fn has_blank(text: &[u8]) -> bool
+    ensures { result ≡ list_any is_blank text.now }
+{
+    text.iter().any(|byte| is_blank(*byte))
+}
+
+fn packed(alloc: Global, text: &[u8]) -> Result<Vec<u8>, AllocError>
+    ensures { IfOk result (λ bytes. bytes.items ≡ packed text.now) }
+{
+    text.iter()
+        .copied()
+        .filter(|byte| !is_blank(*byte))
+        .collect(alloc)
+}
+
+fn words(alloc: Global, bytes: &[u8], count: usize) -> Result<Vec<Gid>, AllocError>
+    requires { length bytes.now ≡ 4 * count }
+    ensures { IfOk result (λ words. words.items ≡ words_of bytes.now) }
+{
+    let mut found = Vec::with_capacity(alloc, count)?;
+    for i in 0..count {
+        let at = 4 * i;
+        let word = [bytes[at], bytes[at + 1], bytes[at + 2], bytes[at + 3]];
+        found.push(Gid(u32::from_le_bytes(word)))?;
+    }
+    Ok(found)
+}
+
+// The bytes that a text of base64 spells; its blanks are skipped.
+
+fn decoded(alloc: Global, text: &[u8]) -> Result<Vec<u8>, DecodeAllocError>
+    ensures ok { IfOk result (λ bytes. decode_of standard (packed text.now) ≡ Ok bytes.items) }
+    ensures err { IfErr result (λ error. IsDecodeFailure standard (packed text.now) error) }
+    ensures bytes { IfOk result (λ bytes. IsBytes bytes.items) }
+{
+    if has_blank(text) {
+        let packed = packed(alloc, text).map_err(|_| DecodeAllocError::OutOfMemory)?;
+        return STANDARD.decode(alloc, &packed);
+    }
+    STANDARD.decode(alloc, text)
+}
+
+/// The cells that a text of base64 spells.
+#[tactic(auto, using(crate::proofs::Words::base64_read), unfolding(crate::specs::Cells::base64_cells_at))]
+pub fn base64_cells(alloc: Global, value: &Value, count: usize) -> Result<Cells, MapFault>
+    requires { count ≤ MAX_CELLS }
+    ensures { Gives result (base64_cells_at count (data_of value.now)) }
+{
+    let text = value.as_str().ok_or(MapRefusal::MemberOfAnotherKind)?;
+    let bytes = match decoded(alloc, text.as_bytes()) {
+        Ok(bytes) => bytes,
+        Err(DecodeAllocError::OutOfMemory) => return Err(MapFault::Memory),
+        Err(DecodeAllocError::DecodeError(_)) => {
+            return Err(MapFault::Refused(MapRefusal::BadData));
+        }
+    };
+    if bytes.len() != 4 * count {
+        return Err(MapFault::Refused(MapRefusal::BadData));
+    }
+    Ok(Cells::new(words(alloc, &bytes, count)?))
+}

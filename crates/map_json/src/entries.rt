@@ -1,0 +1,113 @@
+// Arrays whose entries are read one after the other.
+ghost use Rattle.std.specs.Prelude.{◌≡◌, ◌*◌, ◌≤◌, [], option_map, length, Result};
+ghost use Rattle.serde_json.specs.Data.{Data};
+ghost use Rattle.serde_json.specs.Find.{as_array};
+ghost use Rattle.serde_json.specs.View.{view as data_of, items_view};
+ghost use Rattle.map_model.specs.declared.limits.TheConstants.{MAX_CELLS, MAX_OBJECTS};
+ghost use Rattle.map_json.specs.Steps.{Gives, required, absent_means};
+ghost use Rattle.map_json.specs.Entries.{each, entries_at};
+
+use crate::fault::{MapFault, MapRefusal};
+use crate::size::Size;
+use link_chain::{Chain, Loose};
+use serde_json::Value;
+use std::alloc::Global;
+
+/// What an array of a file has as its entries.
+pub trait Entry {
+    ghost use Rattle.map_json.specs.declared.size.Size.{Size};
+    ghost use Rattle.map_json.specs.declared.fault.MapRefusal.{MapRefusal};
+
+    ghost reads: { Size → Data → Result Self MapRefusal };
+
+    fn read(alloc: Global, size: Size, value: Value) -> Result<Self, MapFault>
+        requires { size.width * size.height ≤ MAX_CELLS }
+        ensures { Gives result (reads size (data_of value)) };
+}
+
+fn array_of(value: Value) -> Option<Vec<Value>>
+    ensures { option_map (λ values. items_view values.items) result ≡ as_array (data_of value) }
+{
+    match value {
+        Value::Array(values) => Some(values),
+        Value::Null => None,
+        Value::Bool(_) => None,
+        Value::Number(_) => None,
+        Value::String(_) => None,
+        Value::Object(_) => None,
+    }
+}
+
+fn each<T: Entry + Drop>(
+    alloc: Global,
+    size: Size,
+    values: Vec<Value>,
+) -> Result<Chain<T>, MapFault>
+    requires size { size.width * size.height ≤ MAX_CELLS }
+    requires few { length values.items ≤ MAX_OBJECTS }
+    ensures { Gives result (each (T.reads size) (items_view values.items)) }
+{
+    let mut found = Chain::new(alloc);
+    for value in values {
+        let entry = T::read(alloc, size, value)?;
+        match Loose::new(alloc, entry) {
+            Ok(loose) => found.insert(found.len(), loose),
+            Err(_) => return Err(MapFault::Memory),
+        }
+    }
+    Ok(found)
+}
+
+#[tactic(auto, using(crate::proofs::Loops::lengths))]
+fn entries<T: Entry + Drop>(
+    alloc: Global,
+    size: Size,
+    most: usize,
+    value: Value,
+) -> Result<Chain<T>, MapFault>
+    requires size { size.width * size.height ≤ MAX_CELLS }
+    requires few { most ≤ MAX_OBJECTS }
+    ensures { Gives result (entries_at most (T.reads size) (data_of value)) }
+{
+    let values = array_of(value).ok_or(MapRefusal::MemberOfAnotherKind)?;
+    if values.len() > most {
+        return Err(MapFault::Refused(MapRefusal::OverLimit));
+    }
+    each(alloc, size, values)
+}
+
+/// The entries of an array that must be there, at most so many.
+pub fn required_entries<T: Entry + Drop>(
+    alloc: Global,
+    size: Size,
+    most: usize,
+    member: Option<Value>,
+) -> Result<Chain<T>, MapFault>
+    requires size { size.width * size.height ≤ MAX_CELLS }
+    requires few { most ≤ MAX_OBJECTS }
+    ensures { Gives result
+        (required (entries_at most (T.reads size)) (option_map data_of member)) }
+{
+    match member {
+        Some(value) => entries(alloc, size, most, value),
+        None => Err(MapFault::Refused(MapRefusal::MemberMissing)),
+    }
+}
+
+/// The entries of an array, at most so many; none where it is absent.
+pub fn entries_or_none<T: Entry + Drop>(
+    alloc: Global,
+    size: Size,
+    most: usize,
+    member: Option<Value>,
+) -> Result<Chain<T>, MapFault>
+    requires size { size.width * size.height ≤ MAX_CELLS }
+    requires few { most ≤ MAX_OBJECTS }
+    ensures { Gives result
+        (absent_means [] (entries_at most (T.reads size)) (option_map data_of member)) }
+{
+    match member {
+        Some(value) => entries(alloc, size, most, value),
+        None => Ok(Chain::new(alloc)),
+    }
+}

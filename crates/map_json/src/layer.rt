@@ -1,0 +1,87 @@
+// Layers.
+ghost use Rattle.std.specs.Prelude.{◌≡◌, ◌*◌, ◌≤◌, codes, option_map};
+ghost use Rattle.serde_json.specs.Find.{get_member};
+ghost use Rattle.serde_json.specs.View.{view as data_of};
+ghost use Rattle.map_model.specs.Keeping.{common_names};
+ghost use Rattle.map_model.specs.declared.limits.TheConstants.{MAX_CELLS};
+ghost use Rattle.map_model.specs.declared.parts.Encoding.TheVariants.{Array};
+ghost use Rattle.map_json.specs.Members.{without_all};
+ghost use Rattle.map_json.specs.Steps.{Gives, required, absent_means};
+ghost use Rattle.map_json.specs.Reading.{layer_at};
+
+use crate::body::{body, layer_type};
+use crate::entries::Entry;
+use crate::fault::{MapFault, MapRefusal};
+use crate::json_object::JsonObject;
+use crate::property::properties_or_none;
+use crate::scalar::{required_id, text_or, truth_or};
+use crate::size::Size;
+use map_model::Layer;
+use serde_json::Value;
+use std::alloc::Global;
+
+// The members of a layer of any kind.
+#[derive(Drop)]
+struct CommonMembers {
+    kind: Option<Value>,
+    id: Option<Value>,
+    name: Option<Value>,
+    visible: Option<Value>,
+    properties: Option<Value>,
+}
+
+#[tactic(auto, using(crate::proofs::MembersLemmas::takes))]
+fn common_members(members: &mut JsonObject) -> CommonMembers
+    ensures kind { option_map data_of result.kind ≡ get_member (codes "type") members.old }
+    ensures id { option_map data_of result.id ≡ get_member (codes "id") members.old }
+    ensures name { option_map data_of result.name ≡ get_member (codes "name") members.old }
+    ensures visible { option_map data_of result.visible ≡ get_member (codes "visible") members.old }
+    ensures properties { option_map data_of result.properties
+        ≡ get_member (codes "properties") members.old }
+    ensures kept { members.new ≡ without_all common_names members.old }
+{
+    CommonMembers {
+        kind: members.take("type"),
+        id: members.take("id"),
+        name: members.take("name"),
+        visible: members.take("visible"),
+        properties: members.take("properties"),
+    }
+}
+
+#[tactic(auto, using(crate::proofs::Bodies::common), unfolding(crate::specs::Reading::layer_at))]
+fn layer(alloc: Global, size: Size, value: Value) -> Result<Layer, MapFault>
+    requires { size.width * size.height ≤ MAX_CELLS }
+    ensures { Gives result (layer_at size.width size.height (data_of value)) }
+{
+    let mut members = JsonObject::from_value(value).ok_or(MapRefusal::MemberOfAnotherKind)?;
+    let CommonMembers {
+        kind,
+        id,
+        name,
+        visible,
+        properties,
+    } = common_members(&mut members);
+    let kind = layer_type(kind)?;
+    let id = required_id(id)?;
+    let name = text_or(alloc, name, "")?;
+    let visible = truth_or(visible, true)?;
+    let properties = properties_or_none(alloc, size, properties)?;
+    let body = body(alloc, size, kind, &mut members)?;
+    Ok(Layer {
+        id,
+        name,
+        visible,
+        properties,
+        kept: members.into_kept(),
+        body,
+    })
+}
+
+impl Entry for Layer {
+    ghost reads = { λ size. layer_at size.width size.height };
+
+    fn read(alloc: Global, size: Size, value: Value) -> Result<Layer, MapFault> {
+        layer(alloc, size, value)
+    }
+}

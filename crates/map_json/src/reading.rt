@@ -1,0 +1,178 @@
+// A map from its text.
+ghost use Rattle.std.specs.Prelude.{◌≡◌, codes, option_map};
+ghost use Rattle.serde_json.specs.Find.{get_member};
+ghost use Rattle.serde_json.specs.View.{view as data_of};
+ghost use Rattle.map_model.specs.Keeping.{map_names};
+ghost use Rattle.map_json.specs.Members.{without_all};
+ghost use Rattle.map_json.specs.Steps.{Gives};
+ghost use Rattle.map_json.specs.Maps.{is_map_type, parts_of, consistent, map_of, Says};
+
+use crate::doubles::{are_below_next, has_no_double};
+use crate::entries::required_entries;
+use crate::fault::{MapFault, MapRefusal};
+use crate::fractions::has_fraction;
+use crate::json_object::JsonObject;
+use crate::property::properties_or_none;
+use crate::scalar::{required_whole, truth_or};
+use crate::size::Size;
+use map_model::limits::{
+    MAX_CELLS, MAX_LAYERS, MAX_NEXT_ID, MAX_SIDE, MAX_TILE_SIDE, MAX_TILESETS,
+};
+use map_model::{Map, MapParts};
+use serde_json::Value;
+use std::alloc::Global;
+
+// The members of a map.
+#[derive(Drop)]
+struct MapMembers {
+    width: Option<Value>,
+    height: Option<Value>,
+    tile_width: Option<Value>,
+    tile_height: Option<Value>,
+    infinite: Option<Value>,
+    next_layer_id: Option<Value>,
+    next_object_id: Option<Value>,
+    layers: Option<Value>,
+    tilesets: Option<Value>,
+    properties: Option<Value>,
+    kept: JsonObject,
+}
+
+#[tactic(auto, using(crate::proofs::MembersLemmas::takes))]
+fn map_members(mut members: JsonObject) -> MapMembers
+    ensures width { option_map data_of result.width ≡ get_member (codes "width") members }
+    ensures height { option_map data_of result.height ≡ get_member (codes "height") members }
+    ensures tile_width { option_map data_of result.tile_width
+        ≡ get_member (codes "tilewidth") members }
+    ensures tile_height { option_map data_of result.tile_height
+        ≡ get_member (codes "tileheight") members }
+    ensures infinite { option_map data_of result.infinite ≡ get_member (codes "infinite") members }
+    ensures next_layer_id { option_map data_of result.next_layer_id
+        ≡ get_member (codes "nextlayerid") members }
+    ensures next_object_id { option_map data_of result.next_object_id
+        ≡ get_member (codes "nextobjectid") members }
+    ensures layers { option_map data_of result.layers ≡ get_member (codes "layers") members }
+    ensures tilesets { option_map data_of result.tilesets ≡ get_member (codes "tilesets") members }
+    ensures properties { option_map data_of result.properties
+        ≡ get_member (codes "properties") members }
+    ensures kept { result.kept ≡ without_all map_names members }
+{
+    let width = members.take("width");
+    let height = members.take("height");
+    let tile_width = members.take("tilewidth");
+    let tile_height = members.take("tileheight");
+    let infinite = members.take("infinite");
+    let next_layer_id = members.take("nextlayerid");
+    let next_object_id = members.take("nextobjectid");
+    let layers = members.take("layers");
+    let tilesets = members.take("tilesets");
+    let properties = members.take("properties");
+    drop(members.take("type"));
+    drop(members.take("version"));
+    MapMembers {
+        width,
+        height,
+        tile_width,
+        tile_height,
+        infinite,
+        next_layer_id,
+        next_object_id,
+        layers,
+        tilesets,
+        properties,
+        kept: members,
+    }
+}
+
+#[tactic(auto, unfolding(crate::specs::Maps::parts_of))]
+fn parts_of(alloc: Global, members: JsonObject) -> Result<MapParts, MapFault>
+    ensures { Gives result (parts_of members) }
+{
+    let members = map_members(members);
+    let width = required_whole(members.width, 1, MAX_SIDE)?;
+    let height = required_whole(members.height, 1, MAX_SIDE)?;
+    if width as usize * height as usize > MAX_CELLS {
+        return Err(MapFault::Refused(MapRefusal::OverLimit));
+    }
+    let size = Size { width, height };
+    let tile_width = required_whole(members.tile_width, 1, MAX_TILE_SIDE)?;
+    let tile_height = required_whole(members.tile_height, 1, MAX_TILE_SIDE)?;
+    if truth_or(members.infinite, false)? {
+        return Err(MapFault::Refused(MapRefusal::Infinite));
+    }
+    let next_layer_id = required_whole(members.next_layer_id, 1, MAX_NEXT_ID)?;
+    let next_object_id = required_whole(members.next_object_id, 1, MAX_NEXT_ID)?;
+    let layers = required_entries(alloc, size, MAX_LAYERS, members.layers)?;
+    let tilesets = required_entries(alloc, size, MAX_TILESETS, members.tilesets)?;
+    let properties = properties_or_none(alloc, size, members.properties)?;
+    Ok(MapParts {
+        width,
+        height,
+        tile_width,
+        tile_height,
+        layers,
+        tilesets,
+        properties,
+        next_layer_id,
+        next_object_id,
+        kept: members.kept.into_kept(),
+    })
+}
+
+#[tactic(auto, unfolding(crate::specs::Maps::consistent))]
+fn consistent(alloc: Global, parts: MapParts) -> Result<MapParts, MapFault>
+    ensures { Gives result (consistent parts) }
+{
+    if !has_no_double(alloc, &parts)? {
+        return Err(MapFault::Refused(MapRefusal::IdUsedTwice));
+    }
+    if !are_below_next(&parts) {
+        return Err(MapFault::Refused(MapRefusal::OverLimit));
+    }
+    Ok(parts)
+}
+
+fn is_map_type(member: Option<&Value>) -> bool
+    ensures { result ≡ is_map_type (option_map (λ value. data_of value.now) member.entry) }
+{
+    match member {
+        Some(value) => match value.as_str() {
+            Some(text) => text == "map",
+            None => false,
+        },
+        None => false,
+    }
+}
+
+#[tactic(auto, unfolding(crate::specs::Maps::map_of))]
+fn map_of(alloc: Global, value: Value) -> Result<MapParts, MapFault>
+    ensures { Gives result (map_of (data_of value)) }
+{
+    if has_fraction(&value) {
+        return Err(MapFault::Refused(MapRefusal::Fraction));
+    }
+    let members = JsonObject::from_value(value).ok_or(MapRefusal::NotAMap)?;
+    if !is_map_type(members.get("type")) {
+        return Err(MapFault::Refused(MapRefusal::NotAMap));
+    }
+    let parts = parts_of(alloc, members)?;
+    consistent(alloc, parts)
+}
+
+/// The map that the bytes of a file spell, or the first fault in the order of reading.
+///
+/// `NotJson` comes exactly where the bytes have no tree; where there is no memory the answer is `Memory` alone.
+pub fn read_map(alloc: Global, bytes: &[u8]) -> Result<Map, MapFault>
+    ensures { Says bytes.now result }
+{
+    match Value::from_slice(alloc, bytes) {
+        Ok(value) => Ok(Map::from_parts(map_of(alloc, value)?)),
+        Err(error) => {
+            if error.is_memory() {
+                Err(MapFault::Memory)
+            } else {
+                Err(MapFault::Refused(MapRefusal::NotJson))
+            }
+        }
+    }
+}

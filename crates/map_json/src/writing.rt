@@ -1,0 +1,287 @@
+// The text of a map.
+ghost use Rattle.std.specs.Prelude.{◌≡◌, Some, Ok, IfOk, OnOk};
+ghost use Rattle.std.specs.Option.{option_map};
+ghost use Rattle.serde_json.specs.Data.{Data, boolean, number, string};
+ghost use Rattle.serde_json.specs.View.{view as data_of, items_view};
+ghost use Rattle.serde_json.specs.Written.{compact_text};
+ghost use Rattle.serde_json.specs.Read.{read};
+ghost use Rattle.serde_json.specs.Find.{of_integer};
+ghost use Rattle.map_json.specs.Members.{put_some, with_own};
+ghost use Rattle.map_json.specs.Maps.{map_of};
+ghost use Rattle.map_json.specs.Trees.{items_by, array_by, whole_tree, value_tree, property_tree, properties_member, object_tree, tileset_tree, bytes_of, cells_tree, encoding_member, body_own, type_word, layer_tree, tree_of, text_of};
+
+use crate::json_object::JsonObject;
+use crate::size::Size;
+use base64::engine::general_purpose::STANDARD;
+use link_chain::Chain;
+use map_model::{
+    Body, Encoding, Layer, Map, MapParts, MapText, Object, PropValue, Property, Tileset,
+};
+use serde_json::Value;
+use std::alloc::{AllocError, Global};
+use tile_id::Gid;
+
+/// What an array of a file has as its entries.
+trait Tree {
+    ghost use Rattle.map_json.specs.declared.size.Size.{Size};
+
+    ghost tree: { Size → Self → Data };
+
+    fn tree(&self, alloc: Global, size: Size) -> Result<Value, AllocError>
+        ensures { IfOk result (λ value. data_of value ≡ tree size self.now) };
+}
+
+fn array_by<T: Tree + Drop>(
+    alloc: Global,
+    size: Size,
+    entries: &Chain<T>,
+) -> Result<Value, AllocError>
+    ensures { IfOk result (λ value. data_of value ≡ array_by (T.tree size) entries.now) }
+{
+    let mut values = Vec::with_capacity(alloc, entries.len())?;
+    for entry in entries.iter() {
+        values.push(entry.tree(alloc, size)?)?;
+    }
+    Ok(Value::from(values))
+}
+
+fn text_tree(alloc: Global, text: &str) -> Result<Value, AllocError>
+    ensures { IfOk result (λ value. data_of value ≡ string text.now) }
+{
+    Value::try_from_str(alloc, text)
+}
+
+fn value_tree(alloc: Global, value: &PropValue) -> Result<Value, AllocError>
+    ensures { IfOk result (λ tree. data_of tree ≡ value_tree value.now) }
+{
+    match value {
+        PropValue::Text(text) => Value::try_from_str(alloc, text.as_str()),
+        PropValue::Whole(whole) => Ok(Value::from(*whole)),
+        PropValue::Truth(truth) => Ok(Value::from(*truth)),
+        PropValue::Other(other) => other.value().clone(),
+    }
+}
+
+impl Tree for Property {
+    ghost tree = { λ _. property_tree };
+
+    #[tactic(auto, unfolding(crate::specs::Trees::property_tree))]
+    fn tree(&self, alloc: Global, _size: Size) -> Result<Value, AllocError> {
+        let mut members = JsonObject::from_kept(alloc, &self.kept)?;
+        members.put(alloc, "value", value_tree(alloc, &self.value)?)?;
+        members.put(alloc, "type", text_tree(alloc, self.kind.as_str())?)?;
+        members.put(alloc, "name", text_tree(alloc, self.name.as_str())?)?;
+        Ok(members.into_value())
+    }
+}
+
+fn properties_member(
+    alloc: Global,
+    size: Size,
+    properties: &Chain<Property>,
+) -> Result<Option<Value>, AllocError>
+    ensures { IfOk result (λ member. option_map data_of member ≡ properties_member properties.now) }
+{
+    if properties.len() == 0 {
+        return Ok(None);
+    }
+    Ok(Some(array_by(alloc, size, properties)?))
+}
+
+fn optional_text(alloc: Global, text: &Option<MapText>) -> Result<Option<Value>, AllocError>
+    ensures { IfOk result (λ member. option_map data_of member ≡ option_map string text.now) }
+{
+    match text {
+        Some(text) => Ok(Some(text_tree(alloc, text.as_str())?)),
+        None => Ok(None),
+    }
+}
+
+fn optional_pixels(pixels: Option<i32>) -> Option<Value>
+    ensures { option_map data_of result ≡ option_map (λ z. number (of_integer z)) pixels }
+{
+    match pixels {
+        Some(pixels) => Some(Value::from(pixels)),
+        None => None,
+    }
+}
+
+fn optional_truth(truth: Option<bool>) -> Option<Value>
+    ensures { option_map data_of result ≡ option_map boolean truth }
+{
+    match truth {
+        Some(truth) => Some(Value::from(truth)),
+        None => None,
+    }
+}
+
+fn optional_gid(value: Option<Gid>) -> Option<Value>
+    ensures { option_map data_of result ≡ option_map whole_tree value }
+{
+    match value {
+        Some(gid) => Some(Value::from(gid.0)),
+        None => None,
+    }
+}
+
+impl Tree for Object {
+    ghost tree = { λ _. object_tree };
+
+    #[tactic(auto, unfolding(crate::specs::Trees::object_tree))]
+    fn tree(&self, alloc: Global, size: Size) -> Result<Value, AllocError> {
+        let mut members = JsonObject::from_kept(alloc, &self.kept)?;
+        let properties = properties_member(alloc, size, &self.properties)?;
+        members.put_some(alloc, "properties", properties)?;
+        members.put_some(alloc, "gid", optional_gid(self.gid))?;
+        members.put_some(alloc, "visible", optional_truth(self.visible))?;
+        members.put_some(alloc, "name", optional_text(alloc, &self.name)?)?;
+        members.put_some(alloc, "height", optional_pixels(self.placing.height))?;
+        members.put_some(alloc, "width", optional_pixels(self.placing.width))?;
+        members.put_some(alloc, "y", optional_pixels(self.placing.y))?;
+        members.put_some(alloc, "x", optional_pixels(self.placing.x))?;
+        members.put(alloc, "id", Value::from(self.id))?;
+        Ok(members.into_value())
+    }
+}
+
+impl Tree for Tileset {
+    ghost tree = { λ _. tileset_tree };
+
+    #[tactic(auto, unfolding(crate::specs::Trees::tileset_tree))]
+    fn tree(&self, alloc: Global, _size: Size) -> Result<Value, AllocError> {
+        let mut members = JsonObject::from_kept(alloc, &self.kept)?;
+        members.put_some(alloc, "source", optional_text(alloc, &self.source)?)?;
+        members.put(alloc, "firstgid", Value::from(self.first_id))?;
+        Ok(members.into_value())
+    }
+}
+
+fn numbers_tree(alloc: Global, cells: &[Gid]) -> Result<Value, AllocError>
+    ensures { IfOk result (λ value. data_of value ≡ array_by whole_tree cells.now) }
+{
+    let mut values = Vec::with_capacity(alloc, cells.len())?;
+    for cell in cells {
+        values.push(Value::from(cell.0))?;
+    }
+    Ok(Value::from(values))
+}
+
+fn bytes_of(alloc: Global, cells: &[Gid]) -> Result<Vec<u8>, AllocError>
+    ensures { IfOk result (λ bytes. bytes.items ≡ bytes_of cells.now) }
+{
+    let mut bytes = Vec::new(alloc);
+    for cell in cells {
+        bytes.extend_from_slice(&cell.0.to_le_bytes())?;
+    }
+    Ok(bytes)
+}
+
+fn cells_tree(alloc: Global, encoding: Encoding, cells: &[Gid]) -> Result<Value, AllocError>
+    ensures { IfOk result (λ value. data_of value ≡ cells_tree encoding cells.now) }
+{
+    match encoding {
+        Encoding::Array => numbers_tree(alloc, cells),
+        Encoding::Base64 => {
+            let bytes = bytes_of(alloc, cells)?;
+            Ok(Value::from(STANDARD.encode(alloc, &bytes)?))
+        }
+    }
+}
+
+fn encoding_member(alloc: Global, encoding: Encoding) -> Result<Option<Value>, AllocError>
+    ensures { IfOk result (λ member. option_map data_of member ≡ encoding_member encoding) }
+{
+    match encoding {
+        Encoding::Array => Ok(None),
+        Encoding::Base64 => Ok(Some(text_tree(alloc, "base64")?)),
+    }
+}
+
+// Puts the members of a layer's kind.
+fn put_body(
+    alloc: Global,
+    size: Size,
+    body: &Body,
+    members: &mut JsonObject,
+) -> Result<(), AllocError>
+    ensures { OnOk result
+        (members.new ≡ with_own (body_own size.width size.height body.now) members.old) }
+{
+    match body {
+        Body::Tiles(encoding, cells) => {
+            members.put(
+                alloc,
+                "data",
+                cells_tree(alloc, *encoding, cells.as_slice())?,
+            )?;
+            members.put(alloc, "height", Value::from(size.height))?;
+            members.put(alloc, "width", Value::from(size.width))?;
+            members.put_some(alloc, "encoding", encoding_member(alloc, *encoding)?)?;
+            Ok(())
+        }
+        Body::Objects(objects) => members.put(alloc, "objects", array_by(alloc, size, objects)?),
+        Body::Other => Ok(()),
+    }
+}
+
+fn type_word(body: &Body) -> &'static str
+    ensures { result.now ≡ type_word body.now }
+{
+    match body {
+        Body::Tiles(_, _) => "tilelayer",
+        Body::Objects(_) => "objectgroup",
+        Body::Other => "imagelayer",
+    }
+}
+
+impl Tree for Layer {
+    ghost tree = { λ size. layer_tree size.width size.height };
+
+    #[tactic(auto, unfolding(crate::specs::Trees::layer_tree))]
+    fn tree(&self, alloc: Global, size: Size) -> Result<Value, AllocError> {
+        let mut members = JsonObject::from_kept(alloc, &self.kept)?;
+        put_body(alloc, size, &self.body, &mut members)?;
+        let properties = properties_member(alloc, size, &self.properties)?;
+        members.put_some(alloc, "properties", properties)?;
+        members.put(alloc, "visible", Value::from(self.visible))?;
+        members.put(alloc, "name", text_tree(alloc, self.name.as_str())?)?;
+        members.put(alloc, "id", Value::from(self.id))?;
+        members.put(alloc, "type", text_tree(alloc, type_word(&self.body))?)?;
+        Ok(members.into_value())
+    }
+}
+
+#[tactic(auto, unfolding(crate::specs::Trees::tree_of))]
+fn tree_of(alloc: Global, map: &MapParts) -> Result<Value, AllocError>
+    ensures { IfOk result (λ value. data_of value ≡ tree_of map.now) }
+{
+    let size = Size {
+        width: map.width,
+        height: map.height,
+    };
+    let mut members = JsonObject::from_kept(alloc, &map.kept)?;
+    members.put(alloc, "version", text_tree(alloc, "1.10")?)?;
+    members.put(alloc, "type", text_tree(alloc, "map")?)?;
+    let properties = properties_member(alloc, size, &map.properties)?;
+    members.put_some(alloc, "properties", properties)?;
+    members.put(alloc, "tilesets", array_by(alloc, size, &map.tilesets)?)?;
+    members.put(alloc, "layers", array_by(alloc, size, &map.layers)?)?;
+    members.put(alloc, "nextobjectid", Value::from(map.next_object_id))?;
+    members.put(alloc, "nextlayerid", Value::from(map.next_layer_id))?;
+    members.put(alloc, "infinite", Value::from(false))?;
+    members.put(alloc, "tileheight", Value::from(map.tile_height))?;
+    members.put(alloc, "tilewidth", Value::from(map.tile_width))?;
+    members.put(alloc, "height", Value::from(map.height))?;
+    members.put(alloc, "width", Value::from(map.width))?;
+    Ok(members.into_value())
+}
+
+/// The text of a map: compact JSON, with the members of each object in the order of their names.
+pub fn write_map(alloc: Global, map: &Map) -> Result<Vec<u8>, AllocError>
+    ensures text { IfOk result (λ bytes. bytes.items ≡ text_of map.now) }
+    ensures read_back { IfOk result (λ bytes. read bytes.items ≡ Some (tree_of map.now)) }
+    ensures read_again { map_of (tree_of map.now) ≡ Ok map.now }
+{
+    let tree = tree_of(alloc, map.parts())?;
+    tree.to_vec(alloc)
+}
