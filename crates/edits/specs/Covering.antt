@@ -1,0 +1,28 @@
+-- Cells of a tile layer that take what an edit puts over them.
+use Rattle.std.specs.Prelude.{ℕ, ◌/◌, ◌%◌, List, [], ◌∷◌, suc, Bool, ◌||◌, nat_eq, Option, Some, None}
+use Rattle.std.specs.FinSet as set
+use Rattle.region.specs.Cells.{cell_cmp}
+use Rattle.map_model.specs.declared.parts.MapParts.{MapParts}
+use Rattle.map_model.specs.Parts.{with_tiles}
+
+-- a cell takes the value over it; where nothing lies over it, it stays
+abbrev pub covered_value : Option ℕ → ℕ → ℕ
+covered_value None old = old
+covered_value (Some value) old = value
+
+-- f of each value and its place, the first of which is this one
+abbrev pub each_at : (ℕ → ℕ → ℕ) → ℕ → List ℕ → List ℕ
+each_at f place [] = []
+each_at f place (value ∷ values) = f place value ∷ each_at f (suc place) values
+
+-- the values of a layer of this width, each of which takes what lies over its column and row
+abbrev pub covered : ℕ → (ℕ → ℕ → Option ℕ) → List ℕ → List ℕ
+covered width over values = each_at (λ place old. covered_value (over (place % width) (place / width)) old) 0 values
+
+-- the map whose tile layer with the id takes what lies over it
+abbrev pub covered_map : ℕ → (ℕ → ℕ → Option ℕ) → MapParts → MapParts
+covered_map id over m = with_tiles m id (covered m.width over)
+
+-- whether the selection lets a cell be changed: it has the cell, or it has none at all
+abbrev pub lets_change : set.FinSet cell_cmp → ℕ × ℕ → Bool
+lets_change selection cell = nat_eq (set.len selection) 0 || set.contains selection cell
