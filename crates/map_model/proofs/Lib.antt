@@ -5,6 +5,7 @@ pub mod Listings
 pub mod NewMaps
 pub mod PartLaws
 pub mod Places
+pub mod Selections
 pub mod SlotLaws
 pub mod TilesetLemmas
 pub mod Turns

@@ -1,10 +1,11 @@
 -- The laws of parts.
 use Rattle.std.proofs.Common.{◌≡◌, ℕ, nat_eq, Bool, Option, Some, None, option_map, option_and_then, find, refl, sym, ap, ◌∙◌, subst}
 use Rattle.map_model.specs.declared.parts.Layer.{Layer}
+use Rattle.map_model.specs.Document.{with_selection}
 use Rattle.map_model.specs.Layers.{layer_name, layer_with_name, layer_visible, layer_with_visible}
 use Rattle.map_model.specs.Parts.{has_id}
 use Rattle.map_model.proofs.Turns.{change_first-change_first, find-change_first, change_first-along, change_first-same}
-use Rattle.map_model.specs.Part.{Part, IsLawfulPart, AreApart, whole, inner, of_first, layers, of_layer, next_layer_id, next_object_id, name, visible}
+use Rattle.map_model.specs.Part.{Part, IsLawfulPart, AreApart, whole, inner, of_first, layers, of_layer, next_layer_id, next_object_id, name, visible, selection}
 
 some-eq : {V : Type 0} (v w : V) → Some v ≡ Some w → v ≡ w
 some-eq v w e = cc
@@ -50,6 +51,9 @@ next_layer_id-laws = whole-laws (λ d. d.map.next_layer_id) (λ n d. record d { 
 
 pub next_object_id-laws : IsLawfulPart next_object_id
 next_object_id-laws = whole-laws (λ d. d.map.next_object_id) (λ n d. record d { map = record d.map { next_object_id = n } }) (λ v d. refl) (λ d. refl) (λ v w d. refl)
+
+pub selection-laws : IsLawfulPart selection
+selection-laws = whole-laws (λ d. d.selection) with_selection (λ v d. refl) (λ d. refl) (λ v w d. refl)
 
 pub layers-next_layer_id : AreApart layers next_layer_id
 layers-next_layer_id = record { get-left = λ g d. refl; get-right = λ f d. refl; swapped = λ f g d. refl }

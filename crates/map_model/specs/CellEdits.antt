@@ -1,6 +1,7 @@
 -- Lists of changed cells of one layer.
-use Rattle.std.specs.Prelude.{◌≡◌, ◌⊎◌, ℕ, ◌+◌, ◌*◌, ◌<◌, List, Some, slice_get, slice_set}
-use Rattle.std.specs.List.{fold}
+use Rattle.std.specs.Prelude.{ℕ, ◌+◌, ◌*◌, ◌<◌, List, slice_set}
+use Rattle.std.specs.List.{fold, map}
+use Rattle.region.specs.Cells.{IsInRowOrder}
 use Rattle.map_model.specs.declared.edit.CellEdit.{CellEdit}
 use Rattle.map_model.specs.declared.edit.Side.{Side}
 use Rattle.map_model.specs.declared.edit.Side.TheVariants.{Before, After}
@@ -27,13 +28,13 @@ with_value at value values = slice_set values at value
 abbrev pub put_values : ℕ → Side → List CellEdit → List ℕ → List ℕ
 put_values width side es values = fold (λ vs e. with_value (cell_place width e) (side_value side e) vs) values es
 
--- the cell a comes before the cell b, row by row
-abbrev pub IsBefore : CellEdit → CellEdit → Type 0
-IsBefore a b = (a.y < b.y) ⊎ ((a.y ≡ b.y) × (a.x < b.x))
+-- the cell that changes
+abbrev pub cell : CellEdit → ℕ × ℕ
+cell e = (e.x, e.y)
 
 -- the cells are in row order, and none stands twice
 abbrev pub AreInRowOrder : List CellEdit → Type 0
-AreInRowOrder es = (i j : ℕ) (a b : CellEdit) → i < j → slice_get es i ≡ Some a → slice_get es j ≡ Some b → IsBefore a b
+AreInRowOrder es = IsInRowOrder (map cell es)
 
 -- the value of each cell of the list, on a side, is a tile value
 abbrev pub HaveRange : Side → List CellEdit → Type 0

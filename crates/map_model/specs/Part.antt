@@ -1,7 +1,9 @@
 -- Parts: what can be read of a value, and changed there.
 use Rattle.std.specs.Prelude.{◌≡◌, ℕ, List, Bool, Option, Some, option_and_then, find}
+use Rattle.std.specs.FinSet as set
+use Rattle.region.specs.Cells.{cell_cmp}
 use Rattle.map_model.specs.declared.parts.Layer.{Layer}
-use Rattle.map_model.specs.Document.{DocumentParts}
+use Rattle.map_model.specs.Document.{DocumentParts, with_selection}
 use Rattle.map_model.specs.Layers.{layer_name, layer_with_name, layer_visible, layer_with_visible}
 use Rattle.map_model.specs.Lists.{change_first}
 use Rattle.map_model.specs.Parts.{has_id}
@@ -62,3 +64,7 @@ next_layer_id = whole (λ d. d.map.next_layer_id) (λ n d. record d { map = reco
 -- the next object id
 abbrev pub next_object_id : Part DocumentParts ℕ
 next_object_id = whole (λ d. d.map.next_object_id) (λ n d. record d { map = record d.map { next_object_id = n } })
+
+-- the selection
+abbrev pub selection : Part DocumentParts (set.FinSet cell_cmp)
+selection = whole (λ d. d.selection) with_selection

@@ -1,5 +1,5 @@
 ghost use Rattle.std.specs.Prelude.{◌≡◌, ◌<◌, Some, IsSome, IsSomeAnd, option_map};
-ghost use Rattle.map_model.specs.Document.{document_of, painted, with_map};
+ghost use Rattle.map_model.specs.Document.{document_of, painted, with_map, with_selection, IsDocument, IsSelectionOf};
 ghost use Rattle.map_model.specs.Layers.{IsPlaceIn, layer_at, layer_name, layer_with_name, layer_with_visible, with_layer_at, with_next_ids, without_layer_at};
 ghost use Rattle.map_model.specs.Lists.{Each};
 ghost use Rattle.map_model.specs.Parts.{HasTiles, IsWithin, layer_of, with_cell, with_layer};
@@ -12,31 +12,41 @@ use crate::map::Map;
 use crate::parts::Layer;
 use crate::place::LayerPlace;
 use link_chain::Loose;
+use region::Region;
+use std::alloc::Global;
 use std::marker::Model;
+use std::mem;
 use tile_id::Gid;
 
-/// A document, seen as the record of its parts: a map, and from a later stage on a selection.
+/// A document, seen as the record of its parts: a map, and a selection, which is a set of cells of the map. An empty
+/// selection limits nothing.
 #[derive(Drop)]
 pub struct Document {
     map: Map,
+    selection: Region,
 }
 
 impl Model for Document {
-    ghost use Rattle.map_model.specs.Document.{DocumentParts, document_code};
+    ghost use Rattle.map_model.specs.Document.{DocumentParts, IsDocument, document_code};
 
     ghost Value = { DocumentParts };
 
     ghost coded = { document_code };
 
-    ghost view = { λ a. record { map = a.map } };
+    ghost view = { λ a. record { map = a.map; selection = a.selection } };
+
+    ghost invariant = { λ a. IsDocument (record { map = a.map; selection = a.selection }) };
 }
 
 impl Document {
-    /// The document of a map.
-    pub fn new(map: Map) -> Document
+    /// The document of a map, with no cell selected. It takes no memory; the selection keeps the allocator.
+    pub fn new(alloc: Global, map: Map) -> Document
         ensures { result ≡ document_of map }
     {
-        Document { map }
+        Document {
+            map,
+            selection: Region::empty(alloc),
+        }
     }
 
     /// The map.
@@ -46,13 +56,31 @@ impl Document {
         &self.map
     }
 
+    /// The selected cells.
+    pub fn selection(&self) -> &Region
+        ensures selection { result.now ≡ self.now.selection }
+        ensures well_formed { IsDocument self.now }
+    {
+        &self.selection
+    }
+
+    /// Exchanges the selection and another set of cells of the map. It takes no memory.
+    pub fn swap_selection(&mut self, selection: &mut Region)
+        requires { IsSelectionOf self.old.map selection.old }
+        ensures given { selection.new ≡ self.old.selection }
+        ensures document { self.new ≡ with_selection selection.old self.old }
+        ensures well_formed { IsDocument self.new }
+    {
+        mem::swap(&mut self.selection, selection);
+    }
+
     /// Sets the value of a cell of a tile layer.
     pub fn put_cell(&mut self, layer: u32, x: u32, y: u32, value: Gid)
         requires tiles { HasTiles self.old.map layer }
         requires column { x < self.old.map.width }
         requires row { y < self.old.map.height }
         ensures document { self.new ≡ with_map (λ m. with_cell m layer x y value) self.old }
-        ensures well_formed { IsWellFormed self.new.map }
+        ensures well_formed { IsDocument self.new }
     {
         let at = self.map.index(x, y);
         set_in(&mut self.map.parts.layers, layer, at, value);
@@ -63,10 +91,10 @@ impl Document {
         requires tiles { HasTiles self.old.map layer }
         requires inside { Each (IsWithin self.old.map) edits.now }
         ensures document { self.new ≡ painted layer edits.now side self.old }
-        ensures well_formed { IsWellFormed self.new.map }
+        ensures well_formed { IsDocument self.new }
     {
         match edits {
-            [edit] => self.put_cell(layer, edit.x, edit.y, edit.value(side)),
+            [edit] => self.put_cell(layer, edit.x.into(), edit.y.into(), edit.value(side)),
             _ => {
                 let width = self.map.parts.width as usize;
                 put_in(&mut self.map.parts.layers, layer, width, edits, side);
@@ -79,7 +107,7 @@ impl Document {
         requires place { IsPlaceIn self.old.map place }
         requires well_formed { IsSomeAnd layer (λ l. IsWellFormed (with_layer_at place l self.old.map)) }
         ensures document { IsSomeAnd layer (λ l. self.new ≡ with_map (with_layer_at place l) self.old) }
-        ensures well_formed { IsWellFormed self.new.map }
+        ensures well_formed { IsDocument self.new }
     {
         self.map.parts.layers.insert(place.at, layer);
     }
@@ -89,7 +117,7 @@ impl Document {
         requires { IsSome (layer_at self.old.map place) }
         ensures layer { result ≡ layer_at self.old.map place }
         ensures document { self.new ≡ with_map (without_layer_at place) self.old }
-        ensures well_formed { IsWellFormed self.new.map }
+        ensures well_formed { IsDocument self.new }
     {
         self.map.parts.layers.take(place.at)
     }
@@ -99,7 +127,7 @@ impl Document {
         requires { IsSome (layer_of self.old.map layer) }
         ensures given { option_map layer_name (layer_of self.old.map layer) ≡ Some name.new }
         ensures document { self.new ≡ with_map (with_layer layer (layer_with_name name.old)) self.old }
-        ensures well_formed { IsWellFormed self.new.map }
+        ensures well_formed { IsDocument self.new }
     {
         rename_in(&mut self.map.parts.layers, layer, name);
     }
@@ -108,7 +136,7 @@ impl Document {
     pub fn set_visible(&mut self, layer: u32, visible: bool)
         requires { IsSome (layer_of self.old.map layer) }
         ensures document { self.new ≡ with_map (with_layer layer (layer_with_visible visible)) self.old }
-        ensures well_formed { IsWellFormed self.new.map }
+        ensures well_formed { IsDocument self.new }
     {
         show_in(&mut self.map.parts.layers, layer, visible);
     }
@@ -117,7 +145,7 @@ impl Document {
     pub fn set_next_ids(&mut self, layer: u32, object: u32)
         requires { IsWellFormed (with_next_ids layer object self.old.map) }
         ensures document { self.new ≡ with_map (with_next_ids layer object) self.old }
-        ensures well_formed { IsWellFormed self.new.map }
+        ensures well_formed { IsDocument self.new }
     {
         self.map.parts.next_layer_id = layer;
         self.map.parts.next_object_id = object;

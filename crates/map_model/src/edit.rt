@@ -3,11 +3,11 @@ ghost use Rattle.map_model.specs.CellEdits.{side_value};
 
 use tile_id::Gid;
 
-/// A cell of a layer whose value changes: its column and row, and its value before and after.
+/// A cell of a layer whose value changes: its column and row, each below 4,096, and its value before and after.
 #[derive(Clone, Copy, PartialEq, Eq, Debug)]
 pub struct CellEdit {
-    pub x: u32,
-    pub y: u32,
+    pub x: u16,
+    pub y: u16,
     pub before: Gid,
     pub after: Gid,
 }

@@ -6,6 +6,7 @@ use Rattle.map_model.specs.Parts.{HasTiles}
 use Rattle.map_model.specs.WellFormed.{IsTileValue}
 use Rattle.map_model.proofs.CellEdits.{with_value-keeps}
 use Rattle.map_model.proofs.Keeps.{place-within, with_tiles-keeps}
+use Rattle.map_model.proofs.Selections.{selection-IsSelectionOf}
 use Rattle.map_model.proofs.document.Document.put_cell.Goals as goal
 
 pub set_in-requires-clause-place : goal.set_in-requires-clause-place
@@ -24,5 +25,8 @@ invariant_of-self-inside c =
     with_tiles-keeps c.args.layer (with_value c.index-at.result c.args.value) c.self-inside.inside.0.0.parts c.set_in.new.layers c.set_in.ensures
     (with_value-keeps c.index-at.result c.args.value range) c.self-inside.invariant
 
+pub invariant_of-self : goal.invariant_of-self
+invariant_of-self c = record { map = invariant_of-self-inside c; selection = selection-IsSelectionOf c.self-inside.view_is c.self.invariant }
+
 pub returns-clause-well_formed : goal.returns-clause-well_formed
-returns-clause-well_formed c = invariant_of-self-inside c
+returns-clause-well_formed c = invariant_of-self c

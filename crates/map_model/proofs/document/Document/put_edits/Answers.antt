@@ -6,6 +6,7 @@ use Rattle.map_model.specs.Lists.{Each}
 use Rattle.map_model.specs.Parts.{HasTiles, IsWithin}
 use Rattle.map_model.proofs.CellEdits.{put_values-keeps}
 use Rattle.map_model.proofs.Keeps.{places-within, with_tiles-keeps}
+use Rattle.map_model.proofs.Selections.{selection-IsSelectionOf}
 use Rattle.map_model.proofs.document.Document.put_edits.Goals as goal
 
 pub put_in-requires-clause-places : goal.put_in-requires-clause-places
@@ -22,5 +23,8 @@ invariant_of-self-inside c =
     with_tiles-keeps c.args.layer (put_values m.width c.args.side c.args.edits.now) m c.put_in.new.layers c.put_in.ensures.layers
     (put_values-keeps m.width c.args.side c.args.edits.now c.put_in.ensures.range) c.self-inside.invariant
 
+pub invariant_of-self : goal.invariant_of-self
+invariant_of-self c = record { map = invariant_of-self-inside c; selection = selection-IsSelectionOf c.self-inside.view_is c.self.invariant }
+
 pub returns-in_default-clause-well_formed : goal.returns-in_default-clause-well_formed
-returns-in_default-clause-well_formed c = invariant_of-self-inside c
+returns-in_default-clause-well_formed c = invariant_of-self c
