@@ -14,6 +14,7 @@ mod map;
 mod owner;
 mod parts;
 mod place;
+mod selection;
 
 pub use document::Document;
 pub use edit::{CellEdit, Side};
@@ -24,3 +25,4 @@ pub use parts::{
     Body, Encoding, Layer, LayerKind, MapParts, Object, Placing, PropValue, Property, Tileset,
 };
 pub use place::LayerPlace;
+pub use selection::SelectionMode;

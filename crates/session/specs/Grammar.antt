@@ -3,10 +3,12 @@ use Rattle.std.specs.Prelude.{◌≡◌, ℕ, ◌^◌, ℤ, Bool, true, false, n
 use Rattle.std.specs.List.{join_with_byte, list_all}
 use Rattle.std.specs.Str.{bytes_eq, is_utf8}
 use Rattle.session.specs.declared.line.Line.{Line}
-use Rattle.session.specs.declared.line.Line.TheVariants.{Quiet, New, Stamp, Tile, AddLayer, RemoveLayer, RenameLayer, ShowLayer, MoveLayer, Undo, Redo, Goto, Clean, Dirty, Clear, Status, UndoText, RedoText, StepText}
+use Rattle.session.specs.declared.line.Line.TheVariants.{Quiet, New, Stamp, Erase, Fill, Select, SelectNone, Tile, AddLayer, RemoveLayer, RenameLayer, ShowLayer, MoveLayer, Undo, Redo, Goto, Clean, Dirty, Clear, Status, UndoText, RedoText, StepText}
 use Rattle.session.specs.declared.line.LineFault.{LineFault}
 use Rattle.session.specs.declared.line.LineFault.TheVariants.{TooLong, NotUtf8, UnknownCommand, BadWord}
 use Rattle.map_model.specs.declared.parts.LayerKind.{LayerKind}
+use Rattle.map_model.specs.declared.selection.SelectionMode.{SelectionMode}
+use Rattle.map_model.specs.declared.selection.SelectionMode.TheVariants.{Replace, Add, Subtract, Intersect}
 use Rattle.session.specs.Words.{words, number_of, coordinate_of, numbers_of, are_rows, is_name, is_text, layer_kind_of, yes_no_of}
 
 infixl 10 ◌>>=◌
@@ -142,6 +144,18 @@ abbrev pub stamp_form : LineForm
 stamp_form =
     Field Number λ layer. Field Coordinate λ x. Field Coordinate λ y. Field Block λ block. Ends (Stamp layer x y block.0 block.1 false)
 
+abbrev pub erase_form : LineForm
+erase_form =
+    Field Number λ layer. Field Coordinate λ x. Field Coordinate λ y. Field Number λ width. Field Number λ height. Ends (Erase layer x y width height false)
+
+abbrev pub fill_form : LineForm
+fill_form =
+    Field Number λ layer. Field Coordinate λ x. Field Coordinate λ y. Field Number λ value. Ends (Fill layer x y value)
+
+abbrev pub select_form : SelectionMode → LineForm
+select_form mode =
+    Field Coordinate λ x. Field Coordinate λ y. Field Number λ width. Field Number λ height. Ends (Select mode x y width height)
+
 abbrev pub tile_form : LineForm
 tile_form = Field Number λ layer. Field Coordinate λ x. Field Coordinate λ y. Ends (Tile layer x y)
 
@@ -150,6 +164,16 @@ goto_form = Field Number λ index. Ends (Goto index)
 
 abbrev pub step_text_form : LineForm
 step_text_form = Field Number λ place. Ends (StepText place)
+
+-- what is selected
+abbrev pub select_lines : List (List ℕ × LineForm)
+select_lines =
+    (codes "replace", select_form Replace)
+    ∷ (codes "add", select_form Add)
+    ∷ (codes "subtract", select_form Subtract)
+    ∷ (codes "intersect", select_form Intersect)
+    ∷ (codes "none", Ends SelectNone)
+    ∷ []
 
 -- what is done with a layer
 abbrev pub layer_lines : List (List ℕ × LineForm)
@@ -166,6 +190,9 @@ abbrev pub commands : List (List ℕ × LineForm)
 commands =
     (codes "new", new_form)
     ∷ (codes "stamp", stamp_form)
+    ∷ (codes "erase", erase_form)
+    ∷ (codes "fill", fill_form)
+    ∷ (codes "select", choose select_lines BadWord)
     ∷ (codes "tile", tile_form)
     ∷ (codes "layer", choose layer_lines BadWord)
     ∷ (codes "undo", Ends Undo)

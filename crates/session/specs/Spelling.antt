@@ -4,10 +4,12 @@ use Rattle.std.specs.List.{join_with_byte, flat_map, AllByRecursion}
 use Rattle.std.specs.Fmt.{signed_decimal}
 use Rattle.std.specs.Str.{IsUtf8}
 use Rattle.session.specs.declared.line.Line.{Line}
-use Rattle.session.specs.declared.line.Line.TheVariants.{Quiet, New, Stamp, Tile, AddLayer, RemoveLayer, RenameLayer, ShowLayer, MoveLayer, Undo, Redo, Goto, Clean, Dirty, Clear, Status, UndoText, RedoText, StepText}
+use Rattle.session.specs.declared.line.Line.TheVariants.{Quiet, New, Stamp, Erase, Fill, Select, SelectNone, Tile, AddLayer, RemoveLayer, RenameLayer, ShowLayer, MoveLayer, Undo, Redo, Goto, Clean, Dirty, Clear, Status, UndoText, RedoText, StepText}
 use Rattle.session.specs.declared.line.LineFault.TheVariants.{TooLong}
 use Rattle.map_model.specs.declared.parts.LayerKind.{LayerKind}
 use Rattle.map_model.specs.declared.parts.LayerKind.TheVariants as kinds
+use Rattle.map_model.specs.declared.selection.SelectionMode.{SelectionMode}
+use Rattle.map_model.specs.declared.selection.SelectionMode.TheVariants.{Replace, Add, Subtract, Intersect}
 use Rattle.session.specs.Words.{words, reach, is_name_byte}
 use Rattle.session.specs.Grammar.{FieldKind, Number, Coordinate, Block, Name, LayerSort, YesNo, FieldValue, is_quiet, line_of}
 
@@ -37,10 +39,17 @@ pub data Token : Type 0 where
   Rest : List ℕ → Token
   Unspelled : Token
 
--- the word of a stamp; there is none yet for one that follows
-abbrev pub stamp_word : Bool → Token
-stamp_word false = Fixed (codes "stamp")
-stamp_word true = Unspelled
+-- the first word of a line that may follow; there is none yet for one that does
+abbrev pub leading : List ℕ → Bool → Token
+leading word false = Fixed word
+leading word true = Unspelled
+
+-- the word of a way to select
+abbrev pub selection_mode_word : SelectionMode → List ℕ
+selection_mode_word Replace = codes "replace"
+selection_mode_word Add = codes "add"
+selection_mode_word Subtract = codes "subtract"
+selection_mode_word Intersect = codes "intersect"
 
 -- the parts of each line; a quiet one has none
 abbrev pub tokens : Line → List Token
@@ -49,7 +58,17 @@ tokens (New name width height tile_width tile_height source) =
     Fixed (codes "new") ∷ Given Name name ∷ Given Number width ∷ Given Number height ∷ Given Number tile_width
     ∷ Given Number tile_height ∷ Rest source ∷ []
 tokens (Stamp layer x y width values follows) =
-    stamp_word follows ∷ Given Number layer ∷ Given Coordinate x ∷ Given Coordinate y ∷ Given Block (width, values) ∷ []
+    leading (codes "stamp") follows ∷ Given Number layer ∷ Given Coordinate x ∷ Given Coordinate y
+    ∷ Given Block (width, values) ∷ []
+tokens (Erase layer x y width height follows) =
+    leading (codes "erase") follows ∷ Given Number layer ∷ Given Coordinate x ∷ Given Coordinate y ∷ Given Number width
+    ∷ Given Number height ∷ []
+tokens (Fill layer x y value) =
+    Fixed (codes "fill") ∷ Given Number layer ∷ Given Coordinate x ∷ Given Coordinate y ∷ Given Number value ∷ []
+tokens (Select mode x y width height) =
+    Fixed (codes "select") ∷ Fixed (selection_mode_word mode) ∷ Given Coordinate x ∷ Given Coordinate y ∷ Given Number width
+    ∷ Given Number height ∷ []
+tokens SelectNone = Fixed (codes "select") ∷ Fixed (codes "none") ∷ []
 tokens (Tile layer x y) = Fixed (codes "tile") ∷ Given Number layer ∷ Given Coordinate x ∷ Given Coordinate y ∷ []
 tokens (AddLayer kind name) = Fixed (codes "layer") ∷ Fixed (codes "add") ∷ Given LayerSort kind ∷ Rest name ∷ []
 tokens (RemoveLayer layer) = Fixed (codes "layer") ∷ Fixed (codes "remove") ∷ Given Number layer ∷ []

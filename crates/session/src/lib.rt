@@ -7,6 +7,7 @@ mod layer_lines;
 mod line;
 mod parse;
 mod reply;
+mod select_lines;
 mod spelling;
 mod text;
 mod words;

@@ -1,6 +1,7 @@
 use crate::gids::Gids;
 use crate::text::Text;
-use map_model::LayerKind;
+use map_model::{LayerKind, SelectionMode};
+use tile_id::Gid;
 
 /// What a line asks for. Its texts and values are borrowed from the line.
 #[derive(Drop)]
@@ -26,6 +27,33 @@ pub enum Line<'a> {
         values: Gids<'a>,
         follows: bool,
     },
+    /// The cells of a rectangle with its upper left at (`x`, `y`) are emptied. Where it follows, it joins the step before
+    /// it, if that is of its kind; there is no command for this yet.
+    Erase {
+        layer: u32,
+        x: i32,
+        y: i32,
+        width: u32,
+        height: u32,
+        follows: bool,
+    },
+    /// A cell and those around it with its value, as far as they hang together, get this value.
+    Fill {
+        layer: u32,
+        x: i32,
+        y: i32,
+        value: Gid,
+    },
+    /// A rectangle of cells with its upper left at (`x`, `y`) is selected in that way.
+    Select {
+        mode: SelectionMode,
+        x: i32,
+        y: i32,
+        width: u32,
+        height: u32,
+    },
+    /// No cell is selected.
+    SelectNone,
     /// The value of a cell.
     Tile {
         layer: u32,

@@ -1,4 +1,4 @@
-ghost use Rattle.session.specs.Grammar.{Gives, read, Ends, line_form, is_quiet, line_of, goto_form, new_form, stamp_form, step_text_form, tile_form};
+ghost use Rattle.session.specs.Grammar.{Gives, read, Ends, line_form, is_quiet, line_of, erase_form, fill_form, goto_form, new_form, stamp_form, step_text_form, tile_form};
 ghost use Rattle.session.specs.Spelling.{Says, CanBeSpelled};
 ghost use Rattle.std.specs.Prelude.{◌≡◌, ◌==◌, ◌∷◌, IfOk};
 ghost use Rattle.std.specs.List.{list_all};
@@ -9,7 +9,9 @@ use crate::fields::{
 };
 use crate::layer_lines::layer;
 use crate::line::{Line, LineFault};
+use crate::select_lines::select;
 use crate::words::cut;
+use tile_id::Gid;
 
 /// A line with so many bytes is too long.
 const LIMIT: usize = 65_536;
@@ -48,6 +50,41 @@ fn stamp<'a>(rest: Option<&'a str>) -> Result<Line<'a>, LineFault>
         width,
         values,
         follows: false,
+    })
+}
+
+fn erase<'a>(rest: Option<&'a str>) -> Result<Line<'a>, LineFault>
+    ensures { Gives (λ x. x) result (read erase_form (words_left rest.entry)) }
+{
+    let (layer, rest) = number_field(rest)?;
+    let (x, rest) = coordinate_field(rest)?;
+    let (y, rest) = coordinate_field(rest)?;
+    let (width, rest) = number_field(rest)?;
+    let (height, rest) = number_field(rest)?;
+    end_field(rest)?;
+    Ok(Line::Erase {
+        layer,
+        x,
+        y,
+        width,
+        height,
+        follows: false,
+    })
+}
+
+fn fill<'a>(rest: Option<&'a str>) -> Result<Line<'a>, LineFault>
+    ensures { Gives (λ x. x) result (read fill_form (words_left rest.entry)) }
+{
+    let (layer, rest) = number_field(rest)?;
+    let (x, rest) = coordinate_field(rest)?;
+    let (y, rest) = coordinate_field(rest)?;
+    let (value, rest) = number_field(rest)?;
+    end_field(rest)?;
+    Ok(Line::Fill {
+        layer,
+        x,
+        y,
+        value: Gid(value),
     })
 }
 
@@ -91,6 +128,9 @@ fn command<'a>(name: &str, rest: Option<&'a str>) -> Result<Line<'a>, LineFault>
     match name {
         "new" => new(rest),
         "stamp" => stamp(rest),
+        "erase" => erase(rest),
+        "fill" => fill(rest),
+        "select" => select(rest),
         "tile" => tile(rest),
         "layer" => layer(rest),
         "undo" => bare(Line::Undo, rest),
