@@ -1,6 +1,6 @@
 -- Lists of changed cells of one layer.
-use Rattle.std.specs.Prelude.{ℕ, ◌+◌, ◌*◌, ◌<◌, List, slice_set}
-use Rattle.std.specs.List.{fold, map}
+use Rattle.std.specs.Prelude.{ℕ, ◌+◌, ◌*◌, ◌<◌, List, map, slice_set}
+use Rattle.std.specs.List.{fold}
 use Rattle.region.specs.Cells.{IsInRowOrder}
 use Rattle.map_model.specs.declared.edit.CellEdit.{CellEdit}
 use Rattle.map_model.specs.declared.edit.Side.{Side}
