@@ -1,5 +1,5 @@
 -- Cells of a tile layer that take what an edit puts over them.
-use Rattle.std.specs.Prelude.{ℕ, ◌/◌, ◌%◌, List, [], ◌∷◌, suc, Bool, ◌||◌, nat_eq, Option, Some, None}
+use Rattle.std.specs.Prelude.{ℕ, ◌/◌, ◌%◌, List, [], ◌∷◌, suc, Bool, ◌||◌, nat_eq, Option, Some, None, if◌then◌else◌}
 use Rattle.std.specs.FinSet as set
 use Rattle.region.specs.Cells.{cell_cmp}
 use Rattle.map_model.specs.declared.parts.MapParts.{MapParts}
@@ -23,6 +23,11 @@ covered width over values = each_at (λ place old. covered_value (over (place % 
 abbrev pub covered_map : ℕ → (ℕ → ℕ → Option ℕ) → MapParts → MapParts
 covered_map id over m = with_tiles m id (covered m.width over)
 
+-- ---- selections
 -- whether the selection lets a cell be changed: it has the cell, or it has none at all
 abbrev pub lets_change : set.FinSet cell_cmp → ℕ × ℕ → Bool
 lets_change selection cell = nat_eq (set.len selection) 0 || set.contains selection cell
+
+-- what lies over a cell that the selection lets be changed; nothing lies over the others
+abbrev pub where_selected : set.FinSet cell_cmp → (ℕ → ℕ → Option ℕ) → ℕ → ℕ → Option ℕ
+where_selected selection over x y = if lets_change selection (x, y) then over x y else None

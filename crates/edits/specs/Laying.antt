@@ -1,27 +1,34 @@
--- A block that is laid over a tile layer.
-use Rattle.std.specs.Prelude.{◌≡◌, ℕ, ◌*◌, ◌<◌, ◌≤◌, ◌^◌, List, [], ◌∷◌, nat_eq, Some, length, if◌then◌else◌}
+-- The part of a tile layer that an edit reaches.
+use Rattle.std.specs.Prelude.{◌≡◌, ◌⊎◌, ℕ, ◌*◌, ◌<◌, ◌≤◌, List, [], ◌∷◌, nat_eq, Option, None, length, if◌then◌else◌}
 use Rattle.map_model.specs.declared.edit.CellEdit.{CellEdit}
-use Rattle.edits.specs.declared.laid.Laid.{Laid}
-use Rattle.edits.specs.Blocks.{block_of, IsSpan}
+use Rattle.map_model.specs.declared.limits.TheConstants.{MAX_SIDE, MAX_CELLS}
+use Rattle.edits.specs.declared.reach.Reach.{Reach}
+use Rattle.edits.specs.Covering.{covered, covered_value, where_selected}
 use Rattle.edits.specs.Difference.{difference}
-use Rattle.edits.specs.Stamping.{stamped, stamped_value}
 
--- the columns and rows are those of the map that lie under the block, whose values are whole rows
-pub record IsLaid (l : Laid) : Type 0 where
+-- a tile layer of this width, with as many values as a map may have cells
+pub record IsLayerOf (width : ℕ) (tiles : List ℕ) : Type 0 where
   pub height : ℕ
-  pub block_height : ℕ
-  pub wide : 1 ≤ l.width
-  pub size : length l.tiles.now ≡ height * l.width
-  pub few : length l.tiles.now < 2 ^ 32
-  pub values : length l.block.values.now ≡ block_height * l.block.width
-  pub few_values : length l.block.values.now < 2 ^ 32
-  pub columns : IsSpan l.block.x l.block.width l.width l.columns
-  pub rows : IsSpan l.block.y block_height height l.rows
+  pub wide : 1 ≤ width
+  pub narrow : width ≤ MAX_SIDE
+  pub low : height ≤ MAX_SIDE
+  pub size : length tiles ≡ height * width
+  pub few : length tiles ≤ MAX_CELLS
+
+-- the columns and rows are those of the layer that an edit may put something over
+pub record IsReach (over : ℕ → ℕ → Option ℕ) (r : Reach) : Type 0 where
+  pub layer : IsLayerOf r.width r.tiles.now
+  pub columns : r.columns.first ≤ r.columns.end
+  pub columns_within : r.columns.end ≤ r.width
+  pub rows : r.rows.first ≤ r.rows.end
+  pub rows_within : r.rows.end ≤ layer.height
+  pub other_columns : (x y : ℕ) → x < r.width → (x < r.columns.first) ⊎ (r.columns.end ≤ x) → over x y ≡ None
+  pub other_rows : (x y : ℕ) → y < layer.height → (y < r.rows.first) ⊎ (r.rows.end ≤ y) → over x y ≡ None
 
 -- the changes in so many places of the layer, from the first
-abbrev pub changes_below : Laid → ℕ → List CellEdit
-changes_below l place = difference l.width l.tiles.now (stamped l.width (block_of l.block) l.tiles.now) place
+abbrev pub changes_below : (ℕ → ℕ → Option ℕ) → Reach → ℕ → List CellEdit
+changes_below over r place = difference r.width r.tiles.now (covered r.width (where_selected r.selection.now over) r.tiles.now) place
 
--- the change of a cell that a value lies over
-abbrev pub changed_to : ℕ → ℕ → ℕ → ℕ → List CellEdit
-changed_to x y before over = if nat_eq before (stamped_value (Some over) before) then [] else record { x = x; y = y; before = before; after = stamped_value (Some over) before } ∷ []
+-- the change of a cell that something, or nothing, lies over
+abbrev pub changed_to : ℕ → ℕ → ℕ → Option ℕ → List CellEdit
+changed_to x y before over = if nat_eq before (covered_value over before) then [] else record { x = x; y = y; before = before; after = covered_value over before } ∷ []

@@ -5,4 +5,7 @@ pub mod Filling
 pub mod Joining
 pub mod LayerEdits
 pub mod Laying
+pub mod Painting
+pub mod Refusals
+pub mod Selecting
 pub mod Stamping

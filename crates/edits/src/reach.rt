@@ -1,0 +1,123 @@
+// The part of a tile layer that an edit reaches, and the changes that it makes there.
+ghost use Rattle.std.specs.Prelude.{◌≡◌, ℕ, ◌+◌, ◌*◌, ◌<◌, ◌≤◌, ◌++◌, true, false, OnOk, IfOk, IfSome, IfNone, length};
+ghost use Rattle.edits.specs.Covering.{lets_change};
+ghost use Rattle.edits.specs.Laying.{IsReach, changes_below, changed_to};
+
+use crate::cover::Cover;
+use crate::span::Span;
+use map_model::CellEdit;
+use region::Region;
+use std::alloc::{AllocError, Global};
+use tile_id::Gid;
+
+/// A tile layer of a map of this width, the columns and rows that an edit may put something over, and the selection.
+#[derive(Clone, Copy)]
+pub struct Reach<'a> {
+    pub tiles: &'a [Gid],
+    pub width: u32,
+    pub columns: Span,
+    pub rows: Span,
+    pub selection: &'a Region,
+}
+
+// Adds the change of a cell, where there is one.
+fn push_change(
+    cells: &mut Vec<CellEdit>,
+    x: u32,
+    y: u32,
+    before: Gid,
+    over: Option<Gid>,
+) -> Result<(), AllocError>
+    requires column { x < 4096 }
+    requires row { y < 4096 }
+    ensures { OnOk result (cells.new.items ≡ cells.old.items ++ changed_to x y before over) }
+{
+    if let Some(after) = over && after != before {
+        cells.push(CellEdit {
+            x: x as u16,
+            y: y as u16,
+            before,
+            after,
+        })?;
+    }
+    Ok(())
+}
+
+impl Reach<'_> {
+    // The next columns of a row, from one on, that may be changed.
+    fn next_columns(&self, y: u32, from: u32) -> Option<Span>
+        ensures some { IfSome result (λ s. (from ≤ s.first) × (s.first < s.end) × (s.end ≤ self.now.columns.end)
+            × ((x : ℕ) → from ≤ x → x < s.first → lets_change self.now.selection.now (x, y) ≡ false)
+            × ((x : ℕ) → s.first ≤ x → x < s.end → lets_change self.now.selection.now (x, y) ≡ true)) }
+        ensures none { IfNone result ((x : ℕ) → from ≤ x → x < self.now.columns.end → lets_change self.now.selection.now (x, y) ≡ false) }
+    {
+        if from >= self.columns.end {
+            return None;
+        }
+        if self.selection.is_empty() {
+            return Some(Span {
+                first: from,
+                end: self.columns.end,
+            });
+        }
+        let run = self.selection.next_run(y, from, self.columns.end)?;
+        Some(Span {
+            first: run.x,
+            end: run.x + run.len,
+        })
+    }
+
+    // Adds the changes of columns of a row, all of which may be changed.
+    fn push_columns<C: Cover>(
+        &self,
+        cells: &mut Vec<CellEdit>,
+        cover: &C,
+        y: u32,
+        columns: Span,
+    ) -> Result<(), AllocError>
+        requires reach { IsReach (C.over cover.now) self.now }
+        requires row { (self.now.rows.first ≤ y) × (y < self.now.rows.end) }
+        requires columns { (columns.first ≤ columns.end) × (columns.end ≤ self.now.columns.end) }
+        requires selected { (x : ℕ) → columns.first ≤ x → x < columns.end → lets_change self.now.selection.now (x, y) ≡ true }
+        requires so_far { cells.old.items ≡ changes_below (C.over cover.now) self.now (y * self.now.width + columns.first) }
+        ensures { OnOk result (cells.new.items ≡ changes_below (C.over cover.now) self.now (y * self.now.width + columns.end)) }
+    {
+        for x in columns.first..columns.end {
+            let place = y as usize * self.width as usize + x as usize;
+            push_change(cells, x, y, self.tiles[place], cover.value(x, y))?;
+        }
+        Ok(())
+    }
+
+    // Adds the changes of a row of the map.
+    fn push_row<C: Cover>(
+        &self,
+        cells: &mut Vec<CellEdit>,
+        cover: &C,
+        y: u32,
+    ) -> Result<(), AllocError>
+        requires reach { IsReach (C.over cover.now) self.now }
+        requires row { (self.now.rows.first ≤ y) × (y < self.now.rows.end) }
+        requires so_far { cells.old.items ≡ changes_below (C.over cover.now) self.now (y * self.now.width) }
+        ensures { OnOk result (cells.new.items ≡ changes_below (C.over cover.now) self.now (y * self.now.width + self.now.width)) }
+    {
+        let mut from = self.columns.first;
+        while let Some(columns) = self.next_columns(y, from) {
+            self.push_columns(cells, cover, y, columns)?;
+            from = columns.end;
+        }
+        Ok(())
+    }
+
+    /// The changes of all cells that a cover lies over and that the selection lets be changed, in row order.
+    pub fn changes<C: Cover>(&self, alloc: Global, cover: &C) -> Result<Vec<CellEdit>, AllocError>
+        requires { IsReach (C.over cover.now) self.now }
+        ensures { IfOk result (λ cells. cells.items ≡ changes_below (C.over cover.now) self.now (length self.now.tiles.now)) }
+    {
+        let mut cells = Vec::new(alloc);
+        for y in self.rows.first..self.rows.end {
+            self.push_row(&mut cells, cover, y)?;
+        }
+        Ok(cells)
+    }
+}
