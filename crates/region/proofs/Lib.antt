@@ -6,4 +6,5 @@ pub mod Moving
 pub mod Order
 pub mod Pushes
 pub mod Search
+pub mod Splits
 pub mod Steps

@@ -55,10 +55,10 @@ or-false : (b : Bool) → (b || false) ≡ b
 or-false true = refl
 or-false false = refl
 
-abbrev Splits : ℕ × ℕ → List Run → ℕ → Type 0
+abbrev pub Splits : ℕ × ℕ → List Run → ℕ → Type 0
 Splits q rs i = IsPartitionPoint (λ r. is_after q r ≡ true) (λ r. is_after q r ≡ false) rs i
 
-next_splits : (q : ℕ × ℕ) (r : Run) (rs : List Run) (i : ℕ) → Splits q (r ∷ rs) (suc i) → Splits q rs i
+pub next_splits : (q : ℕ × ℕ) (r : Run) (rs : List Run) (i : ℕ) → Splits q (r ∷ rs) (suc i) → Splits q rs i
 next_splits q r rs i h = (λ k d l u. h.0 (suc k) d (omega arith) (omega arith), λ k d l u. h.1 (suc k) d (omega arith) (omega arith))
 
 -- only the first run that does not end before a cell can have it

@@ -1,5 +1,5 @@
 -- Sets of cells. A cell is its column and its row.
-use Rattle.std.specs.Prelude.{◌≡◌, ℕ, ◌+◌, ℤ, pos, negsuc, ◌-ℤ◌, List, [], ◌∷◌, ◌++◌, Bool, false, ◌&&◌, nat_le, nat_lt}
+use Rattle.std.specs.Prelude.{◌≡◌, ℕ, ◌+◌, ◌<◌, ◌≤◌, ◌⊎◌, ℤ, pos, negsuc, ◌-ℤ◌, List, [], ◌∷◌, ◌++◌, Bool, false, ◌&&◌, nat_le, nat_lt}
 use Rattle.std.proofs.Common.{zero, suc}
 use Rattle.std.specs.declared.cmp.Ordering.{Ordering}
 use Rattle.std.specs.declared.cmp.Ordering.TheVariants.{Less}
@@ -37,6 +37,10 @@ set_of rs = listed (cells_of rs)
 abbrev pub ComesBeforeAll : ℕ × ℕ → List (ℕ × ℕ) → Type 0
 ComesBeforeAll p [] = Unit {0}
 ComesBeforeAll p (q ∷ qs) = cell_cmp p q ≡ Less
+
+-- the first cell stands in a later row than the second one, or in its row, at its column or behind it
+abbrev pub IsFrom : ℕ × ℕ → ℕ × ℕ → Type 0
+IsFrom q p = (p.1 < q.1) ⊎ ((p.1 ≡ q.1) × (p.0 ≤ q.0))
 
 -- cells in row order, each once
 abbrev pub IsInRowOrder : List (ℕ × ℕ) → Type 0

@@ -1,5 +1,5 @@
 -- What the steps of a walk over two lists of runs say.
-use Rattle.std.specs.Prelude.{◌≡◌, ℤ, pos, negsuc, ◌+ℤ◌, ◌-ℤ◌, ◌≤ℤ◌, ℕ, ◌+◌, ◌<◌, ◌≤◌, ◌⊎◌, Bool, false, ◌&&◌, ◌||◌, nat_eq, nat_le, nat_lt, List, [], ◌∷◌, Option, Some, None}
+use Rattle.std.specs.Prelude.{◌≡◌, ℤ, pos, negsuc, ◌+ℤ◌, ◌-ℤ◌, ◌≤ℤ◌, ℕ, ◌+◌, ◌<◌, ◌≤◌, ◌⊎◌, Bool, true, false, ◌&&◌, ◌||◌, nat_eq, nat_le, nat_lt, List, [], ◌∷◌, ◌++◌, Option, Some, None}
 use Rattle.region.specs.declared.runs.Run.{Run}
 use Rattle.std.specs.List.{list_any}
 use Rattle.region.specs.Runs.{in_run}
@@ -47,6 +47,22 @@ is_before q r = nat_lt q.1 r.y || (nat_eq q.1 r.y && nat_lt q.0 r.x)
 
 abbrev pub is_after : ℕ × ℕ → Run → Bool
 is_after q r = nat_lt r.y q.1 || (nat_eq r.y q.1 && nat_le (r.x + r.len) q.0)
+
+-- each run ends before a cell
+abbrev pub HaveEnded : ℕ × ℕ → List Run → Type 0
+HaveEnded q [] = Unit {0}
+HaveEnded q (r ∷ rs) = (is_after q r ≡ true) × HaveEnded q rs
+
+-- the first run does not end before a cell
+abbrev pub ReachesTo : ℕ × ℕ → List Run → Type 0
+ReachesTo q [] = Unit {0}
+ReachesTo q (r ∷ rs) = is_after q r ≡ false
+
+-- runs in two parts: those in front end before a cell, and the first of the rest does not
+pub record AreSplitAt (q : ℕ × ℕ) (runs front rest : List Run) : Type 0 where
+  pub whole : runs ≡ front ++ rest
+  pub ended : HaveEnded q front
+  pub reaches : ReachesTo q rest
 
 -- whether a run has the cell at a column and a row, none of which is negative
 abbrev pub in_run_at : Run → ℤ → ℤ → Bool

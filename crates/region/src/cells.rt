@@ -1,12 +1,12 @@
-ghost use Rattle.std.specs.Prelude.{◌≡◌, ℕ, ◌+◌, ◌≤◌, ◌↔◌, IsTrue, IfOk, List};
+ghost use Rattle.std.specs.Prelude.{◌≡◌, ℕ, ◌+◌, ◌≤◌, ◌↔◌, IsTrue, IfOk, List, true};
 ghost use Rattle.std.specs.FinSet as set;
-ghost use Rattle.region.specs.Cells.{in_rectangle, in_moved_cut, set_of, cells_of, IsInRowOrder};
-ghost use Rattle.region.specs.Runs.{IsMaximalRuns};
+ghost use Rattle.region.specs.Cells.{in_rectangle, in_moved_cut, set_of, cells_of, IsFrom, IsInRowOrder};
+ghost use Rattle.region.specs.Runs.{IsMaximalRuns, in_runs};
 ghost use Rattle.region.specs.declared.runs.Run.{Run as RunOf};
 
 use crate::row_order::Rows;
 use crate::runs::Run;
-use crate::walks::{any_has, merged, moved_runs, overlaps, push_run, remainders};
+use crate::walks::{any_has, merged, moved_runs, overlaps, push_run, remainders, split_ended};
 use std::alloc::{AllocError, Global};
 use std::marker::Model;
 
@@ -142,6 +142,17 @@ impl Region {
         ensures unique { (runs : List RunOf) → IsMaximalRuns runs → set_of runs ≡ self.now → runs ≡ result }
     {
         Rows::over(self.runs.as_slice())
+    }
+
+    /// Visits the runs from the first one on that does not end before a cell, in row order. Finding it takes a
+    /// number of steps that grows with the logarithm of the number of runs.
+    pub fn rows_from(&self, x: u32, y: u32) -> Rows<'_>
+        ensures maximal { IsMaximalRuns result }
+        ensures cells { (q : ℕ × ℕ) → IsFrom q (x, y) → in_runs result q ≡ set.contains self.now q }
+        ensures within { (q : ℕ × ℕ) → in_runs result q ≡ true → set.contains self.now q ≡ true }
+    {
+        let (_, rest) = split_ended(self.runs.as_slice(), x, y);
+        Rows::over(rest)
     }
 }
 

@@ -1,12 +1,21 @@
 // Walks over lists of runs, each from the first run to the last one.
 ghost use Rattle.std.specs.Prelude.{◌≡◌, ℕ, ◌+◌, ◌<◌, ◌≤◌, ◌||◌, ◌&&◌, not, ◌++◌, ◌⊎◌, IsTrue, false, length, slice_index_or, IfOk, vec_len, vec_capacity};
 ghost use Rattle.region.specs.Runs.{IsRun, IsMaximalRuns, in_run, in_runs};
-ghost use Rattle.region.specs.Walks.{StartsBy, LastStartsBy, in_moved_runs};
+ghost use Rattle.region.specs.Walks.{AreSplitAt, StartsBy, LastStartsBy, in_moved_runs};
 ghost use Rattle.region.specs.declared.runs.Run.{Run as RunOf};
 ghost use Rattle.std.specs.Option.{option_to_list};
 
 use crate::runs::Run;
 use std::alloc::{AllocError, Global};
+
+// The runs that end before a cell, which stand first, and the others.
+pub(crate) fn split_ended(runs: &[Run], x: u32, y: u32) -> (&[Run], &[Run])
+    requires { IsMaximalRuns runs.now }
+    ensures { AreSplitAt (x, y) runs.now result.0.now result.1.now }
+{
+    let at = runs.partition_point(|run| run.ends_before(x, y));
+    runs.split_at(at)
+}
 
 // Puts a run at the end, or joins it to the last one. There is room for it.
 pub(crate) fn push_run(runs: &mut Vec<Run>, run: Run)
