@@ -3,6 +3,7 @@ pub mod Cellwise
 pub mod Listed
 pub mod Members
 pub mod Moving
+pub mod NextRuns
 pub mod Order
 pub mod Pushes
 pub mod Search

@@ -9,7 +9,7 @@ use Rattle.std.specs.FinSet as set
 use Rattle.std.proofs.lemmas.Bool.Decides.{nat_tests}
 use Rattle.std.proofs.lemmas.List.Folds.{list_any-append}
 use Rattle.region.specs.declared.runs.Run.{Run}
-use Rattle.region.specs.Cells.{cell_cmp, row_cells, cells_of, set_of, in_rectangle}
+use Rattle.region.specs.Cells.{cell_cmp, row_cells, block_cells, cells_of, rectangle, set_of, in_rectangle}
 use Rattle.region.specs.Equality.{cell_cmp_total}
 use Rattle.region.specs.Runs.{in_run, in_runs}
 
@@ -33,6 +33,24 @@ runs_have q (r ∷ rs) =
 -- the set of the runs' cells has the cells that are in the runs
 pub contains-set_of : (rs : List Run) (q : ℕ × ℕ) → set.contains (set_of rs) q ≡ in_runs rs q
 contains-set_of rs q = set.contains-from_list cell_cmp_total (cells_of rs) q ∙ runs_have q rs
+
+-- ---- rectangles
+row_of : (q : ℕ × ℕ) (x y w h : ℕ) → ((nat_eq y q.1 && (nat_le x q.0 && nat_lt q.0 (x + w))) || in_rectangle x (suc y) w h q) ≡ in_rectangle x y w (suc h) q
+row_of q x y w h = grind (arith, nat_tests)
+
+no_row : (q : ℕ × ℕ) (x y w : ℕ) → false ≡ in_rectangle x y w 0 q
+no_row q x y w = grind (arith, nat_tests)
+
+block_has : (q : ℕ × ℕ) (x y w h : ℕ) → list_any (eq_by_cmp cell_cmp q) (block_cells x y w h) ≡ in_rectangle x y w h q
+block_has q x y w zero = no_row q x y w
+block_has q x y w (suc h) =
+    list_any-append (eq_by_cmp cell_cmp q) (row_cells y x w) (block_cells x (suc y) w h)
+    ∙ ap (λ b. b || list_any (eq_by_cmp cell_cmp q) (block_cells x (suc y) w h)) (row_has q y x w)
+    ∙ ap (λ b. (nat_eq y q.1 && (nat_le x q.0 && nat_lt q.0 (x + w))) || b) (block_has q x (suc y) w h) ∙ row_of q x y w h
+
+-- a rectangle has the cells that lie in it
+pub contains-rectangle : (x y w h : ℕ) (q : ℕ × ℕ) → set.contains (rectangle x y w h) q ≡ in_rectangle x y w h q
+contains-rectangle x y w h q = set.contains-from_list cell_cmp_total (block_cells x y w h) q ∙ block_has q x y w h
 
 -- a rectangle of no columns has no cell
 pub in_rectangle-none : (x y w h : ℕ) (q : ℕ × ℕ) → w ≡ 0 → false ≡ in_rectangle x y w h q

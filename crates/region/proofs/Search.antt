@@ -44,7 +44,8 @@ after_partitioned (r ∷ rs) q h (suc i) (suc j) d le l t = after_partitioned rs
 not_in : (r : Run) (q : ℕ × ℕ) → is_after q r ≡ true → in_run r q ≡ false
 not_in r q h = grind (arith, nat_tests)
 
-not_later : (r : Run) (rs : List Run) (q : ℕ × ℕ) → IsMaximalRuns (r ∷ rs) → is_after q r ≡ false → in_runs rs q ≡ false
+-- no later run has a cell that the first one has not ended before
+pub not_later : (r : Run) (rs : List Run) (q : ℕ × ℕ) → IsMaximalRuns (r ∷ rs) → is_after q r ≡ false → in_runs rs q ≡ false
 not_later r rs q h e = by_test (in_runs rs q) refl
   where
     by_test : (b : Bool) → in_runs rs q ≡ b → in_runs rs q ≡ false

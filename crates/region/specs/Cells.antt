@@ -25,6 +25,11 @@ abbrev pub cells_of : List Run → List (ℕ × ℕ)
 cells_of [] = []
 cells_of (r ∷ rs) = row_cells r.y r.x r.len ++ cells_of rs
 
+-- the cells of so many rows from a row on, and of so many columns from a column on
+abbrev pub block_cells : ℕ → ℕ → ℕ → ℕ → List (ℕ × ℕ)
+block_cells x y w zero = []
+block_cells x y w (suc h) = row_cells y x w ++ block_cells x (suc y) w h
+
 -- the set of the cells
 abbrev pub listed : List (ℕ × ℕ) → set.FinSet cell_cmp
 listed cells = set.from_list cells
@@ -32,6 +37,10 @@ listed cells = set.from_list cells
 -- the set of the runs' cells
 abbrev pub set_of : List Run → set.FinSet cell_cmp
 set_of rs = listed (cells_of rs)
+
+-- the cells of a rectangle: its first column and row, and how many columns and rows it has
+abbrev pub rectangle : ℕ → ℕ → ℕ → ℕ → set.FinSet cell_cmp
+rectangle x y w h = listed (block_cells x y w h)
 
 -- a cell comes before the first of the cells
 abbrev pub ComesBeforeAll : ℕ × ℕ → List (ℕ × ℕ) → Type 0

@@ -1,5 +1,5 @@
 -- Runs of cells.
-use Rattle.std.specs.Prelude.{◌≡◌, ℕ, ◌+◌, ◌^◌, ◌<◌, ◌≤◌, ◌⊎◌, Bool, ◌&&◌, List, [], ◌∷◌, nat_eq, nat_le, nat_lt}
+use Rattle.std.specs.Prelude.{◌≡◌, ℕ, ◌+◌, ◌^◌, ◌<◌, ◌≤◌, ◌⊎◌, Bool, true, false, ◌&&◌, List, [], ◌∷◌, nat_eq, nat_le, nat_lt}
 use Rattle.std.specs.List.{list_any}
 use Rattle.region.specs.declared.runs.Run.{Run}
 
@@ -28,3 +28,18 @@ in_run r q = nat_eq r.y q.1 && (nat_le r.x q.0 && nat_lt q.0 (r.x + r.len))
 
 abbrev pub in_runs : List Run → ℕ × ℕ → Bool
 in_runs rs q = list_any (λ r. in_run r q) rs
+
+-- the run has the next cells of a row that pass the test: the first from a column on, before an end, and those that follow
+-- it side by side
+pub record IsNextRun (has : ℕ × ℕ → Bool) (y from end : ℕ) (r : Run) : Type 0 where
+  pub row : r.y ≡ y
+  pub start : from ≤ r.x
+  pub some : 1 ≤ r.len
+  pub fits : r.x + r.len ≤ end
+  pub before : (x : ℕ) → from ≤ x → x < r.x → has (x, y) ≡ false
+  pub cells : (x : ℕ) → r.x ≤ x → x < r.x + r.len → has (x, y) ≡ true
+  pub whole : r.x + r.len < end → has (r.x + r.len, y) ≡ false
+
+-- no cell of a row passes the test from a column on, before an end
+abbrev pub HasNone : (ℕ × ℕ → Bool) → ℕ → ℕ → ℕ → Type 0
+HasNone has y from end = (x : ℕ) → from ≤ x → x < end → has (x, y) ≡ false

@@ -1,9 +1,10 @@
-ghost use Rattle.std.specs.Prelude.{◌≡◌, ℕ, ◌+◌, ◌≤◌, ◌↔◌, IsTrue, IfOk, List, true};
+ghost use Rattle.std.specs.Prelude.{◌≡◌, ℕ, ◌+◌, ◌≤◌, ◌↔◌, IsTrue, IfOk, IfSome, IfNone, List, true};
 ghost use Rattle.std.specs.FinSet as set;
 ghost use Rattle.region.specs.Cells.{in_rectangle, in_moved_cut, set_of, cells_of, IsFrom, IsInRowOrder};
-ghost use Rattle.region.specs.Runs.{IsMaximalRuns, in_runs};
+ghost use Rattle.region.specs.Runs.{HasNone, IsMaximalRuns, IsNextRun, in_runs};
 ghost use Rattle.region.specs.declared.runs.Run.{Run as RunOf};
 
+use crate::next::next_in;
 use crate::row_order::Rows;
 use crate::runs::Run;
 use crate::walks::{any_has, merged, moved_runs, overlaps, push_run, remainders, split_ended};
@@ -125,6 +126,15 @@ impl Region {
         ensures { result ≡ set.contains self.now (x, y) }
     {
         any_has(self.runs.as_slice(), x, y)
+    }
+
+    /// The next cells of row `y` that lie side by side: those of the set from column `from` on and before column `end`.
+    /// Finding them takes a number of steps that grows with the logarithm of the number of runs.
+    pub fn next_run(&self, y: u32, from: u32, end: u32) -> Option<Run>
+        ensures some { IfSome result (IsNextRun (set.contains self.now) y from end) }
+        ensures none { IfNone result (HasNone (set.contains self.now) y from end) }
+    {
+        next_in(self.runs.as_slice(), y, from, end)
     }
 
     /// Whether the set has no cells.

@@ -9,6 +9,7 @@
 mod cell_list;
 mod cells;
 mod moves;
+mod next;
 mod row_order;
 mod runs;
 mod walks;
