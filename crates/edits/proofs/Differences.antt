@@ -2,7 +2,7 @@
 use Rattle.std.proofs.Common.{◌≡◌, ℕ, zero, suc, ◌+◌, ◌<◌, List, [], ◌∷◌, length, true, nat_eq, get_or, add-zero, add-suc, append-nil, refl, ap, ◌∙◌, arith}
 use Rattle.std.proofs.lemmas.Bool.Decides.{nat_tests}
 use Rattle.edits.specs.Difference.{change_at, difference}
-use Rattle.edits.specs.Stamping.{each_at}
+use Rattle.edits.specs.Covering.{each_at}
 
 pub change_at-same : (width place a b : ℕ) → b ≡ a → change_at width place a b ≡ []
 change_at-same width place a b e = let same : nat_eq a b ≡ true = grind (arith, nat_tests) in rw same refl

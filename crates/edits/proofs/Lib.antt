@@ -1,4 +1,7 @@
+pub mod Areas
+pub mod Calls
 pub mod Differences
-pub mod Layings
+pub mod Overs
+pub mod Reaches
 pub mod RowOrder
 pub mod Turns

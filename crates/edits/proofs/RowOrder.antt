@@ -3,29 +3,23 @@ use Rattle.std.proofs.Common.{◌≡◌, ◌⊎◌, inl, inr, ℕ, zero, suc, �
 use Rattle.std.proofs.lemmas.Bool.Decides.{nat_tests}
 use Rattle.std.proofs.lemmas.Nat.{le-div}
 use Rattle.map_model.specs.declared.edit.CellEdit.{CellEdit}
-use Rattle.map_model.specs.CellEdits.{IsBefore, AreInRowOrder}
+use Rattle.std.specs.declared.cmp.Ordering.TheVariants.{Less}
+use Rattle.region.specs.Cells.{cell_cmp}
+use Rattle.region.proofs.Listed.{comes_before}
+use Rattle.map_model.specs.CellEdits.{AreInRowOrder, cell}
 use Rattle.map_model.specs.Lists.{Each}
-use Rattle.map_model.proofs.Changes.{Each-at}
 use Rattle.map_model.proofs.Listings.{Each-append}
 use Rattle.edits.specs.Difference.{edit_at, change_at, difference}
 
--- ---- cells of which each comes before all behind it
-abbrev AreOrdered : List CellEdit → Type 0
-AreOrdered [] = Unit {0}
-AreOrdered (e ∷ es) = Each (IsBefore e) es × AreOrdered es
+-- ---- one more cell
+-- the first cell comes before the second one
+abbrev ComesBefore : CellEdit → CellEdit → Type 0
+ComesBefore a b = cell_cmp (cell a) (cell b) ≡ Less
 
-AreInRowOrder-ordered : (es : List CellEdit) → AreOrdered es → AreInRowOrder es
-AreInRowOrder-ordered [] h zero j a b l p q = cc
-AreInRowOrder-ordered [] h (suc i) j a b l p q = cc
-AreInRowOrder-ordered (e ∷ es) h i zero a b l p q = absurd (omega arith)
-AreInRowOrder-ordered (e ∷ es) h zero (suc j) a b l p q =
-    let first : e ≡ a = cc in
-    rw (← first) (Each-at (IsBefore e) es j b q h.0)
-AreInRowOrder-ordered (e ∷ es) h (suc i) (suc j) a b l p q = AreInRowOrder-ordered es h.1 i j a b (omega arith) p q
-
-AreOrdered-append : (es : List CellEdit) (c : CellEdit) → AreOrdered es → Each (λ e. IsBefore e c) es → AreOrdered (es ++ c ∷ [])
-AreOrdered-append [] c h k = (tt, tt)
-AreOrdered-append (e ∷ es) c h k = (Each-append (IsBefore e) es (c ∷ []) h.0 (k.0, tt), AreOrdered-append es c h.1 k.1)
+AreInRowOrder-append : (es : List CellEdit) (c : CellEdit) → AreInRowOrder es → Each (λ e. ComesBefore e c) es → AreInRowOrder (es ++ c ∷ [])
+AreInRowOrder-append [] c h k = (tt, tt)
+AreInRowOrder-append (e ∷ []) c h k = (k.0, (tt, tt))
+AreInRowOrder-append (e ∷ (f ∷ es)) c h k = (h.0, AreInRowOrder-append (f ∷ es) c h.1 k.1)
 
 -- ---- cells by their place
 -- the cell stands at a place below this one
@@ -54,14 +48,14 @@ by_place width p q some l =
     by_test true e d = let same : p / width ≡ q / width = grind (arith, nat_tests) in inr (same, same_row width p q some l same)
     by_test false e d = inl (grind (arith, nat_tests))
 
-IsBefore-above : (width place before after : ℕ) (e : CellEdit) → 0 < width → IsAbove width place e → IsBefore e (edit_at width place before after)
-IsBefore-above width place before after e some h =
+ComesBefore-above : (width place before after : ℕ) (e : CellEdit) → 0 < width → IsAbove width place e → ComesBefore e (edit_at width place before after)
+ComesBefore-above width place before after e some h =
     let apart : (h.at / width < place / width) ⊎ ((h.at / width ≡ place / width) × (h.at % width < place % width)) = by_place width h.at place some h.above in
-    rw (h.column, h.row) apart
+    comes_before (cell e) (cell (edit_at width place before after)) (rw (h.column, h.row) apart)
 
-Each-IsBefore : (width place before after : ℕ) (es : List CellEdit) → 0 < width → Each (IsAbove width place) es → Each (λ e. IsBefore e (edit_at width place before after)) es
-Each-IsBefore width place before after [] some h = tt
-Each-IsBefore width place before after (e ∷ es) some h = (IsBefore-above width place before after e some h.0, Each-IsBefore width place before after es some h.1)
+Each-ComesBefore : (width place before after : ℕ) (es : List CellEdit) → 0 < width → Each (IsAbove width place) es → Each (λ e. ComesBefore e (edit_at width place before after)) es
+Each-ComesBefore width place before after [] some h = tt
+Each-ComesBefore width place before after (e ∷ es) some h = (ComesBefore-above width place before after e some h.0, Each-ComesBefore width place before after es some h.1)
 
 -- ---- differences
 module _ (width : ℕ) (xs ys : List ℕ) (some : 0 < width) where
@@ -75,15 +69,15 @@ module _ (width : ℕ) (xs ys : List ℕ) (some : 0 < width) where
       by_test true = tt
       by_test false = (record { at = k; above = omega arith; column = refl; row = refl }, tt)
 
-  ordered : (k : ℕ) → AreOrdered (difference width xs ys k)
+  ordered : (k : ℕ) → AreInRowOrder (difference width xs ys k)
   ordered zero = tt
   ordered (suc k) = by_test (nat_eq (get_or xs k 0) (get_or ys k 0)) (ordered k)
     where
-      by_test : (b : Bool) → AreOrdered (difference width xs ys k) → AreOrdered (difference width xs ys k ++ cond b [] (edit_at width k (get_or xs k 0) (get_or ys k 0) ∷ []))
+      by_test : (b : Bool) → AreInRowOrder (difference width xs ys k) → AreInRowOrder (difference width xs ys k ++ cond b [] (edit_at width k (get_or xs k 0) (get_or ys k 0) ∷ []))
       by_test true so_far = rw append-nil so_far
       by_test false so_far =
-          AreOrdered-append (difference width xs ys k) (edit_at width k (get_or xs k 0) (get_or ys k 0)) so_far
-          (Each-IsBefore width k (get_or xs k 0) (get_or ys k 0) (difference width xs ys k) some (above k))
+          AreInRowOrder-append (difference width xs ys k) (edit_at width k (get_or xs k 0) (get_or ys k 0)) so_far
+          (Each-ComesBefore width k (get_or xs k 0) (get_or ys k 0) (difference width xs ys k) some (above k))
 
 pub difference-AreInRowOrder : (width : ℕ) (xs ys : List ℕ) (k : ℕ) → 0 < width → AreInRowOrder (difference width xs ys k)
-difference-AreInRowOrder width xs ys k some = AreInRowOrder-ordered (difference width xs ys k) (ordered width xs ys some k)
+difference-AreInRowOrder width xs ys k some = ordered width xs ys some k

@@ -1,5 +1,5 @@
 -- Blocks of values and areas, and where they lie on a map.
-use Rattle.std.specs.Prelude.{◌≡◌, ℕ, ◌+◌, ◌-◌, ◌*◌, ◌<◌, ◌≤◌, ℤ, pos, negsuc, List, Bool, false, ◌&&◌, nat_eq, nat_le, nat_lt, Option, Some, None, option_and_then, IfSome, slice_get, if◌then◌else◌}
+use Rattle.std.specs.Prelude.{◌≡◌, ℕ, ◌+◌, ◌-◌, ◌*◌, ◌<◌, ◌≤◌, ℤ, pos, negsuc, List, Bool, true, false, ◌&&◌, nat_eq, nat_le, nat_lt, Option, Some, None, option_and_then, slice_get, if◌then◌else◌}
 use Rattle.edits.specs.declared.area.Area.{Area}
 use Rattle.edits.specs.declared.block.Block.{Block}
 use Rattle.edits.specs.declared.span.Span.{Span}
@@ -52,13 +52,10 @@ abbrev pub erase_over : Area → ℕ → ℕ → Option ℕ
 erase_over a x y = if in_area a x y then Some 0 else None
 
 -- ---- spans
--- a column or a row that something of this start and size does not reach
-abbrev pub IsPast : ℤ → ℕ → ℕ → Type 0
-IsPast start size at = IfSome (offset start at) (λ far. size ≤ far)
-
--- the span has all columns, or all rows, below the limit that lie under something of this start and size
+-- the span has exactly the columns, or the rows, below the limit that lie under something of this start and size
 pub record IsSpan (start : ℤ) (size limit : ℕ) (s : Span) : Type 0 where
   pub ordered : s.first ≤ s.end
   pub within : s.end ≤ limit
-  pub before : (at : ℕ) → at < s.first → IsPast start size at
-  pub after : (at : ℕ) → s.end ≤ at → at < limit → IsPast start size at
+  pub before : (at : ℕ) → at < s.first → is_below (offset start at) size ≡ false
+  pub under : (at : ℕ) → s.first ≤ at → at < s.end → is_below (offset start at) size ≡ true
+  pub after : (at : ℕ) → s.end ≤ at → at < limit → is_below (offset start at) size ≡ false

@@ -1,9 +1,12 @@
 -- The part of a tile layer that an edit reaches.
-use Rattle.std.specs.Prelude.{◌≡◌, ◌⊎◌, ℕ, ◌*◌, ◌<◌, ◌≤◌, List, [], ◌∷◌, nat_eq, Option, None, length, if◌then◌else◌}
+use Rattle.std.specs.Prelude.{◌≡◌, ◌⊎◌, ℕ, ◌*◌, ◌<◌, ◌≤◌, List, [], ◌∷◌, nat_eq, Option, None, true, false, length, if◌then◌else◌}
+use Rattle.std.specs.FinSet as set
+use Rattle.region.specs.Cells.{cell_cmp}
 use Rattle.map_model.specs.declared.edit.CellEdit.{CellEdit}
 use Rattle.map_model.specs.declared.limits.TheConstants.{MAX_SIDE, MAX_CELLS}
 use Rattle.edits.specs.declared.reach.Reach.{Reach}
-use Rattle.edits.specs.Covering.{covered, covered_value, where_selected}
+use Rattle.edits.specs.declared.span.Span.{Span}
+use Rattle.edits.specs.Covering.{covered, covered_value, lets_change, where_selected}
 use Rattle.edits.specs.Difference.{difference}
 
 -- a tile layer of this width, with as many values as a map may have cells
@@ -24,6 +27,14 @@ pub record IsReach (over : ℕ → ℕ → Option ℕ) (r : Reach) : Type 0 wher
   pub rows_within : r.rows.end ≤ layer.height
   pub other_columns : (x y : ℕ) → x < r.width → (x < r.columns.first) ⊎ (r.columns.end ≤ x) → over x y ≡ None
   pub other_rows : (x y : ℕ) → y < layer.height → (y < r.rows.first) ⊎ (r.rows.end ≤ y) → over x y ≡ None
+
+-- the columns are the next of a row that may be changed, from a column on and before an end
+pub record AreNextColumns (selection : set.FinSet cell_cmp) (y from end : ℕ) (s : Span) : Type 0 where
+  pub start : from ≤ s.first
+  pub some : s.first < s.end
+  pub fits : s.end ≤ end
+  pub before : (x : ℕ) → from ≤ x → x < s.first → lets_change selection (x, y) ≡ false
+  pub columns : (x : ℕ) → s.first ≤ x → x < s.end → lets_change selection (x, y) ≡ true
 
 -- the changes in so many places of the layer, from the first
 abbrev pub changes_below : (ℕ → ℕ → Option ℕ) → Reach → ℕ → List CellEdit

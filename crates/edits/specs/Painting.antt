@@ -39,4 +39,4 @@ pub record IsCellChange (id : ℕ) (m n : MapParts) (change : CellChange) : Type
 pub record IsPainted (d : DocumentParts) (p : Painting) (change : CellChange) : Type 0 where
   pub accepted : p.fault ≡ None
   pub tiles : HasTiles d.map p.layer
-  pub change : IsCellChange p.layer d.map (painted_map p d.map) change
+  pub exact : IsCellChange p.layer d.map (painted_map p d.map) change

@@ -1,6 +1,6 @@
 // What an edit puts over the cells of a map.
 ghost use Rattle.std.specs.Prelude.{◌≡◌, ◌<◌};
-ghost use Rattle.edits.specs.Blocks.{block_of, erase_over, offset, stamp_over};
+ghost use Rattle.edits.specs.Blocks.{block_of, erase_over, offset, stamp_over, value_over};
 ghost use Rattle.map_model.specs.declared.limits.TheConstants.{MAX_SIDE};
 
 use crate::area::Area;
@@ -29,18 +29,31 @@ fn offset(start: i32, at: u32) -> Option<u32>
     u32::try_from(i64::from(at) - i64::from(start)).ok()
 }
 
-impl Cover for Block<'_> {
-    ghost over = { λ b. stamp_over (block_of b) };
-
-    fn value(&self, x: u32, y: u32) -> Option<Gid> {
+impl Block<'_> {
+    // The block's value over a cell, also where it is 0.
+    fn value_over(&self, x: u32, y: u32) -> Option<Gid>
+        requires column { x < MAX_SIDE }
+        requires row { y < MAX_SIDE }
+        ensures { result ≡ value_over (block_of self.now) x y }
+    {
         let right = offset(self.x, x)?;
         let down = offset(self.y, y)?;
         if right >= self.width {
             return None;
         }
         let place = down as usize * self.width as usize + right as usize;
-        let value = *self.values.get(place)?;
-        if value.is_empty() { None } else { Some(value) }
+        self.values.get(place).copied()
+    }
+}
+
+impl Cover for Block<'_> {
+    ghost over = { λ b. stamp_over (block_of b) };
+
+    fn value(&self, x: u32, y: u32) -> Option<Gid> {
+        match self.value_over(x, y) {
+            Some(value) if !value.is_empty() => Some(value),
+            _ => None,
+        }
     }
 }
 

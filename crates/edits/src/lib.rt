@@ -1,12 +1,22 @@
 //! What an edit does to a document: the cells that it changes, or why it is refused.
 #![tactic(auto)]
 
+mod area;
 mod block;
 mod change;
-mod laid;
+mod cover;
+mod erase;
+mod layer;
+mod reach;
+mod selecting;
+mod span;
 mod stamp;
 
+pub use area::Area;
 pub use block::Block;
 pub use change::{CellChange, CellEdits};
 pub use command_api::EditFault;
-pub use stamp::{stamp_change, tiles_of_layer};
+pub use erase::erase_change;
+pub use layer::tiles_of_layer;
+pub use selecting::{Selecting, selected};
+pub use stamp::stamp_change;

@@ -1,10 +1,14 @@
 // The part of a tile layer that an edit reaches, and the changes that it makes there.
-ghost use Rattle.std.specs.Prelude.{◌≡◌, ℕ, ◌+◌, ◌*◌, ◌<◌, ◌≤◌, ◌++◌, true, false, OnOk, IfOk, IfSome, IfNone, length};
+ghost use Rattle.std.specs.Prelude.{◌≡◌, ℕ, ◌+◌, ◌*◌, ◌<◌, ◌≤◌, ◌++◌, true, false, OnOk, IfOk, IfErr, IfSome, IfNone, length};
+ghost use Rattle.map_model.specs.CellEdits.{AreInRowOrder};
+ghost use Rattle.command_api.specs.declared.fault.EditFault.TheVariants.{NoMemory};
 ghost use Rattle.edits.specs.Covering.{lets_change};
-ghost use Rattle.edits.specs.Laying.{IsReach, changes_below, changed_to};
+ghost use Rattle.edits.specs.Laying.{AreNextColumns, IsReach, changes_below, changed_to};
 
+use crate::change::{CellChange, CellEdits};
 use crate::cover::Cover;
 use crate::span::Span;
+use command_api::EditFault;
 use map_model::CellEdit;
 use region::Region;
 use std::alloc::{AllocError, Global};
@@ -32,7 +36,9 @@ fn push_change(
     requires row { y < 4096 }
     ensures { OnOk result (cells.new.items ≡ cells.old.items ++ changed_to x y before over) }
 {
-    if let Some(after) = over && after != before {
+    if let Some(after) = over
+        && after != before
+    {
         cells.push(CellEdit {
             x: x as u16,
             y: y as u16,
@@ -46,21 +52,19 @@ fn push_change(
 impl Reach<'_> {
     // The next columns of a row, from one on, that may be changed.
     fn next_columns(&self, y: u32, from: u32) -> Option<Span>
-        ensures some { IfSome result (λ s. (from ≤ s.first) × (s.first < s.end) × (s.end ≤ self.now.columns.end)
-            × ((x : ℕ) → from ≤ x → x < s.first → lets_change self.now.selection.now (x, y) ≡ false)
-            × ((x : ℕ) → s.first ≤ x → x < s.end → lets_change self.now.selection.now (x, y) ≡ true)) }
+        ensures some { IfSome result (AreNextColumns self.now.selection.now y from self.now.columns.end) }
         ensures none { IfNone result ((x : ℕ) → from ≤ x → x < self.now.columns.end → lets_change self.now.selection.now (x, y) ≡ false) }
     {
-        if from >= self.columns.end {
+        let end = self.columns.end;
+        if from >= end {
             return None;
         }
         if self.selection.is_empty() {
-            return Some(Span {
-                first: from,
-                end: self.columns.end,
-            });
+            return Some(Span { first: from, end });
         }
-        let run = self.selection.next_run(y, from, self.columns.end)?;
+        let Some(run) = self.selection.next_run(y, from, end) else {
+            return None;
+        };
         Some(Span {
             first: run.x,
             end: run.x + run.len,
@@ -109,8 +113,8 @@ impl Reach<'_> {
         Ok(())
     }
 
-    /// The changes of all cells that a cover lies over and that the selection lets be changed, in row order.
-    pub fn changes<C: Cover>(&self, alloc: Global, cover: &C) -> Result<Vec<CellEdit>, AllocError>
+    // The changes of all cells that a cover lies over and that the selection lets be changed, in row order.
+    fn changes<C: Cover>(&self, alloc: Global, cover: &C) -> Result<Vec<CellEdit>, AllocError>
         requires { IsReach (C.over cover.now) self.now }
         ensures { IfOk result (λ cells. cells.items ≡ changes_below (C.over cover.now) self.now (length self.now.tiles.now)) }
     {
@@ -119,5 +123,28 @@ impl Reach<'_> {
             self.push_row(&mut cells, cover, y)?;
         }
         Ok(cells)
+    }
+
+    /// The change of the layer, which has this id: each cell that a cover lies over, and that the selection lets be
+    /// changed, takes its value.
+    pub fn change<C: Cover>(
+        &self,
+        alloc: Global,
+        layer: u32,
+        cover: &C,
+    ) -> Result<CellChange, EditFault>
+        requires { IsReach (C.over cover.now) self.now }
+        ensures layer { IfOk result (λ change. change.layer ≡ layer) }
+        ensures cells { IfOk result (λ change. change.cells ≡ changes_below (C.over cover.now) self.now (length self.now.tiles.now)) }
+        ensures ordered { IfOk result (λ change. AreInRowOrder change.cells) }
+        ensures refusal { IfErr result (λ fault. fault ≡ NoMemory) }
+    {
+        match self.changes(alloc, cover) {
+            Ok(cells) => Ok(CellChange {
+                layer,
+                cells: CellEdits::new(cells),
+            }),
+            Err(_) => Err(EditFault::NoMemory),
+        }
     }
 }

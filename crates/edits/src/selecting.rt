@@ -35,11 +35,7 @@ fn cells_in(alloc: Global, map: &Map, area: Area) -> Result<Region, AllocError>
 /// The selection of a document after an edit of it. The document stays as it is.
 ///
 /// Where there is no memory for it the answer is `AllocError`.
-pub fn selected(
-    alloc: Global,
-    document: &Document,
-    edit: Selecting,
-) -> Result<Region, AllocError>
+pub fn selected(alloc: Global, document: &Document, edit: Selecting) -> Result<Region, AllocError>
     ensures { IfOk result (λ r. r ≡ selected document.now edit) }
 {
     let Selecting::Rectangle { mode, area } = edit else {

@@ -13,7 +13,8 @@ use Rattle.region.proofs.Canonical.{same_runs}
 use Rattle.region.proofs.Members.{cell_cmp-same, contains-set_of}
 
 -- ---- the cells of the runs stand in row order
-comes_before : (p q : ℕ × ℕ) → (p.1 < q.1) ⊎ ((p.1 ≡ q.1) × (p.0 < q.0)) → cell_cmp p q ≡ Less
+-- a cell in an earlier row, or in an earlier column of the same row, comes before another
+pub comes_before : (p q : ℕ × ℕ) → (p.1 < q.1) ⊎ ((p.1 ≡ q.1) × (p.0 < q.0)) → cell_cmp p q ≡ Less
 comes_before p q h = by_cases h
   where
     by_row : (p q : ℕ × ℕ) → p.1 < q.1 → cell_cmp p q ≡ Less

@@ -1,0 +1,105 @@
+-- What the calls of an edit hand on: the layer of a well-formed map, what an edit reaches of it, and its change.
+use Rattle.std.proofs.Common.{◌≡◌, inl, inr, ℕ, ◌/◌, ◌%◌, ◌*◌, ◌<◌, List, length, Bor, Option, None, false, Result, Ok, Err, IfOk, ℤ, mul_comm, sym, ap, ◌∙◌, arith}
+use Rattle.std.specs.FinSet as set
+use Rattle.region.specs.Cells.{cell_cmp}
+use Rattle.map_model.specs.declared.parts.MapParts.{MapParts}
+use Rattle.map_model.specs.CellEdits.{AreInRowOrder}
+use Rattle.map_model.specs.Document.{DocumentParts}
+use Rattle.map_model.specs.Parts.{HasTiles, tiles_in}
+use Rattle.map_model.specs.WellFormed.{IsWellFormed}
+use Rattle.map_model.proofs.Keeps.{length-tiles_in}
+use Rattle.map_model.proofs.Turns.{tiles_in-with_tiles}
+use Rattle.command_api.specs.declared.fault.EditFault.{EditFault}
+use Rattle.edits.specs.declared.area.Area.{Area}
+use Rattle.edits.specs.declared.change.CellChange.{CellChange}
+use Rattle.edits.specs.declared.span.Span.{Span}
+use Rattle.edits.specs.Blocks.{ValueBlock, offset, is_below, stamp_over, erase_over, IsSpan}
+use Rattle.edits.specs.Covering.{covered}
+use Rattle.edits.specs.Difference.{difference, difference_in}
+use Rattle.edits.specs.Laying.{IsLayerOf, IsReach}
+use Rattle.edits.specs.Painting.{IsPainted, Painting, painted_map}
+use Rattle.edits.specs.Stamping.{IsBlock}
+use Rattle.edits.proofs.Overs.{stamp_over-column, stamp_over-row, erase_over-column, erase_over-row}
+
+-- ---- the layer
+-- the tiles are those of a layer of the well-formed map
+pub record IsTheLayer (m : MapParts) (id : ℕ) (tiles : List ℕ) : Type 0 where
+  pub well_formed : IsWellFormed m
+  pub has : HasTiles m id
+  pub is : tiles ≡ tiles_in m id
+
+pub length-layer : (m : MapParts) (id : ℕ) (tiles : List ℕ) → IsTheLayer m id tiles → length tiles ≡ m.width * m.height
+length-layer m id tiles h = ap length h.is ∙ length-tiles_in m id h.has h.well_formed
+
+pub IsLayerOf-map : (m : MapParts) (id : ℕ) (tiles : List ℕ) → IsTheLayer m id tiles → IsLayerOf m.width tiles
+IsLayerOf-map m id tiles h =
+    let size = length-layer m id tiles h in
+    record {
+      height = m.height;
+      wide = h.well_formed.size.wide;
+      narrow = h.well_formed.size.width_limit;
+      low = h.well_formed.size.height_limit;
+      size = size ∙ mul_comm m.width m.height;
+      few = omega (arith, h.well_formed.size.cells_limit);
+    }
+
+-- ---- what an edit reaches
+-- an edit puts nothing over the columns and rows outside its spans
+module _ (m : MapParts) (id : ℕ) (tiles : Bor (List ℕ)) (selection : Bor (set.FinSet cell_cmp)) (layer : IsTheLayer m id tiles.now)
+    (over : ℕ → ℕ → Option ℕ) (x y : ℤ) (width height : ℕ) (columns rows : Span)
+    (past_column : (a b : ℕ) → is_below (offset x a) width ≡ false → over a b ≡ None) (past_row : (a b : ℕ) → is_below (offset y b) height ≡ false → over a b ≡ None)
+    (is_columns : IsSpan x width m.width columns) (is_rows : IsSpan y height m.height rows) where
+  pub IsReach-spans : IsReach over (record { tiles = tiles; width = m.width; columns = columns; rows = rows; selection = selection })
+  unfolding IsLayerOf-map
+  IsReach-spans = record {
+    layer = IsLayerOf-map m id tiles.now layer;
+    columns = is_columns.ordered;
+    columns_within = is_columns.within;
+    rows = is_rows.ordered;
+    rows_within = is_rows.within;
+    other_columns = λ a b l other. elim other [ inl k ↦ past_column a b (is_columns.before a k) | inr k ↦ past_column a b (is_columns.after a k l) ];
+    other_rows = λ a b l other. elim other [ inl k ↦ past_row a b (is_rows.before b k) | inr k ↦ past_row a b (is_rows.after b k l) ];
+  }
+
+whole_rows : (n w : ℕ) → 0 < w → n % w ≡ 0 → n ≡ n / w * w
+whole_rows n w l e = omega arith
+
+pub IsReach-stamp : (m : MapParts) (id : ℕ) (tiles : Bor (List ℕ)) (selection : Bor (set.FinSet cell_cmp)) (columns rows : Span) (b : ValueBlock) → IsTheLayer m id tiles.now → IsBlock b
+    → IsSpan b.x b.width m.width columns → IsSpan b.y (length b.values / b.width) m.height rows
+    → IsReach (stamp_over b) (record { tiles = tiles; width = m.width; columns = columns; rows = rows; selection = selection })
+IsReach-stamp m id tiles selection columns rows b layer h cs rs =
+    IsReach-spans m id tiles selection layer (stamp_over b) b.x b.y b.width (length b.values / b.width) columns rows
+    (stamp_over-column b) (λ x y. stamp_over-row b x y (length b.values / b.width) (whole_rows (length b.values) b.width (omega (arith, h.wide)) h.whole)) cs rs
+
+pub IsReach-erase : (m : MapParts) (id : ℕ) (tiles : Bor (List ℕ)) (selection : Bor (set.FinSet cell_cmp)) (columns rows : Span) (a : Area) → IsTheLayer m id tiles.now
+    → IsSpan a.x a.width m.width columns → IsSpan a.y a.height m.height rows
+    → IsReach (erase_over a) (record { tiles = tiles; width = m.width; columns = columns; rows = rows; selection = selection })
+IsReach-erase m id tiles selection columns rows a layer cs rs =
+    IsReach-spans m id tiles selection layer (erase_over a) a.x a.y a.width a.height columns rows (erase_over-column a) (erase_over-row a) cs rs
+
+-- ---- the change
+-- the changes of all places are the difference of the map and the covered one
+changes-difference_in : (m : MapParts) (id : ℕ) (tiles : List ℕ) (over : ℕ → ℕ → Option ℕ) → IsTheLayer m id tiles
+    → difference m.width tiles (covered m.width over tiles) (length tiles) ≡ difference_in id m (painted_map (record { layer = id; fault = None; over = over }) m)
+changes-difference_in m id tiles over h =
+    ap (λ (vs : List ℕ). difference m.width vs (covered m.width over vs) (length vs)) h.is
+    ∙ ap (difference m.width (tiles_in m id) (covered m.width over (tiles_in m id))) (length-tiles_in m id h.has h.well_formed)
+    ∙ ap (λ vs. difference m.width (tiles_in m id) vs (m.width * m.height)) (sym (tiles_in-with_tiles m id (covered m.width over) h.has))
+
+pub IsPainted-changes : (d : DocumentParts) (p : Painting) (tiles : List ℕ) (change : CellChange) → p.fault ≡ None → IsTheLayer d.map p.layer tiles → change.layer ≡ p.layer
+    → change.cells ≡ difference d.map.width tiles (covered d.map.width p.over tiles) (length tiles) → AreInRowOrder change.cells → IsPainted d p change
+IsPainted-changes d p tiles change accepted layer id cells ordered = record {
+  accepted = accepted;
+  tiles = layer.has;
+  exact = record { layer = id; cells = cells ∙ changes-difference_in d.map p.layer tiles p.over layer; ordered = ordered };
+}
+
+-- the same of a change that a call may have made, of a layer of this width and with this selection
+pub IsPainted-result : (d : DocumentParts) (p : Painting) (tiles : List ℕ) (width : ℕ) (over : ℕ → ℕ → Option ℕ) (o : Result CellChange EditFault) → p.fault ≡ None → IsTheLayer d.map p.layer tiles
+    → width ≡ d.map.width → over ≡ p.over → IfOk o (λ change. change.layer ≡ p.layer) → IfOk o (λ change. change.cells ≡ difference width tiles (covered width over tiles) (length tiles))
+    → IfOk o (λ change. AreInRowOrder change.cells) → IfOk o (IsPainted d p)
+IsPainted-result d p tiles width over (Ok change) accepted layer wide is id cells ordered =
+    IsPainted-changes d p tiles change accepted layer id
+    (cells ∙ ap (λ w. difference w tiles (covered w over tiles) (length tiles)) wide ∙ ap (λ (f : ℕ → ℕ → Option ℕ). difference d.map.width tiles (covered d.map.width f tiles) (length tiles)) is)
+    ordered
+IsPainted-result d p tiles width over (Err fault) accepted layer wide is id cells ordered = tt

@@ -1,0 +1,40 @@
+// The tile layer that an edit changes, and the values that an edit sets.
+ghost use Rattle.std.specs.Prelude.{◌≡◌, MatchResult, None, Some};
+ghost use Rattle.std.specs.List.{list_all};
+ghost use Rattle.map_model.specs.Parts.{layer_of, tiles_in, HasTiles};
+ghost use Rattle.edits.specs.Refusals.{is_known, tile_layer_fault};
+
+use command_api::EditFault;
+use map_model::Map;
+use tile_id::Gid;
+
+/// The values of the tile layer with an id, row by row.
+///
+/// Refused where there is no layer with the id, and then where it is not a tile layer.
+pub fn tiles_of_layer(map: &Map, layer: u32) -> Result<&[Gid], EditFault>
+    ensures { MatchResult result
+        (λ tiles. (tile_layer_fault (layer_of map.now layer) ≡ None) × HasTiles map.now layer × (tiles.now ≡ tiles_in map.now layer))
+        (λ fault. tile_layer_fault (layer_of map.now layer) ≡ Some fault) }
+{
+    let Some(layer) = map.layer(layer) else {
+        return Err(EditFault::NoSuchLayer);
+    };
+    match layer.body.tiles() {
+        Some(tiles) => Ok(tiles),
+        None => Err(EditFault::LayerOfAnotherKind),
+    }
+}
+
+/// Whether a value is 0 or has a tileset.
+pub fn is_known_value(map: &Map, value: Gid) -> bool
+    ensures { result ≡ is_known map.now value }
+{
+    value.is_empty() || map.tileset_of(value).is_some()
+}
+
+/// Whether each value is 0 or has a tileset.
+pub fn are_known_values(map: &Map, values: &[Gid]) -> bool
+    ensures { result ≡ list_all (is_known map.now) values.now }
+{
+    values.iter().all(|value| is_known_value(map, *value))
+}
