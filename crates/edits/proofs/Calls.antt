@@ -89,6 +89,7 @@ changes-difference_in m id tiles over h =
 pub IsPainted-changes : (d : DocumentParts) (p : Painting) (tiles : List ℕ) (change : CellChange) → p.fault ≡ None → IsTheLayer d.map p.layer tiles → change.layer ≡ p.layer
     → change.cells ≡ difference d.map.width tiles (covered d.map.width p.over tiles) (length tiles) → AreInRowOrder change.cells → IsPainted d p change
 IsPainted-changes d p tiles change accepted layer id cells ordered = record {
+  well_formed = layer.well_formed;
   accepted = accepted;
   tiles = layer.has;
   exact = record { layer = id; cells = cells ∙ changes-difference_in d.map p.layer tiles p.over layer; ordered = ordered };

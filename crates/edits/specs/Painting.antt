@@ -4,6 +4,7 @@ use Rattle.map_model.specs.declared.parts.MapParts.{MapParts}
 use Rattle.map_model.specs.CellEdits.{AreInRowOrder}
 use Rattle.map_model.specs.Document.{DocumentParts, with_map}
 use Rattle.map_model.specs.Parts.{HasTiles}
+use Rattle.map_model.specs.WellFormed.{IsWellFormed}
 use Rattle.command_api.specs.declared.fault.EditFault.{EditFault}
 use Rattle.edits.specs.declared.change.CellChange.{CellChange}
 use Rattle.edits.specs.Covering.{covered_map}
@@ -35,8 +36,9 @@ pub record IsCellChange (id : ℕ) (m n : MapParts) (change : CellChange) : Type
   pub cells : change.cells ≡ difference_in id m n
   pub ordered : AreInRowOrder change.cells
 
--- the edit is not refused, and the change is that of the map and the one after the edit
+-- the edit of a well-formed document is not refused, and the change is that of the map and the one after the edit
 pub record IsPainted (d : DocumentParts) (p : Painting) (change : CellChange) : Type 0 where
+  pub well_formed : IsWellFormed d.map
   pub accepted : p.fault ≡ None
   pub tiles : HasTiles d.map p.layer
   pub exact : IsCellChange p.layer d.map (painted_map p d.map) change

@@ -11,12 +11,16 @@ use Rattle.map_model.specs.Parts.{HasTiles, with_edits, IsWithin}
 use Rattle.map_model.specs.WellFormed.{IsWellFormed}
 use Rattle.map_model.proofs.CellEdits.{length-put_values}
 use Rattle.map_model.proofs.Turns.{HasTiles-with_tiles}
-use Rattle.edits.specs.Blocks.{ValueBlock}
+use Rattle.edits.specs.declared.change.CellChange.{CellChange}
+use Rattle.edits.specs.Covering.{covered}
 use Rattle.edits.specs.Difference.{difference_in}
-use Rattle.edits.specs.Stamping.{stamped, stamped_map, stamp_fault, after_stamp, answer_by}
+use Rattle.edits.specs.Painting.{IsPainted, Painting, after_painting, answer_by, painted_map}
 use Rattle.edits.proofs.Differences.{length-each_at}
 use Rattle.edits.proofs.Turns.{with_edits-after, with_edits-before, with_edits-again, with_edits-none, difference_in-same, difference_in-within}
-use Rattle.paint_commands.specs.Painting.{side_of, difference_by, IsDifference}
+use Rattle.command_api.specs.Law.{Names, WhenEqual}
+use Rattle.command_api.specs.Making.{Makes}
+use Rattle.paint_commands.specs.declared.paint.PaintKind.{PaintKind}
+use Rattle.paint_commands.specs.Painting.{side_of, difference_by, IsDifference, new_paint, paint_change, paint_names}
 
 -- ---- where the cells lie
 pub cells-within : (made : Bool) (layer : ℕ) (cells : List CellEdit) (d : DocumentParts) → IsDifference made layer cells d → Each (IsWithin d.map) cells
@@ -87,23 +91,30 @@ pub difference-before : (made : Bool) (layer : ℕ) (cells : List CellEdit) (d :
 difference-before false layer cells d other h = absurd (other refl)
 difference-before true layer cells d other h = h.exact
 
--- ---- a stamp
-stamp_turns : (layer : ℕ) (block : ValueBlock) (cells : List CellEdit) (d : DocumentParts) → cells ≡ difference_in layer d.map (stamped_map layer block d.map)
-    → HasTiles d.map layer → IsWellFormed d.map → with_edits d.map layer cells After ≡ stamped_map layer block d.map
-stamp_turns layer block cells d e t h =
-    with_edits-after d.map layer (stamped d.map.width block) cells (λ vs. length-each_at _ 0 vs) e t h
+-- ---- a new paint
+module _ (d : DocumentParts) (p : Painting) (change : CellChange) (is : IsPainted d p change) where
+  turned : with_edits d.map change.layer change.cells After ≡ painted_map p d.map
+  turned =
+      ap (λ id. with_edits d.map id change.cells After) is.exact.layer
+      ∙ with_edits-after d.map p.layer (covered d.map.width p.over) change.cells (λ vs. length-each_at _ 0 vs) is.exact.cells is.tiles is.well_formed
 
-pub stamp-IsDifference : (layer : ℕ) (block : ValueBlock) (cells : List CellEdit) (d : DocumentParts) → cells ≡ difference_in layer d.map (stamped_map layer block d.map)
-    → HasTiles d.map layer → IsWellFormed d.map → IsDifference false layer cells d
-stamp-IsDifference layer block cells d e t h = record {
-  well_formed = h;
-  tiles = t;
-  exact = e ∙ ap (difference_in layer d.map) (sym (stamp_turns layer block cells d e t h));
-}
+  new-IsDifference : IsDifference false change.layer change.cells d
+  new-IsDifference = record {
+    well_formed = is.well_formed;
+    tiles = rw is.exact.layer is.tiles;
+    exact = is.exact.cells ∙ ap (λ id. difference_in id d.map (painted_map p d.map)) (sym is.exact.layer) ∙ ap (difference_in change.layer d.map) (sym turned);
+  }
 
-pub stamp-document : (layer : ℕ) (block : ValueBlock) (cells : List CellEdit) (d : DocumentParts) → stamp_fault d.map layer block ≡ None
-    → cells ≡ difference_in layer d.map (stamped_map layer block d.map) → HasTiles d.map layer → IsWellFormed d.map
-    → after_stamp d layer block ≡ Ok (painted layer cells After d)
-stamp-document layer block cells d a e t h =
-    ap (λ o. answer_by o (record d { map = stamped_map layer block d.map })) a
-    ∙ ap (λ m. Ok (record d { map = m })) (sym (stamp_turns layer block cells d e t h))
+  new-document : after_painting d p ≡ Ok (painted change.layer change.cells After d)
+  new-document =
+      ap (λ o. answer_by o (record d { map = painted_map p d.map })) is.accepted
+      ∙ ap (λ m. Ok (record d { map = m })) (sym turned)
+
+  -- the command of an edit's change leads to the document after the edit
+  pub paint_made : (kind : PaintKind) (follows : Bool) (names : Names) → paint_names kind change.layer follows ≡ names → names.vanishing ≡ WhenEqual
+      → Makes names d (after_painting d p) (paint_change (new_paint kind follows change))
+  paint_made kind follows names called vanishes = record {
+    fits = (λ e. cc, record { fits = new-IsDifference; settled = rw (called, vanishes) (difference-settled false change.layer change.cells d new-IsDifference) });
+    document = new-document;
+    names = called;
+  }

@@ -7,13 +7,14 @@ use Rattle.map_model.specs.declared.parts.MapParts.{MapParts}
 use Rattle.map_model.specs.Document.{DocumentParts, painted}
 use Rattle.map_model.specs.Parts.{HasTiles}
 use Rattle.map_model.specs.WellFormed.{IsWellFormed}
+use Rattle.edits.specs.declared.change.CellChange.{CellChange}
 use Rattle.edits.specs.Difference.{difference_in}
 use Rattle.command_api.specs.Exchange.{Exchange, change_of}
-use Rattle.command_api.specs.Law.{Change, Names, WhenEqual}
+use Rattle.command_api.specs.Law.{Change, Names, WhenEqual, untagged}
 use Rattle.command_api.specs.Tag.{OfLayer}
 use Rattle.paint_commands.specs.declared.paint.PaintCommand.{PaintCommand}
 use Rattle.paint_commands.specs.declared.paint.PaintKind.{PaintKind}
-use Rattle.paint_commands.specs.declared.paint.PaintKind.TheVariants.{Stamp}
+use Rattle.paint_commands.specs.declared.paint.PaintKind.TheVariants.{Stamp, Erase, Fill}
 
 -- what a stamp on a layer is called
 abbrev pub stamp_names : ℕ → Bool → Names
@@ -25,9 +26,25 @@ stamp_names layer follows = record {
   follows = follows;
 }
 
--- what a paint of this kind is called
+-- what an erase on a layer is called
+abbrev pub erase_names : ℕ → Bool → Names
+erase_names layer follows = record {
+  text = codes "Erase";
+  action = codes "erase tiles";
+  tag = Some (record { kind = 2; subject = OfLayer layer });
+  vanishing = WhenEqual;
+  follows = follows;
+}
+
+-- what a fill is called
+abbrev pub fill_names : Names
+fill_names = untagged (codes "Fill") (codes "fill area") WhenEqual
+
+-- what a paint of this kind is called; a fill has no tag and follows nothing
 abbrev pub paint_names : PaintKind → ℕ → Bool → Names
 paint_names Stamp layer follows = stamp_names layer follows
+paint_names Erase layer follows = erase_names layer follows
+paint_names Fill layer follows = fill_names
 
 -- the side to which the cells are set next
 abbrev pub side_of : Bool → Side
@@ -61,3 +78,7 @@ paint_change c = change_of (paint_exchange c)
 -- the layer that a command paints
 abbrev pub painted_layer : PaintCommand → ℕ
 painted_layer c = c.layer
+
+-- the command of a change, not made yet
+abbrev pub new_paint : PaintKind → Bool → CellChange → PaintCommand
+new_paint kind follows change = record { kind = kind; layer = change.layer; follows = follows; is_made = false; cells = change.cells }

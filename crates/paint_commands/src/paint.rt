@@ -3,14 +3,16 @@ ghost use Rattle.map_model.specs.CellEdits.{AreInRowOrder};
 ghost use Rattle.map_model.specs.Document.{DocumentParts};
 ghost use Rattle.edits.specs.Blocks.{block_of};
 ghost use Rattle.edits.specs.Difference.{difference_in};
-ghost use Rattle.edits.specs.Stamping.{after_stamp, IsBlock};
+ghost use Rattle.edits.specs.Filling.{after_fill};
+ghost use Rattle.edits.specs.Stamping.{after_erase, after_stamp, IsBlock};
 ghost use Rattle.command_api.specs.Making.{IsRefusalOf, Makes};
-ghost use Rattle.paint_commands.specs.Painting.{paint_change, paint_exchange, painted_layer, side_of, stamp_names};
+ghost use Rattle.paint_commands.specs.Painting.{erase_names, fill_names, new_paint, paint_change, paint_exchange, painted_layer, side_of, stamp_names};
 
 use command_api::{Exchange, Label};
-use edits::{Block, CellEdits, EditFault, stamp_change};
+use edits::{Area, Block, CellChange, CellEdits, EditFault, erase_change, fill_change, stamp_change};
 use map_model::{CellEdit, Document, Side};
 use std::alloc::Global;
+use tile_id::Gid;
 
 #[cfg(test)]
 mod tests;
@@ -19,6 +21,8 @@ mod tests;
 #[derive(Clone, Copy, PartialEq, Eq, Debug)]
 enum PaintKind {
     Stamp,
+    Erase,
+    Fill,
 }
 
 /// A paint on a tile layer. It holds exactly the cells that differ between the documents on its two sides.
@@ -32,6 +36,19 @@ pub struct PaintCommand {
 }
 
 impl PaintCommand {
+    // The command of a change, not made yet.
+    fn of_change(kind: PaintKind, follows: bool, change: CellChange) -> PaintCommand
+        ensures { result ≡ new_paint kind follows change }
+    {
+        PaintCommand {
+            kind,
+            layer: change.layer,
+            follows,
+            is_made: false,
+            cells: change.cells,
+        }
+    }
+
     /// The command that stamps a block on a tile layer, not made yet. The document stays as it is.
     ///
     /// Refused, in this order: where there is no layer with the id; where it is not a tile layer; where a value of
@@ -48,13 +65,44 @@ impl PaintCommand {
         ensures refusal { IfErr result (IsRefusalOf (after_stamp document.now layer (block_of block.now))) }
     {
         let change = stamp_change(alloc, document, layer, block)?;
-        Ok(PaintCommand {
-            kind: PaintKind::Stamp,
-            layer,
-            follows,
-            is_made: false,
-            cells: change.cells,
-        })
+        Ok(PaintCommand::of_change(PaintKind::Stamp, follows, change))
+    }
+
+    /// The command that erases the cells of an area on a tile layer, not made yet. The document stays as it is.
+    ///
+    /// Refused, in this order: where there is no layer with the id; where it is not a tile layer; and then where there
+    /// is no memory.
+    pub fn erase(
+        alloc: Global,
+        document: &Document,
+        layer: u32,
+        area: &Area,
+        follows: bool,
+    ) -> Result<PaintCommand, EditFault>
+        ensures command { IfOk result (λ c. Makes (erase_names layer follows) document.now (after_erase document.now layer area.now) (paint_change c)) }
+        ensures refusal { IfErr result (IsRefusalOf (after_erase document.now layer area.now)) }
+    {
+        let change = erase_change(alloc, document, layer, area)?;
+        Ok(PaintCommand::of_change(PaintKind::Erase, follows, change))
+    }
+
+    /// The command that fills the cells joined to a start with a value, not made yet. The document stays as it is.
+    ///
+    /// Refused, in this order: where there is no layer with the id; where it is not a tile layer; where the start lies
+    /// outside the map; where the value is not 0 and has no tileset; and then where there is no memory.
+    pub fn fill(
+        alloc: Global,
+        document: &Document,
+        layer: u32,
+        x: i32,
+        y: i32,
+        value: Gid,
+    ) -> Result<PaintCommand, EditFault>
+        ensures command { IfOk result (λ c. Makes fill_names document.now (after_fill document.now layer x y value) (paint_change c)) }
+        ensures refusal { IfErr result (IsRefusalOf (after_fill document.now layer x y value)) }
+    {
+        let change = fill_change(alloc, document, layer, x, y, value)?;
+        Ok(PaintCommand::of_change(PaintKind::Fill, false, change))
     }
 
     /// The cells that the paint changes, in row order, each once, with unequal values before and after: the
@@ -87,6 +135,12 @@ impl Exchange for PaintCommand {
                 action: "stamp tiles",
                 id: 1,
             },
+            PaintKind::Erase => Label {
+                text: "Erase",
+                action: "erase tiles",
+                id: 2,
+            },
+            PaintKind::Fill => Label::untagged("Fill", "fill area"),
         }
     }
 

@@ -1,17 +1,13 @@
-use Rattle.std.proofs.Common.{refl, false}
+use Rattle.std.proofs.Common.{refl, ap}
 use Rattle.edits.specs.Blocks.{block_of}
-use Rattle.paint_commands.proofs.Paints.{stamp-IsDifference, stamp-document, difference-settled}
+use Rattle.edits.specs.Stamping.{stamp_painting}
+use Rattle.paint_commands.specs.declared.paint.PaintKind.TheVariants.{Stamp}
+use Rattle.paint_commands.specs.Painting.{stamp_names}
+use Rattle.paint_commands.proofs.Paints.{paint_made}
 use Rattle.paint_commands.proofs.paint.PaintCommand.stamp.Goals as goal
 
 pub returns-clause-command : goal.returns-clause-command
 returns-clause-command c =
-    let d = c.args.document.now in
-    let block = block_of c.args.block.now in
-    let cells = c.in_ok-change.change.cells in
     let is = c.in_ok-change.ensures.change in
-    let fits = stamp-IsDifference c.args.layer block cells d is.cells is.tiles is.well_formed in
-    record {
-      fits = (λ e. cc, record { fits = fits; settled = difference-settled false c.args.layer cells d fits });
-      document = stamp-document c.args.layer block cells d is.accepted is.cells is.tiles is.well_formed;
-      names = refl;
-    }
+    rw c.of_change.ensures (paint_made c.args.document.now (stamp_painting c.args.document.now c.args.layer (block_of c.args.block.now)) c.in_ok-change.change is
+    Stamp c.args.follows (stamp_names c.args.layer c.args.follows) (ap (λ id. stamp_names id c.args.follows) is.exact.layer) refl)
