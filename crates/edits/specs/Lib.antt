@@ -5,4 +5,5 @@ pub mod Filling
 pub mod Joining
 pub mod LayerEdits
 pub mod Laying
+pub mod Marks
 pub mod Stamping

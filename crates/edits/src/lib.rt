@@ -4,6 +4,7 @@
 mod block;
 mod change;
 mod laid;
+mod marks;
 mod stamp;
 
 pub use block::Block;
