@@ -1,5 +1,5 @@
 -- Cells that are joined: a list of cells leads from one to the other, exactly where as many steps as there are cells do.
-use Rattle.std.proofs.Common.{◌≡◌, ◌⊎◌, ◌↔◌, inl, inr, IsTrue, ℕ, zero, suc, ◌+◌, ◌*◌, ◌/◌, ◌%◌, ◌<◌, ◌≤◌, List, [], ◌∷◌, Bool, true, false, cond, ◌&&◌, ◌||◌, nat_eq, nat_lt, refl, sym, ap, ◌∙◌, arith}
+use Rattle.std.proofs.Common.{◌≡◌, ◌⊎◌, ◌↔◌, inl, inr, IsTrue, ℕ, zero, suc, ◌+◌, ◌-◌, ◌*◌, ◌/◌, ◌%◌, ◌<◌, ◌≤◌, List, [], ◌∷◌, ◌++◌, Bool, true, false, cond, ◌&&◌, ◌||◌, nat_eq, nat_lt, refl, sym, ap, ◌∙◌, subst, mul_comm, arith}
 use Rattle.std.specs.List.{list_any}
 use Rattle.std.proofs.lemmas.Bool.{cases_Bool, cases_lt, or_cases, and_parts, and_from, eqb-true, eq-eqb, false≢true}
 use Rattle.std.proofs.lemmas.Bool.Decides.{nat_tests}
@@ -92,7 +92,117 @@ difference_of test test' (suc n) = elim (difference_of test test' n) [
       | inr m ↦ let here : k ≡ n = omega arith in absurd (false≢true (sym e ∙ ap test' (sym here) ∙ g))
     ])
 
+-- ---- paths
+module _ (free : ℕ × ℕ → Bool) where
+  Leads-append : (p : ℕ × ℕ) (path : List (ℕ × ℕ)) (r q : ℕ × ℕ) → Leads free p path r → AreNeighbours r q → free q ≡ true → Leads free p (path ++ q ∷ []) q
+  Leads-append p [] r q h n e = let P : ℕ × ℕ → Type 0 = λ c. AreNeighbours c q in (h.0, subst P (sym h.1) n, (e, refl))
+  Leads-append p (s ∷ path) r q h n e = (h.0, h.1, Leads-append s path r q h.2 n e)
+
+  -- one more step
+  pub AreJoined-step : (p r q : ℕ × ℕ) → AreJoined free p r → AreNeighbours r q → free q ≡ true → AreJoined free p q
+  AreJoined-step p r q j n e = (j.0 ++ q ∷ [], Leads-append p j.0 r q j.1 n e)
+
+  pub AreJoined-self : (p : ℕ × ℕ) → free p ≡ true → AreJoined free p p
+  AreJoined-self p e = ([], (e, refl))
+
+  -- where a path leads, holds what the neighbours' free cells take over
+  pub along_path : (P : ℕ × ℕ → Type 0) → ((r q : ℕ × ℕ) → P r → AreNeighbours r q → free q ≡ true → P q)
+      → (p : ℕ × ℕ) (path : List (ℕ × ℕ)) (q : ℕ × ℕ) → Leads free p path q → P p → P q
+  along_path P more p [] q h here = subst P h.1 here
+  along_path P more p (r ∷ path) q h here = along_path P more r path q h.2 (more p r here h.1 (first_free r path q h.2))
+    where
+      first_free : (r : ℕ × ℕ) (path : List (ℕ × ℕ)) (q : ℕ × ℕ) → Leads free r path q → free r ≡ true
+      first_free r [] q h = h.0
+      first_free r (s ∷ path) q h = h.0
+
+  pub start_free : (p q : ℕ × ℕ) → AreJoined free p q → free p ≡ true
+  start_free p q ([], h) = h.0
+  start_free p q (r ∷ path, h) = h.0
+
 -- ---- steps
 module _ (free : ℕ × ℕ → Bool) (p : ℕ × ℕ) where
-  reached : ℕ → ℕ × ℕ → Bool
-  abbrev reached n q = is_reached free p n q
+  reached-free : (n : ℕ) (q : ℕ × ℕ) → is_reached free p n q ≡ true → free q ≡ true
+  reached-free zero q h = (and_parts (free q) (nat_eq p.0 q.0 && nat_eq p.1 q.1) h).0
+  reached-free (suc n) q h = elim (or_cases (is_reached free p n q) (free q && any_neighbour (is_reached free p n) q) h) [
+    | inl e ↦ reached-free n q e
+    | inr e ↦ (and_parts (free q) (any_neighbour (is_reached free p n) q) e).0
+  ]
+
+  reached-step : (n : ℕ) (r q : ℕ × ℕ) → is_reached free p n r ≡ true → AreNeighbours r q → free q ≡ true → is_reached free p (suc n) q ≡ true
+  reached-step n r q h e f =
+      or_right (is_reached free p n q) (free q && any_neighbour (is_reached free p n) q)
+      (and_from (free q) (any_neighbour (is_reached free p n) q) f (any_neighbour-of (is_reached free p n) r q e h))
+
+  reached-more : (n k : ℕ) (q : ℕ × ℕ) → is_reached free p n q ≡ true → is_reached free p (k + n) q ≡ true
+  reached-more n zero q h = let same : 0 + n ≡ n = omega arith in rw same h
+  reached-more n (suc k) q h =
+      let same : suc k + n ≡ suc (k + n) = omega arith in
+      rw same (or_left (is_reached free p (k + n) q) (free q && any_neighbour (is_reached free p (k + n)) q) (reached-more n k q h))
+
+  reached-joined : (n : ℕ) (q : ℕ × ℕ) → is_reached free p n q ≡ true → AreJoined free p q
+  reached-joined zero q h =
+      let f = and_parts (free q) (nat_eq p.0 q.0 && nat_eq p.1 q.1) h in
+      let g = and_parts (nat_eq p.0 q.0) (nat_eq p.1 q.1) f.1 in
+      let column = eqb-true p.0 q.0 g.0 in
+      let row = eqb-true p.1 q.1 g.1 in
+      let same : p ≡ q = λ i. (column i, row i) in
+      ([], (ap free same ∙ f.0, same))
+  reached-joined (suc n) q h = elim (or_cases (is_reached free p n q) (free q && any_neighbour (is_reached free p n) q) h) [
+    | inl e ↦ reached-joined n q e
+    | inr e ↦
+      let f = and_parts (free q) (any_neighbour (is_reached free p n) q) e in
+      let r = neighbour-of (is_reached free p n) q f.1 in
+      AreJoined-step free p r.0 q (reached-joined n r.0 r.2) r.1 f.0
+  ]
+
+  -- no step leads further
+  IsWhole : ℕ → Type 0
+  IsWhole n = (q : ℕ × ℕ) → is_reached free p (suc n) q ≡ true → is_reached free p n q ≡ true
+
+  module _ (w h : ℕ) (bounded : (q : ℕ × ℕ) → free q ≡ true → (q.0 < w) × (q.1 < h)) where
+    at_place : ℕ → ℕ → Bool
+    at_place n k = is_reached free p n (k % w, k / w)
+
+    IsWhole-places : (n : ℕ) → ((k : ℕ) → k < h * w → at_place (suc n) k ≡ true → at_place n k ≡ true) → IsWhole n
+    unfolding IsWhole at_place
+    IsWhole-places n same q r =
+        let b = bounded q (reached-free (suc n) q r) in
+        let inside : q.1 * w + q.0 < h * w = omega (arith, mul-add-lt q.1 w q.0 h b.1 b.0, mul_comm w h) in
+        let column = mod-mul-add q.1 w q.0 b.0 in
+        let row = div-mul-add q.1 w q.0 b.0 in
+        sym (ap (λ x. is_reached free p n (x, (q.1 * w + q.0) / w)) column ∙ ap (λ y. is_reached free p n (q.0, y)) row)
+        ∙ same (q.1 * w + q.0) inside (ap (λ x. is_reached free p (suc n) (x, (q.1 * w + q.0) / w)) column ∙ ap (λ y. is_reached free p (suc n) (q.0, y)) row ∙ r)
+
+    -- some number of steps below n is enough, or n cells are reached
+    whole_or_more : (n : ℕ) → ((m : ℕ) × (m < n) × IsWhole m) ⊎ (n ≤ count (at_place n) (h * w))
+    unfolding at_place
+    whole_or_more zero = inr (omega arith)
+    whole_or_more (suc n) = elim (whole_or_more n) [
+      | inl s ↦ inl (s.0, omega (arith, s.1), s.2)
+      | inr c ↦ elim (difference_of (at_place n) (at_place (suc n)) (h * w)) [
+        | inl same ↦ inl (n, omega arith, IsWhole-places n same)
+        | inr d ↦ inr (omega (arith, c, count-lt (at_place n) (at_place (suc n)) (h * w) d.0 kept d.1 d.2 d.3))
+      ]
+    ]
+      where
+        kept : (k : ℕ) → k < h * w → at_place n k ≡ true → at_place (suc n) k ≡ true
+        kept k l e = or_left (is_reached free p n (k % w, k / w)) _ e
+
+    whole : (m : ℕ) × (m < suc (h * w)) × IsWhole m
+    whole = elim (whole_or_more (suc (h * w))) [ inl s ↦ s | inr c ↦ absurd (omega (arith, c, count-all (at_place (suc (h * w))) (h * w))) ]
+
+    joined-reached : (q : ℕ × ℕ) → AreJoined free p q → is_reached free p (h * w) q ≡ true
+    unfolding IsWhole
+    joined-reached q j =
+        let m = whole in
+        let P : ℕ × ℕ → Type 0 = λ r. is_reached free p m.0 r ≡ true in
+        let start = reached-more 0 m.0 p (and_from (free p) (nat_eq p.0 p.0 && nat_eq p.1 p.1) (start_free free p q j)
+        (and_from (nat_eq p.0 p.0) (nat_eq p.1 p.1) (eq-eqb p.0 p.0 refl) (eq-eqb p.1 p.1 refl))) in
+        let all : m.0 + 0 ≡ m.0 = omega arith in
+        let here = along_path free P (λ r s t n f. m.2 s (reached-step m.0 r s t n f)) p j.0 q j.1 (rw all at start) in
+        let more : h * w - m.0 + m.0 ≡ h * w = omega (arith, m.1) in
+        rw more at (reached-more m.0 (h * w - m.0) q here)
+
+    -- as many steps as there are cells are enough
+    pub is_reached-AreJoined : (q : ℕ × ℕ) → (is_reached free p (h * w) q ≡ true) ↔ AreJoined free p q
+    is_reached-AreJoined q = (reached-joined (h * w) q, joined-reached q)
