@@ -4,13 +4,14 @@ use Rattle.std.specs.List.{list_any}
 use Rattle.std.proofs.lemmas.Bool.{cases_Bool, cases_lt, or_cases, and_parts, and_from, eqb-true, eq-eqb, false≢true}
 use Rattle.std.proofs.lemmas.Bool.Decides.{nat_tests}
 use Rattle.std.proofs.lemmas.Nat.{mul-add-lt, mod-mul-add, div-mul-add}
+use Rattle.edits.specs.Flooding.{count}
 use Rattle.edits.specs.Joining.{AreBeside, AreNeighbours, Leads, AreJoined, beside, any_neighbour, is_reached}
 
 -- ---- neighbours
-or_left : (a b : Bool) → a ≡ true → (a || b) ≡ true
+pub or_left : (a b : Bool) → a ≡ true → (a || b) ≡ true
 or_left a b e = rw e refl
 
-or_right : (a b : Bool) → b ≡ true → (a || b) ≡ true
+pub or_right : (a b : Bool) → b ≡ true → (a || b) ≡ true
 or_right true b e = refl
 or_right false b e = e
 
@@ -43,10 +44,6 @@ any_neighbour-of test r q (inr n) e =
     (beside_any (λ y. test (q.0, y)) q.1 r.1 n.1 (ap (λ x. test (x, r.1)) (sym n.0) ∙ e))
 
 -- ---- how many places a test holds of
-abbrev count : (ℕ → Bool) → ℕ → ℕ
-count test zero = 0
-count test (suc n) = cond (test n) 1 0 + count test n
-
 pub count-le : (test test' : ℕ → Bool) (n : ℕ) → ((k : ℕ) → k < n → test k ≡ true → test' k ≡ true) → count test n ≤ count test' n
 count-le test test' zero h = omega arith
 count-le test test' (suc n) h = by_test (test n) refl (count-le test test' n (λ k l e. h k (omega arith) e))

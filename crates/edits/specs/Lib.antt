@@ -2,6 +2,7 @@ pub mod Blocks
 pub mod Covering
 pub mod Difference
 pub mod Filling
+pub mod Flooding
 pub mod Joining
 pub mod LayerEdits
 pub mod Laying

@@ -3,6 +3,7 @@
 
 mod block;
 mod change;
+mod flood;
 mod laid;
 mod marks;
 mod stamp;
