@@ -127,6 +127,52 @@ impl Spread {
         Ok(())
     }
 
+    // Takes whatever is free above a stretch.
+    fn take_above(&mut self, ground: &Ground<'_>, from: Stretch) -> Result<(), AllocError>
+        requires ground { IsGround ground.now }
+        requires spread { IsSpread ground.now self.old.taken (from ∷ self.old.pending.items) }
+        ensures spread { OnOk result (IsSpread ground.now self.new.taken (from ∷ self.new.pending.items)) }
+        ensures covers { OnOk result ((y : ℕ) → suc y ≡ from.y → Covers ground.now self.new.taken from y) }
+        ensures keeps { OnOk result (Keeps ground.now self.old.taken self.new.taken) }
+        ensures work { OnOk result (work_left ground.now self.new ≤ work_left ground.now self.old) }
+    {
+        if from.y == 0 {
+            return Ok(());
+        }
+        self.take_beside(ground, from, from.y - 1)
+    }
+
+    // Takes whatever is free above and below a stretch, which is then done with.
+    fn take_around(&mut self, ground: &Ground<'_>, from: Stretch) -> Result<(), AllocError>
+        requires ground { IsGround ground.now }
+        requires spread { IsSpread ground.now self.old.taken (from ∷ self.old.pending.items) }
+        ensures spread { OnOk result (IsSpread ground.now self.new.taken self.new.pending.items) }
+        ensures keeps { OnOk result (Keeps ground.now self.old.taken self.new.taken) }
+        ensures work { OnOk result (work_left ground.now self.new ≤ work_left ground.now self.old) }
+    {
+        self.take_above(ground, from)?;
+        if from.y + 1 == ground.height {
+            return Ok(());
+        }
+        self.take_beside(ground, from, from.y + 1)?;
+        Ok(())
+    }
+
+    // Takes the stretch of the start, where it may be changed.
+    fn take_start(&mut self, ground: &Ground<'_>) -> Result<(), AllocError>
+        requires ground { IsGround ground.now }
+        requires spread { IsSpread ground.now self.old.taken self.old.pending.items }
+        ensures spread { OnOk result (IsSpread ground.now self.new.taken self.new.pending.items) }
+        ensures start { OnOk result (free_in ground.now (start_of ground.now) ≡ true → is_taken ground.now self.new.taken (start_of ground.now) ≡ true) }
+    {
+        let (x, y) = ground.start;
+        if !ground.is_free(y as usize * ground.width as usize + x as usize) {
+            return Ok(());
+        }
+        self.take(ground, y, x)?;
+        Ok(())
+    }
+
     // Takes whatever is joined to the cells taken so far.
     fn take_joined(&mut self, ground: &Ground<'_>) -> Result<(), AllocError>
         requires ground { IsGround ground.now }
@@ -135,12 +181,7 @@ impl Spread {
         ensures keeps { OnOk result (Keeps ground.now self.old.taken self.new.taken) }
     {
         while let Some(from) = self.pending.pop() {
-            if from.y > 0 {
-                self.take_beside(ground, from, from.y - 1)?;
-            }
-            if from.y + 1 < ground.height {
-                self.take_beside(ground, from, from.y + 1)?;
-            }
+            self.take_around(ground, from)?;
         }
         Ok(())
     }
@@ -156,10 +197,7 @@ impl Spread {
             count: 0,
             pending: Vec::new(alloc),
         };
-        let (x, y) = ground.start;
-        if ground.is_free(y as usize * ground.width as usize + x as usize) {
-            spread.take(ground, y, x)?;
-        }
+        spread.take_start(ground)?;
         spread.take_joined(ground)?;
         Ok(spread)
     }
