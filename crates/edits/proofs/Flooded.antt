@@ -36,7 +36,7 @@ pub free_at-read : (g : Ground) (place own : ℕ) → place < length g.tiles.now
 unfolding free_at
 free_at-read g place own l = ap (λ o. is_value o g.value && (g.everywhere || is_marked g.selected place)) (slice_get-get_or g.tiles.now place own l)
 
-free_at-within : (g : Ground) (place : ℕ) → free_at g place ≡ true → place < length g.tiles.now
+pub free_at-within : (g : Ground) (place : ℕ) → free_at g place ≡ true → place < length g.tiles.now
 unfolding free_at
 free_at-within g place h = elim (cases_lt place (length g.tiles.now)) [
   | inl l ↦ l

@@ -1,4 +1,5 @@
 pub mod Differences
+pub mod Fills
 pub mod Flooded
 pub mod Joined
 pub mod Layings

@@ -1,8 +1,11 @@
 -- How a fill finds the cells that are joined to its start.
 --
 -- Runs of cells of one row are taken whole. A run that is taken waits until the rows above and below it have been looked at.
-use Rattle.std.specs.Prelude.{◌≡◌, ◌⊎◌, ℕ, ◌+◌, ◌*◌, ◌<◌, ◌≤◌, ◌^◌, List, [], ◌∷◌, ◌++◌, zero, suc, Bool, true, false, not, ◌&&◌, ◌||◌, nat_lt, length, slice_get, if◌then◌else◌}
+use Rattle.std.specs.Prelude.{◌≡◌, ◌⊎◌, ℕ, ◌+◌, ◌*◌, ◌<◌, ◌≤◌, ◌^◌, List, [], ◌∷◌, ◌++◌, zero, suc, Bool, true, false, not, ◌&&◌, ◌||◌, nat_lt, length, slice_get, Option, Some, None, if◌then◌else◌}
+use Rattle.std.specs.FinSet as set
+use Rattle.region.specs.Cells.{cell_cmp}
 use Rattle.map_model.specs.Lists.{Each}
+use Rattle.map_model.specs.declared.edit.CellEdit.{CellEdit}
 use Rattle.edits.specs.declared.marks.Marks.{Marks}
 use Rattle.edits.specs.declared.flood.Ground.{Ground}
 use Rattle.edits.specs.declared.flood.Spread.{Spread}
@@ -30,7 +33,8 @@ start_of ground = (ground.start.0, ground.start.1)
 -- the values are those of a layer that has the start, and each of its cells is marked as selected or not
 pub record IsGround (ground : Ground) : Type 0 where
   pub size : length ground.tiles.now ≡ ground.height * ground.width
-  pub few : length ground.tiles.now < 2 ^ 32
+  pub narrow : ground.width ≤ 4096
+  pub low : ground.height ≤ 4096
   pub column : ground.start.0 < ground.width
   pub row : ground.start.1 < ground.height
   pub room : ground.everywhere ≡ false → length ground.tiles.now ≤ room ground.selected
@@ -90,3 +94,26 @@ Keeps ground old new = (q : ℕ × ℕ) → is_taken ground old q ≡ true → i
 -- how much may be left to do: the places that are not marked, and the stretches that wait
 abbrev pub work_left : Ground → Spread → ℕ
 work_left ground s = count (λ k. not (is_marked s.taken k)) (length ground.tiles.now) + length s.pending.items
+
+-- ---- changes
+-- the values are those of a layer of this width that has the cell
+pub record HasCell (width : ℕ) (tiles : List ℕ) (x y : ℕ) : Type 0 where
+  pub height : ℕ
+  pub size : length tiles ≡ height * width
+  pub narrow : width ≤ 4096
+  pub low : height ≤ 4096
+  pub column : x < width
+  pub row : y < height
+
+-- what a fill puts over the cells that it has taken
+abbrev pub taken_over : Ground → Marks → ℕ → ℕ → ℕ → Option ℕ
+taken_over ground marks value x y = if is_taken ground marks (x, y) then Some value else None
+
+-- the changes of so many cells of a row side by side, from a column on
+abbrev pub changes_along : ℕ → ℕ → ℕ → ℕ → ℕ → List CellEdit
+changes_along y x before after zero = []
+changes_along y x before after (suc n) = changes_along y x before after n ++ record { x = x + n; y = y; before = before; after = after } ∷ []
+
+-- the marks are those of the cells of the layer that the selection has
+abbrev pub AreSelected : ℕ → ℕ → set.FinSet cell_cmp → Marks → Type 0
+AreSelected width places selection marks = (x y : ℕ) → x < width → y * width + x < places → is_marked marks (y * width + x) ≡ set.contains selection (x, y)

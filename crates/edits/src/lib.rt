@@ -3,6 +3,7 @@
 
 mod block;
 mod change;
+mod filled;
 mod flood;
 mod laid;
 mod marks;
