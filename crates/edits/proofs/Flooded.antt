@@ -16,13 +16,13 @@ use Rattle.edits.specs.Flooding.{Covers, InStretch, IsGround, IsSpread, IsStretc
 use Rattle.edits.proofs.Joined.{AreJoined-step, AreJoined-self, along_path, count-le, count-lt, or_left, or_right, start_free}
 
 -- ---- places
-is_between-true : (a b k : ℕ) → is_between a b k ≡ true → (a ≤ k) × (k < b)
+pub is_between-true : (a b k : ℕ) → is_between a b k ≡ true → (a ≤ k) × (k < b)
 is_between-true a b k h = let p = and_parts _ _ h in (leb-true a k p.0, ltb-true k b p.1)
 
-between : (a b k : ℕ) → a ≤ k → k < b → is_between a b k ≡ true
+pub between : (a b k : ℕ) → a ≤ k → k < b → is_between a b k ≡ true
 between a b k p q = and_from _ _ (le-leb a k p) (lt-ltb k b q)
 
-in_row : (w y first end : ℕ) (q : ℕ × ℕ) → q.0 < w → end ≤ w → y * w + first ≤ q.1 * w + q.0 → q.1 * w + q.0 < y * w + end → (y ≡ q.1) × (first ≤ q.0) × (q.0 < end)
+pub in_row : (w y first end : ℕ) (q : ℕ × ℕ) → q.0 < w → end ≤ w → y * w + first ≤ q.1 * w + q.0 → q.1 * w + q.0 < y * w + end → (y ≡ q.1) × (first ≤ q.0) × (q.0 < end)
 in_row w y first end q l m p r =
     let right = q.1 * w + q.0 - y * w in
     let small : right < w = omega arith in

@@ -5,4 +5,5 @@ pub mod Joined
 pub mod Layings
 pub mod Marking
 pub mod RowOrder
+pub mod Selected
 pub mod Turns

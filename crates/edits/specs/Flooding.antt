@@ -1,7 +1,7 @@
 -- How a fill finds the cells that are joined to its start.
 --
 -- Runs of cells of one row are taken whole. A run that is taken waits until the rows above and below it have been looked at.
-use Rattle.std.specs.Prelude.{◌≡◌, ◌⊎◌, ℕ, ◌+◌, ◌*◌, ◌<◌, ◌≤◌, ◌^◌, List, [], ◌∷◌, ◌++◌, zero, suc, Bool, true, false, not, ◌&&◌, ◌||◌, nat_lt, length, slice_get, Option, Some, None, if◌then◌else◌}
+use Rattle.std.specs.Prelude.{◌≡◌, ◌⊎◌, ℕ, ◌+◌, ◌*◌, ◌<◌, ◌≤◌, ◌^◌, List, [], ◌∷◌, ◌++◌, zero, suc, Bool, true, false, not, ◌&&◌, ◌||◌, nat_lt, length, slice_get, slice_index, Option, Some, None, if◌then◌else◌}
 use Rattle.std.specs.FinSet as set
 use Rattle.region.specs.Cells.{cell_cmp}
 use Rattle.map_model.specs.Lists.{Each}
@@ -10,6 +10,7 @@ use Rattle.edits.specs.declared.marks.Marks.{Marks}
 use Rattle.edits.specs.declared.flood.Ground.{Ground}
 use Rattle.edits.specs.declared.flood.Spread.{Spread}
 use Rattle.edits.specs.declared.flood.Stretch.{Stretch}
+use Rattle.edits.specs.Filling.{free_from}
 use Rattle.edits.specs.Joining.{AreBeside, AreJoined, is_value}
 use Rattle.edits.specs.Marks.{is_marked, is_between, room}
 
@@ -117,3 +118,13 @@ changes_along y x before after (suc n) = changes_along y x before after n ++ rec
 -- the marks are those of the cells of the layer that the selection has
 abbrev pub AreSelected : ℕ → ℕ → set.FinSet cell_cmp → Marks → Type 0
 AreSelected width places selection marks = (x y : ℕ) → x < width → y * width + x < places → is_marked marks (y * width + x) ≡ set.contains selection (x, y)
+
+-- what a fill of a layer of this width goes over, from a cell, within a selection
+pub record IsGroundOf (w : ℕ) (values : List ℕ) (selection : set.FinSet cell_cmp) (x y : ℕ) (g : Ground) : Type 0 where
+  pub sound : IsGround g
+  pub width : g.width ≡ w
+  pub tiles : g.tiles.now ≡ values
+  pub column : g.start.0 ≡ x
+  pub row : g.start.1 ≡ y
+  pub value : g.value ≡ slice_index values (y * w + x)
+  pub cells : (q : ℕ × ℕ) → free_in g q ≡ free_from w values selection (x, y) q

@@ -4,7 +4,7 @@ ghost use Rattle.edits.specs.Marks.{room};
 ghost use Rattle.edits.specs.Covering.{covered};
 ghost use Rattle.edits.specs.Difference.{difference};
 ghost use Rattle.edits.specs.Filling.{fill_over};
-ghost use Rattle.edits.specs.Flooding.{AreSelected, HasCell, IsGround, changes_along, free_in, is_taken, taken_over};
+ghost use Rattle.edits.specs.Flooding.{AreSelected, HasCell, IsGround, IsGroundOf, changes_along, free_in, is_taken, taken_over};
 
 use crate::flood::{Ground, Spread, Stretch};
 use crate::marks::Marks;
@@ -91,6 +91,37 @@ fn selected_places(
     Ok(marks)
 }
 
+// What a fill goes over.
+fn ground_of<'a>(
+    alloc: Global,
+    tiles: &'a [Gid],
+    width: u32,
+    selection: &Region,
+    start: (u32, u32),
+) -> Result<Ground<'a>, AllocError>
+    requires { HasCell width tiles.now start.0 start.1 }
+    ensures { IfOk result (IsGroundOf width tiles.entry.now selection.now start.0 start.1) }
+{
+    let (x, y) = start;
+    let value = tiles[y as usize * width as usize + x as usize];
+    let height = (tiles.len() / width as usize) as u32;
+    let everywhere = selection.is_empty();
+    let selected = if everywhere {
+        Marks::new(alloc, 0)?
+    } else {
+        selected_places(alloc, selection, width, height)?
+    };
+    Ok(Ground {
+        tiles,
+        width,
+        height,
+        start,
+        value,
+        everywhere,
+        selected,
+    })
+}
+
 /// The changes of a fill of a layer of this width: each cell that is joined to the start takes the value.
 ///
 /// They come in row order, each cell once, with unequal values before and after.
@@ -106,27 +137,11 @@ pub(crate) fn fill_cells(
     ensures { IfOk result (λ cells. cells.items ≡ difference width tiles.now
         (covered width (fill_over width tiles.now selection.now (start.0, start.1) value) tiles.now) (length tiles.now)) }
 {
-    let (x, y) = start;
-    let own = tiles[y as usize * width as usize + x as usize];
-    if own == value {
+    let ground = ground_of(alloc, tiles, width, selection, start)?;
+    if ground.value == value {
         return Ok(Vec::new(alloc));
     }
-    let height = (tiles.len() / width as usize) as u32;
-    let everywhere = selection.is_empty();
-    let selected = if everywhere {
-        Marks::new(alloc, 0)?
-    } else {
-        selected_places(alloc, selection, width, height)?
-    };
-    let ground = Ground {
-        tiles,
-        width,
-        height,
-        start,
-        value: own,
-        everywhere,
-        selected,
-    };
     let spread = Spread::over(alloc, &ground)?;
-    changes_of(alloc, &ground, &spread, value)
+    let cells = changes_of(alloc, &ground, &spread, value)?;
+    Ok(cells)
 }
