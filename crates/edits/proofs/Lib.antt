@@ -1,7 +1,13 @@
 pub mod Areas
 pub mod Calls
 pub mod Differences
+pub mod Fills
+pub mod Flooded
+pub mod Joined
+pub mod Layings
+pub mod Marking
 pub mod Overs
 pub mod Reaches
 pub mod RowOrder
+pub mod Selected
 pub mod Turns

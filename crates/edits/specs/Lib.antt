@@ -2,9 +2,11 @@ pub mod Blocks
 pub mod Covering
 pub mod Difference
 pub mod Filling
+pub mod Flooding
 pub mod Joining
 pub mod LayerEdits
 pub mod Laying
+pub mod Marks
 pub mod Painting
 pub mod Refusals
 pub mod Selecting
