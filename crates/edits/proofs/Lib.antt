@@ -4,10 +4,9 @@ pub mod Differences
 pub mod Fills
 pub mod Flooded
 pub mod Joined
-pub mod Layings
 pub mod Marking
 pub mod Overs
 pub mod Reaches
 pub mod RowOrder
-pub mod Selected
+pub mod SelectedPlaces
 pub mod Turns

@@ -1,5 +1,5 @@
 -- What a fill does, and why one is refused.
-use Rattle.std.specs.Prelude.{ℕ, ◌+◌, ◌*◌, ℤ, pos, negsuc, List, Bool, ◌&&◌, nat_lt, Option, Some, None, Result, length, slice_index, if◌then◌else◌}
+use Rattle.std.specs.Prelude.{◌≡◌, ◌↔◌, ℕ, ◌+◌, ◌*◌, ℤ, pos, negsuc, List, Bool, true, ◌&&◌, nat_lt, Option, Some, None, Result, length, slice_index, if◌then◌else◌}
 use Rattle.std.specs.FinSet as set
 use Rattle.region.specs.Cells.{cell_cmp}
 use Rattle.map_model.specs.declared.parts.MapParts.{MapParts}
@@ -7,7 +7,7 @@ use Rattle.map_model.specs.Document.{DocumentParts}
 use Rattle.map_model.specs.Parts.{layer_of, tiles_in}
 use Rattle.command_api.specs.declared.fault.EditFault.{EditFault}
 use Rattle.command_api.specs.declared.fault.EditFault.TheVariants.{OutsideTheMap}
-use Rattle.edits.specs.Joining.{is_free, is_reached}
+use Rattle.edits.specs.Joining.{AreJoined, is_free, is_reached}
 use Rattle.edits.specs.Painting.{Painting, after_painting}
 use Rattle.edits.specs.Refusals.{tile_layer_fault, first_fault, is_known, known_fault}
 
@@ -51,3 +51,11 @@ fill_painting d id x y value = record { layer = id; fault = fill_fault d.map id 
 -- the document after a fill, or its refusal
 abbrev pub after_fill : DocumentParts → ℕ → ℤ → ℤ → ℕ → Result DocumentParts EditFault
 after_fill d id x y value = after_painting d (fill_painting d id x y value)
+
+-- a cell is joined to the start exactly where a list of free cells leads to it
+abbrev pub TakesJoined : DocumentParts → ℕ → Option (ℕ × ℕ) → Type 0
+TakesJoined d id None = Unit {0}
+TakesJoined d id (Some start) =
+    let width = d.map.width in
+    let tiles = tiles_in d.map id in
+    (q : ℕ × ℕ) → (is_joined width tiles d.selection start q ≡ true) ↔ AreJoined (free_from width tiles d.selection start) start q

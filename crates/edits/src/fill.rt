@@ -1,7 +1,6 @@
-ghost use Rattle.std.specs.Prelude.{◌≡◌, ℕ, ◌↔◌, true, IfOk, IfErr};
-ghost use Rattle.map_model.specs.Parts.{tiles_in};
+ghost use Rattle.std.specs.Prelude.{◌≡◌, IfOk, IfErr};
 ghost use Rattle.command_api.specs.Making.{IsRefusalOf};
-ghost use Rattle.edits.specs.Filling.{after_fill, fill_painting, map_cell};
+ghost use Rattle.edits.specs.Filling.{TakesJoined, after_fill, fill_painting, map_cell};
 ghost use Rattle.edits.specs.Painting.{IsPainted};
 
 use crate::change::{CellChange, CellEdits};
@@ -40,6 +39,7 @@ pub fn fill_change(
     value: Gid,
 ) -> Result<CellChange, EditFault>
     ensures change { IfOk result (IsPainted document.now (fill_painting document.now layer x y value)) }
+    ensures joined { IfOk result (λ change. TakesJoined document.now layer (map_cell document.now.map x y)) }
     ensures refusal { IfErr result (IsRefusalOf (after_fill document.now layer x y value)) }
 {
     let map = document.map();

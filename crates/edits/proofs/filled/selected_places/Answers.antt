@@ -4,7 +4,7 @@ use Rattle.region.specs.declared.runs.Run.{Run}
 use Rattle.region.specs.Runs.{IsMaximalRuns, in_runs}
 use Rattle.region.proofs.Members.{contains-set_of}
 use Rattle.edits.specs.Marks.{is_marked}
-use Rattle.edits.proofs.Selected.{selected-step}
+use Rattle.edits.proofs.SelectedPlaces.{selected-step}
 use Rattle.edits.proofs.filled.selected_places.Goals as goal
 
 pub loop-run-init : goal.loop-run-init
