@@ -56,7 +56,7 @@ module _ (g : Ground) where
   unfolding is_taken
   is_taken-column m q h = ltb-true q.0 g.width (and_parts (nat_lt q.0 g.width) (is_marked m (q.1 * g.width + q.0)) h).0
 
-  free_in-column : (q : ℕ × ℕ) → free_in g q ≡ true → q.0 < g.width
+  pub free_in-column : (q : ℕ × ℕ) → free_in g q ≡ true → q.0 < g.width
   unfolding free_in
   free_in-column q h = ltb-true q.0 g.width (and_parts (nat_lt q.0 g.width) (free_at g (q.1 * g.width + q.0)) h).0
 

@@ -112,13 +112,20 @@ module _ (free : ℕ × ℕ → Bool) where
       first_free r [] q h = h.0
       first_free r (s ∷ path) q h = h.0
 
+  pub end_free : (p q : ℕ × ℕ) → AreJoined free p q → free q ≡ true
+  end_free p q j = last_free p j.0 q j.1
+    where
+      last_free : (p : ℕ × ℕ) (path : List (ℕ × ℕ)) (q : ℕ × ℕ) → Leads free p path q → free q ≡ true
+      last_free p [] q h = subst (λ c. free c ≡ true) h.1 h.0
+      last_free p (r ∷ path) q h = last_free r path q h.2
+
   pub start_free : (p q : ℕ × ℕ) → AreJoined free p q → free p ≡ true
   start_free p q ([], h) = h.0
   start_free p q (r ∷ path, h) = h.0
 
 -- ---- steps
 module _ (free : ℕ × ℕ → Bool) (p : ℕ × ℕ) where
-  reached-free : (n : ℕ) (q : ℕ × ℕ) → is_reached free p n q ≡ true → free q ≡ true
+  pub reached-free : (n : ℕ) (q : ℕ × ℕ) → is_reached free p n q ≡ true → free q ≡ true
   reached-free zero q h = (and_parts (free q) (nat_eq p.0 q.0 && nat_eq p.1 q.1) h).0
   reached-free (suc n) q h = elim (or_cases (is_reached free p n q) (free q && any_neighbour (is_reached free p n) q) h) [
     | inl e ↦ reached-free n q e

@@ -1,16 +1,25 @@
 -- Marks of the cells of a selection.
-use Rattle.std.proofs.Common.{◌≡◌, ◌⊎◌, ◌↔◌, inl, inr, ℕ, ◌+◌, ◌*◌, ◌<◌, ◌≤◌, min, List, [], ◌∷◌, length, Bool, true, false, ◌&&◌, ◌||◌, nat_eq, nat_le, nat_lt, IsTrue, refl, sym, ap, ◌∙◌, subst, arith}
+use Rattle.std.proofs.Common.{◌≡◌, ◌⊎◌, ◌↔◌, inl, inr, ℕ, ◌+◌, ◌*◌, ◌/◌, ◌%◌, ◌<◌, ◌≤◌, min, List, [], ◌∷◌, length, Bool, true, false, ◌&&◌, ◌||◌, nat_eq, nat_le, nat_lt, cond, get_or, Some, None, IsTrue, refl, sym, ap, ◌∙◌, subst, mul_comm, arith}
 use Rattle.std.specs.List.{slice_get}
 use Rattle.std.specs.FinSet as set
 use Rattle.std.proofs.lemmas.Bool.{cases_lt, and_parts, and_from, ltb-true, lt-ltb, leb-true, le-leb, eqb-true, eq-eqb, false≢true}
 use Rattle.std.proofs.lemmas.Bool.Decides.{nat_tests, same_from_decides}
+use Rattle.std.proofs.lemmas.Nat.{mul-add-lt, div-mul-add, div-add-mod'}
+use Rattle.std.proofs.lemmas.Option.{slice_get-get_or, slice_get_past}
 use Rattle.region.specs.declared.runs.Run.{Run}
 use Rattle.region.specs.Cells.{cell_cmp}
 use Rattle.region.specs.Runs.{in_run, in_runs}
 use Rattle.edits.specs.declared.marks.Marks.{Marks}
-use Rattle.edits.specs.Covering.{lets_change}
-use Rattle.edits.specs.Marks.{is_marked, is_between}
-use Rattle.edits.proofs.Flooded.{in_row, is_between-true, between}
+use Rattle.edits.specs.declared.flood.Ground.{Ground}
+use Rattle.edits.specs.Covering.{covered, covered_value, lets_change}
+use Rattle.edits.specs.Difference.{difference}
+use Rattle.edits.specs.Filling.{fill_over, free_from, is_joined}
+use Rattle.edits.specs.Flooding.{AreSelected, HasCell, IsGroundOf, free_at, free_in, is_taken, start_of, taken_over}
+use Rattle.edits.specs.Joining.{AreJoined, is_reached, is_value}
+use Rattle.edits.specs.Marks.{is_marked, is_between, room}
+use Rattle.edits.proofs.Differences.{difference-skip, get_or-each_at}
+use Rattle.edits.proofs.Joined.{end_free, is_reached-AreJoined, reached-free}
+use Rattle.edits.proofs.Flooded.{in_row, is_between-true, between, free_in-column, free_in-row}
 
 or_assoc : (a b c : Bool) → ((a || b) || c) ≡ (a || (b || c))
 or_assoc true b c = refl
@@ -60,3 +69,116 @@ pub same_tests : (a b x y : Bool) → (a ≡ true → b ≡ true → x ≡ y) �
 same_tests true true x y h = h refl refl
 same_tests true false x y h = refl
 same_tests false b x y h = refl
+
+is_value-within : (vs : List ℕ) (place value : ℕ) → is_value (slice_get vs place) value ≡ true → place < length vs
+is_value-within vs place value h = elim (cases_lt place (length vs)) [
+  | inl l ↦ l
+  | inr l ↦ absurd (false≢true (ap (λ o. is_value o value) (sym (slice_get_past vs place l)) ∙ h))
+]
+
+-- the free cells of what a fill goes over are those of the definition
+pub free_in-from : (g : Ground) (s : set.FinSet cell_cmp) (x y : ℕ) → g.value ≡ get_or g.tiles.now (y * g.width + x) 0
+    → ((cx cy : ℕ) → cx < g.width → cy * g.width + cx < length g.tiles.now → (g.everywhere || is_marked g.selected (cy * g.width + cx)) ≡ lets_change s (cx, cy))
+    → (q : ℕ × ℕ) → free_in g q ≡ free_from g.width g.tiles.now s (x, y) q
+unfolding free_in free_at
+free_in-from g s x y own lets q =
+    let place = q.1 * g.width + q.0 in
+    same_tests (nat_lt q.0 g.width) (is_value (slice_get g.tiles.now place) g.value) (g.everywhere || is_marked g.selected place) (lets_change s q)
+    (λ column value. lets q.0 q.1 (ltb-true q.0 g.width column) (is_value-within g.tiles.now place g.value value))
+    ∙ ap (λ v. nat_lt q.0 g.width && (is_value (slice_get g.tiles.now place) v && lets_change s q)) own
+
+-- nothing is selected, or the selected cells are marked
+abbrev pub AreMarked : Ground → set.FinSet cell_cmp → Type 0
+AreMarked g s = (g.everywhere ≡ true) ⊎ ((g.everywhere ≡ false) × (length g.tiles.now ≤ room g.selected) × AreSelected g.width (length g.tiles.now) s g.selected)
+
+module _ (g : Ground) (s : set.FinSet cell_cmp) (x y : ℕ) (h : HasCell g.width g.tiles.now x y) where
+  rows_of : length g.tiles.now / g.width ≡ h.height
+  rows_of =
+      let some : 0 < g.width = omega (arith, h.column) in
+      let all : length g.tiles.now ≡ h.height * g.width + 0 = omega (arith, h.size) in
+      ap (λ n. n / g.width) all ∙ div-mul-add h.height g.width 0 some
+
+  pub whole_rows : length g.tiles.now / g.width * g.width ≡ length g.tiles.now
+  whole_rows = ap (λ n. n * g.width) rows_of ∙ sym h.size
+
+  pub place_of : y * g.width + x < length g.tiles.now
+  place_of = omega (arith, h.size, mul-add-lt y g.width x h.height h.row h.column, mul_comm g.width h.height)
+
+  -- what a fill goes over, as it is made
+  pub IsGroundOf-made : g.height ≡ length g.tiles.now / g.width → g.start.0 ≡ x → g.start.1 ≡ y → g.value ≡ get_or g.tiles.now (y * g.width + x) 0
+      → (g.everywhere ≡ true) ↔ (s ≡ set.empty) → AreMarked g s → IsGroundOf g.width g.tiles.now s x y g
+  IsGroundOf-made height column row own empty marked =
+      let rows = height ∙ rows_of in record {
+        sound = record {
+          size = h.size ∙ ap (λ n. n * g.width) (sym rows);
+          narrow = h.narrow;
+          low = omega (arith, h.low);
+          column = omega (arith, h.column);
+          row = omega (arith, h.row);
+          room = λ e. room_of e marked;
+        };
+        width = refl;
+        tiles = refl;
+        column = column;
+        row = row;
+        value = own;
+        cells = free_in-from g s x y own (λ cx cy l m. lets cx cy l m marked);
+      }
+    where
+      room_of : g.everywhere ≡ false → AreMarked g s → length g.tiles.now ≤ room g.selected
+      room_of e (inl all) = absurd (false≢true (sym e ∙ all))
+      room_of e (inr m) = m.1
+
+      lets : (cx cy : ℕ) → cx < g.width → cy * g.width + cx < length g.tiles.now → AreMarked g s → (g.everywhere || is_marked g.selected (cy * g.width + cx)) ≡ lets_change s (cx, cy)
+      lets cx cy l m (inl all) = ap (λ b. b || is_marked g.selected (cy * g.width + cx)) all ∙ sym (lets_change-empty s (cx, cy) (empty.0 all))
+      lets cx cy l m (inr marks) =
+          ap (λ b. b || is_marked g.selected (cy * g.width + cx)) marks.0 ∙ marks.2 cx cy l m
+          ∙ sym (lets_change-some s (cx, cy) (λ none. false≢true (sym marks.0 ∙ empty.1 none)))
+
+-- ---- the cells that a fill takes
+module _ (w : ℕ) (values : List ℕ) (s : set.FinSet cell_cmp) (x y : ℕ) (g : Ground) (h : IsGroundOf w values s x y g) (m : Marks)
+  (taken : (q : ℕ × ℕ) → (is_taken g m q ≡ true) ↔ AreJoined (free_in g) (start_of g) q) where
+  is_taken-is_joined : (q : ℕ × ℕ) → is_taken g m q ≡ is_joined w values s (x, y) q
+  is_taken-is_joined q =
+      let reached = is_reached-AreJoined (free_in g) (start_of g) g.width g.height (λ r f. (free_in-column g r f, free_in-row g h.sound r f)) q in
+      let same : free_in g ≡ free_from w values s (x, y) = λ i r. h.cells r i in
+      let start : start_of g ≡ (x, y) = λ i. (h.column i, h.row i) in
+      let steps : g.height * g.width ≡ length values = sym h.sound.size ∙ ap length h.tiles in
+      same_from_decides (is_taken g m q) (is_reached (free_in g) (start_of g) (g.height * g.width) q) (taken q) reached
+      ∙ ap (λ f. is_reached f (start_of g) (g.height * g.width) q) same
+      ∙ ap (λ p. is_reached (free_from w values s (x, y)) p (g.height * g.width) q) start
+      ∙ ap (λ n. is_reached (free_from w values s (x, y)) (x, y) n q) steps
+
+  taken_over-fill_over : (value : ℕ) → taken_over g m value ≡ fill_over w values s (x, y) value
+  taken_over-fill_over value = λ i cx cy. cond (is_taken-is_joined (cx, cy) i) (Some value) None
+
+  pub difference-taken : (value : ℕ) → difference g.width g.tiles.now (covered g.width (taken_over g m value) g.tiles.now) (length g.tiles.now)
+      ≡ difference w values (covered w (fill_over w values s (x, y) value) values) (length values)
+  difference-taken value =
+      ap (λ n. difference n g.tiles.now (covered n (taken_over g m value) g.tiles.now) (length g.tiles.now)) h.width
+      ∙ ap (λ (vs : List ℕ). difference w vs (covered w (taken_over g m value) vs) (length vs)) h.tiles
+      ∙ ap (λ o. difference w values (covered w o values) (length values)) (taken_over-fill_over value)
+
+  pub taken-free : (q : ℕ × ℕ) → is_taken g m q ≡ true → free_in g q ≡ true
+  taken-free q t = end_free (free_in g) (start_of g) q ((taken q).0 t)
+
+-- a fill with the value that is there changes nothing
+pub difference-own : (w : ℕ) (values : List ℕ) (s : set.FinSet cell_cmp) (x y value : ℕ) → 0 < w → value ≡ get_or values (y * w + x) 0
+    → [] ≡ difference w values (covered w (fill_over w values s (x, y) value) values) (length values)
+difference-own w values s x y value some own =
+    let ys = covered w (fill_over w values s (x, y) value) values in
+    let all : 0 + length values ≡ length values = omega arith in
+    sym (difference-skip w values ys 0 (length values) (λ k l. let at : 0 + k ≡ k = omega arith in
+    rw at (get_or-each_at (λ place old. covered_value (fill_over w values s (x, y) value (place % w) (place / w)) old) values k l ∙ by_test k l (is_joined w values s (x, y) (k % w, k / w)) refl)))
+    ∙ ap (difference w values ys) all
+  where
+    by_test : (k : ℕ) → k < length values → (b : Bool) → is_joined w values s (x, y) (k % w, k / w) ≡ b → covered_value (cond (is_joined w values s (x, y) (k % w, k / w)) (Some value) None) (get_or values k 0) ≡ get_or values k 0
+    by_test k l false e = ap (λ b. covered_value (cond b (Some value) None) (get_or values k 0)) e
+    by_test k l true e =
+        let free = reached-free (free_from w values s (x, y)) (x, y) (length values) (k % w, k / w) e in
+        let parts = and_parts (nat_lt (k % w) w) (is_value (slice_get values (k / w * w + k % w)) (get_or values (y * w + x) 0) && lets_change s (k % w, k / w)) free in
+        let test = (and_parts (is_value (slice_get values (k / w * w + k % w)) (get_or values (y * w + x) 0)) (lets_change s (k % w, k / w)) parts.1).0 in
+        let there = ap (λ p. is_value (slice_get values p) (get_or values (y * w + x) 0)) (sym (div-add-mod' k w)) ∙ test in
+        let found = ap (λ o. is_value o (get_or values (y * w + x) 0)) (sym (slice_get-get_or values k 0 l)) ∙ there in
+        let same = eqb-true (get_or values k 0) (get_or values (y * w + x) 0) found in
+        ap (λ b. covered_value (cond b (Some value) None) (get_or values k 0)) e ∙ own ∙ sym same
