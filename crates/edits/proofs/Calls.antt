@@ -3,6 +3,7 @@ use Rattle.std.proofs.Common.{◌≡◌, inl, inr, ℕ, ◌/◌, ◌%◌, ◌*�
 use Rattle.std.specs.FinSet as set
 use Rattle.region.specs.Cells.{cell_cmp}
 use Rattle.map_model.specs.declared.parts.MapParts.{MapParts}
+use Rattle.map_model.specs.declared.edit.CellEdit.{CellEdit}
 use Rattle.map_model.specs.CellEdits.{AreInRowOrder}
 use Rattle.map_model.specs.Document.{DocumentParts}
 use Rattle.map_model.specs.Parts.{HasTiles, tiles_in}
@@ -19,6 +20,7 @@ use Rattle.edits.specs.Difference.{difference, difference_in}
 use Rattle.edits.specs.Laying.{IsLayerOf, IsReach}
 use Rattle.edits.specs.Painting.{IsPainted, Painting, painted_map}
 use Rattle.edits.specs.Stamping.{IsBlock}
+use Rattle.edits.proofs.RowOrder.{difference-AreInRowOrder}
 use Rattle.edits.proofs.Overs.{stamp_over-column, stamp_over-row, erase_over-column, erase_over-row}
 
 -- ---- the layer
@@ -87,20 +89,25 @@ changes-difference_in m id tiles over h =
     ∙ ap (λ vs. difference m.width (tiles_in m id) vs (m.width * m.height)) (sym (tiles_in-with_tiles m id (covered m.width over) h.has))
 
 pub IsPainted-changes : (d : DocumentParts) (p : Painting) (tiles : List ℕ) (change : CellChange) → p.fault ≡ None → IsTheLayer d.map p.layer tiles → change.layer ≡ p.layer
-    → change.cells ≡ difference d.map.width tiles (covered d.map.width p.over tiles) (length tiles) → AreInRowOrder change.cells → IsPainted d p change
-IsPainted-changes d p tiles change accepted layer id cells ordered = record {
+    → change.cells ≡ difference d.map.width tiles (covered d.map.width p.over tiles) (length tiles) → IsPainted d p change
+IsPainted-changes d p tiles change accepted layer id cells = record {
   well_formed = layer.well_formed;
   accepted = accepted;
   tiles = layer.has;
-  exact = record { layer = id; cells = cells ∙ changes-difference_in d.map p.layer tiles p.over layer; ordered = ordered };
+  exact = record {
+    layer = id;
+    cells = cells ∙ changes-difference_in d.map p.layer tiles p.over layer;
+    ordered =
+        let P : List CellEdit → Type 0 = AreInRowOrder in
+        subst P (sym cells) (difference-AreInRowOrder d.map.width tiles (covered d.map.width p.over tiles) (length tiles) (omega (arith, layer.well_formed.size.wide)));
+  };
 }
 
 -- the same of a change that a call may have made, of a layer of this width and with this selection
 pub IsPainted-result : (d : DocumentParts) (p : Painting) (tiles : List ℕ) (width : ℕ) (over : ℕ → ℕ → Option ℕ) (o : Result CellChange EditFault) → p.fault ≡ None → IsTheLayer d.map p.layer tiles
     → width ≡ d.map.width → over ≡ p.over → IfOk o (λ change. change.layer ≡ p.layer) → IfOk o (λ change. change.cells ≡ difference width tiles (covered width over tiles) (length tiles))
-    → IfOk o (λ change. AreInRowOrder change.cells) → IfOk o (IsPainted d p)
-IsPainted-result d p tiles width over (Ok change) accepted layer wide is id cells ordered =
+    → IfOk o (IsPainted d p)
+IsPainted-result d p tiles width over (Ok change) accepted layer wide is id cells =
     IsPainted-changes d p tiles change accepted layer id
     (cells ∙ ap (λ w. difference w tiles (covered w over tiles) (length tiles)) wide ∙ ap (λ (f : ℕ → ℕ → Option ℕ). difference d.map.width tiles (covered d.map.width f tiles) (length tiles)) is)
-    ordered
-IsPainted-result d p tiles width over (Err fault) accepted layer wide is id cells ordered = tt
+IsPainted-result d p tiles width over (Err fault) accepted layer wide is id cells = tt

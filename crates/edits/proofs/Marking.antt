@@ -133,14 +133,14 @@ pub IsRest-not : (words : List ℕ) (place word : ℕ) → word ≡ get_or words
 IsRest-not words place word e small =
     record {
       bits = λ i l. ap (λ n. nat_eq (n % 2) 1) (shr-shr (bit_not w64 word) (place % 64) i)
-      ∙ not_bit (bit_at word (place % 64 + i)) _ (bit_at-lt word (place % 64 + i)) (bit_at_not w64 word (place % 64 + i) small l)
-      ∙ ap not (ap (λ n. nat_eq (bit_at n (place % 64 + i)) 1) e ∙ has_bit-rest words place i l);
+          ∙ not_bit (bit_at word (place % 64 + i)) _ (bit_at-lt word (place % 64 + i)) (bit_at_not w64 word (place % 64 + i) small l)
+          ∙ ap not (ap (λ n. nat_eq (bit_at n (place % 64 + i)) 1) e ∙ has_bit-rest words place i l);
       small = rest_small (bit_not w64 word) place (omega arith);
     }
 
 module _ (test : ℕ → Bool) (rest place : ℕ) (h : IsRest test rest place) where
   within_64 : rest < 2 ^ 64
-  within_64 = 
+  within_64 =
       let some : 0 < 2 = omega arith in
       let shorter : 64 - place % 64 ≤ 64 = omega arith in
       let wide : 2 ^ (64 - place % 64) ≤ 2 ^ 64 = pow-le-pow_right some shorter in

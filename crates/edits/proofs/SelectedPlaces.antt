@@ -137,7 +137,7 @@ module _ (g : Ground) (s : set.FinSet cell_cmp) (x y : ℕ) (h : HasCell g.width
 
 -- ---- the cells that a fill takes
 module _ (w : ℕ) (values : List ℕ) (s : set.FinSet cell_cmp) (x y : ℕ) (g : Ground) (h : IsGroundOf w values s x y g) (m : Marks)
-  (taken : (q : ℕ × ℕ) → (is_taken g m q ≡ true) ↔ AreJoined (free_in g) (start_of g) q) where
+    (taken : (q : ℕ × ℕ) → (is_taken g m q ≡ true) ↔ AreJoined (free_in g) (start_of g) q) where
   is_taken-is_joined : (q : ℕ × ℕ) → is_taken g m q ≡ is_joined w values s (x, y) q
   is_taken-is_joined q =
       let reached = is_reached-AreJoined (free_in g) (start_of g) g.width g.height (λ r f. (free_in-column g r f, free_in-row g h.sound r f)) q in

@@ -1,6 +1,5 @@
 // The part of a tile layer that an edit reaches, and the changes that it makes there.
 ghost use Rattle.std.specs.Prelude.{◌≡◌, ℕ, ◌+◌, ◌*◌, ◌<◌, ◌≤◌, ◌++◌, true, false, OnOk, IfOk, IfErr, IfSome, IfNone, length};
-ghost use Rattle.map_model.specs.CellEdits.{AreInRowOrder};
 ghost use Rattle.command_api.specs.declared.fault.EditFault.TheVariants.{NoMemory};
 ghost use Rattle.edits.specs.Covering.{lets_change};
 ghost use Rattle.edits.specs.Laying.{AreNextColumns, IsReach, changes_below, changed_to};
@@ -136,7 +135,6 @@ impl Reach<'_> {
         requires { IsReach (C.over cover.now) self.now }
         ensures layer { IfOk result (λ change. change.layer ≡ layer) }
         ensures cells { IfOk result (λ change. change.cells ≡ changes_below (C.over cover.now) self.now (length self.now.tiles.now)) }
-        ensures ordered { IfOk result (λ change. AreInRowOrder change.cells) }
         ensures refusal { IfErr result (λ fault. fault ≡ NoMemory) }
     {
         match self.changes(alloc, cover) {

@@ -20,4 +20,4 @@ returns-clause-change c =
     let layer : IsTheLayer d.map c.args.layer c.in_ok-tiles.tiles.now = record { well_formed = rw map at c.parts-parts.ensures.well_formed; has = rw map at c.in_ok-tiles.ensures.1; is = rw map at c.in_ok-tiles.ensures.2 } in
     let width = ap (λ (m : MapParts). m.width) (c.parts-parts.ensures.value ∙ map) in
     IsPainted-result d (erase_painting d c.args.layer c.args.area.now) c.in_ok-tiles.tiles.now c.parts-parts.result.now.width (where_selected c.selection.result.now (erase_over c.args.area.now)) c.change.result
-    (rw map at c.in_ok-tiles.ensures.0) layer width (ap (λ s. where_selected s (erase_over c.args.area.now)) c.selection.ensures.selection) c.change.ensures.layer c.change.ensures.cells c.change.ensures.ordered
+    (rw map at c.in_ok-tiles.ensures.0) layer width (ap (λ s. where_selected s (erase_over c.args.area.now)) c.selection.ensures.selection) c.change.ensures.layer c.change.ensures.cells

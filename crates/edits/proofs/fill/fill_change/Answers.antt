@@ -1,21 +1,53 @@
-use Rattle.std.proofs.Common.{rules, ◌≡◌, IfOk, IfErr, ℕ, ◌+◌, ◌-◌, ◌*◌, ◌<◌, ◌≤◌, length, ◌/◌, ◌%◌, Bool, true, false, nat_eq, nat_lt, List, [], ◌∷◌, ◌++◌, slice_index_or, slice_set, bit_and, bit_or, Fits, w8, w32, w64, Bor, MutBor, ℤ, pos, ◌+ℤ◌, ◌-ℤ◌, ◌*ℤ◌, ◌≤ℤ◌, ◌<ℤ◌, FitsSigned, to_z, of_z}
-use Rattle.command_api.specs.Making.{IsRefusalOf}
-use Rattle.edits.specs.Filling.{TakesJoined, after_fill, fill_painting, map_cell}
-use Rattle.edits.specs.Painting.{IsPainted}
+use Rattle.std.proofs.Common.{◌≡◌, ℕ, List, length, true, None, Some, refl, rules, ◌≤◌, sym, ap, subst, ◌∙◌, arith}
+use Rattle.map_model.specs.declared.edit.CellEdit.{CellEdit}
+use Rattle.map_model.specs.declared.parts.MapParts.{MapParts}
+use Rattle.map_model.specs.CellEdits.{AreInRowOrder}
+use Rattle.map_model.specs.Parts.{layer_of, tiles_in}
+use Rattle.edits.specs.Covering.{covered}
+use Rattle.edits.specs.Difference.{difference}
+use Rattle.edits.specs.Filling.{fill_fault, fill_over, fill_over_from, fill_painting, map_cell}
+use Rattle.edits.specs.Refusals.{is_known, tile_layer_fault}
+use Rattle.edits.proofs.Calls.{IsTheLayer}
+use Rattle.edits.proofs.FillCalls.{map_cell-within, HasCell-map, fill-IsPainted, TakesJoined-map}
+use Rattle.edits.proofs.RowOrder.{difference-AreInRowOrder}
 use Rattle.edits.proofs.fill.fill_change.Goals as goal
 
--- src/fill.rt:54:11
 pub fill_cells-requires : goal.fill_cells-requires
-fill_cells-requires c = ?
+fill_cells-requires c =
+    let m = c.parts.result.now in
+    let value = c.parts.ensures.value in
+    let layer : IsTheLayer m c.args.layer c.in_ok-tiles.tiles.now = record { well_formed = rw value c.parts.ensures.well_formed; has = rw value c.in_ok-tiles.ensures.1; is = rw value c.in_ok-tiles.ensures.2 } in
+    let start : ℕ × ℕ = (c.in-Some.start.0, c.in-Some.start.1) in
+    let found : Some start ≡ map_cell c.map-map.result.now c.args.x c.args.y = search rules in
+    let within = map_cell-within m c.args.x c.args.y start (rw value found) in
+    HasCell-map m c.args.layer c.in_ok-tiles.tiles.now c.in-Some.start.0 c.in-Some.start.1 layer within.0 within.1
 
--- src/fill.rt:57:20
 pub new-requires : goal.new-requires
-new-requires c = ?
+new-requires c =
+    let P : List CellEdit → Type 0 = AreInRowOrder in
+    let tiles = c.in_ok-tiles.tiles.now in
+    let width = c.parts.result.now.width in
+    let start : ℕ × ℕ = (c.in-Some.start.0, c.in-Some.start.1) in
+    let wide : 1 ≤ width = rw c.parts.ensures.value c.parts.ensures.well_formed.size.wide in
+    subst P (sym c.in-Ok.ensures)
+    (difference-AreInRowOrder width tiles (covered width (fill_over width tiles c.selection.result.now start c.args.value) tiles) (length tiles) (omega arith))
 
--- src/fill.rt:33:1
 pub returns-in-Ok-clause-change : goal.returns-in-Ok-clause-change
-returns-in-Ok-clause-change c = ?
+returns-in-Ok-clause-change c =
+    let d = c.args.document.now in
+    let tiles = c.in_ok-tiles.tiles.now in
+    let map = c.map-map.ensures in
+    let start : ℕ × ℕ = (c.in-Some.start.0, c.in-Some.start.1) in
+    let found : Some start ≡ map_cell c.map-map.result.now c.args.x c.args.y = search rules in
+    let there : tile_layer_fault (layer_of d.map c.args.layer) ≡ None = rw map at c.in_ok-tiles.ensures.0 in
+    let known : is_known d.map c.args.value ≡ true = sym (rw map at c.if-not-is_known_value.ensures) in
+    let layer : IsTheLayer d.map c.args.layer tiles = record { well_formed = rw map at c.parts.ensures.well_formed; has = rw map at c.in_ok-tiles.ensures.1; is = rw map at c.in_ok-tiles.ensures.2 } in
+    let width = ap (λ (m : MapParts). m.width) (c.parts.ensures.value ∙ map) in
+    fill-IsPainted d c.args.layer c.args.x c.args.y c.args.value start tiles c.parts.result.now.width c.selection.result.now (record { layer = c.args.layer; cells = c.new.result }) (rw map at found) there known layer width
+    c.selection.ensures.selection refl (c.new.ensures ∙ c.in-Ok.ensures)
 
--- src/fill.rt:33:1
 pub returns-in-Ok-clause-joined : goal.returns-in-Ok-clause-joined
-returns-in-Ok-clause-joined c = ?
+returns-in-Ok-clause-joined c =
+    let map = c.map-map.ensures in
+    TakesJoined-map c.args.document.now c.args.layer c.in_ok-tiles.tiles.now _
+    (record { well_formed = rw map at c.parts.ensures.well_formed; has = rw map at c.in_ok-tiles.ensures.1; is = rw map at c.in_ok-tiles.ensures.2 })

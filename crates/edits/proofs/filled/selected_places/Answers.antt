@@ -1,4 +1,4 @@
-use Rattle.std.proofs.Common.{◌≡◌, ℕ, ◌∷◌, ◌+◌, ◌*◌, ◌||◌, List, ap, sym, ◌∙◌, subst, arith}
+use Rattle.std.proofs.Common.{◌+◌, ◌*◌, ◌||◌, List, ap, sym, ◌∙◌, subst, arith}
 use Rattle.std.specs.FinSet as set
 use Rattle.region.specs.declared.runs.Run.{Run}
 use Rattle.region.specs.Runs.{IsMaximalRuns, in_runs}
@@ -16,7 +16,7 @@ loop-run-init c =
       c.in_ok-marks.ensures.room,
       subst (λ (rs : List Run). IsMaximalRuns rs) (sym same) c.rows-run-items.ensures.maximal,
       λ x y l m. ap (λ b. b || in_runs c.into_iter-run-iterator.result (x, y)) (c.in_ok-marks.ensures.none (y * c.args.width + x))
-      ∙ ap (λ (rs : List Run). in_runs rs (x, y)) same ∙ sym (contains-set_of rows (x, y)) ∙ ap (λ s. set.contains s (x, y)) c.rows-run-items.ensures.cells,
+          ∙ ap (λ (rs : List Run). in_runs rs (x, y)) same ∙ sym (contains-set_of rows (x, y)) ∙ ap (λ s. set.contains s (x, y)) c.rows-run-items.ensures.cells,
     )
 
 pub loop-run-preserved-then-run-width : goal.loop-run-preserved-then-run-width
@@ -30,6 +30,6 @@ loop-run-preserved-then-run-width c =
       omega (arith, c.loop-run.invariant.2, c.mark.ensures.room),
       maximal.2,
       λ x y l m. selected-step c.args.width c.min-end.result x y c.loop-run.marks c.mark.new.self run rest c.min-end.ensures l c.mark.ensures.marks
-      ∙ ap (λ (rs : List Run). is_marked c.loop-run.marks (y * c.args.width + x) || in_runs rs (x, y)) (sym split)
-      ∙ c.loop-run.invariant.4 x y l m,
+          ∙ ap (λ (rs : List Run). is_marked c.loop-run.marks (y * c.args.width + x) || in_runs rs (x, y)) (sym split)
+          ∙ c.loop-run.invariant.4 x y l m,
     )

@@ -27,4 +27,4 @@ returns-clause-change c =
     let layer : IsTheLayer d.map c.args.layer c.in_ok-tiles.tiles.now = record { well_formed = rw map at c.parts-parts.ensures.well_formed; has = rw map at c.in_ok-tiles.ensures.1; is = rw map at c.in_ok-tiles.ensures.2 } in
     let width = ap (λ (m : MapParts). m.width) (c.parts-parts.ensures.value ∙ map) in
     IsPainted-result d (stamp_painting d c.args.layer block) c.in_ok-tiles.tiles.now c.parts-parts.result.now.width (where_selected c.selection.result.now (stamp_over block)) c.change.result
-    accepted layer width (ap (λ s. where_selected s (stamp_over block)) c.selection.ensures.selection) c.change.ensures.layer c.change.ensures.cells c.change.ensures.ordered
+    accepted layer width (ap (λ s. where_selected s (stamp_over block)) c.selection.ensures.selection) c.change.ensures.layer c.change.ensures.cells

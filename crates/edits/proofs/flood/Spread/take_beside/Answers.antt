@@ -1,4 +1,4 @@
-use Rattle.std.proofs.Common.{◌≡◌, ℕ, ◌+◌, ◌-◌, ◌*◌, ◌<◌, ◌≤◌, true, false, sym, ap, ◌∙◌, subst, arith}
+use Rattle.std.proofs.Common.{◌≡◌, ◌+◌, ◌-◌, ◌*◌, ◌<◌, ◌≤◌, true, false, sym, ap, ◌∙◌, subst, arith}
 use Rattle.edits.specs.Marks.{is_marked}
 use Rattle.edits.specs.Flooding.{Takes, free_at}
 use Rattle.edits.proofs.Flooded.{CoversBelow, CoversBelow-marked, CoversBelow-suc, CoversBelow-take, IsSpread-beside, taken-kept, work_left-take, cell_within}
