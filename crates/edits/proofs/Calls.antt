@@ -1,5 +1,5 @@
 -- What the calls of an edit hand on: the layer of a well-formed map, what an edit reaches of it, and its change.
-use Rattle.std.proofs.Common.{◌≡◌, inl, inr, ℕ, ◌/◌, ◌%◌, ◌*◌, ◌<◌, List, length, Bor, Option, None, false, Result, Ok, Err, IfOk, ℤ, mul_comm, sym, ap, ◌∙◌, arith}
+use Rattle.std.proofs.Common.{◌≡◌, inl, inr, ℕ, ◌/◌, ◌%◌, ◌*◌, ◌<◌, List, length, Bor, Option, None, false, Result, Ok, Err, IfOk, ℤ, mul_comm, sym, ap, ◌∙◌, subst, arith}
 use Rattle.std.specs.FinSet as set
 use Rattle.region.specs.Cells.{cell_cmp}
 use Rattle.map_model.specs.declared.parts.MapParts.{MapParts}

@@ -1,5 +1,5 @@
 -- What the call of a fill hands on.
-use Rattle.std.proofs.Common.{◌≡◌, ◌↔◌, ℕ, ◌+◌, ◌*◌, ◌<◌, ◌≤◌, List, length, get_or, Bool, true, false, cond, ◌&&◌, nat_lt, Option, Some, None, ℤ, pos, negsuc, mul_comm, refl, sym, ap, ◌∙◌, arith}
+use Rattle.std.proofs.Common.{◌≡◌, ℕ, ◌+◌, ◌*◌, ◌<◌, ◌≤◌, List, length, get_or, Bool, true, false, cond, ◌&&◌, nat_lt, Option, Some, None, ℤ, pos, negsuc, mul_comm, refl, sym, ap, ◌∙◌, arith}
 use Rattle.std.specs.List.{slice_get}
 use Rattle.std.specs.FinSet as set
 use Rattle.std.proofs.lemmas.Bool.Decides.{nat_tests}
@@ -11,9 +11,9 @@ use Rattle.map_model.specs.Parts.{layer_of, tiles_in}
 use Rattle.edits.specs.declared.change.CellChange.{CellChange}
 use Rattle.edits.specs.Covering.{covered, lets_change}
 use Rattle.edits.specs.Difference.{difference}
-use Rattle.edits.specs.Filling.{TakesJoined, fill_fault, fill_over, fill_over_from, fill_painting, free_from, is_joined, map_cell}
+use Rattle.edits.specs.Filling.{TakesJoined, fill_fault, fill_over, fill_over_from, fill_painting, free_from, map_cell}
 use Rattle.edits.specs.Flooding.{HasCell}
-use Rattle.edits.specs.Joining.{AreJoined, is_free, is_value}
+use Rattle.edits.specs.Joining.{is_free, is_value}
 use Rattle.edits.specs.Painting.{IsPainted}
 use Rattle.edits.specs.Refusals.{is_known, tile_layer_fault}
 use Rattle.edits.proofs.Calls.{IsPainted-changes, IsTheLayer, length-layer}

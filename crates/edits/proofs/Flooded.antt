@@ -1,7 +1,6 @@
 -- Cells that a fill takes, stretch by stretch.
-use Rattle.std.proofs.Common.{◌≡◌, ◌⊎◌, inl, inr, ◌↔◌, ℕ, zero, suc, ◌+◌, ◌-◌, ◌*◌, ◌/◌, ◌<◌, ◌≤◌, List, [], ◌∷◌, ◌++◌, length, Bool, true, false, not, ◌&&◌, ◌||◌, nat_eq, nat_lt, get_or, Some, None, refl, sym, ap, ◌∙◌, subst, mul_comm, length-append, arith}
-use Rattle.std.specs.List.{slice_get}
-use Rattle.std.proofs.lemmas.Bool.{cases_Bool, cases_lt, cases_eq, or_cases, and_parts, and_from, ltb-true, lt-ltb, leb-true, le-leb, false≢true}
+use Rattle.std.proofs.Common.{◌≡◌, ◌⊎◌, inl, inr, ℕ, zero, suc, ◌+◌, ◌-◌, ◌*◌, ◌<◌, ◌≤◌, List, [], ◌∷◌, ◌++◌, length, Bool, true, false, not, ◌&&◌, ◌||◌, nat_eq, nat_lt, get_or, refl, sym, ap, ◌∙◌, subst, mul_comm, length-append, arith}
+use Rattle.std.proofs.lemmas.Bool.{cases_lt, or_cases, and_parts, and_from, ltb-true, lt-ltb, leb-true, le-leb, false≢true}
 use Rattle.std.proofs.lemmas.Nat.{mul-add-lt, div-mul-add, div_below, same_from_place}
 use Rattle.std.proofs.lemmas.Option.{slice_get-get_or, slice_get_past}
 use Rattle.map_model.specs.Lists.{Each}
@@ -12,8 +11,8 @@ use Rattle.edits.specs.declared.flood.Spread.{Spread}
 use Rattle.edits.specs.declared.flood.Stretch.{Stretch}
 use Rattle.edits.specs.Joining.{AreBeside, AreNeighbours, AreJoined, is_value}
 use Rattle.edits.specs.Marks.{is_marked, is_between, room}
-use Rattle.edits.specs.Flooding.{Covers, InStretch, IsGround, IsSpread, IsStretch, Keeps, Takes, Waits, count, free_at, free_in, is_taken, start_of, work_left}
-use Rattle.edits.proofs.Joined.{AreJoined-step, AreJoined-self, along_path, count-le, count-lt, or_left, or_right, start_free}
+use Rattle.edits.specs.Flooding.{Covers, IsGround, IsSpread, IsStretch, Keeps, Takes, Waits, free_at, free_in, is_taken, start_of, work_left}
+use Rattle.edits.proofs.Joined.{AreJoined-step, AreJoined-self, along_path, count-lt, or_left, or_right}
 
 -- ---- places
 pub is_between-true : (a b k : ℕ) → is_between a b k ≡ true → (a ≤ k) × (k < b)

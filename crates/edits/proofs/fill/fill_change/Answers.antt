@@ -2,10 +2,9 @@ use Rattle.std.proofs.Common.{◌≡◌, ℕ, List, length, true, None, Some, re
 use Rattle.map_model.specs.declared.edit.CellEdit.{CellEdit}
 use Rattle.map_model.specs.declared.parts.MapParts.{MapParts}
 use Rattle.map_model.specs.CellEdits.{AreInRowOrder}
-use Rattle.map_model.specs.Parts.{layer_of, tiles_in}
+use Rattle.map_model.specs.Parts.{layer_of}
 use Rattle.edits.specs.Covering.{covered}
-use Rattle.edits.specs.Difference.{difference}
-use Rattle.edits.specs.Filling.{fill_fault, fill_over, fill_over_from, fill_painting, map_cell}
+use Rattle.edits.specs.Filling.{fill_over, map_cell}
 use Rattle.edits.specs.Refusals.{is_known, tile_layer_fault}
 use Rattle.edits.proofs.Calls.{IsTheLayer}
 use Rattle.edits.proofs.FillCalls.{map_cell-within, HasCell-map, fill-IsPainted, TakesJoined-map}
