@@ -1,5 +1,5 @@
 -- The cells of a map that lie in an area.
-use Rattle.std.proofs.Common.{◌≡◌, ℕ, ℤ, ◌+◌, ◌-◌, ◌≤◌, ◌<◌, Bool, true, false, ◌&&◌, nat_lt, Result, Ok, Err, IfOk, refl, sym, ap, ◌∙◌, arith}
+use Rattle.std.proofs.Common.{◌≡◌, ◌⊎◌, inl, inr, ℕ, ℤ, ◌+◌, ◌-◌, ◌≤◌, ◌<◌, Bool, true, false, ◌&&◌, ◌||◌, nat_lt, Result, Ok, Err, IfOk, refl, sym, ap, subst, ◌∙◌, arith}
 use Rattle.std.specs.Prelude.{nat_le}
 use Rattle.std.specs.FinSet as set
 use Rattle.std.specs.declared.alloc.AllocError.{AllocError}
@@ -8,10 +8,13 @@ use Rattle.region.specs.Cells.{cell_cmp, in_rectangle, rectangle}
 use Rattle.region.specs.Equality.{cell_cmp_total}
 use Rattle.region.proofs.Members.{cell_cmp-same, contains-rectangle}
 use Rattle.map_model.specs.declared.parts.MapParts.{MapParts}
+use Rattle.map_model.specs.declared.selection.SelectionMode.{SelectionMode}
+use Rattle.map_model.specs.declared.selection.SelectionMode.TheVariants.{Replace, Add, Subtract, Intersect}
+use Rattle.map_model.specs.Document.{DocumentParts, IsDocument, IsSelectionOf}
 use Rattle.edits.specs.declared.area.Area.{Area}
 use Rattle.edits.specs.declared.span.Span.{Span}
 use Rattle.edits.specs.Blocks.{offset, is_below, in_area, IsSpan}
-use Rattle.edits.specs.Selecting.{cells_in}
+use Rattle.edits.specs.Selecting.{cells_in, combined}
 
 contains-cells_in : (m : MapParts) (a : Area) (q : ℕ × ℕ) → set.contains (cells_in m a) q ≡ (in_rectangle 0 0 m.width m.height q && in_area a q.0 q.1)
 contains-cells_in m a q =
@@ -73,3 +76,43 @@ pub cells_in-rectangle : (m : MapParts) (a : Area) (columns rows : Span) (o : Re
     → IfOk o (λ s. (q : ℕ × ℕ) → set.contains s q ≡ in_rectangle columns.first rows.first (columns.end - columns.first) (rows.end - rows.first) q) → IfOk o (λ s. s ≡ cells_in m a)
 cells_in-rectangle m a columns rows (Ok s) cs rs h = set.same_set cell_cmp_total cell_cmp-same s (cells_in m a) (λ q. h q ∙ in_rectangle-spans m a columns rows cs rs q)
 cells_in-rectangle m a columns rows (Err e) cs rs h = tt
+
+-- ---- selections
+and_right : (a b : Bool) → (a && b) ≡ true → b ≡ true
+and_right true b e = e
+and_right false b e = cc
+
+and_left : (a b : Bool) → (a && b) ≡ true → a ≡ true
+and_left true b e = refl
+and_left false b e = e
+
+or_cases : (a b : Bool) → (a || b) ≡ true → (a ≡ true) ⊎ (b ≡ true)
+or_cases true b e = inl refl
+or_cases false b e = inr e
+
+in_map : (m : MapParts) (q : ℕ × ℕ) → in_rectangle 0 0 m.width m.height q ≡ true → (q.0 < m.width) × (q.1 < m.height)
+in_map m q e = let both = whole_map m q ∙ e in (column (and_left _ _ both), row (and_right _ _ both))
+  where
+    column : nat_lt q.0 m.width ≡ true → q.0 < m.width
+    column t = grind (arith, nat_tests)
+
+    row : nat_lt q.1 m.height ≡ true → q.1 < m.height
+    row t = grind (arith, nat_tests)
+
+cells_in-IsSelectionOf : (m : MapParts) (a : Area) → IsSelectionOf m (cells_in m a)
+cells_in-IsSelectionOf m a q e = in_map m q (and_left _ _ (sym (contains-cells_in m a q) ∙ e))
+
+combined-IsSelectionOf : (m : MapParts) (mode : SelectionMode) (s t : set.FinSet cell_cmp) → IsSelectionOf m s → IsSelectionOf m t → IsSelectionOf m (combined mode s t)
+combined-IsSelectionOf m Replace s t h k q e = k q e
+combined-IsSelectionOf m Add s t h k q e = elim (or_cases _ _ (sym (set.contains-union cell_cmp_total s t q) ∙ e)) [ inl one ↦ h q one | inr one ↦ k q one ]
+combined-IsSelectionOf m Subtract s t h k q e = h q (and_left _ _ (sym (set.contains-difference cell_cmp_total s t q) ∙ e))
+combined-IsSelectionOf m Intersect s t h k q e = h q (and_left _ _ (sym (set.contains-intersection cell_cmp_total s t q) ∙ e))
+
+-- a selection of the map and cells in an area lead to one of the map
+pub combined-selected : (d : DocumentParts) (m : MapParts) (mode : SelectionMode) (a : Area) (s t : set.FinSet cell_cmp) (o : Result (set.FinSet cell_cmp) AllocError) → IsDocument d → s ≡ d.selection → m ≡ d.map
+    → t ≡ cells_in m a → IfOk o (λ r. r ≡ combined mode s t) → IfOk o (IsSelectionOf d.map)
+combined-selected d m mode a s t (Ok r) h own same cells is =
+    let own_is : IsSelectionOf d.map s = subst (IsSelectionOf d.map) (sym own) h.selection in
+    let cells_are : IsSelectionOf d.map t = subst (IsSelectionOf d.map) (sym (cells ∙ ap (λ n. cells_in n a) same)) (cells_in-IsSelectionOf d.map a) in
+    subst (IsSelectionOf d.map) (sym is) (combined-IsSelectionOf d.map mode s t own_is cells_are)
+combined-selected d m mode a s t (Err e) h own same cells is = tt

@@ -1,5 +1,6 @@
 ghost use Rattle.std.specs.Prelude.{◌≡◌, IfOk};
-ghost use Rattle.edits.specs.Selecting.{cells_in, selected};
+ghost use Rattle.map_model.specs.Document.{IsSelectionOf};
+ghost use Rattle.edits.specs.Selecting.{cells_in, combined, selected};
 
 use crate::area::Area;
 use crate::span::Span;
@@ -32,21 +33,34 @@ fn cells_in(alloc: Global, map: &Map, area: Area) -> Result<Region, AllocError>
     )
 }
 
-/// The selection of a document after an edit of it. The document stays as it is.
-///
-/// Where there is no memory for it the answer is `AllocError`.
-pub fn selected(alloc: Global, document: &Document, edit: Selecting) -> Result<Region, AllocError>
-    ensures { IfOk result (λ r. r ≡ selected document.now edit) }
+// A selection and other cells together.
+fn combined(
+    alloc: Global,
+    mode: SelectionMode,
+    selection: &Region,
+    cells: Region,
+) -> Result<Region, AllocError>
+    ensures { IfOk result (λ r. r ≡ combined mode selection.now cells) }
 {
-    let Selecting::Rectangle { mode, area } = edit else {
-        return Ok(Region::empty(alloc));
-    };
-    let selection = document.selection();
-    let cells = cells_in(alloc, document.map(), area)?;
     match mode {
         SelectionMode::Replace => Ok(cells),
         SelectionMode::Add => selection.united(alloc, &cells),
         SelectionMode::Subtract => selection.without(alloc, &cells),
         SelectionMode::Intersect => selection.met(alloc, &cells),
     }
+}
+
+/// The selection of a document after an edit of it. The document stays as it is.
+///
+/// Where there is no memory for it the answer is `AllocError`.
+pub fn selected(alloc: Global, document: &Document, edit: Selecting) -> Result<Region, AllocError>
+    ensures cells { IfOk result (λ r. r ≡ selected document.now edit) }
+    ensures within { IfOk result (IsSelectionOf document.now.map) }
+{
+    let selection = document.selection();
+    let Selecting::Rectangle { mode, area } = edit else {
+        return Ok(Region::empty(alloc));
+    };
+    let cells = cells_in(alloc, document.map(), area)?;
+    combined(alloc, mode, selection, cells)
 }

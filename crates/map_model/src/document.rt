@@ -68,6 +68,7 @@ impl Document {
     pub fn swap_selection(&mut self, selection: &mut Region)
         requires { IsSelectionOf self.old.map selection.old }
         ensures given { selection.new ≡ self.old.selection }
+        ensures back { IsSelectionOf self.new.map selection.new }
         ensures document { self.new ≡ with_selection selection.old self.old }
         ensures well_formed { IsDocument self.new }
     {

@@ -9,7 +9,9 @@ ghost use Rattle.command_api.specs.Making.{IsRefusalOf, Makes};
 ghost use Rattle.paint_commands.specs.Painting.{erase_names, fill_names, new_paint, paint_change, paint_exchange, painted_layer, side_of, stamp_names};
 
 use command_api::{Exchange, Label};
-use edits::{Area, Block, CellChange, CellEdits, EditFault, erase_change, fill_change, stamp_change};
+use edits::{
+    Area, Block, CellChange, CellEdits, EditFault, erase_change, fill_change, stamp_change,
+};
 use map_model::{CellEdit, Document, Side};
 use std::alloc::Global;
 use tile_id::Gid;

@@ -17,7 +17,7 @@ returns c =
     c.put_edits.ensures.document ∙ rw (c.as_slice.ensures.cells, c.side_to_put-side.ensures) refl in
     record {
       document = turned;
-      fits = rw turned (painted-IsDifference p.is_made p.layer p.cells d (rw turned at c.put_edits.ensures.well_formed) c.requires.fits);
+      fits = rw turned (painted-IsDifference p.is_made p.layer p.cells d (rw turned at c.put_edits.ensures.well_formed.map) c.requires.fits);
       back = rw turned (painted-painted p.is_made p.layer p.cells d c.requires.fits);
       names = refl;
       obsolete = refl;
