@@ -1,5 +1,7 @@
+pub mod Before
 pub mod Canonical
 pub mod Cellwise
+pub mod Gaps
 pub mod Listed
 pub mod Members
 pub mod Moving

@@ -42,12 +42,12 @@ split [] p s r rs i j e h = (part_run p r i h.0, e, narrow [] s r rs j h)
 split (x ∷ []) p s r rs i j e h = (h.0, part_starts x p r i h.1, split [] p s r rs i j e h.2)
 split (x ∷ (y ∷ xs)) p s r rs i j e h = (h.0, h.1, split (y ∷ xs) p s r rs i j e h.2)
 
-joined : (xs : List Run) (p : Run) (rs : List Run) → IsMaximalRuns (xs ++ p ∷ []) → IsMaximalRuns (p ∷ rs) → IsMaximalRuns (xs ++ p ∷ rs)
+pub joined : (xs : List Run) (p : Run) (rs : List Run) → IsMaximalRuns (xs ++ p ∷ []) → IsMaximalRuns (p ∷ rs) → IsMaximalRuns (xs ++ p ∷ rs)
 joined [] p rs h k = k
 joined (x ∷ []) p rs h k = (h.0, h.1, k)
 joined (x ∷ (y ∷ xs)) p rs h k = (h.0, h.1, joined (y ∷ xs) p rs h.2 k)
 
-appended : (xs : List Run) (p : Run) (rs : List Run) → IsMaximalRuns (xs ++ p ∷ rs) → IsMaximalRuns ((xs ++ p ∷ []) ++ rs)
+pub appended : (xs : List Run) (p : Run) (rs : List Run) → IsMaximalRuns (xs ++ p ∷ rs) → IsMaximalRuns ((xs ++ p ∷ []) ++ rs)
 appended xs p rs h = rw append_assoc h
 
 -- ---- what two lists share: the runs that are given may stand before the rest of one list
@@ -111,7 +111,7 @@ shared_second out o r s rs ss q e ends h =
     ∙ second_done (in_runs out q) (in_run r q) (in_runs rs q) (in_run s q) (in_runs ss q) (apart s r rs q ends h)
 
 -- ---- what the first list has alone: r is the first run that is left of it, t the next run of the second one, p what r has before t, and s what it has after t
-between : (t p s : Run) → IsRun t → LiesBehind t p → LiesBehind s t → p.y ≡ s.y → EndsBefore p s
+pub between : (t p s : Run) → IsRun t → LiesBehind t p → LiesBehind s t → p.y ≡ s.y → EndsBefore p s
 between t p s i (inl h) (inl k) e = absurd (omega arith)
 between t p s i (inl h) (inr k) e = absurd (omega (arith, k.0))
 between t p s i (inr h) (inl k) e = absurd (omega (arith, h.0))
@@ -132,10 +132,10 @@ pub whole_order : (out : List Run) (r : Run) (rs : List Run) → IsMaximalRuns (
 whole_order out r rs h = appended out r rs h
 
 -- a cell is before a run, in it, or after it
-sides : (t : Run) (q : ℕ × ℕ) → IsRun t → in_run t q ≡ not (is_before q t || is_after q t)
+pub sides : (t : Run) (q : ℕ × ℕ) → IsRun t → in_run t q ≡ not (is_before q t || is_after q t)
 sides t q i = let some = i.some in grind (arith, nat_tests)
 
-one_side : (t : Run) (q : ℕ × ℕ) → IsRun t → (is_before q t && is_after q t) ≡ false
+pub one_side : (t : Run) (q : ℕ × ℕ) → IsRun t → (is_before q t && is_after q t) ≡ false
 one_side t q i = let some = i.some in grind (arith, nat_tests)
 
 after_row : (t : Run) (q : ℕ × ℕ) → t.y < q.1 → is_after q t ≡ true
@@ -149,7 +149,7 @@ After-is_after t q (inl h) = after_row t q h
 After-is_after t q (inr h) = after_end t q h.0 (omega (arith, h.1))
 
 -- no later run has a cell before the first one
-before_later : (t : Run) (ts : List Run) (q : ℕ × ℕ) → IsMaximalRuns (t ∷ ts) → (is_before q t && in_runs ts q) ≡ false
+pub before_later : (t : Run) (ts : List Run) (q : ℕ × ℕ) → IsMaximalRuns (t ∷ ts) → (is_before q t && in_runs ts q) ≡ false
 before_later t ts q h = by_tests (is_before q t) (in_runs ts q) refl refl
   where
     by_tests : (a b : Bool) → is_before q t ≡ a → in_runs ts q ≡ b → (a && b) ≡ false

@@ -12,12 +12,6 @@ StartsBy r s = (r.y < s.y) ⊎ ((r.y ≡ s.y) × (r.x ≤ s.x))
 abbrev pub EndsBy : Run → Run → Type 0
 EndsBy r s = (r.y < s.y) ⊎ ((r.y ≡ s.y) × (r.x + r.len ≤ s.x + s.len))
 
--- the last run starts at another's start or before it
-abbrev pub LastStartsBy : List Run → Run → Type 0
-LastStartsBy [] s = Unit {0}
-LastStartsBy (r ∷ []) s = StartsBy r s
-LastStartsBy (r ∷ (t ∷ rs)) s = LastStartsBy (t ∷ rs) s
-
 -- each cell of the first run comes after each cell of the second one
 abbrev pub LiesBehind : Run → Run → Type 0
 LiesBehind r s = (s.y < r.y) ⊎ ((s.y ≡ r.y) × (s.x + s.len ≤ r.x))
@@ -52,6 +46,11 @@ is_after q r = nat_lt r.y q.1 || (nat_eq r.y q.1 && nat_le (r.x + r.len) q.0)
 abbrev pub HaveEnded : ℕ × ℕ → List Run → Type 0
 HaveEnded q [] = Unit {0}
 HaveEnded q (r ∷ rs) = (is_after q r ≡ true) × HaveEnded q rs
+
+-- each run ends before the first of the others starts
+abbrev pub EndBeforeFirst : List Run → List Run → Type 0
+EndBeforeFirst rs [] = Unit {0}
+EndBeforeFirst rs (s ∷ ss) = HaveEnded (s.x, s.y) rs
 
 -- the first run does not end before a cell
 abbrev pub ReachesTo : ℕ × ℕ → List Run → Type 0
