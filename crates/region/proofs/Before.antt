@@ -1,10 +1,10 @@
 -- What runs have before another run.
-use Rattle.std.proofs.Common.{◌≡◌, ℕ, ◌+◌, ◌<◌, ◌≤◌, ◌⊎◌, inl, inr, Bool, true, false, not, ◌&&◌, ◌||◌, List, [], ◌∷◌, ◌++◌, append_assoc, refl, sym, ap, ◌∙◌, arith, Option, Some, None, IfSome}
+use Rattle.std.proofs.Common.{◌≡◌, ℕ, ◌+◌, ◌<◌, ◌≤◌, ◌⊎◌, inl, inr, Bool, true, false, not, ◌&&◌, ◌||◌, List, ◌∷◌, ◌++◌, append_assoc, refl, sym, ap, ◌∙◌, arith, Option, Some, None, IfSome}
 use Rattle.std.proofs.lemmas.Bool.Decides.{nat_tests}
 use Rattle.region.specs.declared.runs.Run.{Run}
 use Rattle.region.specs.Cells.{IsFrom}
 use Rattle.region.specs.Runs.{IsRun, IsMaximalRuns, in_run, in_runs}
-use Rattle.region.specs.Walks.{IsPart, in_option, is_before, is_after, HaveEnded, EndBeforeFirst, AreSplitAt}
+use Rattle.region.specs.Walks.{IsPart, is_before, is_after, HaveEnded, AreSplitAt}
 use Rattle.region.proofs.Canonical.{After, after, in_run-row, in_run-start}
 use Rattle.region.proofs.Search.{after_cases, row_before, end_before}
 use Rattle.region.proofs.Splits.{in_runs-append, in_runs-ended, HaveEnded-later, HaveEnded-append}

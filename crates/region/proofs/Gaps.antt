@@ -1,13 +1,14 @@
 -- What a run has apart from other runs.
-use Rattle.std.proofs.Common.{◌≡◌, ℕ, ◌+◌, ◌<◌, ◌≤◌, inl, inr, Bool, true, false, not, ◌&&◌, ◌||◌, List, [], ◌∷◌, ◌++◌, length, refl, sym, ap, ◌∙◌, arith, Option, Some, None, IfSome}
+use Rattle.std.proofs.Common.{◌≡◌, ℕ, ◌+◌, ◌<◌, ◌≤◌, inl, inr, Bool, true, false, not, ◌&&◌, ◌||◌, List, [], ◌∷◌, length, length-append, refl, sym, ap, ◌∙◌, arith, Option, Some, None, IfSome}
 use Rattle.std.specs.Option.{option_to_list}
+use Rattle.std.proofs.lemmas.Bool.Decides.{nat_tests}
 use Rattle.region.specs.declared.runs.Run.{Run}
 use Rattle.region.specs.Cells.{IsFrom}
 use Rattle.region.specs.Runs.{IsRun, IsMaximalRuns, EndsBefore, in_run, in_runs}
-use Rattle.region.specs.Walks.{LiesBehind, IsPart, in_option, is_before, is_after, HaveEnded, EndBeforeFirst, AreSplitAt}
+use Rattle.region.specs.Walks.{LiesBehind, IsPart, in_option, is_before, is_after, HaveEnded, EndBeforeFirst, ReachesTo, AreSplitAt}
 use Rattle.region.proofs.Canonical.{After, after, in_run-row, in_run-start}
 use Rattle.region.proofs.Search.{row_before, end_before}
-use Rattle.region.proofs.Splits.{in_runs-from, ended_out, is_after-later, HaveEnded-later, ended_at}
+use Rattle.region.proofs.Splits.{in_runs-from, ended_out, HaveEnded-later, ended_at}
 use Rattle.region.proofs.Steps.{sides, one_side, before_later, between}
 
 pub option_len : {A : Type 0} (o : Option A) → length (option_to_list o) ≤ 1
@@ -82,33 +83,33 @@ left_order out new p r s t i a b c d h k = k (HaveEnded-later out (r.x, r.y) (s.
     ended None a b = tt
     ended (Some u) a b = ended_at u s (between t u s i b d (a.row ∙ sym c.row))
 
--- ---- a step of the walk: first what stands before t, the first of the cuts, and then what r has, the first run that is left
-module _ (out o1 o2 runs front others cuts rest : List Run) (t : Run) (ts : List Run) (r : Run) (cuts-is : cuts ≡ t ∷ ts) (cut_runs : IsMaximalRuns cuts)
-    (left : AreSplitAt (t.x + t.len, t.y) runs front (r ∷ others)) (left_runs : IsMaximalRuns (r ∷ others)) where
+-- ---- a step of the walk: what stands before t, the first of the cuts, has been given
+module _ (out o1 runs rest cuts : List Run) (t : Run) (ts : List Run) (cuts-is : cuts ≡ t ∷ ts) (cut_runs : IsMaximalRuns cuts) where
   from_start : (q : ℕ × ℕ) → After t q → IsFrom q (t.x, t.y)
   from_start q (inl h) = inl h
   from_start q (inr h) = inr (h.0, omega (arith, h.1))
-
-  from_end : (q : ℕ × ℕ) → After r q → IsFrom q (r.x + r.len, r.y)
-  from_end q (inl h) = inl h
-  from_end q (inr h) = inr (h.0, omega (arith, h.1))
 
   split_tests : (n o l a t : Bool) → (n || (l && not t)) ≡ (o || (a && not t)) → (n || (l && not (t || false))) ≡ (o || (a && not (t || false)))
   split_tests n o l a true h = h
   split_tests n o l a false h = h
 
   same_tests : (n o l a t : Bool) → n ≡ o → (n || (l && not (t || true))) ≡ (o || (a && not (t || true)))
-  same_tests n o l a true h = grind arith
-  same_tests n o l a false h = grind arith
+  same_tests n o l a t h = grind arith
 
-  front_cells : (q : ℕ × ℕ) → (in_runs o1 q || (in_runs (r ∷ others) q && not (in_run t q))) ≡ (in_runs out q || (in_runs runs q && not (in_run t q)))
+  pub front_cells : (q : ℕ × ℕ) → (in_runs o1 q || (in_runs rest q && not (in_run t q))) ≡ (in_runs out q || (in_runs runs q && not (in_run t q)))
       → (IsFrom q (t.x, t.y) → in_runs o1 q ≡ in_runs out q)
-      → (in_runs o1 q || (in_runs (r ∷ others) q && not (in_runs cuts q))) ≡ (in_runs out q || (in_runs runs q && not (in_runs cuts q)))
+      → (in_runs o1 q || (in_runs rest q && not (in_runs cuts q))) ≡ (in_runs out q || (in_runs runs q && not (in_runs cuts q)))
   front_cells q e f = rw cuts-is (by_test (in_runs ts q) refl)
     where
-      by_test : (b : Bool) → in_runs ts q ≡ b → (in_runs o1 q || (in_runs (r ∷ others) q && not (in_run t q || b))) ≡ (in_runs out q || (in_runs runs q && not (in_run t q || b)))
-      by_test true i = same_tests (in_runs o1 q) (in_runs out q) (in_runs (r ∷ others) q) (in_runs runs q) (in_run t q) (f (from_start q (after t ts q (rw cuts-is at cut_runs) i)))
-      by_test false i = split_tests (in_runs o1 q) (in_runs out q) (in_runs (r ∷ others) q) (in_runs runs q) (in_run t q) e
+      by_test : (b : Bool) → in_runs ts q ≡ b → (in_runs o1 q || (in_runs rest q && not (in_run t q || b))) ≡ (in_runs out q || (in_runs runs q && not (in_run t q || b)))
+      by_test true i = same_tests (in_runs o1 q) (in_runs out q) (in_runs rest q) (in_runs runs q) (in_run t q) (f (from_start q (after t ts q (rw cuts-is at cut_runs) i)))
+      by_test false i = split_tests (in_runs o1 q) (in_runs out q) (in_runs rest q) (in_runs runs q) (in_run t q) e
+
+-- and then what the first run that is left has apart from the cuts
+module _ (o1 o2 left cuts rest : List Run) (r : Run) (others : List Run) (left-is : left ≡ r ∷ others) (left_runs : IsMaximalRuns (r ∷ others)) where
+  from_end : (q : ℕ × ℕ) → After r q → IsFrom q (r.x + r.len, r.y)
+  from_end q (inl h) = inl h
+  from_end q (inr h) = inr (h.0, omega (arith, h.1))
 
   later_cells : (q : ℕ × ℕ) → (IsFrom q (r.x + r.len, r.y) → in_runs rest q ≡ in_runs cuts q) → (in_runs others q && not (in_runs rest q)) ≡ (in_runs others q && not (in_runs cuts q))
   later_cells q f = by_test (in_runs others q) refl
@@ -120,11 +121,10 @@ module _ (out o1 o2 runs front others cuts rest : List Run) (t : Run) (ts : List
   both_tests : (o r s c : Bool) → ((o || (r && not c)) || (s && not c)) ≡ (o || ((r || s) && not c))
   both_tests o r s c = grind arith
 
-  pub step_cells : (q : ℕ × ℕ) → (in_runs o1 q || (in_runs (r ∷ others) q && not (in_run t q))) ≡ (in_runs out q || (in_runs runs q && not (in_run t q)))
-      → (IsFrom q (t.x, t.y) → in_runs o1 q ≡ in_runs out q) → in_runs o2 q ≡ (in_runs o1 q || (in_run r q && not (in_runs cuts q)))
+  pub gap_cells : (q : ℕ × ℕ) → in_runs o2 q ≡ (in_runs o1 q || (in_run r q && not (in_runs cuts q)))
       → (IsFrom q (r.x + r.len, r.y) → in_runs rest q ≡ in_runs cuts q)
-      → (in_runs o2 q || (in_runs others q && not (in_runs rest q))) ≡ (in_runs out q || (in_runs runs q && not (in_runs cuts q)))
-  step_cells q e f g h = rw (g, later_cells q h) (both_tests (in_runs o1 q) (in_run r q) (in_runs others q) (in_runs cuts q) ∙ front_cells q e f)
+      → (in_runs o2 q || (in_runs others q && not (in_runs rest q))) ≡ (in_runs o1 q || (in_runs left q && not (in_runs cuts q)))
+  gap_cells q e f = rw (left-is, e, later_cells q f) (both_tests (in_runs o1 q) (in_run r q) (in_runs others q) (in_runs cuts q))
 
 -- what has ended where a run ends has ended where the next one starts
 pub next_order : (out : List Run) (r : Run) (rs : List Run) → IsMaximalRuns (r ∷ rs) → HaveEnded (r.x + r.len, r.y) out → EndBeforeFirst out rs
@@ -134,3 +134,46 @@ next_order out r (s ∷ rs) h k = HaveEnded-later out (r.x + r.len, r.y) (s.x, s
     from : EndsBefore r s → IsFrom (s.x, s.y) (r.x + r.len, r.y)
     from (inl e) = inl e
     from (inr e) = inr (e.0, omega (arith, e.1))
+
+-- ---- a walk over two lists that gives both
+first_given : (n x o y t : Bool) → (n || (x && not t)) ≡ (o || (y && not t)) → ((n || x) || t) ≡ ((o || y) || t)
+first_given n x o y true h = grind arith
+first_given n x o y false h = grind arith
+
+either_tests : (n m o r rs t ts y z : Bool) → (n || ((r || rs) && not t)) ≡ (o || (y && not t)) → (m || (z && not r)) ≡ (n || ((t || ts) && not r))
+    → (m || ((r || rs) || z)) ≡ (o || (y || (t || ts)))
+either_tests n m o true rs true ts y z h k = grind arith
+either_tests n m o true rs false ts y z h k = grind arith
+either_tests n m o false rs true ts y z h k = grind arith
+either_tests n m o false rs false ts y z h k = grind arith
+
+-- what stands before the first run of each has been given in turn
+pub either_cells : (out o1 o2 first left second rest : List Run) (r t : Run) (rs ts : List Run) (q : ℕ × ℕ) → left ≡ r ∷ rs → second ≡ t ∷ ts
+    → (in_runs o1 q || (in_runs left q && not (in_run t q))) ≡ (in_runs out q || (in_runs first q && not (in_run t q)))
+    → (in_runs o2 q || (in_runs rest q && not (in_run r q))) ≡ (in_runs o1 q || (in_runs second q && not (in_run r q)))
+    → (in_runs o2 q || (in_runs left q || in_runs rest q)) ≡ (in_runs out q || (in_runs first q || in_runs second q))
+either_cells out o1 o2 first left second rest r t rs ts q e f h k =
+    rw (e, f) (either_tests (in_runs o1 q) (in_runs o2 q) (in_runs out q) (in_run r q) (in_runs rs q) (in_run t q) (in_runs ts q) (in_runs first q) (in_runs rest q)
+    (rw e at h) (rw f at k))
+
+last_tests : (n o y t ts : Bool) → (n || (false && not t)) ≡ (o || (y && not t)) → (n || (t || ts)) ≡ (o || (y || (t || ts)))
+last_tests n o y true ts h = grind arith
+last_tests n o y false ts h = grind arith
+
+pub last_cells : (out o1 first left second : List Run) (t : Run) (ts : List Run) (q : ℕ × ℕ) → left ≡ [] → second ≡ t ∷ ts
+    → (in_runs o1 q || (in_runs left q && not (in_run t q))) ≡ (in_runs out q || (in_runs first q && not (in_run t q)))
+    → (in_runs o1 q || in_runs second q) ≡ (in_runs out q || (in_runs first q || in_runs second q))
+last_cells out o1 first left second t ts q e f h = rw f (last_tests (in_runs o1 q) (in_runs out q) (in_runs first q) (in_run t q) (in_runs ts q) (rw e at h))
+
+-- of two first runs one ends by the end of the other
+ends_in_turn : (r t : Run) → is_after (t.x + t.len, t.y) r ≡ false → is_after (r.x + r.len, r.y) t ≡ true
+ends_in_turn r t h = grind (arith, nat_tests)
+
+-- so it is taken in its turn
+pub taken_in_turn : (left second rest : List Run) (r t : Run) (rs ts : List Run) (front : List Run) → left ≡ r ∷ rs → second ≡ t ∷ ts → ReachesTo (t.x + t.len, t.y) left
+    → AreSplitAt (r.x + r.len, r.y) second front rest → length rest < length second
+taken_in_turn left second rest r t rs ts [] e f h k =
+    let there = rw (sym k.whole ∙ f) at k.reaches in
+    let gone = ends_in_turn r t (rw e at h) in
+    absurd cc
+taken_in_turn left second rest r t rs ts (x ∷ xs) e f h k = omega (arith, ap length k.whole, length-append xs rest)

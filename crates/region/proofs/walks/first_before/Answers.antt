@@ -1,6 +1,4 @@
 use Rattle.std.proofs.Common.{◌∙◌}
-use Rattle.region.specs.Walks.{ReachesTo, EndBeforeFirst}
-use Rattle.region.specs.Runs.{IsMaximalRuns}
 use Rattle.region.proofs.Before.{first_only, part_order}
 use Rattle.region.proofs.walks.first_before.Goals as goal
 

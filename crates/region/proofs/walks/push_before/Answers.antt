@@ -1,7 +1,6 @@
-use Rattle.std.proofs.Common.{◌≡◌, ℕ, ◌+◌, List, ◌++◌, refl, ap, ◌∙◌, arith, ◌||◌, ◌&&◌}
-use Rattle.region.specs.declared.runs.Run.{Run}
-use Rattle.region.specs.Runs.{IsMaximalRuns, in_runs}
-use Rattle.region.specs.Walks.{HaveEnded, EndBeforeFirst, is_before}
+use Rattle.std.proofs.Common.{◌≡◌, ℕ, ◌++◌, refl, ◌∙◌, ◌||◌, ◌&&◌}
+use Rattle.region.specs.Runs.{in_runs}
+use Rattle.region.specs.Walks.{is_before}
 use Rattle.region.proofs.Before.{whole, taken, before_cells, before_none}
 use Rattle.region.proofs.Order.{IsMaximalRuns-front, IsMaximalRuns-back}
 use Rattle.region.proofs.Splits.{advanced, EndBeforeFirst-front}

@@ -1,7 +1,5 @@
-use Rattle.std.proofs.Common.{◌≡◌, ℕ, ◌+◌, [], ◌∷◌, ◌∙◌, sym, ap, length, length-append, arith}
-use Rattle.region.specs.declared.runs.Run.{Run}
+use Rattle.std.proofs.Common.{ℕ, ◌+◌, ◌∷◌, ◌∙◌, sym, ap, length, length-append, arith}
 use Rattle.region.specs.Runs.{IsMaximalRuns}
-use Rattle.region.specs.Cells.{IsFrom}
 use Rattle.region.proofs.Before.{part_order}
 use Rattle.region.proofs.Gaps.{option_len, part_itself, part_trans, part_ended, end_from, parts_ended, start_cells, cut_cells, done_cells, gone_later, left_order, end_to_start}
 use Rattle.region.proofs.Order.{IsMaximalRuns-back}

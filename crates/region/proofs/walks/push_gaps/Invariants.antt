@@ -1,6 +1,6 @@
 use Rattle.std.proofs.Common.{◌≡◌, ℕ, ◌+◌, ◌≤◌, ◌||◌, ◌&&◌, not, length, vec_len, vec_capacity}
 use Rattle.region.specs.Cells.{IsFrom}
-use Rattle.region.specs.Runs.{IsRun, IsMaximalRuns, in_run, in_runs}
+use Rattle.region.specs.Runs.{IsMaximalRuns, in_run, in_runs}
 use Rattle.region.specs.Walks.{IsPart, HaveEnded}
 use Rattle.region.proofs.walks.push_gaps.Given as goal
 

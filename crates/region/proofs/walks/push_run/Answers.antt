@@ -1,7 +1,4 @@
-use Rattle.std.proofs.Common.{◌≡◌, ◌∷◌, [], ◌++◌, List}
-use Rattle.region.specs.declared.runs.Run.{Run}
-use Rattle.region.specs.Runs.{IsMaximalRuns}
-use Rattle.region.specs.Walks.{HaveEnded}
+use Rattle.std.proofs.Common.{◌∷◌, [], ◌++◌}
 use Rattle.region.proofs.Pushes.{IsMaximalRuns-last, joins-cells, joins-runs, joins-ended, follows-runs}
 use Rattle.region.proofs.Splits.{HaveEnded-append}
 use Rattle.region.proofs.walks.push_run.Goals as goal

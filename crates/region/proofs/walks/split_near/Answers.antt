@@ -1,4 +1,4 @@
-use Rattle.std.proofs.Common.{ℕ, take, drop, arith, sym, ◌∙◌}
+use Rattle.std.proofs.Common.{ℕ, take, drop, sym, ◌∙◌}
 use Rattle.std.proofs.lemmas.List.{take-append-drop}
 use Rattle.region.specs.declared.runs.Run.{Run}
 use Rattle.region.specs.Walks.{ReachesTo}

@@ -1,4 +1,4 @@
-use Rattle.std.proofs.Common.{length, ◌-◌, ◌≤◌, ◌<◌, ℕ}
+use Rattle.std.proofs.Common.{length, ◌-◌, ◌≤◌, ◌<◌}
 use Rattle.region.proofs.walks.split_near.Given as goal
 
 abbrev pub invariant-loop-window : goal.invariant-loop-window
