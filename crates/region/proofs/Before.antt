@@ -33,7 +33,7 @@ behind_reach r t q h a b = by_cases a (before_cases t q b)
     by_cases (inr a) (inl b) = let ended = row_before r r (t.x, t.y) (omega (arith, a.0)) in cc
     by_cases (inr a) (inr b) = let ended = end_before r (t.x, t.y) (a.0 ∙ b.0) (omega (arith, a.1, b.1)) in cc
 
-later_none : (r : Run) (rs : List Run) (t : Run) (q : ℕ × ℕ) → IsMaximalRuns (r ∷ rs) → is_after (t.x, t.y) r ≡ false → (in_runs rs q && is_before q t) ≡ false
+pub later_none : (r : Run) (rs : List Run) (t : Run) (q : ℕ × ℕ) → IsMaximalRuns (r ∷ rs) → is_after (t.x, t.y) r ≡ false → (in_runs rs q && is_before q t) ≡ false
 later_none r rs t q h k = by_tests (in_runs rs q) (is_before q t) refl refl
   where
     by_tests : (a b : Bool) → in_runs rs q ≡ a → is_before q t ≡ b → (a && b) ≡ false
@@ -117,3 +117,13 @@ module _ (runs front cut near rest : List Run) (t : Run) (end : ℕ) (run : IsRu
     where
       none : (o i : Bool) → ((o || false) || (i && false)) ≡ o
       none o i = grind arith
+
+  shared_tests : (o f i r t : Bool) → (f && t) ≡ false → ((o || (i && t)) || (r && t)) ≡ (o || ((f || (i || r)) && t))
+  shared_tests o f i r t h = grind arith
+
+  -- what is given is what they share with t
+  pub shared_cells : (out new : List Run) (q : ℕ × ℕ) → in_runs new q ≡ (in_runs out q || (in_runs cut q && in_run t q))
+      → (in_runs new q || (in_runs rest q && in_run t q)) ≡ (in_runs out q || (in_runs runs q && in_run t q))
+  shared_cells out new q e =
+      rw (e, whole, in_runs-append front (cut ++ rest) q, in_runs-append cut rest q)
+      (shared_tests (in_runs out q) (in_runs front q) (in_runs cut q) (in_runs rest q) (in_run t q) (front_apart q))

@@ -8,5 +8,6 @@ pub mod Moving
 pub mod Order
 pub mod Pushes
 pub mod Search
+pub mod Shared
 pub mod Splits
 pub mod Steps

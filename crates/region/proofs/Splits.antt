@@ -101,7 +101,7 @@ HaveEnded-back [] ys q h = h
 HaveEnded-back (x ∷ xs) ys q h = HaveEnded-back xs ys q h.1
 
 -- ---- runs one after another
-ends_before : (x : Run) (xs : List Run) (s : Run) (ys : List Run) → IsMaximalRuns (x ∷ (xs ++ s ∷ ys)) → EndsBefore x s
+pub ends_before : (x : Run) (xs : List Run) (s : Run) (ys : List Run) → IsMaximalRuns (x ∷ (xs ++ s ∷ ys)) → EndsBefore x s
 ends_before x [] s ys h = h.1
 ends_before x (t ∷ ts) s ys h = ends_before x ts s ys (h.0, EndsBeforeAll-later x t (ts ++ s ∷ ys) h.1 h.2, h.2.2)
 
@@ -109,7 +109,7 @@ pub ended_at : (x s : Run) → EndsBefore x s → is_after (s.x, s.y) x ≡ true
 ended_at x s (inl h) = row_before x x (s.x, s.y) h
 ended_at x s (inr h) = end_before x (s.x, s.y) h.0 (omega (arith, h.1))
 
-starts_from : (x s : Run) → EndsBefore x s → IsFrom (s.x, s.y) (x.x, x.y)
+pub starts_from : (x s : Run) → EndsBefore x s → IsFrom (s.x, s.y) (x.x, x.y)
 starts_from x s (inl h) = inl h
 starts_from x s (inr h) = inr (h.0, omega (arith, h.1))
 

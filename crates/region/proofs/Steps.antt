@@ -15,7 +15,7 @@ skip [] r rs h = h.2
 skip (x ∷ []) r rs h = (h.0, EndsBeforeAll-later x r rs h.1 h.2, h.2.2)
 skip (x ∷ (y ∷ xs)) r rs h = (h.0, h.1, skip (y ∷ xs) r rs h.2)
 
-part_run : (p r : Run) → IsPart p r → IsRun r → IsRun p
+pub part_run : (p r : Run) → IsPart p r → IsRun r → IsRun p
 part_run p r i h = record { some = i.some; fits = omega (arith, i.end, h.fits) }
 
 part_ends : (p r s : Run) → IsPart p r → EndsBefore r s → EndsBefore p s

@@ -2,6 +2,7 @@
 use Rattle.std.specs.Prelude.{◌≡◌, ℤ, pos, negsuc, ◌+ℤ◌, ◌-ℤ◌, ◌≤ℤ◌, ℕ, ◌+◌, ◌<◌, ◌≤◌, ◌⊎◌, Bool, true, false, ◌&&◌, ◌||◌, nat_eq, nat_le, nat_lt, List, [], ◌∷◌, ◌++◌, Option, Some, None}
 use Rattle.region.specs.declared.runs.Run.{Run}
 use Rattle.std.specs.List.{list_any}
+use Rattle.region.specs.Cells.{IsFrom}
 use Rattle.region.specs.Runs.{in_run}
 
 -- the first run starts at the second one's start or before it
@@ -51,6 +52,11 @@ HaveEnded q (r ∷ rs) = (is_after q r ≡ true) × HaveEnded q rs
 abbrev pub EndBeforeFirst : List Run → List Run → Type 0
 EndBeforeFirst rs [] = Unit {0}
 EndBeforeFirst rs (s ∷ ss) = HaveEnded (s.x, s.y) rs
+
+-- a cell stands where the first of the runs starts, or behind it
+abbrev pub IsFromFirst : ℕ × ℕ → List Run → Type 0
+IsFromFirst q [] = ⊥
+IsFromFirst q (r ∷ rs) = IsFrom q (r.x, r.y)
 
 -- the first run does not end before a cell
 abbrev pub ReachesTo : ℕ × ℕ → List Run → Type 0

@@ -1,8 +1,8 @@
 // Walks over lists of runs, each from the first run to the last one.
-ghost use Rattle.std.specs.Prelude.{◌≡◌, ℕ, ◌+◌, ◌<◌, ◌≤◌, ◌||◌, ◌&&◌, not, List, ◌∷◌, ◌++◌, true, length, IfOk, IfSome, vec_len, vec_capacity};
+ghost use Rattle.std.specs.Prelude.{◌≡◌, ℕ, ◌+◌, ◌<◌, ◌≤◌, ◌||◌, ◌&&◌, not, List, ◌∷◌, ◌++◌, true, false, length, IfOk, IfSome, vec_len, vec_capacity};
 ghost use Rattle.region.specs.Cells.{IsFrom};
 ghost use Rattle.region.specs.Runs.{IsRun, IsMaximalRuns, in_run, in_runs};
-ghost use Rattle.region.specs.Walks.{AreSplitAt, EndBeforeFirst, HaveEnded, ReachesTo, in_moved_runs, in_option, is_after, is_before};
+ghost use Rattle.region.specs.Walks.{AreSplitAt, EndBeforeFirst, HaveEnded, IsFromFirst, ReachesTo, in_moved_runs, in_option, is_after, is_before};
 ghost use Rattle.region.specs.declared.runs.Run.{Run as RunOf};
 ghost use Rattle.std.specs.Option.{option_to_list};
 
@@ -18,9 +18,25 @@ pub(crate) fn split_ended(runs: &[Run], x: u32, y: u32) -> (&[Run], &[Run])
     runs.split_at(at)
 }
 
+// The same, for runs of which often none or one ends before the cell.
+#[inline]
+fn split_near(runs: &[Run], x: u32, y: u32) -> (&[Run], &[Run])
+    requires { IsMaximalRuns runs.now }
+    ensures { AreSplitAt (x, y) runs.now result.0.now result.1.now }
+{
+    if runs.is_empty() || !runs[0].ends_before(x, y) {
+        return runs.split_at(0);
+    }
+    if runs.len() == 1 || !runs[1].ends_before(x, y) {
+        return runs.split_at(1);
+    }
+    split_far(runs, x, y)
+}
+
 // The same, for runs of which few end before the cell: it takes a number of steps that grows with the logarithm of
 // how many do.
-fn split_near(runs: &[Run], x: u32, y: u32) -> (&[Run], &[Run])
+#[inline(never)]
+fn split_far(runs: &[Run], x: u32, y: u32) -> (&[Run], &[Run])
     requires { IsMaximalRuns runs.now }
     ensures { AreSplitAt (x, y) runs.now result.0.now result.1.now }
 {
@@ -88,7 +104,9 @@ fn push_runs(out: &mut Vec<Run>, runs: &[Run])
 {
     if let Some((first, others)) = runs.split_first() {
         push_run(out, *first);
-        out.extend_from_slice(others).unwrap();
+        if !others.is_empty() {
+            out.extend_from_slice(others).unwrap();
+        }
     }
 }
 
@@ -195,6 +213,49 @@ pub(crate) fn merged(alloc: Global, a: &[Run], b: &[Run]) -> Result<Vec<Run>, Al
     Ok(out)
 }
 
+// Gives what runs share with another one, which the first of them reaches and by whose end they all end.
+fn push_within(out: &mut Vec<Run>, runs: &[Run], other: Run)
+    requires room { vec_len out.old + length runs.now ≤ vec_capacity out.old }
+    requires first { IsMaximalRuns out.old.items }
+    requires second { IsMaximalRuns runs.now }
+    requires other { IsRun other }
+    requires reaches { ReachesTo (other.x, other.y) runs.now }
+    requires within { HaveEnded (other.x + other.len, other.y) runs.now }
+    requires order { (q : ℕ × ℕ) → IsFrom q (other.x, other.y) → IsFromFirst q runs.now → HaveEnded q out.old.items }
+    ensures cells { (q : ℕ × ℕ) → in_runs out.new.items q ≡ (in_runs out.old.items q || (in_runs runs.now q && in_run other q)) }
+    ensures runs { IsMaximalRuns out.new.items }
+    ensures ended { (q : ℕ × ℕ) → HaveEnded q out.old.items → HaveEnded q runs.now → HaveEnded q out.new.items }
+    ensures len { vec_len out.new ≤ vec_len out.old + length runs.now }
+    ensures capacity { vec_capacity out.old ≤ vec_capacity out.new }
+{
+    if let Some((first, others)) = runs.split_first() {
+        push_part(out, first.shared(other));
+        push_runs(out, others);
+    }
+}
+
+// Gives what the runs that end by the end of another one share with it, and answers the runs that are left.
+fn push_shared<'a>(out: &mut Vec<Run>, runs: &'a [Run], other: Run) -> &'a [Run]
+    requires room { vec_len out.old + length runs.now ≤ vec_capacity out.old }
+    requires first { IsMaximalRuns out.old.items }
+    requires second { IsMaximalRuns runs.now }
+    requires other { IsRun other }
+    requires order { (q : ℕ × ℕ) → IsFrom q (other.x, other.y) → IsFromFirst q runs.now → HaveEnded q out.old.items }
+    ensures cells { (q : ℕ × ℕ) → (in_runs out.new.items q || (in_runs result.now q && in_run other q))
+        ≡ (in_runs out.old.items q || (in_runs runs.entry.now q && in_run other q)) }
+    ensures within { (q : ℕ × ℕ) → in_run other q ≡ false → in_runs out.new.items q ≡ in_runs out.old.items q }
+    ensures left { (front : List RunOf) × AreSplitAt (other.x + other.len, other.y) runs.entry.now front result.now }
+    ensures runs { IsMaximalRuns out.new.items }
+    ensures order { (q : ℕ × ℕ) → IsFrom q (other.x, other.y) → IsFromFirst q result.now → HaveEnded q out.new.items }
+    ensures len { vec_len out.new + length result.now ≤ vec_len out.old + length runs.entry.now }
+    ensures capacity { vec_capacity out.old ≤ vec_capacity out.new }
+{
+    let (_, rest) = split_near(runs, other.x, other.y);
+    let (shared, rest) = split_near(rest, other.end(), other.y);
+    push_within(out, shared, other);
+    rest
+}
+
 // The runs of the cells of both lists.
 pub(crate) fn overlaps(alloc: Global, a: &[Run], b: &[Run]) -> Result<Vec<Run>, AllocError>
     requires first { IsMaximalRuns a.now }
@@ -203,15 +264,13 @@ pub(crate) fn overlaps(alloc: Global, a: &[Run], b: &[Run]) -> Result<Vec<Run>, 
     ensures runs { IfOk result (λ v. IsMaximalRuns v.items) }
 {
     let mut out = Vec::with_capacity(alloc, a.len() + b.len())?;
-    let (mut i, mut j) = (0, 0);
-    while i < a.len() && j < b.len() {
-        push_some(&mut out, a[i].shared(b[j]));
-        // The run that ends first shares no cell with a later one.
-        if a[i].ends_by(b[j]) {
-            i += 1;
-        } else {
-            j += 1;
-        }
+    let (mut first, mut second) = (a, b);
+    while let Some((next, _)) = second.split_first() {
+        first = push_shared(&mut out, first, *next);
+        let Some((next, _)) = first.split_first() else {
+            return Ok(out);
+        };
+        second = push_shared(&mut out, second, *next);
     }
     Ok(out)
 }

@@ -7,13 +7,13 @@ or_assoc : (a b c : Bool) → ((a || b) || c) ≡ (a || (b || c))
 or_assoc true b c = refl
 or_assoc false b c = refl
 
-pub returns-in-Some-clause-cells : goal.returns-in-Some-clause-cells
-returns-in-Some-clause-cells c q =
+pub returns-then-not-is_empty-clause-cells : goal.returns-then-not-is_empty-clause-cells
+returns-then-not-is_empty-clause-cells c q =
     let fits = c.extend_from_slice.ensures.succeeds (omega (arith, c.requires.room, c.push_run.ensures.len, c.push_run.ensures.capacity, c.in-Some.ensures.cases.1)) in
     rw (c.extend_from_slice.ensures.items, fits, c.in-Some.ensures.cases.0, in_runs-append c.push_run.new.runs.items c.in-Some.others.now q, c.push_run.ensures.cells q) (or_assoc (in_runs c.args.out.now.items q) (in_run c.in-Some.first.now q) (in_runs c.in-Some.others.now q))
 
-pub returns-in-Some-clause-ended : goal.returns-in-Some-clause-ended
-returns-in-Some-clause-ended c q h k =
+pub returns-then-not-is_empty-clause-ended : goal.returns-then-not-is_empty-clause-ended
+returns-then-not-is_empty-clause-ended c q h k =
     let fits = c.extend_from_slice.ensures.succeeds (omega (arith, c.requires.room, c.push_run.ensures.len, c.push_run.ensures.capacity, c.in-Some.ensures.cases.1)) in
     let both = rw c.in-Some.ensures.cases.0 at k in
     rw (c.extend_from_slice.ensures.items, fits) (HaveEnded-append c.push_run.new.runs.items c.in-Some.others.now q (c.push_run.ensures.ended q h both.0) both.1)

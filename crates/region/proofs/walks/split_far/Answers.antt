@@ -4,8 +4,8 @@ use Rattle.region.specs.declared.runs.Run.{Run}
 use Rattle.region.specs.Walks.{ReachesTo}
 use Rattle.region.proofs.Order.{IsMaximalRuns-front}
 use Rattle.region.proofs.Splits.{split_on, reaches_at, reaches_past}
-use Rattle.region.proofs.walks.split_near.Goals as goal
-use Rattle.region.proofs.walks.split_near.Goals.{then-loop-window-test+else-ends_before, else-loop-window-test}
+use Rattle.region.proofs.walks.split_far.Goals as goal
+use Rattle.region.proofs.walks.split_far.Goals.{then-loop-window-test+else-ends_before, else-loop-window-test}
 
 pub split_ended-requires : goal.split_ended-requires
 split_ended-requires c = IsMaximalRuns-front (take c.loop-window.window c.args.runs.now) (drop c.loop-window.window c.args.runs.now) (rw (take-append-drop c.loop-window.window c.args.runs.now) c.requires)
