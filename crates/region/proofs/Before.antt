@@ -8,7 +8,7 @@ use Rattle.region.specs.Walks.{IsPart, is_before, is_after, HaveEnded, AreSplitA
 use Rattle.region.proofs.Canonical.{After, after, in_run-row, in_run-start}
 use Rattle.region.proofs.Search.{after_cases, row_before, end_before}
 use Rattle.region.proofs.Splits.{in_runs-append, in_runs-ended, HaveEnded-later, HaveEnded-append}
-use Rattle.region.proofs.Steps.{sides}
+use Rattle.region.proofs.Sides.{sides}
 
 before_cases : (r : Run) (q : ℕ × ℕ) → is_before q r ≡ true → (q.1 < r.y) ⊎ ((q.1 ≡ r.y) × (q.0 < r.x))
 before_cases r q h = grind (arith, nat_tests)

@@ -9,7 +9,8 @@ use Rattle.region.specs.Walks.{LiesBehind, IsPart, in_option, is_before, is_afte
 use Rattle.region.proofs.Canonical.{After, after, in_run-row, in_run-start}
 use Rattle.region.proofs.Search.{row_before, end_before}
 use Rattle.region.proofs.Splits.{in_runs-from, ended_out, HaveEnded-later, ended_at}
-use Rattle.region.proofs.Steps.{sides, one_side, before_later, between}
+use Rattle.region.proofs.Order.{between}
+use Rattle.region.proofs.Sides.{sides, one_side, before_later}
 
 pub option_len : {A : Type 0} (o : Option A) → length (option_to_list o) ≤ 1
 option_len None = omega arith

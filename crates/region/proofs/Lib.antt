@@ -9,5 +9,5 @@ pub mod Order
 pub mod Pushes
 pub mod Search
 pub mod Shared
+pub mod Sides
 pub mod Splits
-pub mod Steps

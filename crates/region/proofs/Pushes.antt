@@ -1,13 +1,13 @@
 -- Runs with one more run at the end.
-use Rattle.std.proofs.Common.{◌≡◌, ℕ, zero, suc, length, drop, get_or, ◌+◌, ◌<◌, ◌≤◌, max, ◌⊎◌, inl, inr, Bool, true, false, ◌||◌, List, [], ◌∷◌, ◌++◌, refl, sym, ap, subst, ◌∙◌, arith}
+use Rattle.std.proofs.Common.{◌≡◌, ℕ, zero, suc, length, get_or, ◌+◌, ◌<◌, ◌≤◌, max, ◌⊎◌, inl, inr, Bool, true, false, ◌||◌, List, [], ◌∷◌, ◌++◌, refl, sym, ap, ◌∙◌, arith}
 use Rattle.std.proofs.lemmas.Bool.Decides.{nat_tests}
 use Rattle.std.proofs.lemmas.List.Folds.{list_any-append}
 use Rattle.region.specs.declared.runs.Run.{Run}
 use Rattle.region.specs.Runs.{IsRun, IsMaximalRuns, EndsBefore, EndsBeforeAll, in_run, in_runs}
-use Rattle.region.specs.Walks.{StartsBy, HaveEnded, is_after}
+use Rattle.region.specs.Walks.{HaveEnded, is_after}
 use Rattle.region.proofs.Search.{after_cases, row_before, end_before}
 use Rattle.region.proofs.Splits.{HaveEnded-append, HaveEnded-front, HaveEnded-back}
-use Rattle.region.proofs.Steps.{joined as joined_runs, appended}
+use Rattle.region.proofs.Order.{joined as joined_runs, appended}
 
 pub IsMaximalRuns-last : (xs : List Run) (l : Run) → IsMaximalRuns (xs ++ l ∷ []) → IsRun l
 IsMaximalRuns-last [] l h = h.0
@@ -104,55 +104,7 @@ module _ (xs : List Run) (l r : Run) (runs : IsMaximalRuns (xs ++ l ∷ [])) (ru
     pub follows-runs : (next : List Run) → IsMaximalRuns (r ∷ next) → IsMaximalRuns (((xs ++ l ∷ []) ++ r ∷ []) ++ next)
     follows-runs next h = appended (xs ++ l ∷ []) r next (joined_runs (xs ++ l ∷ []) r next (IsMaximalRuns-push xs l r run ends runs) h)
 
--- ---- a walk over two lists
-pub cells_step : (a : List Run) (i : ℕ) (d : Run) (q : ℕ × ℕ) → i < length a → in_runs (drop i a) q ≡ (in_run (get_or a i d) q || in_runs (drop (suc i) a) q)
-cells_step [] i d q l = absurd (omega arith)
-cells_step (x ∷ xs) zero d q l = refl
-cells_step (x ∷ xs) (suc i) d q l = cells_step xs i d q (omega arith)
-
 pub run_at : (a : List Run) (i : ℕ) (d : Run) → i < length a → IsMaximalRuns a → IsRun (get_or a i d)
 run_at [] i d l h = absurd (omega arith)
 run_at (x ∷ xs) zero d l h = h.0
 run_at (x ∷ xs) (suc i) d l h = run_at xs i d (omega arith) h.2
-
-ends_starts : (r s : Run) → EndsBefore r s → StartsBy r s
-ends_starts r s (inl h) = inl h
-ends_starts r s (inr h) = inr (h.0, omega (arith, h.1))
-
-pub runs_rise : (a : List Run) (i : ℕ) (d : Run) → suc i < length a → IsMaximalRuns a → StartsBy (get_or a i d) (get_or a (suc i) d)
-runs_rise [] i d l h = absurd (omega arith)
-runs_rise (x ∷ []) i d l h = absurd (omega arith)
-runs_rise (x ∷ (y ∷ ys)) zero d l h = ends_starts x y h.1
-runs_rise (x ∷ (y ∷ ys)) (suc i) d l h = runs_rise (y ∷ ys) i d (omega arith) h.2
-
-pub from_first : (o r x y : Bool) → ((o || r) || (x || y)) ≡ (o || ((r || x) || y))
-from_first true r x y = refl
-from_first false true x y = refl
-from_first false false x y = refl
-
-pub from_second : (o r x y : Bool) → ((o || r) || (x || y)) ≡ (o || (x || (r || y)))
-from_second true r x y = refl
-from_second false true true y = refl
-from_second false true false y = refl
-from_second false false x y = refl
-
-any_default : (a : List Run) (i : ℕ) (d e : Run) → i < length a → get_or a i d ≡ get_or a i e
-any_default [] i d e l = absurd (omega arith)
-any_default (x ∷ xs) zero d e l = refl
-any_default (x ∷ xs) (suc i) d e l = any_default xs i d e (omega arith)
-
-pub starts_any : (a : List Run) (i : ℕ) (d e : Run) (s : Run) → i < length a → StartsBy (get_or a i d) s → StartsBy (get_or a i e) s
-starts_any a i d e s l h = subst (λ (r : Run). StartsBy r s) (any_default a i d e l) h
-
--- the cells that are left, once the first run of one list has gone out
-pub first_gone : (o p : Bool) (a b : List Run) (i j : ℕ) (d : Run) (q : ℕ × ℕ) → i < length a → p ≡ (o || in_run (get_or a i d) q)
-    → (p || (in_runs (drop (suc i) a) q || in_runs (drop j b) q)) ≡ (o || (in_runs (drop i a) q || in_runs (drop j b) q))
-first_gone o p a b i j d q l e =
-    rw e (from_first o (in_run (get_or a i d) q) (in_runs (drop (suc i) a) q) (in_runs (drop j b) q)
-    ∙ ap (λ t. o || (t || in_runs (drop j b) q)) (sym (cells_step a i d q l)))
-
-pub second_gone : (o p : Bool) (a b : List Run) (i j : ℕ) (d : Run) (q : ℕ × ℕ) → j < length b → p ≡ (o || in_run (get_or b j d) q)
-    → (p || (in_runs (drop i a) q || in_runs (drop (suc j) b) q)) ≡ (o || (in_runs (drop i a) q || in_runs (drop j b) q))
-second_gone o p a b i j d q l e =
-    rw e (from_second o (in_run (get_or b j d) q) (in_runs (drop i a) q) (in_runs (drop (suc j) b) q)
-    ∙ ap (λ t. o || (in_runs (drop i a) q || t)) (sym (cells_step b j d q l)))

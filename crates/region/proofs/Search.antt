@@ -7,7 +7,7 @@ use Rattle.region.specs.Runs.{IsMaximalRuns, EndsBefore, in_run, in_runs}
 use Rattle.region.specs.Walks.{is_after}
 use Rattle.region.proofs.Canonical.{after}
 use Rattle.region.proofs.Order.{EndsBeforeAll-later}
-use Rattle.region.proofs.Steps.{After-is_after}
+use Rattle.region.proofs.Sides.{After-is_after}
 
 pub after_cases : (r : Run) (q : ℕ × ℕ) → is_after q r ≡ true → (r.y < q.1) ⊎ ((r.y ≡ q.1) × (r.x + r.len ≤ q.0))
 after_cases r q h = grind (arith, nat_tests)

@@ -8,7 +8,8 @@ use Rattle.region.proofs.Before.{later_none}
 use Rattle.region.proofs.Canonical.{After, after}
 use Rattle.region.proofs.Search.{after_cases, row_before, end_before}
 use Rattle.region.proofs.Splits.{in_runs-from, in_runs-ended, ended_out, HaveEnded-later, ended_at, starts_from, ends_before, before_next}
-use Rattle.region.proofs.Steps.{sides, part_run}
+use Rattle.region.proofs.Order.{part_run}
+use Rattle.region.proofs.Sides.{sides}
 
 pub parts_run : (o : Option Run) (r : Run) → IfSome o (λ p. IsPart p r) → IsRun r → IfSome o IsRun
 parts_run None r h k = tt

@@ -5,14 +5,6 @@ use Rattle.std.specs.List.{list_any}
 use Rattle.region.specs.Cells.{IsFrom}
 use Rattle.region.specs.Runs.{in_run}
 
--- the first run starts at the second one's start or before it
-abbrev pub StartsBy : Run → Run → Type 0
-StartsBy r s = (r.y < s.y) ⊎ ((r.y ≡ s.y) × (r.x ≤ s.x))
-
--- the first run ends at the second one's end or before it
-abbrev pub EndsBy : Run → Run → Type 0
-EndsBy r s = (r.y < s.y) ⊎ ((r.y ≡ s.y) × (r.x + r.len ≤ s.x + s.len))
-
 -- each cell of the first run comes after each cell of the second one
 abbrev pub LiesBehind : Run → Run → Type 0
 LiesBehind r s = (s.y < r.y) ⊎ ((s.y ≡ r.y) × (s.x + s.len ≤ r.x))

@@ -1,4 +1,5 @@
-// Walks over lists of runs, each from the first run to the last one.
+// Walks over lists of runs, each from the first run to the last one. Whole stretches of runs of one list are found and
+// copied at once. The steps are inlined: where two lists take turns run by run, the calls would cost more than the steps.
 ghost use Rattle.std.specs.Prelude.{◌≡◌, ℕ, ◌+◌, ◌<◌, ◌≤◌, ◌||◌, ◌&&◌, not, List, ◌∷◌, ◌++◌, true, false, length, IfOk, IfSome, vec_len, vec_capacity};
 ghost use Rattle.region.specs.Cells.{IsFrom};
 ghost use Rattle.region.specs.Runs.{IsRun, IsMaximalRuns, in_run, in_runs};
@@ -19,7 +20,7 @@ pub(crate) fn split_ended(runs: &[Run], x: u32, y: u32) -> (&[Run], &[Run])
 }
 
 // The same, for runs of which often none or one ends before the cell.
-#[inline]
+#[inline(always)]
 fn split_near(runs: &[Run], x: u32, y: u32) -> (&[Run], &[Run])
     requires { IsMaximalRuns runs.now }
     ensures { AreSplitAt (x, y) runs.now result.0.now result.1.now }
@@ -49,6 +50,7 @@ fn split_far(runs: &[Run], x: u32, y: u32) -> (&[Run], &[Run])
 }
 
 // Puts a run at the end, or joins it to the last one. There is room for it.
+#[inline(always)]
 pub(crate) fn push_run(runs: &mut Vec<Run>, run: Run)
     requires room { vec_len runs.old < vec_capacity runs.old }
     requires runs { IsMaximalRuns runs.old.items }
@@ -74,6 +76,7 @@ pub(crate) fn push_run(runs: &mut Vec<Run>, run: Run)
 }
 
 // Puts a run at the end, if there is one, or joins it to the last one. There is room for it.
+#[inline(always)]
 fn push_part(out: &mut Vec<Run>, part: Option<Run>)
     requires room { vec_len out.old + length (option_to_list part) ≤ vec_capacity out.old }
     requires runs { IsMaximalRuns out.old.items }
@@ -91,6 +94,7 @@ fn push_part(out: &mut Vec<Run>, part: Option<Run>)
 }
 
 // Puts runs at the end, the first of which may be joined to the last one there. There is room for them.
+#[inline(always)]
 fn push_runs(out: &mut Vec<Run>, runs: &[Run])
     requires room { vec_len out.old + length runs.now ≤ vec_capacity out.old }
     requires first { IsMaximalRuns out.old.items }
@@ -111,6 +115,7 @@ fn push_runs(out: &mut Vec<Run>, runs: &[Run])
 }
 
 // What runs have before another run, which the first of them reaches.
+#[inline(always)]
 fn first_before(runs: &[Run], other: Run) -> Option<Run>
     requires runs { IsMaximalRuns runs.now }
     requires reaches { ReachesTo (other.x, other.y) runs.now }
@@ -126,6 +131,7 @@ fn first_before(runs: &[Run], other: Run) -> Option<Run>
 }
 
 // Gives what the runs that end by the end of another one have before it, and answers the runs that are left.
+#[inline(always)]
 fn push_before<'a>(out: &mut Vec<Run>, runs: &'a [Run], other: Run) -> &'a [Run]
     requires room { vec_len out.old + length runs.now ≤ vec_capacity out.old }
     requires first { IsMaximalRuns out.old.items }
@@ -150,6 +156,7 @@ fn push_before<'a>(out: &mut Vec<Run>, runs: &'a [Run], other: Run) -> &'a [Run]
 }
 
 // Gives what a run has apart from others, and answers the others without some that end before the run does.
+#[inline(always)]
 fn push_gaps<'a>(out: &mut Vec<Run>, run: Run, others: &'a [Run]) -> &'a [Run]
     requires room { vec_len out.old + length others.now < vec_capacity out.old }
     requires first { IsMaximalRuns out.old.items }
@@ -214,6 +221,7 @@ pub(crate) fn merged(alloc: Global, a: &[Run], b: &[Run]) -> Result<Vec<Run>, Al
 }
 
 // Gives what runs share with another one, which the first of them reaches and by whose end they all end.
+#[inline(always)]
 fn push_within(out: &mut Vec<Run>, runs: &[Run], other: Run)
     requires room { vec_len out.old + length runs.now ≤ vec_capacity out.old }
     requires first { IsMaximalRuns out.old.items }
@@ -235,6 +243,7 @@ fn push_within(out: &mut Vec<Run>, runs: &[Run], other: Run)
 }
 
 // Gives what the runs that end by the end of another one share with it, and answers the runs that are left.
+#[inline(always)]
 fn push_shared<'a>(out: &mut Vec<Run>, runs: &'a [Run], other: Run) -> &'a [Run]
     requires room { vec_len out.old + length runs.now ≤ vec_capacity out.old }
     requires first { IsMaximalRuns out.old.items }
