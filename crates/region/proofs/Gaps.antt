@@ -137,10 +137,6 @@ next_order out r (s ∷ rs) h k = HaveEnded-later out (r.x + r.len, r.y) (s.x, s
     from (inr e) = inr (e.0, omega (arith, e.1))
 
 -- ---- a walk over two lists that gives both
-first_given : (n x o y t : Bool) → (n || (x && not t)) ≡ (o || (y && not t)) → ((n || x) || t) ≡ ((o || y) || t)
-first_given n x o y true h = grind arith
-first_given n x o y false h = grind arith
-
 either_tests : (n m o r rs t ts y z : Bool) → (n || ((r || rs) && not t)) ≡ (o || (y && not t)) → (m || (z && not r)) ≡ (n || ((t || ts) && not r))
     → (m || ((r || rs) || z)) ≡ (o || (y || (t || ts)))
 either_tests n m o true rs true ts y z h k = grind arith
@@ -165,16 +161,3 @@ pub last_cells : (out o1 first left second : List Run) (t : Run) (ts : List Run)
     → (in_runs o1 q || (in_runs left q && not (in_run t q))) ≡ (in_runs out q || (in_runs first q && not (in_run t q)))
     → (in_runs o1 q || in_runs second q) ≡ (in_runs out q || (in_runs first q || in_runs second q))
 last_cells out o1 first left second t ts q e f h = rw f (last_tests (in_runs o1 q) (in_runs out q) (in_runs first q) (in_run t q) (in_runs ts q) (rw e at h))
-
--- of two first runs one ends by the end of the other
-ends_in_turn : (r t : Run) → is_after (t.x + t.len, t.y) r ≡ false → is_after (r.x + r.len, r.y) t ≡ true
-ends_in_turn r t h = grind (arith, nat_tests)
-
--- so it is taken in its turn
-pub taken_in_turn : (left second rest : List Run) (r t : Run) (rs ts : List Run) (front : List Run) → left ≡ r ∷ rs → second ≡ t ∷ ts → ReachesTo (t.x + t.len, t.y) left
-    → AreSplitAt (r.x + r.len, r.y) second front rest → length rest < length second
-taken_in_turn left second rest r t rs ts [] e f h k =
-    let there = rw (sym k.whole ∙ f) at k.reaches in
-    let gone = ends_in_turn r t (rw e at h) in
-    absurd cc
-taken_in_turn left second rest r t rs ts (x ∷ xs) e f h k = omega (arith, ap length k.whole, length-append xs rest)

@@ -11,10 +11,6 @@ use Rattle.region.proofs.Splits.{in_runs-from, in_runs-ended, ended_out, HaveEnd
 use Rattle.region.proofs.Order.{part_run}
 use Rattle.region.proofs.Sides.{sides}
 
-pub parts_run : (o : Option Run) (r : Run) → IfSome o (λ p. IsPart p r) → IsRun r → IfSome o IsRun
-parts_run None r h k = tt
-parts_run (Some p) r h k = part_run p r h k
-
 part_from : (p r : Run) → IsPart p r → IsFrom (p.x, p.y) (r.x, r.y)
 part_from p r h = inr (sym h.row, h.start)
 
