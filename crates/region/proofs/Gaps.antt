@@ -1,11 +1,10 @@
 -- What a run has apart from other runs.
-use Rattle.std.proofs.Common.{◌≡◌, ℕ, ◌+◌, ◌<◌, ◌≤◌, inl, inr, Bool, true, false, not, ◌&&◌, ◌||◌, List, [], ◌∷◌, length, length-append, refl, sym, ap, ◌∙◌, arith, Option, Some, None, IfSome}
+use Rattle.std.proofs.Common.{◌≡◌, ℕ, ◌+◌, ◌≤◌, inl, inr, Bool, true, false, not, ◌&&◌, ◌||◌, List, [], ◌∷◌, length, refl, sym, ap, ◌∙◌, arith, Option, Some, None, IfSome}
 use Rattle.std.specs.Option.{option_to_list}
-use Rattle.std.proofs.lemmas.Bool.Decides.{nat_tests}
 use Rattle.region.specs.declared.runs.Run.{Run}
 use Rattle.region.specs.Cells.{IsFrom}
 use Rattle.region.specs.Runs.{IsRun, IsMaximalRuns, EndsBefore, in_run, in_runs}
-use Rattle.region.specs.Walks.{LiesBehind, IsPart, in_option, is_before, is_after, HaveEnded, EndBeforeFirst, ReachesTo, AreSplitAt}
+use Rattle.region.specs.Walks.{LiesBehind, IsPart, in_option, is_before, is_after, HaveEnded, EndBeforeFirst, AreSplitAt}
 use Rattle.region.proofs.Canonical.{After, after, in_run-row, in_run-start}
 use Rattle.region.proofs.Search.{row_before, end_before}
 use Rattle.region.proofs.Splits.{in_runs-from, ended_out, HaveEnded-later, ended_at}

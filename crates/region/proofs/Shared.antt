@@ -8,7 +8,6 @@ use Rattle.region.proofs.Before.{later_none}
 use Rattle.region.proofs.Canonical.{After, after}
 use Rattle.region.proofs.Search.{after_cases, row_before, end_before}
 use Rattle.region.proofs.Splits.{in_runs-from, in_runs-ended, ended_out, HaveEnded-later, ended_at, starts_from, ends_before, before_next}
-use Rattle.region.proofs.Order.{part_run}
 use Rattle.region.proofs.Sides.{sides}
 
 part_from : (p r : Run) → IsPart p r → IsFrom (p.x, p.y) (r.x, r.y)
