@@ -4,10 +4,10 @@ use Rattle.std.proofs.lemmas.Bool.Decides.{nat_tests}
 use Rattle.region.specs.declared.runs.Run.{Run}
 use Rattle.region.specs.Runs.{IsMaximalRuns, EndsBefore, in_run, in_runs}
 
-in_run-row : (t : Run) (q : ℕ × ℕ) → in_run t q ≡ true → t.y ≡ q.1
+pub in_run-row : (t : Run) (q : ℕ × ℕ) → in_run t q ≡ true → t.y ≡ q.1
 in_run-row t q h = grind (arith, nat_tests)
 
-in_run-start : (t : Run) (q : ℕ × ℕ) → in_run t q ≡ true → t.x ≤ q.0
+pub in_run-start : (t : Run) (q : ℕ × ℕ) → in_run t q ≡ true → t.x ≤ q.0
 in_run-start t q h = grind (arith, nat_tests)
 
 in_run-end : (t : Run) (q : ℕ × ℕ) → in_run t q ≡ true → q.0 < t.x + t.len

@@ -1,5 +1,7 @@
+pub mod Before
 pub mod Canonical
 pub mod Cellwise
+pub mod Gaps
 pub mod Listed
 pub mod Members
 pub mod Moving
@@ -7,5 +9,6 @@ pub mod NextRuns
 pub mod Order
 pub mod Pushes
 pub mod Search
+pub mod Shared
+pub mod Sides
 pub mod Splits
-pub mod Steps

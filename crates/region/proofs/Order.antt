@@ -1,11 +1,11 @@
 -- Maximal runs, their parts, and runs that may be there.
-use Rattle.std.proofs.Common.{◌≡◌, ℕ, zero, suc, inl, inr, Bool, true, false, ◌||◌, List, [], ◌∷◌, ◌++◌, drop, refl, ap, ◌∙◌, arith, Option, Some, None}
+use Rattle.std.proofs.Common.{◌≡◌, ℕ, zero, suc, inl, inr, Bool, true, false, ◌||◌, List, [], ◌∷◌, ◌++◌, append_assoc, drop, refl, ap, ◌∙◌, arith, Option, Some, None}
 use Rattle.std.proofs.Math.Seq.{drop-nil}
 use Rattle.std.specs.Option.{option_to_list}
 use Rattle.std.proofs.lemmas.List.Folds.{list_any-append}
 use Rattle.region.specs.declared.runs.Run.{Run}
 use Rattle.region.specs.Runs.{IsRun, IsMaximalRuns, EndsBefore, EndsBeforeAll, in_run, in_runs}
-use Rattle.region.specs.Walks.{in_option}
+use Rattle.region.specs.Walks.{LiesBehind, IsPart, in_option}
 
 ends_before_trans : (r s t : Run) → IsRun s → EndsBefore r s → EndsBefore s t → EndsBefore r t
 ends_before_trans r s t i (inl h) (inl k) = inl (omega arith)
@@ -47,8 +47,19 @@ in_option-list out (Some p) q = list_any-append (λ r. in_run r q) out (p ∷ []
     or-false true = refl
     or-false false = refl
 
--- the runs of a list of which the first one is already in part given, if what is left of it is known
-abbrev pub left_of : Option Run → List Run → List Run
-left_of o [] = []
-left_of None (r ∷ rs) = r ∷ rs
-left_of (Some p) (r ∷ rs) = p ∷ rs
+pub part_run : (p r : Run) → IsPart p r → IsRun r → IsRun p
+part_run p r i h = record { some = i.some; fits = omega (arith, i.end, h.fits) }
+
+pub joined : (xs : List Run) (p : Run) (rs : List Run) → IsMaximalRuns (xs ++ p ∷ []) → IsMaximalRuns (p ∷ rs) → IsMaximalRuns (xs ++ p ∷ rs)
+joined [] p rs h k = k
+joined (x ∷ []) p rs h k = (h.0, h.1, k)
+joined (x ∷ (y ∷ xs)) p rs h k = (h.0, h.1, joined (y ∷ xs) p rs h.2 k)
+
+pub appended : (xs : List Run) (p : Run) (rs : List Run) → IsMaximalRuns (xs ++ p ∷ rs) → IsMaximalRuns ((xs ++ p ∷ []) ++ rs)
+appended xs p rs h = rw append_assoc h
+
+pub between : (t p s : Run) → IsRun t → LiesBehind t p → LiesBehind s t → p.y ≡ s.y → EndsBefore p s
+between t p s i (inl h) (inl k) e = absurd (omega arith)
+between t p s i (inl h) (inr k) e = absurd (omega (arith, k.0))
+between t p s i (inr h) (inl k) e = absurd (omega (arith, h.0))
+between t p s i (inr h) (inr k) e = inr (e, omega (arith, h.1, k.1, i.some))

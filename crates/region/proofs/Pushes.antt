@@ -1,24 +1,17 @@
 -- Runs with one more run at the end.
-use Rattle.std.proofs.Common.{◌≡◌, ℕ, zero, suc, length, drop, get_or, ◌+◌, ◌<◌, ◌≤◌, max, ◌⊎◌, inl, inr, Bool, true, false, ◌||◌, List, [], ◌∷◌, ◌++◌, refl, sym, ap, subst, ◌∙◌, arith}
+use Rattle.std.proofs.Common.{◌≡◌, ℕ, zero, suc, length, get_or, ◌+◌, ◌<◌, ◌≤◌, max, ◌⊎◌, inl, inr, Bool, true, false, ◌||◌, List, [], ◌∷◌, ◌++◌, refl, sym, ap, ◌∙◌, arith}
 use Rattle.std.proofs.lemmas.Bool.Decides.{nat_tests}
 use Rattle.std.proofs.lemmas.List.Folds.{list_any-append}
 use Rattle.region.specs.declared.runs.Run.{Run}
 use Rattle.region.specs.Runs.{IsRun, IsMaximalRuns, EndsBefore, EndsBeforeAll, in_run, in_runs}
-use Rattle.region.specs.Walks.{StartsBy, LastStartsBy}
+use Rattle.region.specs.Walks.{HaveEnded, is_after}
+use Rattle.region.proofs.Search.{after_cases, row_before, end_before}
+use Rattle.region.proofs.Splits.{HaveEnded-append, HaveEnded-front, HaveEnded-back}
+use Rattle.region.proofs.Order.{joined as joined_runs, appended}
 
 pub IsMaximalRuns-last : (xs : List Run) (l : Run) → IsMaximalRuns (xs ++ l ∷ []) → IsRun l
 IsMaximalRuns-last [] l h = h.0
 IsMaximalRuns-last (x ∷ xs) l h = IsMaximalRuns-last xs l h.2
-
-pub LastStartsBy-last : (xs : List Run) (l s : Run) → LastStartsBy (xs ++ l ∷ []) s → StartsBy l s
-LastStartsBy-last [] l s h = h
-LastStartsBy-last (x ∷ []) l s h = h
-LastStartsBy-last (x ∷ (y ∷ ys)) l s h = LastStartsBy-last (y ∷ ys) l s h
-
-pub LastStartsBy-push : (xs : List Run) (l s : Run) → StartsBy l s → LastStartsBy (xs ++ l ∷ []) s
-LastStartsBy-push [] l s h = h
-LastStartsBy-push (x ∷ []) l s h = h
-LastStartsBy-push (x ∷ (y ∷ ys)) l s h = LastStartsBy-push (y ∷ ys) l s h
 
 same_start : (r l m : Run) → m.y ≡ l.y → m.x ≡ l.x → EndsBefore r l → EndsBefore r m
 same_start r l m e f (inl h) = inl (omega arith)
@@ -62,94 +55,56 @@ in_runs-join xs l r m q a b c d e f =
     in_runs-push xs m q ∙ ap (λ t. in_runs xs q || t) (joined l r m q a b c d e f) ∙ or_assoc (in_runs xs q) (in_run l q) (in_run r q)
     ∙ ap (λ t. t || in_run r q) (sym (in_runs-push xs l q))
 
--- what a push leaves, where the last run reaches the new one
-module _ (xs old new : List Run) (l r m : Run) (old-is : old ≡ xs ++ l ∷ []) (new-is : new ≡ xs ++ m ∷ []) (runs : IsMaximalRuns old) (run : IsRun r) (order : LastStartsBy old r)
-    (row : m.y ≡ l.y) (start : m.x ≡ l.x) (end : m.x + m.len ≡ max (l.x + l.len) (r.x + r.len)) (reaches : (l.y ≡ r.y) × (r.x ≤ l.x + l.len)) where
-  first_starts : l.x ≤ r.x
-  first_starts = elim (LastStartsBy-last xs l r (rw old-is at order)) [ inl h ↦ omega (arith, reaches.0) | inr h ↦ h.1 ]
+-- ---- what a push leaves
+-- the last run ends before the new one starts
+module _ (xs : List Run) (l r : Run) (runs : IsMaximalRuns (xs ++ l ∷ [])) (run : IsRun r) (order : HaveEnded (r.x, r.y) (xs ++ l ∷ [])) where
+  behind : (l.y < r.y) ⊎ ((l.y ≡ r.y) × (l.x + l.len ≤ r.x))
+  behind = after_cases l (r.x, r.y) (HaveEnded-back xs (l ∷ []) (r.x, r.y) order).0
 
   last_run : IsRun l
-  last_run = IsMaximalRuns-last xs l (rw old-is at runs)
+  last_run = IsMaximalRuns-last xs l runs
 
-  pub joins-cells : (q : ℕ × ℕ) → in_runs new q ≡ (in_runs old q || in_run r q)
-  joins-cells q = rw (new-is, old-is) (in_runs-join xs l r m q reaches.0 row start first_starts reaches.1 end)
+  -- and they touch
+  module _ (m : Run) (row : m.y ≡ l.y) (start : m.x ≡ l.x) (end : m.x + m.len ≡ max (l.x + l.len) (r.x + r.len)) (reaches : (l.y ≡ r.y) × (r.x ≤ l.x + l.len)) where
+    end_first : l.x + l.len ≤ r.x
+    end_first = elim behind [ inl h ↦ absurd (omega (arith, reaches.0)) | inr h ↦ h.1 ]
 
-  pub joins-runs : IsMaximalRuns new
-  joins-runs = rw new-is (IsMaximalRuns-replace xs l m row start
-      (record { some = omega (arith, last_run.some); fits = omega (arith, last_run.fits, run.fits) }) (rw old-is at runs))
+    same_end : m.x + m.len ≡ r.x + r.len
+    same_end = omega (arith, end, end_first)
 
-  pub joins-last : (next : Run) → StartsBy r next → LastStartsBy new next
-  joins-last next h = rw new-is (LastStartsBy-push xs m next (starts h))
-    where
-      starts : StartsBy r next → StartsBy m next
-      starts (inl k) = inl (omega (arith, reaches.0))
-      starts (inr k) = inr (row ∙ reaches.0 ∙ k.0, omega (arith, first_starts, k.1))
+    joined_run : IsRun m
+    joined_run = record { some = omega (arith, same_end, start, end_first, last_run.some, run.some); fits = omega (arith, same_end, run.fits) }
 
--- and where it does not
-module _ (xs old new : List Run) (l r : Run) (old-is : old ≡ xs ++ l ∷ []) (new-is : new ≡ (xs ++ l ∷ []) ++ r ∷ []) (runs : IsMaximalRuns old) (run : IsRun r) (order : LastStartsBy old r)
-    (apart : (l.y ≡ r.y) × (r.x ≤ l.x + l.len) → ⊥) where
-  ends : StartsBy l r → EndsBefore l r
-  ends (inl h) = inl h
-  ends (inr h) = elim (nat_cases r.x (l.x + l.len)) [ inl k ↦ absurd (apart (h.0, k)) | inr k ↦ inr (h.0, k) ]
-    where
-      nat_cases : (a b : ℕ) → (a ≤ b) ⊎ (b < a)
-      nat_cases a b = grind arith
+    pub joins-cells : (q : ℕ × ℕ) → in_runs (xs ++ m ∷ []) q ≡ (in_runs (xs ++ l ∷ []) q || in_run r q)
+    joins-cells q = in_runs-join xs l r m q reaches.0 row start (omega (arith, end_first)) reaches.1 end
 
-  pub follows-runs : IsMaximalRuns new
-  follows-runs = rw new-is (IsMaximalRuns-push xs l r run (ends (LastStartsBy-last xs l r (rw old-is at order))) (rw old-is at runs))
+    ends_as : (next : List Run) → EndsBeforeAll r next → EndsBeforeAll m next
+    ends_as [] h = tt
+    ends_as (s ∷ next) (inl h) = inl (omega (arith, row, reaches.0))
+    ends_as (s ∷ next) (inr h) = inr (row ∙ reaches.0 ∙ h.0, omega (arith, same_end, h.1))
 
-  pub follows-last : (next : Run) → StartsBy r next → LastStartsBy new next
-  follows-last next h = rw new-is (LastStartsBy-push (xs ++ l ∷ []) r next h)
+    pub joins-runs : (next : List Run) → IsMaximalRuns (r ∷ next) → IsMaximalRuns ((xs ++ m ∷ []) ++ next)
+    joins-runs next h = appended xs m next (joined_runs xs m next (IsMaximalRuns-replace xs l m row start joined_run runs) (joined_run, ends_as next h.1, h.2))
 
--- ---- a walk over two lists
-pub cells_step : (a : List Run) (i : ℕ) (d : Run) (q : ℕ × ℕ) → i < length a → in_runs (drop i a) q ≡ (in_run (get_or a i d) q || in_runs (drop (suc i) a) q)
-cells_step [] i d q l = absurd (omega arith)
-cells_step (x ∷ xs) zero d q l = refl
-cells_step (x ∷ xs) (suc i) d q l = cells_step xs i d q (omega arith)
+    pub joins-ended : (q : ℕ × ℕ) → HaveEnded q (xs ++ l ∷ []) → is_after q r ≡ true → HaveEnded q (xs ++ m ∷ [])
+    joins-ended q h k = HaveEnded-append xs (m ∷ []) q (HaveEnded-front xs (l ∷ []) q h) (ended_as (after_cases r q k), tt)
+      where
+        ended_as : (r.y < q.1) ⊎ ((r.y ≡ q.1) × (r.x + r.len ≤ q.0)) → is_after q m ≡ true
+        ended_as (inl a) = row_before m m q (omega (arith, row, reaches.0))
+        ended_as (inr a) = end_before m q (row ∙ reaches.0 ∙ a.0) (omega (arith, same_end, a.1))
+
+  -- and they do not
+  module _ (apart : (l.y ≡ r.y) × (r.x ≤ l.x + l.len) → ⊥) where
+    ends : EndsBefore l r
+    ends = elim behind [ inl h ↦ inl h | inr h ↦ elim (nat_cases r.x (l.x + l.len)) [ inl k ↦ absurd (apart (h.0, k)) | inr k ↦ inr (h.0, k) ] ]
+      where
+        nat_cases : (a b : ℕ) → (a ≤ b) ⊎ (b < a)
+        nat_cases a b = grind arith
+
+    pub follows-runs : (next : List Run) → IsMaximalRuns (r ∷ next) → IsMaximalRuns (((xs ++ l ∷ []) ++ r ∷ []) ++ next)
+    follows-runs next h = appended (xs ++ l ∷ []) r next (joined_runs (xs ++ l ∷ []) r next (IsMaximalRuns-push xs l r run ends runs) h)
 
 pub run_at : (a : List Run) (i : ℕ) (d : Run) → i < length a → IsMaximalRuns a → IsRun (get_or a i d)
 run_at [] i d l h = absurd (omega arith)
 run_at (x ∷ xs) zero d l h = h.0
 run_at (x ∷ xs) (suc i) d l h = run_at xs i d (omega arith) h.2
-
-ends_starts : (r s : Run) → EndsBefore r s → StartsBy r s
-ends_starts r s (inl h) = inl h
-ends_starts r s (inr h) = inr (h.0, omega (arith, h.1))
-
-pub runs_rise : (a : List Run) (i : ℕ) (d : Run) → suc i < length a → IsMaximalRuns a → StartsBy (get_or a i d) (get_or a (suc i) d)
-runs_rise [] i d l h = absurd (omega arith)
-runs_rise (x ∷ []) i d l h = absurd (omega arith)
-runs_rise (x ∷ (y ∷ ys)) zero d l h = ends_starts x y h.1
-runs_rise (x ∷ (y ∷ ys)) (suc i) d l h = runs_rise (y ∷ ys) i d (omega arith) h.2
-
-pub from_first : (o r x y : Bool) → ((o || r) || (x || y)) ≡ (o || ((r || x) || y))
-from_first true r x y = refl
-from_first false true x y = refl
-from_first false false x y = refl
-
-pub from_second : (o r x y : Bool) → ((o || r) || (x || y)) ≡ (o || (x || (r || y)))
-from_second true r x y = refl
-from_second false true true y = refl
-from_second false true false y = refl
-from_second false false x y = refl
-
-any_default : (a : List Run) (i : ℕ) (d e : Run) → i < length a → get_or a i d ≡ get_or a i e
-any_default [] i d e l = absurd (omega arith)
-any_default (x ∷ xs) zero d e l = refl
-any_default (x ∷ xs) (suc i) d e l = any_default xs i d e (omega arith)
-
-pub starts_any : (a : List Run) (i : ℕ) (d e : Run) (s : Run) → i < length a → StartsBy (get_or a i d) s → StartsBy (get_or a i e) s
-starts_any a i d e s l h = subst (λ (r : Run). StartsBy r s) (any_default a i d e l) h
-
--- the cells that are left, once the first run of one list has gone out
-pub first_gone : (o p : Bool) (a b : List Run) (i j : ℕ) (d : Run) (q : ℕ × ℕ) → i < length a → p ≡ (o || in_run (get_or a i d) q)
-    → (p || (in_runs (drop (suc i) a) q || in_runs (drop j b) q)) ≡ (o || (in_runs (drop i a) q || in_runs (drop j b) q))
-first_gone o p a b i j d q l e =
-    rw e (from_first o (in_run (get_or a i d) q) (in_runs (drop (suc i) a) q) (in_runs (drop j b) q)
-    ∙ ap (λ t. o || (t || in_runs (drop j b) q)) (sym (cells_step a i d q l)))
-
-pub second_gone : (o p : Bool) (a b : List Run) (i j : ℕ) (d : Run) (q : ℕ × ℕ) → j < length b → p ≡ (o || in_run (get_or b j d) q)
-    → (p || (in_runs (drop i a) q || in_runs (drop (suc j) b) q)) ≡ (o || (in_runs (drop i a) q || in_runs (drop j b) q))
-second_gone o p a b i j d q l e =
-    rw e (from_second o (in_run (get_or b j d) q) (in_runs (drop i a) q) (in_runs (drop (suc j) b) q)
-    ∙ ap (λ t. o || (in_runs (drop i a) q || t)) (sym (cells_step b j d q l)))

@@ -7,15 +7,15 @@ use Rattle.region.specs.Runs.{IsMaximalRuns, EndsBefore, in_run, in_runs}
 use Rattle.region.specs.Walks.{is_after}
 use Rattle.region.proofs.Canonical.{after}
 use Rattle.region.proofs.Order.{EndsBeforeAll-later}
-use Rattle.region.proofs.Steps.{After-is_after}
+use Rattle.region.proofs.Sides.{After-is_after}
 
-after_cases : (r : Run) (q : ℕ × ℕ) → is_after q r ≡ true → (r.y < q.1) ⊎ ((r.y ≡ q.1) × (r.x + r.len ≤ q.0))
+pub after_cases : (r : Run) (q : ℕ × ℕ) → is_after q r ≡ true → (r.y < q.1) ⊎ ((r.y ≡ q.1) × (r.x + r.len ≤ q.0))
 after_cases r q h = grind (arith, nat_tests)
 
-row_before : (r s : Run) (q : ℕ × ℕ) → r.y < q.1 → is_after q r ≡ true
+pub row_before : (r s : Run) (q : ℕ × ℕ) → r.y < q.1 → is_after q r ≡ true
 row_before r s q h = grind (arith, nat_tests)
 
-end_before : (r : Run) (q : ℕ × ℕ) → r.y ≡ q.1 → r.x + r.len ≤ q.0 → is_after q r ≡ true
+pub end_before : (r : Run) (q : ℕ × ℕ) → r.y ≡ q.1 → r.x + r.len ≤ q.0 → is_after q r ≡ true
 end_before r q h k = grind (arith, nat_tests)
 
 -- what ends before a run that ends before the cell does so too

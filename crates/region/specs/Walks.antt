@@ -2,21 +2,8 @@
 use Rattle.std.specs.Prelude.{◌≡◌, ℤ, pos, negsuc, ◌+ℤ◌, ◌-ℤ◌, ◌≤ℤ◌, ℕ, ◌+◌, ◌<◌, ◌≤◌, ◌⊎◌, Bool, true, false, ◌&&◌, ◌||◌, nat_eq, nat_le, nat_lt, List, [], ◌∷◌, ◌++◌, Option, Some, None}
 use Rattle.region.specs.declared.runs.Run.{Run}
 use Rattle.std.specs.List.{list_any}
+use Rattle.region.specs.Cells.{IsFrom}
 use Rattle.region.specs.Runs.{in_run}
-
--- the first run starts at the second one's start or before it
-abbrev pub StartsBy : Run → Run → Type 0
-StartsBy r s = (r.y < s.y) ⊎ ((r.y ≡ s.y) × (r.x ≤ s.x))
-
--- the first run ends at the second one's end or before it
-abbrev pub EndsBy : Run → Run → Type 0
-EndsBy r s = (r.y < s.y) ⊎ ((r.y ≡ s.y) × (r.x + r.len ≤ s.x + s.len))
-
--- the last run starts at another's start or before it
-abbrev pub LastStartsBy : List Run → Run → Type 0
-LastStartsBy [] s = Unit {0}
-LastStartsBy (r ∷ []) s = StartsBy r s
-LastStartsBy (r ∷ (t ∷ rs)) s = LastStartsBy (t ∷ rs) s
 
 -- each cell of the first run comes after each cell of the second one
 abbrev pub LiesBehind : Run → Run → Type 0
@@ -52,6 +39,16 @@ is_after q r = nat_lt r.y q.1 || (nat_eq r.y q.1 && nat_le (r.x + r.len) q.0)
 abbrev pub HaveEnded : ℕ × ℕ → List Run → Type 0
 HaveEnded q [] = Unit {0}
 HaveEnded q (r ∷ rs) = (is_after q r ≡ true) × HaveEnded q rs
+
+-- each run ends before the first of the others starts
+abbrev pub EndBeforeFirst : List Run → List Run → Type 0
+EndBeforeFirst rs [] = Unit {0}
+EndBeforeFirst rs (s ∷ ss) = HaveEnded (s.x, s.y) rs
+
+-- a cell stands where the first of the runs starts, or behind it
+abbrev pub IsFromFirst : ℕ × ℕ → List Run → Type 0
+IsFromFirst q [] = ⊥
+IsFromFirst q (r ∷ rs) = IsFrom q (r.x, r.y)
 
 -- the first run does not end before a cell
 abbrev pub ReachesTo : ℕ × ℕ → List Run → Type 0

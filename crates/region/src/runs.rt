@@ -1,7 +1,7 @@
 // Runs, and what two of them have to do with each other.
 ghost use Rattle.std.specs.Prelude.{◌≡◌, ℕ, ℤ, ◌+◌, ◌<◌, ◌≤◌, ◌&&◌, ◌↔◌, IsTrue, IfSome, max, false};
 ghost use Rattle.region.specs.Runs.{IsRun, in_run};
-ghost use Rattle.region.specs.Walks.{StartsBy, EndsBy, LiesBehind, IsPart, in_option, is_before, is_after};
+ghost use Rattle.region.specs.Walks.{LiesBehind, IsPart, in_option, is_before, is_after};
 
 /// Cells of one row that lie side by side.
 #[derive(Clone, Copy, PartialEq, Eq, Debug)]
@@ -35,24 +35,6 @@ impl Run {
         ensures { result ≡ self.x + self.len }
     {
         self.x + self.len
-    }
-
-    // Whether this run starts where another one does, or before it.
-    pub(crate) fn starts_by(self, run: Run) -> bool
-        ensures yes { IsTrue result → StartsBy self run }
-        ensures no { result ≡ false → StartsBy run self }
-    {
-        self.y < run.y || (self.y == run.y && self.x <= run.x)
-    }
-
-    // Whether this run ends where another one does, or before it.
-    pub(crate) fn ends_by(self, run: Run) -> bool
-        requires first { IsRun self }
-        requires second { IsRun run }
-        ensures yes { IsTrue result → EndsBy self run }
-        ensures no { result ≡ false → EndsBy run self }
-    {
-        self.y < run.y || (self.y == run.y && self.end() <= run.end())
     }
 
     // Whether a run that starts no earlier touches this one or overlaps it.

@@ -1,7 +1,9 @@
-// Walks over lists of runs, each from the first run to the last one.
-ghost use Rattle.std.specs.Prelude.{◌≡◌, ℕ, ◌+◌, ◌<◌, ◌≤◌, ◌||◌, ◌&&◌, not, ◌++◌, ◌⊎◌, IsTrue, false, length, slice_index_or, IfOk, vec_len, vec_capacity};
+// Walks over lists of runs, each from the first run to the last one. Whole stretches of runs of one list are found and
+// copied at once. The steps are inlined: where two lists take turns run by run, the calls would cost more than the steps.
+ghost use Rattle.std.specs.Prelude.{◌≡◌, ℕ, ◌+◌, ◌<◌, ◌≤◌, ◌||◌, ◌&&◌, not, List, ◌∷◌, ◌++◌, true, false, length, IfOk, IfSome, vec_len, vec_capacity};
+ghost use Rattle.region.specs.Cells.{IsFrom};
 ghost use Rattle.region.specs.Runs.{IsRun, IsMaximalRuns, in_run, in_runs};
-ghost use Rattle.region.specs.Walks.{AreSplitAt, StartsBy, LastStartsBy, in_moved_runs};
+ghost use Rattle.region.specs.Walks.{AreSplitAt, EndBeforeFirst, HaveEnded, IsFromFirst, ReachesTo, in_moved_runs, in_option, is_after, is_before};
 ghost use Rattle.region.specs.declared.runs.Run.{Run as RunOf};
 ghost use Rattle.std.specs.Option.{option_to_list};
 
@@ -17,15 +19,46 @@ pub(crate) fn split_ended(runs: &[Run], x: u32, y: u32) -> (&[Run], &[Run])
     runs.split_at(at)
 }
 
+// The same, for runs of which often none or one ends before the cell.
+#[inline(always)]
+fn split_near(runs: &[Run], x: u32, y: u32) -> (&[Run], &[Run])
+    requires { IsMaximalRuns runs.now }
+    ensures { AreSplitAt (x, y) runs.now result.0.now result.1.now }
+{
+    if runs.is_empty() || !runs[0].ends_before(x, y) {
+        return runs.split_at(0);
+    }
+    if runs.len() == 1 || !runs[1].ends_before(x, y) {
+        return runs.split_at(1);
+    }
+    split_far(runs, x, y)
+}
+
+// The same, for runs of which few end before the cell: it takes a number of steps that grows with the logarithm of
+// how many do.
+#[inline(never)]
+fn split_far(runs: &[Run], x: u32, y: u32) -> (&[Run], &[Run])
+    requires { IsMaximalRuns runs.now }
+    ensures { AreSplitAt (x, y) runs.now result.0.now result.1.now }
+{
+    let mut window = runs.len().min(1);
+    while window < runs.len() && runs[window].ends_before(x, y) {
+        window += window.min(runs.len() - window);
+    }
+    let (front, _) = split_ended(&runs[..window], x, y);
+    runs.split_at(front.len())
+}
+
 // Puts a run at the end, or joins it to the last one. There is room for it.
+#[inline(always)]
 pub(crate) fn push_run(runs: &mut Vec<Run>, run: Run)
     requires room { vec_len runs.old < vec_capacity runs.old }
     requires runs { IsMaximalRuns runs.old.items }
     requires run { IsRun run }
-    requires order { LastStartsBy runs.old.items run }
+    requires order { HaveEnded (run.x, run.y) runs.old.items }
     ensures cells { (q : ℕ × ℕ) → in_runs runs.new.items q ≡ (in_runs runs.old.items q || in_run run q) }
-    ensures runs { IsMaximalRuns runs.new.items }
-    ensures last { (next : RunOf) → StartsBy run next → LastStartsBy runs.new.items next }
+    ensures runs { (next : List RunOf) → IsMaximalRuns (run ∷ next) → IsMaximalRuns (runs.new.items ++ next) }
+    ensures ended { (q : ℕ × ℕ) → HaveEnded q runs.old.items → is_after q run ≡ true → HaveEnded q runs.new.items }
     ensures len { vec_len runs.new ≤ vec_len runs.old + 1 }
     ensures capacity { vec_capacity runs.new ≡ vec_capacity runs.old }
 {
@@ -42,6 +75,118 @@ pub(crate) fn push_run(runs: &mut Vec<Run>, run: Run)
     }
 }
 
+// Puts a run at the end, if there is one, or joins it to the last one. There is room for it.
+#[inline(always)]
+fn push_part(out: &mut Vec<Run>, part: Option<Run>)
+    requires room { vec_len out.old + length (option_to_list part) ≤ vec_capacity out.old }
+    requires runs { IsMaximalRuns out.old.items }
+    requires part { IfSome part IsRun }
+    requires order { IfSome part (λ r. HaveEnded (r.x, r.y) out.old.items) }
+    ensures cells { (q : ℕ × ℕ) → in_runs out.new.items q ≡ (in_runs out.old.items q || in_option part q) }
+    ensures runs { IsMaximalRuns out.new.items }
+    ensures ended { (q : ℕ × ℕ) → HaveEnded q out.old.items → IfSome part (λ r. is_after q r ≡ true) → HaveEnded q out.new.items }
+    ensures len { vec_len out.new ≤ vec_len out.old + length (option_to_list part) }
+    ensures capacity { vec_capacity out.new ≡ vec_capacity out.old }
+{
+    if let Some(run) = part {
+        push_run(out, run);
+    }
+}
+
+// Puts runs at the end, the first of which may be joined to the last one there. There is room for them.
+#[inline(always)]
+fn push_runs(out: &mut Vec<Run>, runs: &[Run])
+    requires room { vec_len out.old + length runs.now ≤ vec_capacity out.old }
+    requires first { IsMaximalRuns out.old.items }
+    requires second { IsMaximalRuns runs.now }
+    requires order { EndBeforeFirst out.old.items runs.now }
+    ensures cells { (q : ℕ × ℕ) → in_runs out.new.items q ≡ (in_runs out.old.items q || in_runs runs.now q) }
+    ensures runs { IsMaximalRuns out.new.items }
+    ensures ended { (q : ℕ × ℕ) → HaveEnded q out.old.items → HaveEnded q runs.now → HaveEnded q out.new.items }
+    ensures len { vec_len out.new ≤ vec_len out.old + length runs.now }
+    ensures capacity { vec_capacity out.old ≤ vec_capacity out.new }
+{
+    if let Some((first, others)) = runs.split_first() {
+        push_run(out, *first);
+        if !others.is_empty() {
+            out.extend_from_slice(others).unwrap();
+        }
+    }
+}
+
+// What runs have before another run, which the first of them reaches.
+#[inline(always)]
+fn first_before(runs: &[Run], other: Run) -> Option<Run>
+    requires runs { IsMaximalRuns runs.now }
+    requires reaches { ReachesTo (other.x, other.y) runs.now }
+    ensures cells { (q : ℕ × ℕ) → in_option result q ≡ (in_runs runs.now q && is_before q other) }
+    ensures run { IfSome result IsRun }
+    ensures order { (out : List RunOf) → EndBeforeFirst out runs.now → IfSome result (λ p. HaveEnded (p.x, p.y) out) }
+    ensures ended { (q : ℕ × ℕ) → HaveEnded q runs.now → IfSome result (λ p. is_after q p ≡ true) }
+    ensures before { IfSome result (λ p. is_after (other.x, other.y) p ≡ true) }
+    ensures len { length (option_to_list result) ≤ length runs.now }
+{
+    let (first, _) = runs.split_first()?;
+    first.before(other)
+}
+
+// Gives what the runs that end by the end of another one have before it, and answers the runs that are left.
+#[inline(always)]
+fn push_before<'a>(out: &mut Vec<Run>, runs: &'a [Run], other: Run) -> &'a [Run]
+    requires room { vec_len out.old + length runs.now ≤ vec_capacity out.old }
+    requires first { IsMaximalRuns out.old.items }
+    requires second { IsMaximalRuns runs.now }
+    requires other { IsRun other }
+    requires order { EndBeforeFirst out.old.items runs.now }
+    ensures cells { (q : ℕ × ℕ) → (in_runs out.new.items q || (in_runs result.now q && not (in_run other q)))
+        ≡ (in_runs out.old.items q || (in_runs runs.entry.now q && not (in_run other q))) }
+    ensures before { (q : ℕ × ℕ) → IsFrom q (other.x, other.y) → in_runs out.new.items q ≡ in_runs out.old.items q }
+    ensures left { (front : List RunOf) × AreSplitAt (other.x + other.len, other.y) runs.entry.now front result.now }
+    ensures runs { IsMaximalRuns out.new.items }
+    ensures order { EndBeforeFirst out.new.items result.now }
+    ensures ended { HaveEnded (other.x, other.y) out.old.items → HaveEnded (other.x, other.y) out.new.items }
+    ensures len { vec_len out.new + length result.now ≤ vec_len out.old + length runs.entry.now }
+    ensures capacity { vec_capacity out.old ≤ vec_capacity out.new }
+{
+    let (front, rest) = split_near(runs, other.x, other.y);
+    push_runs(out, front);
+    let (cut, rest) = split_near(rest, other.end(), other.y);
+    push_part(out, first_before(cut, other));
+    rest
+}
+
+// Gives what a run has apart from others, and answers the others without some that end before the run does.
+#[inline(always)]
+fn push_gaps<'a>(out: &mut Vec<Run>, run: Run, others: &'a [Run]) -> &'a [Run]
+    requires room { vec_len out.old + length others.now < vec_capacity out.old }
+    requires first { IsMaximalRuns out.old.items }
+    requires second { IsMaximalRuns others.now }
+    requires run { IsRun run }
+    requires order { HaveEnded (run.x, run.y) out.old.items }
+    ensures cells { (q : ℕ × ℕ) → in_runs out.new.items q ≡ (in_runs out.old.items q || (in_run run q && not (in_runs others.entry.now q))) }
+    ensures later { (q : ℕ × ℕ) → IsFrom q (run.x + run.len, run.y) → in_runs result.now q ≡ in_runs others.entry.now q }
+    ensures rest { IsMaximalRuns result.now }
+    ensures runs { IsMaximalRuns out.new.items }
+    ensures ended { HaveEnded (run.x + run.len, run.y) out.new.items }
+    ensures len { vec_len out.new + length result.now ≤ vec_len out.old + length others.entry.now + 1 }
+    ensures capacity { vec_capacity out.old ≤ vec_capacity out.new }
+{
+    let (_, mut rest) = split_near(others, run.x, run.y);
+    let mut left = run;
+    while let Some((cut, behind)) = rest.split_first() {
+        push_part(out, left.before(*cut));
+        match left.after(*cut) {
+            Some(after) => {
+                left = after;
+                rest = behind;
+            }
+            None => return rest,
+        }
+    }
+    push_run(out, left);
+    rest
+}
+
 // Puts a run at the end, if there is one. There is room for it.
 fn push_some(runs: &mut Vec<Run>, run: Option<Run>)
     requires room { vec_len runs.old < vec_capacity runs.old }
@@ -54,27 +199,6 @@ fn push_some(runs: &mut Vec<Run>, run: Option<Run>)
     }
 }
 
-// Whether the next run is the first list's: the lists are taken from `i` and `j` on.
-fn takes_first(a: &[Run], i: usize, b: &[Run], j: usize) -> bool
-    requires first { i ≤ length a.now }
-    requires second { j ≤ length b.now }
-    requires some { (i < length a.now) ⊎ (j < length b.now) }
-    ensures first { IsTrue result → (i < length a.now)
-        × ((d : RunOf) → j < length b.now
-        → StartsBy (slice_index_or a.now i d) (slice_index_or b.now j d)) }
-    ensures second { result ≡ false → (j < length b.now)
-        × ((d : RunOf) → i < length a.now
-        → StartsBy (slice_index_or b.now j d) (slice_index_or a.now i d)) }
-{
-    if i == a.len() {
-        return false;
-    }
-    if j == b.len() {
-        return true;
-    }
-    a[i].starts_by(b[j])
-}
-
 // The runs of the cells of either list.
 pub(crate) fn merged(alloc: Global, a: &[Run], b: &[Run]) -> Result<Vec<Run>, AllocError>
     requires first { IsMaximalRuns a.now }
@@ -83,17 +207,62 @@ pub(crate) fn merged(alloc: Global, a: &[Run], b: &[Run]) -> Result<Vec<Run>, Al
     ensures runs { IfOk result (λ v. IsMaximalRuns v.items) }
 {
     let mut out = Vec::with_capacity(alloc, a.len() + b.len())?;
-    let (mut i, mut j) = (0, 0);
-    while i < a.len() || j < b.len() {
-        if takes_first(a, i, b, j) {
-            push_run(&mut out, a[i]);
-            i += 1;
-        } else {
-            push_run(&mut out, b[j]);
-            j += 1;
-        }
+    let (mut first, mut second) = (a, b);
+    while let Some((next, _)) = second.split_first() {
+        first = push_before(&mut out, first, *next);
+        let Some((next, _)) = first.split_first() else {
+            push_runs(&mut out, second);
+            return Ok(out);
+        };
+        second = push_before(&mut out, second, *next);
     }
+    push_runs(&mut out, first);
     Ok(out)
+}
+
+// Gives what runs share with another one, which the first of them reaches and by whose end they all end.
+#[inline(always)]
+fn push_within(out: &mut Vec<Run>, runs: &[Run], other: Run)
+    requires room { vec_len out.old + length runs.now ≤ vec_capacity out.old }
+    requires first { IsMaximalRuns out.old.items }
+    requires second { IsMaximalRuns runs.now }
+    requires other { IsRun other }
+    requires reaches { ReachesTo (other.x, other.y) runs.now }
+    requires within { HaveEnded (other.x + other.len, other.y) runs.now }
+    requires order { (q : ℕ × ℕ) → IsFrom q (other.x, other.y) → IsFromFirst q runs.now → HaveEnded q out.old.items }
+    ensures cells { (q : ℕ × ℕ) → in_runs out.new.items q ≡ (in_runs out.old.items q || (in_runs runs.now q && in_run other q)) }
+    ensures runs { IsMaximalRuns out.new.items }
+    ensures ended { (q : ℕ × ℕ) → HaveEnded q out.old.items → HaveEnded q runs.now → HaveEnded q out.new.items }
+    ensures len { vec_len out.new ≤ vec_len out.old + length runs.now }
+    ensures capacity { vec_capacity out.old ≤ vec_capacity out.new }
+{
+    if let Some((first, others)) = runs.split_first() {
+        push_part(out, first.shared(other));
+        push_runs(out, others);
+    }
+}
+
+// Gives what the runs that end by the end of another one share with it, and answers the runs that are left.
+#[inline(always)]
+fn push_shared<'a>(out: &mut Vec<Run>, runs: &'a [Run], other: Run) -> &'a [Run]
+    requires room { vec_len out.old + length runs.now ≤ vec_capacity out.old }
+    requires first { IsMaximalRuns out.old.items }
+    requires second { IsMaximalRuns runs.now }
+    requires other { IsRun other }
+    requires order { (q : ℕ × ℕ) → IsFrom q (other.x, other.y) → IsFromFirst q runs.now → HaveEnded q out.old.items }
+    ensures cells { (q : ℕ × ℕ) → (in_runs out.new.items q || (in_runs result.now q && in_run other q))
+        ≡ (in_runs out.old.items q || (in_runs runs.entry.now q && in_run other q)) }
+    ensures within { (q : ℕ × ℕ) → in_run other q ≡ false → in_runs out.new.items q ≡ in_runs out.old.items q }
+    ensures left { (front : List RunOf) × AreSplitAt (other.x + other.len, other.y) runs.entry.now front result.now }
+    ensures runs { IsMaximalRuns out.new.items }
+    ensures order { (q : ℕ × ℕ) → IsFrom q (other.x, other.y) → IsFromFirst q result.now → HaveEnded q out.new.items }
+    ensures len { vec_len out.new + length result.now ≤ vec_len out.old + length runs.entry.now }
+    ensures capacity { vec_capacity out.old ≤ vec_capacity out.new }
+{
+    let (_, rest) = split_near(runs, other.x, other.y);
+    let (shared, rest) = split_near(rest, other.end(), other.y);
+    push_within(out, shared, other);
+    rest
 }
 
 // The runs of the cells of both lists.
@@ -104,15 +273,13 @@ pub(crate) fn overlaps(alloc: Global, a: &[Run], b: &[Run]) -> Result<Vec<Run>, 
     ensures runs { IfOk result (λ v. IsMaximalRuns v.items) }
 {
     let mut out = Vec::with_capacity(alloc, a.len() + b.len())?;
-    let (mut i, mut j) = (0, 0);
-    while i < a.len() && j < b.len() {
-        push_some(&mut out, a[i].shared(b[j]));
-        // The run that ends first shares no cell with a later one.
-        if a[i].ends_by(b[j]) {
-            i += 1;
-        } else {
-            j += 1;
-        }
+    let (mut first, mut second) = (a, b);
+    while let Some((next, _)) = second.split_first() {
+        first = push_shared(&mut out, first, *next);
+        let Some((next, _)) = first.split_first() else {
+            return Ok(out);
+        };
+        second = push_shared(&mut out, second, *next);
     }
     Ok(out)
 }
@@ -125,25 +292,16 @@ pub(crate) fn remainders(alloc: Global, a: &[Run], b: &[Run]) -> Result<Vec<Run>
     ensures runs { IfOk result (λ v. IsMaximalRuns v.items) }
 {
     let mut out = Vec::with_capacity(alloc, a.len() + b.len())?;
-    let (mut i, mut j) = (0, 0);
-    // What is left of `a[i]` behind the runs of `b` that cut it.
-    let mut left = None;
-    while i < a.len() {
-        let run = left.unwrap_or(a[i]);
-        if j == b.len() {
-            out.push_reserved(run);
-            left = None;
-            i += 1;
-        } else {
-            push_some(&mut out, run.before(b[j]));
-            left = run.after(b[j]);
-            if left.is_some() {
-                j += 1;
-            } else {
-                i += 1;
-            }
-        }
+    let (mut runs, mut cuts) = (a, b);
+    while let Some((cut, _)) = cuts.split_first() {
+        let rest = push_before(&mut out, runs, *cut);
+        let Some((run, others)) = rest.split_first() else {
+            return Ok(out);
+        };
+        cuts = push_gaps(&mut out, *run, cuts);
+        runs = others;
     }
+    push_runs(&mut out, runs);
     Ok(out)
 }
 

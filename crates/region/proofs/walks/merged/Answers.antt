@@ -1,52 +1,50 @@
-use Rattle.std.proofs.Common.{◌<◌, ◌∙◌, arith, add-one, length, get_or, suc}
-use Rattle.region.specs.declared.runs.Run.{Run}
-use Rattle.region.proofs.Pushes.{run_at, runs_rise, starts_any, first_gone, second_gone}
+use Rattle.std.proofs.Common.{◌≡◌, Bool, false, ◌||◌, ◌∙◌, arith}
+use Rattle.std.proofs.lemmas.List.{nil_from_length}
+use Rattle.region.specs.Runs.{IsMaximalRuns, in_runs}
+use Rattle.region.specs.Walks.{HaveEnded}
+use Rattle.region.proofs.Gaps.{either_cells, last_cells}
+use Rattle.region.proofs.Order.{IsMaximalRuns-back}
 use Rattle.region.proofs.walks.merged.Goals as goal
 
-pub push_run-requires-clause-run : goal.push_run-requires-clause-run
-push_run-requires-clause-run c = run_at c.args.a.now c.loop-i.i _ (c.takes_first.ensures.first c.if-takes_first.true).0 c.requires.first
+pub returns-in_default-split_first-clause-cells : goal.returns-in_default-split_first-clause-cells
+returns-in_default-split_first-clause-cells c q =
+    let inv = c.loop-next.invariant in
+    c.push_runs.ensures.cells q
+    ∙ last_cells c.loop-next.out.items c.push_before-first.new.out.items c.loop-next.first.now c.push_before-first.result.now c.loop-next.second.now c.in-Some.next.now c.in-Some.field-0-1.now q (nil_from_length c.push_before-first.result.now c.in_default-split_first.ensures.cases)
+    c.in-Some.ensures.cases.0 (c.push_before-first.ensures.cells q)
+    ∙ inv.cells q
 
-pub push_run-requires-else-takes_first-clause-run : goal.push_run-requires-else-takes_first-clause-run
-push_run-requires-else-takes_first-clause-run c = run_at c.args.b.now c.loop-i.j _ (c.takes_first.ensures.second c.if-takes_first.false).0 c.requires.second
+pub push_before-second-requires-clause-other : goal.push_before-second-requires-clause-other
+push_before-second-requires-clause-other c =
+    let left = c.push_before-first.ensures.left in
+    let rest : IsMaximalRuns c.push_before-first.result.now = IsMaximalRuns-back left.0 c.push_before-first.result.now (rw left.1.whole at c.loop-next.invariant.first) in
+    (rw c.in-Some-split_first.ensures.cases.0 at rest).0
 
-pub loop-i-preserved-then-takes_first : goal.loop-i-preserved-then-takes_first
-loop-i-preserved-then-takes_first c =
-    let none : Run = record { y = 0; x = 0; len = 0 } in
-    let inv = c.loop-i.invariant in
-    let took = c.takes_first.ensures.first c.if-takes_first.true in
-    let pushed = c.push_run.ensures in
+pub loop-next-preserved : goal.loop-next-preserved
+loop-next-preserved c =
+    let inv = c.loop-next.invariant in
+    let one = c.push_before-first.ensures in
+    let two = c.push_before-second.ensures in
+    let is = c.in-Some-split_first.ensures.cases.0 in
+    let r = c.in-Some-split_first.next.now in
+    let ended : HaveEnded (r.x, r.y) c.push_before-first.new.out.items = rw is at one.order in
     record {
-      room = omega (arith, took.0, inv.room, pushed.len, pushed.capacity);
-      first = omega (arith, took.0);
-      second = inv.second;
-      runs = pushed.runs;
-      cells = λ q. rw add-one (first_gone _ _ c.args.a.now c.args.b.now c.loop-i.i c.loop-i.j _ q took.0 (pushed.cells q) ∙ inv.cells q);
-      next_first = λ d l.
-          let more : suc c.loop-i.i < length c.args.a.now = omega arith in
-          rw add-one (pushed.last _ (starts_any c.args.a.now c.loop-i.i d none (get_or c.args.a.now (suc c.loop-i.i) d) took.0 (runs_rise c.args.a.now c.loop-i.i d more c.requires.first)));
-      next_second = λ d l. pushed.last _ (starts_any c.args.a.now c.loop-i.i d none (get_or c.args.b.now c.loop-i.j d) took.0 (took.1 d l));
+      room = omega (arith, inv.room, one.len, one.capacity, two.len, two.capacity);
+      out = two.runs;
+      first = IsMaximalRuns-back one.left.0 c.push_before-first.result.now (rw one.left.1.whole at inv.first);
+      second = IsMaximalRuns-back two.left.0 c.push_before-second.result.now (rw two.left.1.whole at inv.second);
+      before_first = rw is (two.ended ended);
+      before_second = two.order;
+      cells = λ q.
+          either_cells c.loop-next.out.items c.push_before-first.new.out.items c.push_before-second.new.out.items c.loop-next.first.now c.push_before-first.result.now c.loop-next.second.now
+          c.push_before-second.result.now r c.in-Some.next.now c.in-Some-split_first.field-0-1.now c.in-Some.field-0-1.now q is c.in-Some.ensures.cases.0 (one.cells q) (two.cells q)
+          ∙ inv.cells q;
     }
 
-pub loop-i-preserved : goal.loop-i-preserved
-loop-i-preserved c =
-    let none : Run = record { y = 0; x = 0; len = 0 } in
-    let inv = c.loop-i.invariant in
-    let took = c.takes_first.ensures.second c.if-takes_first.false in
-    let pushed = c.push_run-else-takes_first.ensures in
-    record {
-      room = omega (arith, took.0, inv.room, pushed.len, pushed.capacity);
-      first = inv.first;
-      second = omega (arith, took.0);
-      runs = pushed.runs;
-      cells = λ q. rw add-one (second_gone _ _ c.args.a.now c.args.b.now c.loop-i.i c.loop-i.j _ q took.0 (pushed.cells q) ∙ inv.cells q);
-      next_first = λ d l. pushed.last _ (starts_any c.args.b.now c.loop-i.j d none (get_or c.args.a.now c.loop-i.i d) took.0 (took.1 d l));
-      next_second = λ d l.
-          let more : suc c.loop-i.j < length c.args.b.now = omega arith in
-          rw add-one (pushed.last _ (starts_any c.args.b.now c.loop-i.j d none (get_or c.args.b.now (suc c.loop-i.j) d) took.0 (runs_rise c.args.b.now c.loop-i.j d more c.requires.second)));
-    }
-
-pub push_run-requires-clause-room : goal.push_run-requires-clause-room
-push_run-requires-clause-room c = let took = c.takes_first.ensures.first c.if-takes_first.true in omega (arith, took.0, c.loop-i.invariant.room)
-
-pub push_run-requires-else-takes_first-clause-room : goal.push_run-requires-else-takes_first-clause-room
-push_run-requires-else-takes_first-clause-room c = let took = c.takes_first.ensures.second c.if-takes_first.false in omega (arith, took.0, c.loop-i.invariant.room)
+pub returns-clause-cells : goal.returns-clause-cells
+returns-clause-cells c q =
+    let all = nil_from_length c.loop-next.second.now c.in_default.ensures.cases in
+    c.push_runs-2.ensures.cells q ∙ none_left (in_runs c.loop-next.out.items q) (in_runs c.loop-next.first.now q) ∙ rw all at (c.loop-next.invariant.cells q)
+  where
+    none_left : (o f : Bool) → (o || f) ≡ (o || (f || false))
+    none_left o f = grind arith

@@ -1,59 +1,62 @@
-use Rattle.std.proofs.Common.{inl, inr, ◌∙◌, arith, add-one, drop}
-use Rattle.region.specs.declared.runs.Run.{Run}
-use Rattle.region.proofs.Pushes.{run_at}
-use Rattle.region.proofs.Order.{IsMaximalRuns-front}
-use Rattle.region.proofs.Steps.{first_order, second_order, first_cells, second_cells}
+use Rattle.std.proofs.Common.{◌≡◌, Bool, false, ◌||◌, ◌&&◌, ◌∙◌, arith}
+use Rattle.std.proofs.lemmas.List.{nil_from_length}
+use Rattle.region.specs.Runs.{IsMaximalRuns, in_runs}
+use Rattle.region.proofs.Order.{IsMaximalRuns-back}
+use Rattle.region.proofs.Shared.{share_cells, and_turned}
 use Rattle.region.proofs.walks.overlaps.Goals as goal
 
-pub shared-requires-clause-first : goal.shared-requires-clause-first
-shared-requires-clause-first c = run_at c.args.a.now c.loop-i.i _ c.loop-i-test.true c.requires.first
+pub push_shared-first-requires-clause-order : goal.push_shared-first-requires-clause-order
+push_shared-first-requires-clause-order c q from_second from = c.loop-next.invariant.order q from (rw c.in-Some.ensures.cases.0 from_second)
 
-pub shared-requires-clause-second : goal.shared-requires-clause-second
-shared-requires-clause-second c = run_at c.args.b.now c.loop-i.j _ c.if-j-b.true c.requires.second
+pub returns-in_default-split_first-clause-cells : goal.returns-in_default-split_first-clause-cells
+returns-in_default-split_first-clause-cells c q =
+    let inv = c.loop-next.invariant in
+    let one = c.push_shared-first.ensures in
+    let given = share_cells c.loop-next.out.items c.push_shared-first.new.out.items c.loop-next.first.now one.left.0 c.push_shared-first.result.now c.loop-next.second.now c.in-Some.next.now
+    c.in-Some.field-0-1.now c.in-Some.ensures.cases.0 inv.second one.left.1 q (one.cells q) (one.within q) in
+    let all = nil_from_length c.push_shared-first.result.now c.in_default-split_first.ensures.cases in
+    or-false (in_runs c.push_shared-first.new.out.items q) ∙ rw all at given ∙ inv.cells q
+  where
+    or-false : (b : Bool) → b ≡ (b || false)
+    or-false b = grind arith
 
-pub ends_by-requires-clause-first : goal.ends_by-requires-clause-first
-ends_by-requires-clause-first c = run_at c.args.a.now c.loop-i.i _ c.loop-i-test.true c.requires.first
+pub push_shared-second-requires-clause-other : goal.push_shared-second-requires-clause-other
+push_shared-second-requires-clause-other c =
+    let left = c.push_shared-first.ensures.left in
+    let rest : IsMaximalRuns c.push_shared-first.result.now = IsMaximalRuns-back left.0 c.push_shared-first.result.now (rw left.1.whole at c.loop-next.invariant.first) in
+    (rw c.in-Some-split_first.ensures.cases.0 at rest).0
 
-pub ends_by-requires-clause-second : goal.ends_by-requires-clause-second
-ends_by-requires-clause-second c = run_at c.args.b.now c.loop-i.j _ c.if-j-b.true c.requires.second
+pub push_shared-second-requires-clause-order : goal.push_shared-second-requires-clause-order
+push_shared-second-requires-clause-order c q from from_second =
+    c.push_shared-first.ensures.order q (rw c.in-Some.ensures.cases.0 at from_second) (rw c.in-Some-split_first.ensures.cases.0 from)
 
-pub loop-i-preserved-then-ends_by : goal.loop-i-preserved-then-ends_by
-loop-i-preserved-then-ends_by c =
-    let none : Run = record { y = 0; x = 0; len = 0 } in
-    let inv = c.loop-i.invariant in
-    let pushed = c.push_some.ensures in
-    let shared = c.shared.ensures in
+pub loop-next-preserved : goal.loop-next-preserved
+loop-next-preserved c =
+    let inv = c.loop-next.invariant in
+    let one = c.push_shared-first.ensures in
+    let two = c.push_shared-second.ensures in
+    let is = c.in-Some-split_first.ensures.cases.0 in
+    let first : IsMaximalRuns c.push_shared-first.result.now = IsMaximalRuns-back one.left.0 c.push_shared-first.result.now (rw one.left.1.whole at inv.first) in
     record {
-      room = omega (arith, inv.room, pushed.len, pushed.capacity, c.loop-i-test.true);
-      first = omega (arith, c.loop-i-test.true);
-      second = inv.second;
-      order = rw add-one (first_order c.args.a.now c.args.b.now c.loop-i.out.items c.push_some.new.runs.items c.loop-i.i c.loop-i.j none c.shared.result
-          c.loop-i-test.true c.if-j-b.true c.requires.first c.requires.second pushed.items shared.cells shared.first shared.second inv.order);
-      cells = λ q. rw add-one (first_cells c.args.a.now c.args.b.now c.loop-i.out.items c.push_some.new.runs.items c.loop-i.i c.loop-i.j none c.shared.result
-          c.loop-i-test.true c.if-j-b.true c.requires.first c.requires.second pushed.items shared.cells shared.first shared.second inv.order
-          (c.ends_by.ensures.yes c.if-ends_by.true) q ∙ inv.cells q);
+      room = omega (arith, inv.room, one.len, one.capacity, two.len, two.capacity);
+      out = two.runs;
+      first = first;
+      second = IsMaximalRuns-back two.left.0 c.push_shared-second.result.now (rw two.left.1.whole at inv.second);
+      order = λ q from from_second. two.order q (rw is at from) from_second;
+      cells = λ q.
+          and_turned (in_runs c.push_shared-second.new.out.items q) (in_runs c.push_shared-first.result.now q) (in_runs c.push_shared-second.result.now q)
+          ∙ share_cells c.push_shared-first.new.out.items c.push_shared-second.new.out.items c.loop-next.second.now two.left.0 c.push_shared-second.result.now c.push_shared-first.result.now
+          c.in-Some-split_first.next.now c.in-Some-split_first.field-0-1.now is first two.left.1 q (two.cells q) (two.within q)
+          ∙ and_turned (in_runs c.push_shared-first.new.out.items q) (in_runs c.loop-next.second.now q) (in_runs c.push_shared-first.result.now q)
+          ∙ share_cells c.loop-next.out.items c.push_shared-first.new.out.items c.loop-next.first.now one.left.0 c.push_shared-first.result.now c.loop-next.second.now c.in-Some.next.now
+          c.in-Some.field-0-1.now c.in-Some.ensures.cases.0 inv.second one.left.1 q (one.cells q) (one.within q)
+          ∙ inv.cells q;
     }
 
-pub loop-i-preserved : goal.loop-i-preserved
-loop-i-preserved c =
-    let none : Run = record { y = 0; x = 0; len = 0 } in
-    let inv = c.loop-i.invariant in
-    let pushed = c.push_some.ensures in
-    let shared = c.shared.ensures in
-    record {
-      room = omega (arith, inv.room, pushed.len, pushed.capacity, c.if-j-b.true);
-      first = inv.first;
-      second = omega (arith, c.if-j-b.true);
-      order = rw add-one (second_order c.args.a.now c.args.b.now c.loop-i.out.items c.push_some.new.runs.items c.loop-i.i c.loop-i.j none c.shared.result
-          c.loop-i-test.true c.if-j-b.true c.requires.first c.requires.second pushed.items shared.cells shared.first shared.second inv.order);
-      cells = λ q. rw add-one (second_cells c.args.a.now c.args.b.now c.loop-i.out.items c.push_some.new.runs.items c.loop-i.i c.loop-i.j none c.shared.result
-          c.loop-i-test.true c.if-j-b.true c.requires.first c.requires.second pushed.items shared.cells shared.first shared.second inv.order
-          (c.ends_by.ensures.no c.if-ends_by.false) q ∙ inv.cells q);
-    }
-
-pub returns-clause-runs : goal.returns-clause-runs
-returns-clause-runs c =
-    elim c.loop-i.invariant.order [
-      | inl h ↦ IsMaximalRuns-front c.loop-i.out.items (drop c.loop-i.i c.args.a.now) h
-      | inr h ↦ IsMaximalRuns-front c.loop-i.out.items (drop c.loop-i.j c.args.b.now) h
-    ]
+pub returns-clause-cells : goal.returns-clause-cells
+returns-clause-cells c q =
+    let all = nil_from_length c.loop-next.second.now c.in_default.ensures.cases in
+    none_left (in_runs c.loop-next.out.items q) (in_runs c.loop-next.first.now q) ∙ rw all at (c.loop-next.invariant.cells q)
+  where
+    none_left : (o f : Bool) → o ≡ (o || (f && false))
+    none_left o f = grind arith

@@ -1,76 +1,54 @@
-use Rattle.std.proofs.Common.{◌≡◌, ℕ, ◌<◌, ◌≤◌, sym, ◌∙◌, arith, add-one, length}
-use Rattle.region.specs.declared.runs.Run.{Run}
-use Rattle.region.proofs.Pushes.{run_at}
-use Rattle.region.proofs.Steps.{left_run, rest_order, rest_cells, left_cut_order, left_cut_cells, left_used_order, left_used_cells}
+use Rattle.std.proofs.Common.{◌≡◌, ◌∷◌, Bool, true, false, ◌||◌, ◌&&◌, ◌∙◌, arith}
+use Rattle.std.proofs.lemmas.List.{nil_from_length}
+use Rattle.region.specs.Runs.{IsMaximalRuns, in_runs}
+use Rattle.region.proofs.Gaps.{front_cells, gap_cells, next_order}
+use Rattle.region.proofs.Order.{IsMaximalRuns-back}
 use Rattle.region.proofs.walks.remainders.Goals as goal
 
-below : (n m : ℕ) → n ≤ m → (n ≡ m → ⊥) → n < m
-below n m h k = grind arith
+pub returns-in_default-split_first-clause-cells : goal.returns-in_default-split_first-clause-cells
+returns-in_default-split_first-clause-cells c q =
+    let inv = c.loop-cut.invariant in
+    let given = front_cells c.loop-cut.out.items c.push_before-rest.new.out.items c.loop-cut.runs.now c.push_before-rest.result.now c.loop-cut.cuts.now c.in-Some.cut.now c.in-Some.field-0-1.now
+    c.in-Some.ensures.cases.0 inv.second q (c.push_before-rest.ensures.cells q) (c.push_before-rest.ensures.before q) in
+    let all = nil_from_length c.push_before-rest.result.now c.in_default-split_first.ensures.cases in
+    or-false (in_runs c.push_before-rest.new.out.items q) ∙ rw all at given ∙ inv.cells q
+  where
+    or-false : (b : Bool) → b ≡ (b || false)
+    or-false b = grind arith
 
-pub before-requires : goal.before-requires
-before-requires c =
-    left_run c.args.a.now c.args.b.now c.loop-i.out.items c.loop-i.i c.loop-i.j _ c.loop-i.left c.unwrap_or-run.result c.loop-i-test.true c.requires.second c.unwrap_or-run.ensures c.loop-i.invariant.order
+pub push_gaps-cuts-requires-clause-run : goal.push_gaps-cuts-requires-clause-run
+push_gaps-cuts-requires-clause-run c =
+    let left = c.push_before-rest.ensures.left in
+    let rest : IsMaximalRuns c.push_before-rest.result.now = IsMaximalRuns-back left.0 c.push_before-rest.result.now (rw left.1.whole at c.loop-cut.invariant.first) in
+    (rw c.in-Some-split_first.ensures.cases.0 at rest).0
 
-pub after-left-requires-clause-first : goal.after-left-requires-clause-first
-after-left-requires-clause-first c =
-    left_run c.args.a.now c.args.b.now c.loop-i.out.items c.loop-i.i c.loop-i.j _ c.loop-i.left c.unwrap_or-run.result c.loop-i-test.true c.requires.second c.unwrap_or-run.ensures c.loop-i.invariant.order
-
-pub after-left-requires-clause-second : goal.after-left-requires-clause-second
-after-left-requires-clause-second c = run_at c.args.b.now c.loop-i.j _ (below c.loop-i.j (length c.args.b.now) c.loop-i.invariant.second c.if-j-b.false) c.requires.second
-
-pub loop-i-preserved-then-j-b : goal.loop-i-preserved-then-j-b
-loop-i-preserved-then-j-b c =
-    let none : Run = record { y = 0; x = 0; len = 0 } in
-    let inv = c.loop-i.invariant in
-    let pushed = c.push_reserved.ensures in
+pub loop-cut-preserved : goal.loop-cut-preserved
+loop-cut-preserved c =
+    let inv = c.loop-cut.invariant in
+    let before = c.push_before-rest.ensures in
+    let gaps = c.push_gaps-cuts.ensures in
+    let is = c.in-Some-split_first.ensures.cases.0 in
+    let run = c.in-Some-split_first.run'.now in
+    let others = c.in-Some-split_first.others.now in
+    let rest : IsMaximalRuns c.push_before-rest.result.now = IsMaximalRuns-back before.left.0 c.push_before-rest.result.now (rw before.left.1.whole at inv.first) in
+    let left : IsMaximalRuns (run ∷ others) = rw is at rest in
     record {
-      room = omega (arith, inv.room, pushed.len, pushed.capacity, c.loop-i-test.true);
-      first = omega (arith, c.loop-i-test.true);
-      second = inv.second;
-      order = rw add-one (rest_order c.args.a.now c.args.b.now c.loop-i.out.items c.loop-i.i c.loop-i.j none c.loop-i.left c.unwrap_or-run.result c.loop-i-test.true c.requires.second
-          c.unwrap_or-run.ensures inv.order c.push_reserved.new.self.items pushed.items c.if-j-b.true);
-      cells = λ q. rw add-one (rest_cells c.args.a.now c.args.b.now c.loop-i.out.items c.loop-i.i c.loop-i.j none c.loop-i.left c.unwrap_or-run.result c.loop-i-test.true
-          c.requires.second c.unwrap_or-run.ensures inv.order c.push_reserved.new.self.items pushed.items c.if-j-b.true q ∙ inv.cells q);
+      room = omega (arith, inv.room, before.len, before.capacity, gaps.len, gaps.capacity, c.in-Some-split_first.ensures.cases.1);
+      out = gaps.runs;
+      first = left.2;
+      second = gaps.rest;
+      order = next_order c.push_gaps-cuts.new.out.items run others left gaps.ended;
+      cells = λ q.
+          gap_cells c.push_before-rest.new.out.items c.push_gaps-cuts.new.out.items c.push_before-rest.result.now c.loop-cut.cuts.now c.push_gaps-cuts.result.now run others is left q (gaps.cells q) (gaps.later q)
+          ∙ front_cells c.loop-cut.out.items c.push_before-rest.new.out.items c.loop-cut.runs.now c.push_before-rest.result.now c.loop-cut.cuts.now c.in-Some.cut.now c.in-Some.field-0-1.now
+          c.in-Some.ensures.cases.0 inv.second q (before.cells q) (before.before q)
+          ∙ inv.cells q;
     }
 
-pub loop-i-preserved-then-is_some : goal.loop-i-preserved-then-is_some
-loop-i-preserved-then-is_some c =
-    let none : Run = record { y = 0; x = 0; len = 0 } in
-    let inv = c.loop-i.invariant in
-    let pushed = c.push_some.ensures in
-    let before = c.before-else-j-b.ensures in
-    let after = c.after-left.ensures in
-    let more = below c.loop-i.j (length c.args.b.now) inv.second c.if-j-b.false in
-    let cut = sym c.is_some.ensures ∙ c.if-is_some.true in
-    record {
-      room = omega (arith, inv.room, pushed.len, pushed.capacity, more);
-      first = inv.first;
-      second = omega (arith, more);
-      order = left_cut_order c.args.a.now c.args.b.now c.loop-i.out.items c.loop-i.i c.loop-i.j none c.loop-i.left c.unwrap_or-run.result c.loop-i-test.true c.requires.second
-          c.unwrap_or-run.ensures inv.order c.push_some.new.runs.items c.before-else-j-b.result c.after-left.result more pushed.items before.cells before.part before.order
-          after.cells after.part after.order cut;
-      cells = λ q. rw add-one (left_cut_cells c.args.a.now c.args.b.now c.loop-i.out.items c.loop-i.i c.loop-i.j none c.loop-i.left c.unwrap_or-run.result c.loop-i-test.true
-          c.requires.second c.unwrap_or-run.ensures inv.order c.push_some.new.runs.items c.before-else-j-b.result c.after-left.result more pushed.items before.cells before.part
-          before.order after.cells after.part after.order cut q ∙ inv.cells q);
-    }
-
-pub loop-i-preserved : goal.loop-i-preserved
-loop-i-preserved c =
-    let none : Run = record { y = 0; x = 0; len = 0 } in
-    let inv = c.loop-i.invariant in
-    let pushed = c.push_some.ensures in
-    let before = c.before-else-j-b.ensures in
-    let after = c.after-left.ensures in
-    let more = below c.loop-i.j (length c.args.b.now) inv.second c.if-j-b.false in
-    let used = sym c.is_some.ensures ∙ c.if-is_some.false in
-    record {
-      room = omega (arith, inv.room, pushed.len, pushed.capacity, c.loop-i-test.true);
-      first = omega (arith, c.loop-i-test.true);
-      second = inv.second;
-      order = rw add-one (left_used_order c.args.a.now c.args.b.now c.loop-i.out.items c.loop-i.i c.loop-i.j none c.loop-i.left c.unwrap_or-run.result c.loop-i-test.true c.requires.second
-          c.unwrap_or-run.ensures inv.order c.push_some.new.runs.items c.before-else-j-b.result c.after-left.result more pushed.items before.cells before.part before.order
-          after.cells after.part after.order used);
-      cells = λ q. rw add-one (left_used_cells c.args.a.now c.args.b.now c.loop-i.out.items c.loop-i.i c.loop-i.j none c.loop-i.left c.unwrap_or-run.result c.loop-i-test.true
-          c.requires.second c.unwrap_or-run.ensures inv.order c.push_some.new.runs.items c.before-else-j-b.result c.after-left.result more pushed.items before.cells before.part
-          before.order after.cells after.part after.order used q ∙ inv.cells q);
-    }
+pub returns-clause-cells : goal.returns-clause-cells
+returns-clause-cells c q =
+    let all = nil_from_length c.loop-cut.cuts.now c.in_default.ensures.cases in
+    c.push_runs.ensures.cells q ∙ none_cut (in_runs c.loop-cut.out.items q) (in_runs c.loop-cut.runs.now q) ∙ rw all at (c.loop-cut.invariant.cells q)
+  where
+    none_cut : (o r : Bool) → (o || r) ≡ (o || (r && true))
+    none_cut o r = grind arith

@@ -1,8 +1,7 @@
 use Rattle.std.proofs.Common.{◌≡◌, ℕ, ◌+◌, ◌-◌, ◌≤◌, vec_len, vec_capacity}
-use Rattle.region.specs.declared.runs.Run.{Run}
 use Rattle.region.specs.Cells.{in_rectangle}
 use Rattle.region.specs.Runs.{IsMaximalRuns, in_runs}
-use Rattle.region.specs.Walks.{LastStartsBy}
+use Rattle.region.specs.Walks.{HaveEnded}
 use Rattle.region.proofs.cells.Region.rect.Given as goal
 
 abbrev pub invariant-loop-row : goal.invariant-loop-row
@@ -10,5 +9,5 @@ invariant-loop-row l = record {
   room : vec_len l.runs + (l.h - l.row) ≤ vec_capacity l.runs;
   runs : IsMaximalRuns l.runs.items;
   cells : (q : ℕ × ℕ) → in_runs l.runs.items q ≡ in_rectangle l.x l.y l.w l.row q;
-  last : (s : Run) → l.y + l.row ≤ s.y → LastStartsBy l.runs.items s;
+  ended : HaveEnded (l.x, l.y + l.row) l.runs.items;
 }
