@@ -169,7 +169,7 @@ fn numbers_tree(alloc: Global, cells: &[Gid]) -> Result<Value, AllocError>
 fn bytes_of(alloc: Global, cells: &[Gid]) -> Result<Vec<u8>, AllocError>
     ensures { IfOk result (λ bytes. bytes.items ≡ bytes_of cells.now) }
 {
-    let mut bytes = Vec::new(alloc);
+    let mut bytes = Vec::with_capacity(alloc, cells.len().saturating_mul(4))?;
     for cell in cells {
         bytes.extend_from_slice(&cell.0.to_le_bytes())?;
     }
