@@ -8,6 +8,7 @@ use Rattle.map_model.specs.NewMap.{new_map}
 use Rattle.map_model.specs.Parts.{layer_of, cell_of}
 use Rattle.map_model.specs.Tilesets.{tileset_of}
 use Rattle.map_model.specs.WellFormed.{IsSize, IsTileSize}
+use Rattle.map_json.specs.Trees.{text_of}
 use Rattle.edits.specs.Stamping.{after_stamp, tile_layer_fault}
 use Rattle.command_api.specs.declared.fault.EditFault.{EditFault}
 use Rattle.command_api.specs.declared.fault.EditFault.TheVariants as edit_faults
@@ -22,7 +23,7 @@ use Rattle.undo_stack.specs.Pushing.{IsPushed}
 use Rattle.undo_stack.specs.declared.stack.StackFault.{StackFault}
 use Rattle.undo_stack.specs.declared.stack.StackFault.TheVariants as stack_faults
 use Rattle.session.specs.declared.line.Line.{Line}
-use Rattle.session.specs.declared.line.Line.TheVariants.{Quiet, New, Stamp, Tile, AddLayer, RemoveLayer, RenameLayer, ShowLayer, MoveLayer, Undo, Redo, Goto, Clean, Dirty, Clear, Status, UndoText, RedoText, StepText}
+use Rattle.session.specs.declared.line.Line.TheVariants.{Quiet, New, Stamp, Tile, AddLayer, RemoveLayer, RenameLayer, ShowLayer, MoveLayer, Undo, Redo, Goto, Clean, Dirty, Clear, Show, Status, UndoText, RedoText, StepText}
 use Rattle.session.specs.declared.line.LineFault.{LineFault}
 use Rattle.session.specs.declared.reply.LocalTile.{LocalTile}
 use Rattle.session.specs.declared.reply.Refusal.{Refusal}
@@ -189,6 +190,7 @@ OtherStep (Goto index) old reply new = OverActive (Moves (GoesTo index)) (active
 OtherStep Clean old reply new = OverActive (Moves MarksClean) (active_of old) old reply new
 OtherStep Dirty old reply new = OverActive (Becomes UnmarksClean) (active_of old) old reply new
 OtherStep Clear old reply new = OverActive (Becomes Clears) (active_of old) old reply new
+OtherStep Show old reply new = OverActive (λ h. Answers (replies.Map (text_of (current h).map))) (active_of old) old reply new
 OtherStep Status old reply new = Answers (status_reply (active_of old)) old reply new
 OtherStep UndoText old reply new = Answers (active_text_reply undo_text_of (active_of old)) old reply new
 OtherStep RedoText old reply new = Answers (active_text_reply redo_text_of (active_of old)) old reply new
@@ -203,10 +205,11 @@ FollowsBy None line old reply new = OtherStep line old reply new
 abbrev pub Follows : Line → Machine → Option Reply → Machine → Type 0
 Follows line old reply new = FollowsBy (edit_of line) line old reply new
 
--- where want of memory may refuse a line: an edit or a text of an active document, and a new document whose name is free
+-- where want of memory may refuse a line: an edit or a text of an active document, or its map's, and a new document whose name is free
 abbrev pub MayLackMemoryBy : Option (DocumentParts → Result Step Refusal) → Line → Machine → Type 0
 MayLackMemoryBy (Some edit) line m = IsSome (active_of m)
 MayLackMemoryBy None (New name width height tile_width tile_height source) m = active_of m ≡ None
+MayLackMemoryBy None Show m = IsSome (active_of m)
 MayLackMemoryBy None UndoText m = IsSome (active_of m)
 MayLackMemoryBy None RedoText m = IsSome (active_of m)
 MayLackMemoryBy None (StepText place) m = IsSome (active_of m)

@@ -138,6 +138,7 @@ impl<C: Command> Editor<C> {
             Line::Clean => Planned::Reply(self.clean()),
             Line::Dirty => Planned::Reply(self.dirty()),
             Line::Clear => Planned::Reply(self.clear()),
+            Line::Show => Planned::Reply(self.show(alloc)),
             Line::Status => Planned::Reply(self.status()),
             Line::UndoText => Planned::Reply(self.undo_text(alloc)),
             Line::RedoText => Planned::Reply(self.redo_text(alloc)),

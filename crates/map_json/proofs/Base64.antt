@@ -1,5 +1,5 @@
 -- The text of base64 has no blanks, and is read again.
-use Rattle.std.proofs.Common.{◌≡◌, ℕ, zero, suc, ◌%◌, ◌<◌, Bool, true, false, not, ◌&&◌, List, [], ◌∷◌, ◌++◌, length, get_or, replicate, filter, Ok, refl, ap, ◌∙◌, arith}
+use Rattle.std.proofs.Common.{◌≡◌, ℕ, zero, suc, ◌%◌, ◌<◌, Bool, true, false, not, ◌&&◌, List, [], ◌∷◌, ◌++◌, length, get_or, replicate, filter, Ok, refl, sym, ap, ◌∙◌, arith}
 use Rattle.std.specs.List.{list_all}
 use Rattle.base64.specs.Rfc4648.{encode_symbols, padding_len}
 use Rattle.base64.specs.Engines.{standard}
@@ -48,6 +48,10 @@ packed-encode_of : (m : List ℕ) → packed (encode_of standard m) ≡ encode_o
 packed-encode_of m =
     let table = at_kept standard.encode_table refl in
     filter_all (encode_of standard m) (list_all-append (encode_symbols standard.encode_table m) (replicate (padding_len (length m)) 61) (symbols_kept standard.encode_table table m) (list_all-replicate (padding_len (length m))))
+
+-- a text that is decoded as it stands has no blanks
+pub decoded_solid : (text bytes : List ℕ) → text ≡ encode_of standard bytes → decode_of standard text ≡ Ok bytes → decode_of standard (packed text) ≡ Ok bytes
+decoded_solid text bytes exact ok = ap (decode_of standard) (ap packed exact ∙ packed-encode_of bytes ∙ sym exact) ∙ ok
 
 pub decoded_again : (m : List ℕ) → IsBytes m → decode_of standard (packed (encode_of standard m)) ≡ Ok m
 decoded_again m bytes = ap (decode_of standard) (packed-encode_of m) ∙ decode_of-encode_of standard m refl bytes

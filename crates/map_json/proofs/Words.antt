@@ -1,15 +1,15 @@
 -- Four bytes a number, as a loop reads them.
-use Rattle.std.proofs.Common.{eqb, eq-eqb, Some, Ok, Bool, true, false, ◌&&◌, ◌||◌, zero, suc, ◌^◌, ◌≡◌, ℕ, ◌+◌, ◌*◌, ◌<◌, ◌≤◌, List, [], ◌∷◌, ◌++◌, length, get_or, drop, refl, sym, ap, ◌∙◌, append_assoc, arith}
-use Rattle.std.specs.List.{list_all, list_any}
+use Rattle.std.proofs.Common.{eqb, eq-eqb, Some, Ok, Bool, true, false, ◌&&◌, zero, suc, ◌^◌, ◌≡◌, ℕ, ◌+◌, ◌*◌, ◌<◌, ◌≤◌, List, [], ◌∷◌, ◌++◌, length, get_or, drop, refl, sym, ap, ◌∙◌, append_assoc, arith}
+use Rattle.std.specs.List.{list_all}
 use Rattle.map_model.specs.Lists.{Each}
-use Rattle.std.proofs.lemmas.Bool.{lt-ltb, ltb-true, false≢true}
+use Rattle.std.proofs.lemmas.Bool.{lt-ltb, ltb-true}
 use Rattle.base64.specs.Engines.{standard}
 use Rattle.base64.specs.GeneralPurpose.{IsBytes, decode_of}
 use Rattle.serde_json.specs.Data.{Data}
 use Rattle.serde_json.specs.Find.{as_str}
 use Rattle.std.specs.Int.{w32, from_le_bytes}
 use Rattle.std.proofs.lemmas.List.{append-nil, at_drop_more, drop_all}
-use Rattle.map_json.specs.Cells.{words_of, is_blank, is_byte, packed, base64_cells_at}
+use Rattle.map_json.specs.Cells.{words_of, is_byte, packed, base64_cells_at}
 
 drop_one : (s : List ℕ) (i j : ℕ) → j ≡ i + 1 → i < length s → drop i s ≡ get_or s i 0 ∷ drop j s
 drop_one s i j e h = at_drop_more (λ (xs : List ℕ). xs) s i 0 h ∙ ap (λ n. get_or s i 0 ∷ drop n s) (sym e)
@@ -73,12 +73,3 @@ unfolding base64_cells_at
 base64_read count d text bytes is decoded len h =
     let counted : eqb (length bytes) (4 * count) ≡ true = eq-eqb (length bytes) (4 * count) len in
     rw (is, decoded, counted, is_byte-from_IsBytes bytes h) refl
-
--- a text without blanks is all packed
-packed_first : (x : Bool) (b : ℕ) (bs : List ℕ) → is_blank b ≡ x → x || list_any is_blank bs ≡ false → (list_any is_blank bs ≡ false → packed bs ≡ bs) → packed (b ∷ bs) ≡ b ∷ bs
-packed_first true b bs is e later = absurd (false≢true (sym e))
-packed_first false b bs is e later = rw is (ap (λ (ys : List ℕ). b ∷ ys) (later e))
-
-pub packed_solid : (text : List ℕ) → list_any is_blank text ≡ false → packed text ≡ text
-packed_solid [] e = refl
-packed_solid (b ∷ bs) e = packed_first (is_blank b) b bs refl e (packed_solid bs)

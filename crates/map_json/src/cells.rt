@@ -2,7 +2,6 @@
 ghost use Rattle.std.specs.Prelude.{◌≡◌, ◌*◌, ◌≤◌, Ok, IfOk, IfErr, length};
 ghost use Rattle.base64.specs.Engines.{standard};
 ghost use Rattle.base64.specs.GeneralPurpose.{decode_of, IsDecodeFailure, IsBytes};
-ghost use Rattle.std.specs.List.{list_any};
 ghost use Rattle.serde_json.specs.View.{view as data_of, items_view};
 ghost use Rattle.map_model.specs.declared.limits.TheConstants.{MAX_CELLS};
 ghost use Rattle.map_json.specs.Steps.{Gives, GivesBy, or_refused};
@@ -63,12 +62,6 @@ fn is_blank(byte: u8) -> bool
     byte == b' ' || byte == b'\t' || byte == b'\r' || byte == b'\n'
 }
 
-fn has_blank(text: &[u8]) -> bool
-    ensures { result ≡ list_any is_blank text.now }
-{
-    text.iter().any(|byte| is_blank(*byte))
-}
-
 fn packed(alloc: Global, text: &[u8]) -> Result<Vec<u8>, AllocError>
     ensures { IfOk result (λ bytes. bytes.items ≡ packed text.now) }
 {
@@ -91,18 +84,20 @@ fn words(alloc: Global, bytes: &[u8], count: usize) -> Result<Vec<Gid>, AllocErr
     Ok(found)
 }
 
-// The bytes that a text of base64 spells; its blanks are skipped.
-
+// The bytes that a text of base64 spells; its blanks are skipped. Few texts have any, so it is decoded as it stands first.
 fn decoded(alloc: Global, text: &[u8]) -> Result<Vec<u8>, DecodeAllocError>
     ensures ok { IfOk result (λ bytes. decode_of standard (packed text.now) ≡ Ok bytes.items) }
     ensures err { IfErr result (λ error. IsDecodeFailure standard (packed text.now) error) }
     ensures bytes { IfOk result (λ bytes. IsBytes bytes.items) }
 {
-    if has_blank(text) {
-        let packed = packed(alloc, text).map_err(|_| DecodeAllocError::OutOfMemory)?;
-        return STANDARD.decode(alloc, &packed);
+    match STANDARD.decode(alloc, text) {
+        Ok(bytes) => Ok(bytes),
+        Err(DecodeAllocError::OutOfMemory) => Err(DecodeAllocError::OutOfMemory),
+        Err(DecodeAllocError::DecodeError(_)) => {
+            let packed = packed(alloc, text).map_err(|_| DecodeAllocError::OutOfMemory)?;
+            STANDARD.decode(alloc, &packed)
+        }
     }
-    STANDARD.decode(alloc, text)
 }
 
 /// The cells that a text of base64 spells.

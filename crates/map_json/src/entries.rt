@@ -30,11 +30,7 @@ fn array_of(value: Value) -> Option<Vec<Value>>
 {
     match value {
         Value::Array(values) => Some(values),
-        Value::Null => None,
-        Value::Bool(_) => None,
-        Value::Number(_) => None,
-        Value::String(_) => None,
-        Value::Object(_) => None,
+        _ => None,
     }
 }
 

@@ -35,11 +35,7 @@ impl JsonObject {
     {
         match value {
             Value::Object(members) => Some(JsonObject { members }),
-            Value::Null => None,
-            Value::Bool(_) => None,
-            Value::Number(_) => None,
-            Value::String(_) => None,
-            Value::Array(_) => None,
+            _ => None,
         }
     }
 
@@ -65,6 +61,13 @@ impl JsonObject {
         ensures left { self.new ≡ without name.now self.old }
     {
         self.members.remove(name)
+    }
+
+    /// Takes a member out, and lets go of it.
+    pub fn remove(&mut self, name: &str)
+        ensures { self.new ≡ without name.now self.old }
+    {
+        drop(self.take(name));
     }
 
     /// Puts a member in.

@@ -14,8 +14,6 @@ mod property;
 mod reading;
 mod scalar;
 mod size;
-#[cfg(test)]
-mod tests;
 mod tileset;
 mod writing;
 

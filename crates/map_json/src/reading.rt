@@ -67,8 +67,8 @@ fn map_members(mut members: JsonObject) -> MapMembers
     let layers = members.take("layers");
     let tilesets = members.take("tilesets");
     let properties = members.take("properties");
-    drop(members.take("type"));
-    drop(members.take("version"));
+    members.remove("type");
+    members.remove("version");
     MapMembers {
         width,
         height,

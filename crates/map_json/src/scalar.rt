@@ -114,11 +114,7 @@ fn text(value: Value) -> Result<MapText, MapRefusal>
 {
     match value {
         Value::String(text) => Ok(MapText::new(text)),
-        Value::Null => Err(MapRefusal::MemberOfAnotherKind),
-        Value::Bool(_) => Err(MapRefusal::MemberOfAnotherKind),
-        Value::Number(_) => Err(MapRefusal::MemberOfAnotherKind),
-        Value::Array(_) => Err(MapRefusal::MemberOfAnotherKind),
-        Value::Object(_) => Err(MapRefusal::MemberOfAnotherKind),
+        _ => Err(MapRefusal::MemberOfAnotherKind),
     }
 }
 

@@ -12,6 +12,7 @@ ghost use Rattle.map_json.specs.Trees.{items_by, array_by, whole_tree, value_tre
 
 use crate::json_object::JsonObject;
 use crate::size::Size;
+use base64::encoded_len;
 use base64::engine::general_purpose::STANDARD;
 use link_chain::Chain;
 use map_model::{
@@ -169,7 +170,7 @@ fn numbers_tree(alloc: Global, cells: &[Gid]) -> Result<Value, AllocError>
 fn bytes_of(alloc: Global, cells: &[Gid]) -> Result<Vec<u8>, AllocError>
     ensures { IfOk result (λ bytes. bytes.items ≡ bytes_of cells.now) }
 {
-    let mut bytes = Vec::new(alloc);
+    let mut bytes = Vec::with_capacity(alloc, cells.len().saturating_mul(4))?;
     for cell in cells {
         bytes.extend_from_slice(&cell.0.to_le_bytes())?;
     }
@@ -183,7 +184,10 @@ fn cells_tree(alloc: Global, encoding: Encoding, cells: &[Gid]) -> Result<Value,
         Encoding::Array => numbers_tree(alloc, cells),
         Encoding::Base64 => {
             let bytes = bytes_of(alloc, cells)?;
-            Ok(Value::from(STANDARD.encode(alloc, &bytes)?))
+            let len = encoded_len(bytes.len(), true).unwrap_or(0);
+            let mut text = String::with_capacity(alloc, len)?;
+            STANDARD.encode_string(&bytes, &mut text)?;
+            Ok(Value::from(text))
         }
     }
 }

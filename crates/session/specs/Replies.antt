@@ -5,7 +5,7 @@ use Rattle.session.specs.declared.reply.Refusal.{Refusal}
 use Rattle.session.specs.declared.reply.Refusal.TheVariants.{Line, NoActiveDocument, NameTaken, MacroOpen, NothingToUndo, NothingToRedo, NoSuchLayer, LayerOfAnotherKind, OutsideTheMap, UnknownTile, NoSuchObject, NoSuchProperty, NoSuchTileset, TilesetInUse, FirstIdNotAbove, OutOfRange, TooMany, NoMemory}
 use Rattle.session.specs.declared.reply.LocalTile.{LocalTile}
 use Rattle.session.specs.declared.reply.Reply.{Reply}
-use Rattle.session.specs.declared.reply.Reply.TheVariants.{State, NoDocument, Text, EmptyTile, Tile, Refused}
+use Rattle.session.specs.declared.reply.Reply.TheVariants.{State, NoDocument, Text, Map, EmptyTile, Tile, Refused}
 
 -- a refusal's number and its words
 abbrev pub refusal_text : Refusal → List ℕ
@@ -49,6 +49,7 @@ local_text (Some tile) = decimal tile.first_id ++ codes " " ++ decimal tile.loca
 -- what stands behind the head
 abbrev pub body_of : Reply → List ℕ
 body_of (Text text) = text
+body_of (Map text) = text
 body_of reply = []
 
 abbrev pub reply_text : Reply → List ℕ
@@ -58,6 +59,7 @@ reply_text (State index count clean depth) =
 reply_text NoDocument = codes "ok none clean"
 reply_text (Text []) = codes "text"
 reply_text (Text (b ∷ text)) = codes "text " ++ b ∷ text
+reply_text (Map text) = codes "map " ++ text
 reply_text EmptyTile = codes "tile 0"
 reply_text (Tile value local) =
     codes "tile " ++ decimal value ++ codes " " ++ flags_text value ++ codes " "

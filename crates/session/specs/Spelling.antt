@@ -4,7 +4,7 @@ use Rattle.std.specs.List.{join_with_byte, flat_map, AllByRecursion}
 use Rattle.std.specs.Fmt.{signed_decimal}
 use Rattle.std.specs.Str.{IsUtf8}
 use Rattle.session.specs.declared.line.Line.{Line}
-use Rattle.session.specs.declared.line.Line.TheVariants.{Quiet, New, Stamp, Erase, Fill, Select, SelectNone, Tile, AddLayer, RemoveLayer, RenameLayer, ShowLayer, MoveLayer, Undo, Redo, Goto, Clean, Dirty, Clear, Status, UndoText, RedoText, StepText}
+use Rattle.session.specs.declared.line.Line.TheVariants.{Quiet, New, Stamp, Erase, Fill, Select, SelectNone, Tile, AddLayer, RemoveLayer, RenameLayer, ShowLayer, MoveLayer, Undo, Redo, Goto, Clean, Dirty, Clear, Show, Status, UndoText, RedoText, StepText}
 use Rattle.session.specs.declared.line.LineFault.TheVariants.{TooLong}
 use Rattle.map_model.specs.declared.parts.LayerKind.{LayerKind}
 use Rattle.map_model.specs.declared.parts.LayerKind.TheVariants as kinds
@@ -83,6 +83,7 @@ tokens (Goto index) = Fixed (codes "goto") ∷ Given Number index ∷ []
 tokens Clean = Fixed (codes "clean") ∷ []
 tokens Dirty = Fixed (codes "dirty") ∷ []
 tokens Clear = Fixed (codes "clear") ∷ []
+tokens Show = Fixed (codes "show") ∷ []
 tokens Status = Fixed (codes "status") ∷ []
 tokens UndoText = Fixed (codes "undotext") ∷ []
 tokens RedoText = Fixed (codes "redotext") ∷ []

@@ -96,6 +96,8 @@ pub enum Line<'a> {
     Dirty,
     /// The undo stack lets go of its steps.
     Clear,
+    /// The text of the active document's map.
+    Show,
     /// How the active document stands.
     Status,
     /// The text of the step that an undo turns back.

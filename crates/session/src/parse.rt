@@ -139,6 +139,7 @@ fn command<'a>(name: &str, rest: Option<&'a str>) -> Result<Line<'a>, LineFault>
         "clean" => bare(Line::Clean, rest),
         "dirty" => bare(Line::Dirty, rest),
         "clear" => bare(Line::Clear, rest),
+        "show" => bare(Line::Show, rest),
         "status" => bare(Line::Status, rest),
         "undotext" => bare(Line::UndoText, rest),
         "redotext" => bare(Line::RedoText, rest),

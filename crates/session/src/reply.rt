@@ -3,6 +3,7 @@ ghost use Rattle.arrayvec.specs.ArrayString.{array_string_len};
 ghost use Rattle.session.specs.Replies.{body_of, reply_text, refusal_text, flag_letter, flags_text, local_text};
 
 use crate::line::LineFault;
+use crate::text::MapBytes;
 use arrayvec::ArrayString;
 use itoa::Buffer;
 use map_model::MapText;
@@ -53,6 +54,8 @@ pub enum Reply {
     NoDocument,
     /// A text that was asked for.
     Text(MapText),
+    /// The text of a map.
+    Map(MapBytes),
     /// The cell is empty.
     EmptyTile,
     /// The cell's value, and the tile that it names, where a tileset has it.
@@ -193,6 +196,7 @@ impl Reply {
             } => push_state(head, *index, *count, *is_clean, *depth),
             Reply::NoDocument => head.push_str("ok none clean"),
             Reply::Text(text) => push_text_word(head, text.as_str()),
+            Reply::Map(_) => head.push_str("map "),
             Reply::EmptyTile => head.push_str("tile 0"),
             Reply::Tile { value, local } => push_tile(head, *value, *local),
             Reply::Refused(refusal) => {
@@ -202,12 +206,13 @@ impl Reply {
         }
     }
 
-    /// What follows the head: a text that was asked for, and nothing for the other replies.
+    /// What follows the head: a text that was asked for, or that of a map, and nothing for the other replies.
     pub fn body(&self) -> &[u8]
         ensures { result.now ≡ body_of self.now }
     {
         match self {
             Reply::Text(text) => text.as_str().as_bytes(),
+            Reply::Map(bytes) => bytes.as_slice(),
             _ => &[],
         }
     }

@@ -27,3 +27,29 @@ impl<'a> Text<'a> {
         self.text
     }
 }
+
+/// The text of a map, which is long and goes from one call to the next without a copy.
+#[derive(Drop)]
+pub struct MapBytes {
+    bytes: Vec<u8>,
+}
+
+impl Model for MapBytes {
+    ghost Value = { List ℕ };
+
+    ghost view = { λ m. m.bytes.items };
+}
+
+impl MapBytes {
+    pub fn new(bytes: Vec<u8>) -> MapBytes
+        ensures { result ≡ bytes.items }
+    {
+        MapBytes { bytes }
+    }
+
+    pub fn as_slice(&self) -> &[u8]
+        ensures { result.now ≡ self.now }
+    {
+        self.bytes.as_slice()
+    }
+}

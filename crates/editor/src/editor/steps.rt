@@ -10,8 +10,9 @@ ghost use Rattle.editor.specs.Planning.{KeepsReply};
 use crate::editor::{Editor, state_of};
 use crate::{refusal, tile};
 use command_api::Command;
+use map_json::write_map;
 use map_model::MapText;
-use session::{Refusal, Reply};
+use session::{MapBytes, Refusal, Reply};
 use std::alloc::Global;
 
 // The reply that gives a text, where there is memory for it.
@@ -129,6 +130,20 @@ impl<C: Command> Editor<C> {
                 state_of(stack)
             }
             None => Reply::Refused(Refusal::NoActiveDocument),
+        }
+    }
+
+    // The text of the open document's map, where there is memory for it.
+    pub(crate) fn show(&self, alloc: Global) -> Reply
+        requires { IsSound C.change self.now }
+        ensures { StepOfLine lines.Show (machine_of C.change self.now) (Some result) (machine_of C.change self.now) }
+    {
+        let Some(stack) = &self.stack else {
+            return Reply::Refused(Refusal::NoActiveDocument);
+        };
+        match write_map(alloc, stack.document().map()) {
+            Ok(bytes) => Reply::Map(MapBytes::new(bytes)),
+            Err(_) => Reply::Refused(Refusal::NoMemory),
         }
     }
 

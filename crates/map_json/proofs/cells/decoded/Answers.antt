@@ -1,9 +1,6 @@
-use Rattle.std.proofs.Common.{sym, ◌∙◌}
-use Rattle.map_json.proofs.Words.{packed_solid}
+use Rattle.std.proofs.Common.{refl}
+use Rattle.map_json.proofs.Base64.{decoded_solid}
 use Rattle.map_json.proofs.cells.decoded.Goals as goal
 
-pub returns-clause-ok : goal.returns-clause-ok
-returns-clause-ok c = rw (packed_solid c.args.text.now (sym c.has_blank.ensures ∙ c.if-has_blank.false)) c.decode-2.ensures.ok
-
-pub returns-clause-err : goal.returns-clause-err
-returns-clause-err c = rw (packed_solid c.args.text.now (sym c.has_blank.ensures ∙ c.if-has_blank.false)) c.decode-2.ensures.err
+pub returns-in-Ok-clause-ok : goal.returns-in-Ok-clause-ok
+returns-in-Ok-clause-ok c = decoded_solid c.args.text.now c.in-Ok.bytes.items (c.in-Ok.ensures.exact (refl, refl)) c.in-Ok.ensures.ok

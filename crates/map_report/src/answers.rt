@@ -1,0 +1,89 @@
+// What is read of a text: what is written for its map, or why there is none.
+use crate::texts::Texts;
+use map_json::{MapFault, MapRefusal, read_map, write_map};
+use std::alloc::{AllocError, Global};
+use std::io::{self, Write};
+
+/// Why there is no map, in words.
+pub fn words_of(fault: MapFault) -> &'static str {
+    match fault {
+        MapFault::Memory => "no memory",
+        MapFault::Refused(MapRefusal::NotJson) => "60 not JSON",
+        MapFault::Refused(MapRefusal::Fraction) => "61 fraction",
+        MapFault::Refused(MapRefusal::MemberMissing) => "62 member missing",
+        MapFault::Refused(MapRefusal::MemberOfAnotherKind) => "63 member of another kind",
+        MapFault::Refused(MapRefusal::Infinite) => "64 infinite",
+        MapFault::Refused(MapRefusal::Compressed) => "65 compressed",
+        MapFault::Refused(MapRefusal::BadData) => "66 bad data",
+        MapFault::Refused(MapRefusal::IdUsedTwice) => "67 id used twice",
+        MapFault::Refused(MapRefusal::OverLimit) => "68 over a limit",
+        MapFault::Refused(MapRefusal::NotAMap) => "69 not a map",
+    }
+}
+
+// Writes what some bytes are read as: the text that is written for the map, or that text's name where it has one.
+fn write_read<W: Write>(
+    alloc: Global,
+    texts: &Texts,
+    bytes: &[u8],
+    output: &mut W,
+) -> io::Result<()> {
+    let map = match read_map(alloc, bytes) {
+        Ok(map) => map,
+        Err(fault) => return output.write_all(words_of(fault).as_bytes()),
+    };
+    let Ok(written) = write_map(alloc, &map) else {
+        return output.write_all(b"no memory");
+    };
+    match texts.name_of(&written) {
+        Some(name) => output.write_all(name.as_bytes()),
+        None => output.write_all(&written),
+    }
+}
+
+// The text with its first part `FROM` changed into `TO`, as the change `FROM -> TO` says; none where it has no such
+// part.
+fn changed(alloc: Global, bytes: &[u8], change: &str) -> Result<Option<String>, AllocError> {
+    let (Ok(text), Some((from, to))) = (str::from_utf8(bytes), change.split_once(" -> ")) else {
+        return Ok(None);
+    };
+    let Some((front, rest)) = text.split_once(from) else {
+        return Ok(None);
+    };
+    Ok(Some(format!(in alloc; "{front}{to}{rest}")?))
+}
+
+/// Writes what a text is read as, or the text with a change, where there is one.
+pub fn write_answer<W: Write>(
+    alloc: Global,
+    texts: &Texts,
+    name: &str,
+    change: &str,
+    output: &mut W,
+) -> io::Result<()> {
+    output.write_all(b" => ")?;
+    if change.is_empty() {
+        return write_read(alloc, texts, texts.get(name), output);
+    }
+    match changed(alloc, texts.get(name), change)? {
+        Some(text) => write_read(alloc, texts, text.as_bytes(), output),
+        None => output.write_all(b"no such part"),
+    }
+}
+
+fn is_not_json(alloc: Global, bytes: &[u8]) -> bool {
+    match read_map(alloc, bytes) {
+        Ok(_) => false,
+        Err(fault) => fault == MapFault::Refused(MapRefusal::NotJson),
+    }
+}
+
+/// Writes whether no proper prefix of a text is JSON.
+pub fn write_prefixes<W: Write>(alloc: Global, bytes: &[u8], output: &mut W) -> io::Result<()> {
+    for end in 0..bytes.len() {
+        if !is_not_json(alloc, &bytes[..end]) {
+            return write!(output, " => not so the first {end} bytes");
+        }
+    }
+    write!(output, " => each is 60 not JSON")
+}
