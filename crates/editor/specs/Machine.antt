@@ -1,6 +1,6 @@
 -- The machine: what each line may do. It keeps, for the open document, a history of whole documents, and turns nothing
 -- back: every accepted edit gives a new document, and undo and redo only move a position.
-use Rattle.std.specs.Prelude.{◌≡◌, ℕ, ◌-◌, List, [], ℤ, pos, negsuc, nat_eq, if◌then◌else◌, length, Option, None, Some, IsSome, Result, Ok, Err, ◌⊎◌}
+use Rattle.std.specs.Prelude.{◌≡◌, ℕ, ◌-◌, List, [], ℤ, pos, negsuc, Bool, nat_eq, if◌then◌else◌, length, Option, None, Some, IsSome, Result, Ok, Err, ◌⊎◌}
 use Rattle.std.specs.Option.{option_map}
 use Rattle.map_model.specs.Document.{DocumentParts, document_of}
 use Rattle.map_model.specs.declared.parts.MapParts.{MapParts}
@@ -9,13 +9,20 @@ use Rattle.map_model.specs.Parts.{layer_of, cell_of}
 use Rattle.map_model.specs.Tilesets.{tileset_of}
 use Rattle.map_model.specs.WellFormed.{IsSize, IsTileSize}
 use Rattle.map_json.specs.Trees.{text_of}
-use Rattle.edits.specs.Stamping.{after_stamp, tile_layer_fault}
+use Rattle.edits.specs.declared.area.Area.{Area}
+use Rattle.edits.specs.declared.selecting.Selecting.{Selecting}
+use Rattle.edits.specs.declared.selecting.Selecting.TheVariants.{Nothing, Rectangle}
+use Rattle.edits.specs.Filling.{after_fill}
+use Rattle.edits.specs.Refusals.{tile_layer_fault}
+use Rattle.edits.specs.Selecting.{after_select}
+use Rattle.edits.specs.Stamping.{after_erase, after_stamp}
 use Rattle.command_api.specs.declared.fault.EditFault.{EditFault}
 use Rattle.command_api.specs.declared.fault.EditFault.TheVariants as edit_faults
 use Rattle.command_api.specs.Law.{Names}
 use Rattle.edits.specs.LayerEdits.{after_add, after_remove, after_rename, after_show, after_move}
 use Rattle.layer_commands.specs.Changes.{add_names, remove_names, rename_names, show_names, move_names}
-use Rattle.paint_commands.specs.Painting.{stamp_names}
+use Rattle.paint_commands.specs.Painting.{erase_names, fill_names, stamp_names}
+use Rattle.paint_commands.specs.Selection.{select_names}
 use Rattle.undo_stack.specs.History.{Step, History, step_named, new_history, current, count, is_clean}
 use Rattle.undo_stack.specs.Moving.{Answer, StepsBack, StepsOn, GoesTo, MarksClean, UnmarksClean, Clears}
 use Rattle.undo_stack.specs.Reading.{undo_text_of, redo_text_of, text_at}
@@ -23,7 +30,7 @@ use Rattle.undo_stack.specs.Pushing.{IsPushed}
 use Rattle.undo_stack.specs.declared.stack.StackFault.{StackFault}
 use Rattle.undo_stack.specs.declared.stack.StackFault.TheVariants as stack_faults
 use Rattle.session.specs.declared.line.Line.{Line}
-use Rattle.session.specs.declared.line.Line.TheVariants.{Quiet, New, Stamp, Tile, AddLayer, RemoveLayer, RenameLayer, ShowLayer, MoveLayer, Undo, Redo, Goto, Clean, Dirty, Clear, Show, Status, UndoText, RedoText, StepText}
+use Rattle.session.specs.declared.line.Line.TheVariants.{Quiet, New, Stamp, Erase, Fill, Select, SelectNone, Tile, AddLayer, RemoveLayer, RenameLayer, ShowLayer, MoveLayer, Undo, Redo, Goto, Clean, Dirty, Clear, Show, Status, UndoText, RedoText, StepText}
 use Rattle.session.specs.declared.line.LineFault.{LineFault}
 use Rattle.session.specs.declared.reply.LocalTile.{LocalTile}
 use Rattle.session.specs.declared.reply.Refusal.{Refusal}
@@ -110,10 +117,24 @@ abbrev pub answer_of : Names → Result DocumentParts EditFault → Result Step 
 answer_of names (Ok d) = Ok (step_named names d)
 answer_of names (Err fault) = Err (refusal_of_edit fault)
 
+-- the steps of an erase, a fill and an edit of the selection
+unfoldable pub erase_edit : ℕ → Area → Bool → DocumentParts → Result Step Refusal
+erase_edit layer area follows d = answer_of (erase_names layer follows) (after_erase d layer area)
+
+unfoldable pub fill_edit : ℕ → ℤ → ℤ → ℕ → DocumentParts → Result Step Refusal
+fill_edit layer x y value d = answer_of fill_names (after_fill d layer x y value)
+
+unfoldable pub select_edit : Selecting → DocumentParts → Result Step Refusal
+select_edit edit d = answer_of select_names (after_select d edit)
+
 -- the lines that are edits: the step on a document, or its refusal
 abbrev pub edit_of : Line → Option (DocumentParts → Result Step Refusal)
 edit_of (Stamp layer x y width values follows) =
     Some (λ d. answer_of (stamp_names layer follows) (after_stamp d layer (record { x = x; y = y; width = width; values = values })))
+edit_of (Erase layer x y width height follows) = Some (erase_edit layer (record { x = x; y = y; width = width; height = height }) follows)
+edit_of (Fill layer x y value) = Some (fill_edit layer x y value)
+edit_of (Select mode x y width height) = Some (select_edit (Rectangle mode (record { x = x; y = y; width = width; height = height })))
+edit_of SelectNone = Some (select_edit Nothing)
 edit_of (AddLayer kind name) = Some (λ d. answer_of add_names (after_add d kind name))
 edit_of (RemoveLayer layer) = Some (λ d. answer_of remove_names (after_remove d layer))
 edit_of (RenameLayer layer name) = Some (λ d. answer_of rename_names (after_rename d layer name))
@@ -127,6 +148,11 @@ EditStep (Ok s) h old reply new = (n : History) × IsPushed h s n × StandsAt n 
 EditStep (Err refusal) h old reply new = Refuses refusal old reply new
 
 -- ---- moving
+-- the reply to such a call
+abbrev pub moved_reply : Answer → History → Reply
+moved_reply (Ok done) n = state_reply n
+moved_reply (Err fault) n = replies.Refused (refusal_of_stack fault)
+
 -- a call of the stack that may be refused
 abbrev pub MoveStep : Answer → History → Machine → Option Reply → Machine → Type 0
 MoveStep (Ok done) n old reply new = StandsAt n old reply new

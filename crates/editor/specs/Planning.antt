@@ -3,20 +3,29 @@ use Rattle.std.specs.Prelude.{◌≡◌, Option, None, Some, Result, Ok, Err, fa
 use Rattle.map_model.specs.Document.{DocumentParts}
 use Rattle.command_api.specs.Law.{Change}
 use Rattle.command_api.specs.declared.fault.EditFault.{EditFault}
+use Rattle.edits.specs.declared.selecting.Selecting.{Selecting}
+use Rattle.edits.specs.declared.selecting.Selecting.TheVariants.{Nothing, Rectangle}
 use Rattle.layer_commands.specs.Changes.{add_change, remove_change, rename_change, show_change, move_change}
 use Rattle.paint_commands.specs.Painting.{paint_change}
+use Rattle.paint_commands.specs.Selection.{select_change}
 use Rattle.undo_stack.specs.History.{Step, History, current}
 use Rattle.undo_stack.specs.Pushing.{IsPushed, step_of}
 use Rattle.session.specs.declared.line.Line.{Line}
+use Rattle.session.specs.declared.line.Line.TheVariants as lines
 use Rattle.session.specs.declared.reply.Refusal.{Refusal}
 use Rattle.session.specs.declared.reply.Refusal.TheVariants as refusals
 use Rattle.session.specs.declared.reply.Reply.{Reply}
 use Rattle.session.specs.declared.reply.Reply.TheVariants as replies
 use Rattle.editor.specs.declared.planned.Edit.{Edit}
-use Rattle.editor.specs.declared.planned.Edit.TheVariants.{Paint, AddLayer, RemoveLayer, RenameLayer, ShowLayer, MoveLayer}
+use Rattle.editor.specs.declared.planned.Edit.TheVariants.{Paint, AddLayer, RemoveLayer, RenameLayer, ShowLayer, MoveLayer, Select}
 use Rattle.editor.specs.declared.planned.Planned.{Planned}
 use Rattle.editor.specs.declared.planned.Planned.TheVariants as planned
 use Rattle.editor.specs.Machine.{Machine, active_of, Refuses, StandsAt, edit_of, refusal_of_edit, StepOfLine}
+
+-- the line that asks for an edit of the selection
+abbrev pub select_line : Selecting → Line
+select_line Nothing = lines.SelectNone
+select_line (Rectangle mode area) = lines.Select mode area.x area.y area.width area.height
 
 -- what a planned edit does
 abbrev pub edit_change : Edit → Change
@@ -26,6 +35,7 @@ edit_change (RemoveLayer command) = remove_change command
 edit_change (RenameLayer command) = rename_change command
 edit_change (ShowLayer command) = show_change command
 edit_change (MoveLayer command) = move_change command
+edit_change (Select command) = select_change command
 
 -- the command fits the active document, and follows nothing
 abbrev pub FitsActive : Option History → Change → Type 0

@@ -14,6 +14,7 @@ mod steps;
 
 use crate::planned::Planned;
 use command_api::Command;
+use edits::{Area, Selecting};
 use map_model::{Document, Map, MapText};
 use session::{Line, Refusal, Reply, Text};
 use std::alloc::{AllocError, Global};
@@ -76,7 +77,7 @@ fn new_document(alloc: Global, sizes: Sizes, source: &str) -> Result<Document, A
         sizes.tile_height,
         source,
     )?;
-    Ok(Document::new(map))
+    Ok(Document::new(alloc, map))
 }
 
 impl<C: Command> Editor<C> {
@@ -126,6 +127,39 @@ impl<C: Command> Editor<C> {
                 values,
                 follows,
             } => self.plan_stamp(alloc, *layer, *x, *y, *width, values, *follows),
+            Line::Erase {
+                layer,
+                x,
+                y,
+                width,
+                height,
+                follows,
+            } => {
+                let area = Area {
+                    x: *x,
+                    y: *y,
+                    width: *width,
+                    height: *height,
+                };
+                self.plan_erase(alloc, *layer, area, *follows)
+            }
+            Line::Fill { layer, x, y, value } => self.plan_fill(alloc, *layer, *x, *y, *value),
+            Line::Select {
+                mode,
+                x,
+                y,
+                width,
+                height,
+            } => {
+                let area = Area {
+                    x: *x,
+                    y: *y,
+                    width: *width,
+                    height: *height,
+                };
+                self.plan_select(alloc, Selecting::Rectangle { mode: *mode, area })
+            }
+            Line::SelectNone => self.plan_select(alloc, Selecting::Nothing),
             Line::Tile { layer, x, y } => Planned::Reply(self.tile(*layer, *x, *y)),
             Line::AddLayer { kind, name } => self.plan_add_layer(alloc, *kind, name),
             Line::RemoveLayer { layer } => self.plan_remove_layer(*layer),

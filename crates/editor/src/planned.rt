@@ -1,5 +1,5 @@
 use layer_commands::{AddLayer, MoveLayer, RemoveLayer, RenameLayer, ShowLayer};
-use paint_commands::PaintCommand;
+use paint_commands::{PaintCommand, SelectCommand};
 use session::Reply;
 
 /// An edit that is to be committed, as a command that fits the open document.
@@ -11,6 +11,7 @@ pub enum Edit {
     RenameLayer(RenameLayer),
     ShowLayer(ShowLayer),
     MoveLayer(MoveLayer),
+    Select(SelectCommand),
 }
 
 /// What is to be done for a line.

@@ -7,7 +7,7 @@ ghost use Rattle.region.specs.declared.runs.Run.{Run as RunOf};
 use crate::next::next_in;
 use crate::row_order::Rows;
 use crate::runs::Run;
-use crate::walks::{any_has, merged, moved_runs, overlaps, push_run, remainders, split_ended};
+use crate::walks::{any_has, merged, moved_runs, overlaps, push_run, remainders};
 use std::alloc::{AllocError, Global};
 use std::marker::Model;
 
@@ -152,17 +152,6 @@ impl Region {
         ensures unique { (runs : List RunOf) → IsMaximalRuns runs → set_of runs ≡ self.now → runs ≡ result }
     {
         Rows::over(self.runs.as_slice())
-    }
-
-    /// Visits the runs from the first one on that does not end before a cell, in row order. Finding it takes a
-    /// number of steps that grows with the logarithm of the number of runs.
-    pub fn rows_from(&self, x: u32, y: u32) -> Rows<'_>
-        ensures maximal { IsMaximalRuns result }
-        ensures cells { (q : ℕ × ℕ) → IsFrom q (x, y) → in_runs result q ≡ set.contains self.now q }
-        ensures within { (q : ℕ × ℕ) → in_runs result q ≡ true → set.contains self.now q ≡ true }
-    {
-        let (_, rest) = split_ended(self.runs.as_slice(), x, y);
-        Rows::over(rest)
     }
 }
 

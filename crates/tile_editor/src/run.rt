@@ -149,6 +149,7 @@ pub fn run<R: Read, W: Write>(
                 Edit::RenameLayer(command) => Some(boxed(alloc, command)?),
                 Edit::ShowLayer(command) => Some(boxed(alloc, command)?),
                 Edit::MoveLayer(command) => Some(boxed(alloc, command)?),
+                Edit::Select(command) => Some(boxed(alloc, command)?),
             }
         };
         let Some(reply) = hear(alloc, &mut editor, found, lines.line(), put) else {

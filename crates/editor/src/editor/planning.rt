@@ -3,16 +3,16 @@ ghost use Rattle.std.specs.Prelude.{◌≡◌, IfOk};
 ghost use Rattle.session.specs.Spelling.{CanBeSpelled};
 ghost use Rattle.session.specs.declared.line.Line.TheVariants as lines;
 ghost use Rattle.editor.specs.Editors.{machine_of, IsSound};
-ghost use Rattle.editor.specs.Planning.{FitsPlan, Plans, plan_of, refused};
+ghost use Rattle.editor.specs.Planning.{FitsPlan, Plans, plan_of, refused, select_line};
 
 use crate::editor::Editor;
 use crate::planned::{Edit, Planned};
 use crate::refusal;
 use command_api::{Command, EditFault};
-use edits::Block;
+use edits::{Area, Block, Selecting};
 use layer_commands::{AddLayer, MoveLayer, RemoveLayer, RenameLayer, ShowLayer};
 use map_model::LayerKind;
-use paint_commands::PaintCommand;
+use paint_commands::{PaintCommand, SelectCommand};
 use session::{Gids, Refusal, Reply, Text};
 use std::alloc::{AllocError, Global};
 use tile_id::Gid;
@@ -76,6 +76,52 @@ impl<C: Command> Editor<C> {
         };
         match PaintCommand::stamp(alloc, stack.document(), layer, &block, follows) {
             Ok(command) => Planned::Push(Edit::Paint(command)),
+            Err(fault) => refused(refusal::of_edit(fault)),
+        }
+    }
+
+    // Plans an erase on the open document.
+    pub(crate) fn plan_erase(&self, alloc: Global, layer: u32, area: Area, follows: bool) -> Planned
+        requires sound { IsSound C.change self.now }
+        requires spelled { CanBeSpelled (lines.Erase layer area.x area.y area.width area.height follows) }
+        ensures plans { Plans (lines.Erase layer area.x area.y area.width area.height follows) (machine_of C.change self.now) result (machine_of C.change self.now) }
+        ensures fits { FitsPlan (machine_of C.change self.now) result }
+    {
+        let Some(stack) = &self.stack else {
+            return refused(Refusal::NoActiveDocument);
+        };
+        match PaintCommand::erase(alloc, stack.document(), layer, &area, follows) {
+            Ok(command) => Planned::Push(Edit::Paint(command)),
+            Err(fault) => refused(refusal::of_edit(fault)),
+        }
+    }
+
+    // Plans a fill on the open document.
+    pub(crate) fn plan_fill(&self, alloc: Global, layer: u32, x: i32, y: i32, value: Gid) -> Planned
+        requires { IsSound C.change self.now }
+        ensures plans { Plans (lines.Fill layer x y value) (machine_of C.change self.now) result (machine_of C.change self.now) }
+        ensures fits { FitsPlan (machine_of C.change self.now) result }
+    {
+        let Some(stack) = &self.stack else {
+            return refused(Refusal::NoActiveDocument);
+        };
+        match PaintCommand::fill(alloc, stack.document(), layer, x, y, value) {
+            Ok(command) => Planned::Push(Edit::Paint(command)),
+            Err(fault) => refused(refusal::of_edit(fault)),
+        }
+    }
+
+    // Plans an edit of the open document's selection.
+    pub(crate) fn plan_select(&self, alloc: Global, edit: Selecting) -> Planned
+        requires { IsSound C.change self.now }
+        ensures plans { Plans (select_line edit) (machine_of C.change self.now) result (machine_of C.change self.now) }
+        ensures fits { FitsPlan (machine_of C.change self.now) result }
+    {
+        let Some(stack) = &self.stack else {
+            return refused(Refusal::NoActiveDocument);
+        };
+        match SelectCommand::new(alloc, stack.document(), edit) {
+            Ok(command) => Planned::Push(Edit::Select(command)),
             Err(fault) => refused(refusal::of_edit(fault)),
         }
     }

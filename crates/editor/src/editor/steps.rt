@@ -4,7 +4,8 @@ ghost use Rattle.session.specs.declared.line.Line.TheVariants as lines;
 ghost use Rattle.session.specs.declared.reply.Refusal.TheVariants as refusals;
 ghost use Rattle.session.specs.declared.reply.Reply.TheVariants as replies;
 ghost use Rattle.editor.specs.Editors.{machine_of, IsSound};
-ghost use Rattle.editor.specs.Machine.{StepOfLine};
+ghost use Rattle.undo_stack.specs.Stacks.{history};
+ghost use Rattle.editor.specs.Machine.{StepOfLine, moved_reply};
 ghost use Rattle.editor.specs.Planning.{KeepsReply};
 
 use crate::editor::{Editor, state_of};
@@ -14,6 +15,7 @@ use map_json::write_map;
 use map_model::MapText;
 use session::{MapBytes, Refusal, Reply};
 use std::alloc::Global;
+use undo_stack::{Stack, StackFault};
 
 // The reply that gives a text, where there is memory for it.
 fn text_reply(alloc: Global, text: &str) -> Reply
@@ -22,6 +24,16 @@ fn text_reply(alloc: Global, text: &str) -> Reply
     match String::from_str(alloc, text) {
         Ok(text) => Reply::Text(MapText::new(text)),
         Err(_) => Reply::Refused(Refusal::NoMemory),
+    }
+}
+
+// The reply to a call of the stack that has been answered so: how the stack stands, or the refusal.
+fn moved<C: Command>(stack: &Stack<C>, answer: Result<(), StackFault>) -> Reply
+    ensures { result ≡ moved_reply answer (history C.change stack.now) }
+{
+    match answer {
+        Ok(()) => state_of(stack),
+        Err(fault) => Reply::Refused(refusal::of_stack(fault)),
     }
 }
 
@@ -45,10 +57,10 @@ impl<C: Command> Editor<C> {
         ensures kept { KeepsReply result (machine_of C.change self.old) (machine_of C.change self.new) }
     {
         match &mut self.stack {
-            Some(stack) => match stack.undo() {
-                Ok(()) => state_of(stack),
-                Err(fault) => Reply::Refused(refusal::of_stack(fault)),
-            },
+            Some(stack) => {
+                let answer = stack.undo();
+                moved(stack, answer)
+            }
             None => Reply::Refused(Refusal::NoActiveDocument),
         }
     }
@@ -61,10 +73,10 @@ impl<C: Command> Editor<C> {
         ensures kept { KeepsReply result (machine_of C.change self.old) (machine_of C.change self.new) }
     {
         match &mut self.stack {
-            Some(stack) => match stack.redo() {
-                Ok(()) => state_of(stack),
-                Err(fault) => Reply::Refused(refusal::of_stack(fault)),
-            },
+            Some(stack) => {
+                let answer = stack.redo();
+                moved(stack, answer)
+            }
             None => Reply::Refused(Refusal::NoActiveDocument),
         }
     }
@@ -77,10 +89,10 @@ impl<C: Command> Editor<C> {
         ensures kept { KeepsReply result (machine_of C.change self.old) (machine_of C.change self.new) }
     {
         match &mut self.stack {
-            Some(stack) => match stack.set_index(index as usize) {
-                Ok(()) => state_of(stack),
-                Err(fault) => Reply::Refused(refusal::of_stack(fault)),
-            },
+            Some(stack) => {
+                let answer = stack.set_index(index as usize);
+                moved(stack, answer)
+            }
             None => Reply::Refused(Refusal::NoActiveDocument),
         }
     }
@@ -93,10 +105,10 @@ impl<C: Command> Editor<C> {
         ensures kept { KeepsReply result (machine_of C.change self.old) (machine_of C.change self.new) }
     {
         match &mut self.stack {
-            Some(stack) => match stack.set_clean() {
-                Ok(()) => state_of(stack),
-                Err(fault) => Reply::Refused(refusal::of_stack(fault)),
-            },
+            Some(stack) => {
+                let answer = stack.set_clean();
+                moved(stack, answer)
+            }
             None => Reply::Refused(Refusal::NoActiveDocument),
         }
     }

@@ -187,20 +187,6 @@ fn moves_reach_the_ends(rt: HostRuntime) -> Result<(), Fail> {
     Ok(())
 }
 
-// From a cell on, the runs that end before it are left out.
-#[test]
-fn rows_from_a_cell(rt: HostRuntime) -> Result<(), Fail> {
-    let region = Region::rect(rt.alloc(), 1, 1, 3, 2)?;
-    let first = Run { y: 1, x: 1, len: 3 };
-    let second = Run { y: 2, x: 1, len: 3 };
-    assert_eq!(rt; region.rows_from(0, 0).next(), Some(first));
-    assert_eq!(rt; region.rows_from(3, 1).next(), Some(first));
-    assert_eq!(rt; region.rows_from(4, 1).next(), Some(second));
-    assert_eq!(rt; region.rows_from(0, 2).next(), Some(second));
-    assert_eq!(rt; region.rows_from(4, 2).next(), None);
-    Ok(())
-}
-
 #[test]
 fn rectangles_agree_with_lists(rt: HostRuntime) -> Result<(), Fail> {
     let alloc = rt.alloc();
