@@ -4,8 +4,8 @@ use Rattle.std.specs.Prelude.{bit_and, bit_or}
 use Rattle.std.specs.Int.{bit_at, bit_not, trailing_zeros}
 use Rattle.std.proofs.lemmas.Bool.{cases_lt, cases_eq}
 use Rattle.std.proofs.lemmas.Bool.Decides.{nat_tests}
-use Rattle.std.proofs.lemmas.Nat.{shr-shr, shr_below, mod_below}
-use Rattle.std.proofs.lemmas.Nat.Bits.{bit_at_and, bit_at_or, bit_at-zero, bit_at-lt, bit_at_not, bit_at_above, bit_at_ones, bit_at_ones_above, bit_at_mask_inside, bit_at_mask_below, ones_shl, ones_shr, shr_and_one, bit_at-trailing_zeros}
+use Rattle.std.proofs.lemmas.Nat.{shr-shr, shr_below, mod_below, and_le_l}
+use Rattle.std.proofs.lemmas.Nat.Bits.{bit_at_and, bit_at_or, bit_at-zero, bit_at-lt, bit_at_not, bit_at_above, bit_at_ones, bit_at_ones_above, bit_at_mask_inside, bit_at_mask_below, ones_shl, ones_shr, shr_and_one, bit_at-trailing_zeros, bit_at_clear_same, bit_at_clear_other}
 use Rattle.std.proofs.lemmas.List.{get_or-replicate, get_or_past}
 use Rattle.std.proofs.Math.ListN.{length-replicate}
 use Rattle.std.proofs.Math.Nat.{pow-le-pow_right}
@@ -54,6 +54,10 @@ has_bit-zeros n place =
     by_size : (place / 64 < n) ⊎ (n ≤ place / 64) → get_or {A = ℕ} (replicate n 0) (place / 64) 0 ≡ 0
     by_size (inl l) = get_or-replicate n (place / 64) 0 0 l
     by_size (inr l) = get_or_past (replicate n 0) (place / 64) 0 (omega (arith, length-replicate {A = ℕ} n 0))
+
+pub has_bit-zero_word : (words : List ℕ) (place : ℕ) → get_or words (place / 64) 0 ≡ 0 → has_bit words place ≡ false
+unfolding has_bit
+has_bit-zero_word words place e = ap (λ w. nat_eq (bit_at w (place % 64)) 1) e ∙ ap (λ b. nat_eq b 1) (bit_at-zero (place % 64))
 
 -- ---- a stretch of a word is marked
 max_bit : (a b : ℕ) (p q : Bool) → a < 2 → b < 2 → nat_eq a 1 ≡ p → nat_eq b 1 ≡ q → nat_eq (max a b) 1 ≡ (p || q)
@@ -184,3 +188,45 @@ module _ (test : ℕ → Bool) (rest place : ℕ) (h : IsRest test rest place) w
     next-found some e l =
         let here : result ≡ place + trailing_zeros w64 rest = omega arith in
         ap test here ∙ (rest-first some).0
+
+-- ---- one bit fewer
+-- to clear the lowest bit of a word makes it smaller, and leaves its other bits
+pub cleared : (word : ℕ) → 0 < word → word < 2 ^ 64
+    → let left = bit_and word (bit_not w64 (1 * 2 ^ trailing_zeros w64 word % 2 ^ 64)) in
+    (left < word) × (bit_at left (trailing_zeros w64 word) ≡ 0) × ((i : ℕ) → i < 64 → i ≢ trailing_zeros w64 word → bit_at left i ≡ bit_at word i)
+cleared word some small =
+    let lowest = bit_at-trailing_zeros w64 word some small in
+    let bit = trailing_zeros w64 word in
+    let left : ℕ = bit_and word (bit_not w64 (1 * 2 ^ bit % 2 ^ 64)) in
+    let gone : bit_at left bit ≡ 0 = bit_at_clear_same w64 word bit lowest.0 in (
+      elim (cases_eq left word) [
+        | inl same ↦ absurd (let both : bit_at left bit ≡ bit_at word bit = ap (λ x. bit_at x bit) same in omega (arith, lowest.1))
+        | inr other ↦ omega (arith, and_le_l word (bit_not w64 (1 * 2 ^ bit % 2 ^ 64)))
+      ],
+      gone,
+      λ i l other. bit_at_clear_other w64 word bit lowest.0 i l other,
+    )
+
+bit_set : (b : ℕ) (p : Bool) → nat_eq b 1 ≡ not p → p ≡ false → b ≡ 1
+bit_set b p e f = grind (arith, nat_tests)
+
+set_bit : (b : ℕ) (p : Bool) → nat_eq b 1 ≡ not p → b ≡ 1 → p ≡ false
+set_bit b true e f = grind (arith, nat_tests)
+set_bit b false e f = refl
+
+module _ (test : ℕ → Bool) (free : ℕ → Bool) (bits place stop result : ℕ) (ends : stop ≤ (place / 64 + 1) * 64)
+  (clear : (i : ℕ) → place % 64 + i < 64 → nat_eq (bit_at bits i) 1 ≡ not (test (place + i))) (range : (place ≤ result) × (result ≤ stop)) where
+  -- the places of a word before the first one that the bits name and that passes
+  pub passed-before : ((i : ℕ) → i < 64 → place + i < result → bit_at bits i ≡ 1 → free (place + i) ≡ false)
+      → (k : ℕ) → place ≤ k → k < result → test k ≡ false → free k ≡ false
+  passed-before before k l m e =
+      let i = k - place in
+      let at : place + i ≡ k = omega arith in
+      let set = bit_set (bit_at bits i) (test (place + i)) (clear i (omega arith)) (ap test at ∙ e) in
+      rw at at (before i (omega arith) (omega arith) set)
+
+  pub passed-found : result < stop → bit_at bits (result - place) ≡ 1 → test result ≡ false
+  passed-found l set =
+      let i = result - place in
+      let at : place + i ≡ result = omega arith in
+      ap test (sym at) ∙ set_bit (bit_at bits i) (test (place + i)) (clear i (omega arith)) set
