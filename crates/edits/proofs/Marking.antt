@@ -4,8 +4,8 @@ use Rattle.std.specs.Prelude.{bit_and, bit_or}
 use Rattle.std.specs.Int.{bit_at, bit_not, trailing_zeros}
 use Rattle.std.proofs.lemmas.Bool.{cases_lt, cases_eq}
 use Rattle.std.proofs.lemmas.Bool.Decides.{nat_tests}
-use Rattle.std.proofs.lemmas.Nat.{shr-shr, shr_below, mod_below, and_le_l}
-use Rattle.std.proofs.lemmas.Nat.Bits.{bit_at_and, bit_at_or, bit_at-zero, bit_at-lt, bit_at_not, bit_at_above, bit_at_ones, bit_at_ones_above, bit_at_mask_inside, bit_at_mask_below, ones_shl, ones_shr, shr_and_one, bit_at-trailing_zeros, bit_at_clear_same, bit_at_clear_other}
+use Rattle.std.proofs.lemmas.Nat.{shr-shr, shr_below, mod_below, and_le_l, one_shl}
+use Rattle.std.proofs.lemmas.Nat.Bits.{bit_at_and, bit_at_or, bit_at-zero, bit_at-lt, bit_at_not, bit_at_above, bit_at_ones, bit_at_ones_above, bit_at_mask_inside, bit_at_mask_below, ones_shl, ones_shr, shr_and_one, bit_at-trailing_zeros, bit_at_clear_same, bit_at_clear_other, bit_at-pow_same, bit_at-pow_other}
 use Rattle.std.proofs.lemmas.List.{get_or-replicate, get_or_past}
 use Rattle.std.proofs.Math.ListN.{length-replicate}
 use Rattle.std.proofs.Math.Nat.{pow-le-pow_right}
@@ -103,6 +103,34 @@ between-word first end at low high k some from to lows highs here = between_same
     stop' : ((at ≡ (end - 1) / 64) × (high ≡ (end - 1) % 64)) ⊎ ((at ≢ (end - 1) / 64) × (high ≡ 63)) → k < end → k % 64 < high + 1
     stop' (inl p) l = omega arith
     stop' (inr p) l = omega arith
+
+-- one place is marked
+pub has_bit-set_one : (words : List ℕ) (place k : ℕ) → place / 64 < length words
+    → has_bit (set words (place / 64) (bit_or (get_or words (place / 64) 0) (1 * 2 ^ (place % 64) % 2 ^ 64))) k ≡ (has_bit words k || is_between place (place + 1) k)
+has_bit-set_one words place k l = elim (cases_eq (place / 64) (k / 64)) [
+  | inl here ↦ has_bit-set_or words (place / 64) (1 * 2 ^ (place % 64) % 2 ^ 64) k l here ∙ ap (λ b. has_bit words k || b) (one_bit place k here)
+  | inr other ↦ has_bit-set_other words (place / 64) _ k other ∙ no_bit (has_bit words k) (is_between place (place + 1) k) (apart place k other)
+]
+  where
+    no_bit : (a b : Bool) → b ≡ false → a ≡ (a || b)
+    no_bit true b e = refl
+    no_bit false b e = sym e
+
+    apart : (place k : ℕ) → place / 64 ≢ k / 64 → is_between place (place + 1) k ≡ false
+    apart place k other = let differ : place ≢ k = λ e. other (ap (λ n. n / 64) e) in grind (arith, nat_tests)
+
+    bit_value : (b i j place k : ℕ) → i ≡ place % 64 → j ≡ k % 64 → place / 64 ≡ k / 64 → ((i ≡ j) × (b ≡ 1)) ⊎ ((i ≢ j) × (b ≡ 0)) → nat_eq b 1 ≡ is_between place (place + 1) k
+    bit_value b i j place k e f g (inl h) = let same : place ≡ k = omega arith in grind (arith, nat_tests)
+    bit_value b i j place k e f g (inr h) = let differ : place ≢ k = λ p. h.0 (e ∙ ap (λ n. n % 64) p ∙ sym f) in grind (arith, nat_tests)
+
+    one_bit : (place k : ℕ) → place / 64 ≡ k / 64 → nat_eq (bit_at (1 * 2 ^ (place % 64) % 2 ^ 64) (k % 64)) 1 ≡ is_between place (place + 1) k
+    one_bit place k here =
+        let within : place % 64 < 64 = omega arith in
+        ap (λ n. nat_eq (bit_at n (k % 64)) 1) (one_shl (place % 64) 64 within)
+        ∙ bit_value (bit_at (2 ^ (place % 64)) (k % 64)) (place % 64) (k % 64) place k refl refl here (elim (cases_eq (place % 64) (k % 64)) [
+          | inl e ↦ inl (e, ap (bit_at (2 ^ (place % 64))) (sym e) ∙ bit_at-pow_same (place % 64))
+          | inr e ↦ inr (e, bit_at-pow_other (place % 64) (k % 64) (λ f. e (sym f)))
+        ])
 
 -- ---- the rest of a word
 -- the bits of a word from a place on say for each of its places whether the test holds there

@@ -40,6 +40,16 @@ impl Marks {
         (self.words[place / 64] >> (place % 64)) & 1 == 1
     }
 
+    /// Marks a place.
+    #[inline(always)]
+    pub(crate) fn mark_one(&mut self, place: usize)
+        requires { place < room self.old }
+        ensures marks { (k : ℕ) → is_marked self.new k ≡ (is_marked self.old k || is_between place (place + 1) k) }
+        ensures room { room self.new ≡ room self.old }
+    {
+        self.words[place / 64] |= 1u64 << (place % 64);
+    }
+
     /// Marks the places from the first to before the end.
     pub(crate) fn mark(&mut self, first: usize, end: usize)
         requires some { first < end }
@@ -62,11 +72,12 @@ impl Marks {
         ensures range { (from ≤ result) × (result ≤ end) }
         ensures before { (k : ℕ) → 64 * from ≤ k → k < 64 * result → is_marked self.now k ≡ false }
     {
-        let mut word = from;
-        while word < end && self.words[word] == 0 {
-            word += 1;
+        for word in from..end {
+            if self.words[word] != 0 {
+                return word;
+            }
         }
-        word
+        end
     }
 
     /// The next marked place from one on, or the end where none comes before it.

@@ -1,9 +1,9 @@
-use Rattle.std.proofs.Common.{◌≡◌, ℕ, ◌∷◌, ◌+◌, ◌*◌, ◌||◌, List, ap, sym, ◌∙◌, subst, arith}
+use Rattle.std.proofs.Common.{◌≡◌, ℕ, ◌∷◌, ◌+◌, ◌*◌, ◌||◌, min, List, ap, sym, ◌∙◌, subst, arith}
 use Rattle.std.specs.FinSet as set
 use Rattle.region.specs.declared.runs.Run.{Run}
 use Rattle.region.specs.Runs.{IsMaximalRuns, in_runs}
 use Rattle.region.proofs.Members.{contains-set_of}
-use Rattle.edits.specs.Marks.{is_marked}
+use Rattle.edits.specs.Marks.{is_marked, is_between}
 use Rattle.edits.proofs.Selected.{selected-step}
 use Rattle.edits.proofs.filled.selected_places.Goals as goal
 
@@ -19,8 +19,29 @@ loop-run-init c =
       ∙ ap (λ (rs : List Run). in_runs rs (x, y)) same ∙ sym (contains-set_of rows (x, y)) ∙ ap (λ s. set.contains s (x, y)) c.rows-run-items.ensures.cells,
     )
 
-pub loop-run-preserved-then-run-width : goal.loop-run-preserved-then-run-width
-loop-run-preserved-then-run-width c =
+pub loop-run-preserved-then-run-eq1 : goal.loop-run-preserved-then-run-eq1
+loop-run-preserved-then-run-eq1 c =
+    let run = c.in-Some.run' in
+    let rest = c.next.new.self in
+    let w = c.args.width in
+    let old = c.loop-run.marks in
+    let new = c.mark_one.new.self in
+    let split = c.in-Some.ensures.steps in
+    let maximal = subst (λ (rs : List Run). IsMaximalRuns rs) split c.loop-run.invariant.3 in
+    let end : run.y * w + run.x + 1 ≡ run.y * w + (run.x + 1) = omega arith in
+    let cut : run.x + 1 ≡ min w (run.x + run.len) = omega arith in (
+      tt,
+      tt,
+      omega (arith, c.loop-run.invariant.2, c.mark_one.ensures.room),
+      maximal.2,
+      λ x y l m. selected-step w (run.x + 1) x y old new run rest cut l
+      (λ k. c.mark_one.ensures.marks k ∙ ap (λ e. is_marked old k || is_between (run.y * w + run.x) e k) end)
+      ∙ ap (λ (rs : List Run). is_marked old (y * w + x) || in_runs rs (x, y)) (sym split)
+      ∙ c.loop-run.invariant.4 x y l m,
+    )
+
+pub loop-run-preserved : goal.loop-run-preserved
+loop-run-preserved c =
     let run = c.in-Some.run' in
     let rest = c.next.new.self in
     let split = c.in-Some.ensures.steps in

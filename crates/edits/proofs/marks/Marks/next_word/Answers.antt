@@ -5,14 +5,11 @@ use Rattle.edits.proofs.Marking.{has_bit-zero_word}
 use Rattle.edits.proofs.marks.Marks.next_word.Goals as goal
 
 pub loop-word-preserved : goal.loop-word-preserved
-loop-word-preserved c =
+loop-word-preserved c k l m =
     let words = c.args.self.now.words.items in
     let word = c.loop-word.word in
-    let zero = sym (get_or_read words word c.index.result.now (omega arith) c.index.ensures 0) ∙ c.if-index-eq0.true in (
-      omega (arith, c.loop-word.invariant.0),
-      omega arith,
-      λ k l m. elim (cases_lt k (64 * word)) [
-        | inl before ↦ c.loop-word.invariant.2 k l before
-        | inr here ↦ has_bit-zero_word words k (let at : k / 64 ≡ word = omega arith in ap (λ n. get_or words n 0) at ∙ zero)
-      ],
-    )
+    let zero = sym (get_or_read words word c.index.result.now (omega arith) c.index.ensures 0) ∙ c.if-index-ne0.false in
+    elim (cases_lt k (64 * word)) [
+      | inl before ↦ c.loop-word.invariant k l before
+      | inr here ↦ has_bit-zero_word words k (let at : k / 64 ≡ word = omega arith in ap (λ n. get_or words n 0) at ∙ zero)
+    ]
