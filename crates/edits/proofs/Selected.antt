@@ -2,13 +2,14 @@
 use Rattle.std.proofs.Common.{◌≡◌, ◌⊎◌, ◌↔◌, inl, inr, ℕ, ◌+◌, ◌*◌, ◌/◌, ◌%◌, ◌<◌, ◌≤◌, min, List, [], ◌∷◌, length, Bool, true, false, ◌&&◌, ◌||◌, nat_eq, nat_le, nat_lt, cond, get_or, Some, None, IsTrue, refl, sym, ap, ◌∙◌, subst, mul_comm, arith}
 use Rattle.std.specs.List.{slice_get}
 use Rattle.std.specs.FinSet as set
-use Rattle.std.proofs.lemmas.Bool.{cases_lt, and_parts, and_from, ltb-true, lt-ltb, leb-true, le-leb, eqb-true, eq-eqb, false≢true}
+use Rattle.std.proofs.lemmas.Bool.{cases_lt, or_cases, and_parts, and_from, ltb-true, lt-ltb, leb-true, le-leb, eqb-true, eq-eqb, false≢true}
 use Rattle.std.proofs.lemmas.Bool.Decides.{nat_tests, same_from_decides}
 use Rattle.std.proofs.lemmas.Nat.{mul-add-lt, div-mul-add, div-add-mod'}
 use Rattle.std.proofs.lemmas.Option.{slice_get-get_or, slice_get_past}
 use Rattle.region.specs.declared.runs.Run.{Run}
 use Rattle.region.specs.Cells.{cell_cmp}
-use Rattle.region.specs.Runs.{in_run, in_runs}
+use Rattle.region.specs.Runs.{IsMaximalRuns, in_run, in_runs}
+use Rattle.region.proofs.Canonical.{After, after}
 use Rattle.edits.specs.declared.marks.Marks.{Marks}
 use Rattle.edits.specs.declared.flood.Ground.{Ground}
 use Rattle.edits.specs.Covering.{covered, covered_value, lets_change}
@@ -52,6 +53,21 @@ pub selected-step : (w end x y : ℕ) (old new : Marks) (r : Run) (rs : List Run
 selected-step w end x y old new r rs e l marks =
     ap (λ b. b || in_runs rs (x, y)) (marks (y * w + x) ∙ ap (λ b. is_marked old (y * w + x) || b) (between-in_run w end x y r e l))
     ∙ or_assoc (is_marked old (y * w + x)) (in_run r (x, y)) (in_runs rs (x, y))
+
+-- no run has a cell of a row before the first run's
+pub runs-above : (r : Run) (rs : List Run) (q : ℕ × ℕ) → IsMaximalRuns (r ∷ rs) → q.1 < r.y → in_runs (r ∷ rs) q ≡ false
+runs-above r rs q h l = by_test (in_runs (r ∷ rs) q) refl
+  where
+    behind : After r q → ⊥
+    behind (inl a) = omega arith
+    behind (inr a) = omega (arith, a.0)
+
+    by_test : (b : Bool) → in_runs (r ∷ rs) q ≡ b → in_runs (r ∷ rs) q ≡ false
+    by_test false e = e
+    by_test true e = elim (or_cases (in_run r q) (in_runs rs q) e) [
+      | inl here ↦ absurd (let row = eqb-true r.y q.1 (and_parts (nat_eq r.y q.1) _ here).0 in omega arith)
+      | inr later ↦ absurd (behind (after r rs q h later))
+    ]
 
 -- ---- what a selection lets change
 pub lets_change-empty : (s : set.FinSet cell_cmp) (q : ℕ × ℕ) → s ≡ set.empty → lets_change s q ≡ true

@@ -82,7 +82,11 @@ fn selected_places(
 {
     let mut marks = Marks::new(alloc, height as usize * width as usize)?;
     for run in selection.rows() {
-        if run.y >= height || run.x >= width {
+        // The runs come in row order.
+        if run.y >= height {
+            break;
+        }
+        if run.x >= width {
             continue;
         }
         let row = run.y as usize * width as usize;

@@ -108,7 +108,6 @@ impl Ground<'_> {
 
 impl Spread {
     // Takes the stretch of free cells that has a free cell, and says where it ends.
-    #[inline(always)]
     fn take(&mut self, ground: &Ground<'_>, y: u32, x: u32) -> Result<u32, AllocError>
         requires ground { IsGround ground.now }
         requires room { length ground.now.tiles.now ≤ room self.old.taken }

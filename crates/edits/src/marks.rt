@@ -41,7 +41,6 @@ impl Marks {
     }
 
     /// Marks a place.
-    #[inline(always)]
     pub(crate) fn mark_one(&mut self, place: usize)
         requires { place < room self.old }
         ensures marks { (k : ℕ) → is_marked self.new k ≡ (is_marked self.old k || is_between place (place + 1) k) }
@@ -66,6 +65,7 @@ impl Marks {
     }
 
     // The next word from one on that has a mark, or the end where none comes before it.
+    #[inline(never)]
     fn next_word(&self, from: usize, end: usize) -> usize
         requires ordered { from ≤ end }
         requires within { end ≤ vec_len self.now.words }
