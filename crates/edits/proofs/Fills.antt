@@ -1,17 +1,13 @@
 -- The changes of the cells that a fill has taken.
-use Rattle.std.proofs.Common.{◌≡◌, ◌≢◌, ◌⊎◌, inl, inr, ℕ, zero, suc, ◌+◌, ◌-◌, ◌*◌, ◌/◌, ◌%◌, ◌<◌, ◌≤◌, List, [], ◌∷◌, ◌++◌, length, Bool, true, false, cond, ◌&&◌, ◌||◌, nat_eq, get_or, Some, None, Option, refl, sym, ap, ◌∙◌, subst, add-zero, add-suc, append-nil, append_assoc, mul_comm, arith}
-use Rattle.std.specs.List.{slice_get}
+use Rattle.std.proofs.Common.{◌≡◌, ◌≢◌, ℕ, zero, suc, ◌+◌, ◌-◌, ◌*◌, ◌/◌, ◌%◌, ◌<◌, ◌≤◌, List, [], ◌∷◌, ◌++◌, length, Bool, true, false, cond, ◌||◌, nat_eq, get_or, Some, None, refl, sym, ap, ◌∙◌, add-zero, add-suc, append-nil, append_assoc, arith}
 use Rattle.std.proofs.lemmas.Bool.{and_parts, eqb-true}
 use Rattle.std.proofs.lemmas.Bool.Decides.{nat_tests}
-use Rattle.std.proofs.lemmas.Nat.{mul-add-lt, mod-mul-add, div-mul-add, div-add-mod', mod_below}
-use Rattle.std.proofs.lemmas.Option.{slice_get-get_or}
-use Rattle.map_model.specs.declared.edit.CellEdit.{CellEdit}
+use Rattle.std.proofs.lemmas.Nat.{mod-mul-add, div-mul-add, div-add-mod', mod_below}
 use Rattle.edits.specs.declared.marks.Marks.{Marks}
 use Rattle.edits.specs.declared.flood.Ground.{Ground}
 use Rattle.edits.specs.Covering.{covered, covered_value}
 use Rattle.edits.specs.Difference.{change_at, difference, edit_at}
-use Rattle.edits.specs.Flooding.{IsGround, changes_along, free_at, free_in, is_taken, taken_over}
-use Rattle.edits.specs.Joining.{is_value}
+use Rattle.edits.specs.Flooding.{changes_along, free_at, free_in, is_taken, taken_over}
 use Rattle.edits.specs.Marks.{is_marked}
 use Rattle.edits.proofs.Differences.{difference-skip, get_or-each_at}
 use Rattle.edits.proofs.Flooded.{free_at-read, free_at-within, free_in-at, is_taken-at}

@@ -1,7 +1,6 @@
 -- Cells that a fill takes, stretch by stretch.
-use Rattle.std.proofs.Common.{◌≡◌, ◌⊎◌, inl, inr, ◌↔◌, ℕ, zero, suc, ◌+◌, ◌-◌, ◌*◌, ◌/◌, ◌<◌, ◌≤◌, List, [], ◌∷◌, ◌++◌, length, Bool, true, false, not, ◌&&◌, ◌||◌, nat_eq, nat_lt, get_or, Some, None, refl, sym, ap, ◌∙◌, subst, mul_comm, length-append, arith}
-use Rattle.std.specs.List.{slice_get}
-use Rattle.std.proofs.lemmas.Bool.{cases_Bool, cases_lt, cases_eq, or_cases, and_parts, and_from, ltb-true, lt-ltb, leb-true, le-leb, false≢true}
+use Rattle.std.proofs.Common.{◌≡◌, ◌⊎◌, inl, inr, ℕ, zero, suc, ◌+◌, ◌-◌, ◌*◌, ◌<◌, ◌≤◌, List, [], ◌∷◌, ◌++◌, length, Bool, true, false, not, ◌&&◌, ◌||◌, nat_eq, nat_lt, get_or, refl, sym, ap, ◌∙◌, subst, mul_comm, length-append, arith}
+use Rattle.std.proofs.lemmas.Bool.{cases_Bool, cases_lt, or_cases, and_parts, and_from, ltb-true, lt-ltb, leb-true, le-leb, false≢true}
 use Rattle.std.proofs.lemmas.Nat.{mul-add-lt, div-mul-add, div_below, same_from_place}
 use Rattle.std.proofs.lemmas.Option.{slice_get-get_or, slice_get_past}
 use Rattle.map_model.specs.Lists.{Each}
@@ -12,8 +11,8 @@ use Rattle.edits.specs.declared.flood.Spread.{Spread}
 use Rattle.edits.specs.declared.flood.Stretch.{Stretch}
 use Rattle.edits.specs.Joining.{AreBeside, AreNeighbours, AreJoined, is_value}
 use Rattle.edits.specs.Marks.{is_marked, is_between, room}
-use Rattle.edits.specs.Flooding.{Covers, InStretch, IsGround, IsSpread, IsStretch, Keeps, Takes, Waits, count, free_at, free_in, is_taken, start_of, work_left}
-use Rattle.edits.proofs.Joined.{AreJoined-step, AreJoined-self, along_path, count-le, count-lt, or_left, or_right, start_free}
+use Rattle.edits.specs.Flooding.{Covers, IsGround, IsSpread, IsStretch, Keeps, Takes, Waits, free_at, free_in, is_taken, start_of, work_left}
+use Rattle.edits.proofs.Joined.{AreJoined-step, AreJoined-self, along_path, count-lt, or_left, or_right}
 
 -- ---- places
 pub is_between-true : (a b k : ℕ) → is_between a b k ≡ true → (a ≤ k) × (k < b)
@@ -111,8 +110,8 @@ module _ (g : Ground) (y x end : ℕ) (old new : Spread) (t : Takes g y x end ol
     joined-here k l m = elim (cases_lt k x) [
       | inl left ↦ joined_left (x - k) k (omega arith) l
       | inr right ↦
-        let at : x + (k - x) ≡ k = omega arith in
-        subst (λ c. AreJoined (free_in g) (start_of g) (c, y)) at (joined_right (k - x) (omega arith))
+          let at : x + (k - x) ≡ k = omega arith in
+          subst (λ c. AreJoined (free_in g) (start_of g) (c, y)) at (joined_right (k - x) (omega arith))
     ]
 
     -- what is free beside the stretch in its row lies in it
@@ -120,21 +119,21 @@ module _ (g : Ground) (y x end : ℕ) (old new : Spread) (t : Takes g y x end ol
     free-beside q r e l m f (inl b) h = elim (cases_lt r.0 end) [
       | inl p ↦ (omega arith, p)
       | inr p ↦
-        let here : r.0 ≡ end = omega arith in
-        let row : r.1 ≡ y = omega arith in
-        let column = free_in-column g r h in
-        let stop = t.right (omega arith) in
-        let go = sym (free_in-at g r.0 r.1 column) ∙ h in
-        absurd (false≢true (sym stop ∙ ap (λ k. free_at g (y * g.width + k)) (sym here) ∙ ap (λ k. free_at g (k * g.width + r.0)) (sym row) ∙ go))
+          let here : r.0 ≡ end = omega arith in
+          let row : r.1 ≡ y = omega arith in
+          let column = free_in-column g r h in
+          let stop = t.right (omega arith) in
+          let go = sym (free_in-at g r.0 r.1 column) ∙ h in
+          absurd (false≢true (sym stop ∙ ap (λ k. free_at g (y * g.width + k)) (sym here) ∙ ap (λ k. free_at g (k * g.width + r.0)) (sym row) ∙ go))
     ]
     free-beside q r e l m f (inr b) h = elim (cases_lt r.0 t.first) [
       | inr p ↦ (p, omega arith)
       | inl p ↦
-        let row : r.1 ≡ y = omega arith in
-        let column = free_in-column g r h in
-        let stop = t.left r.0 (omega arith) in
-        let go = sym (free_in-at g r.0 r.1 column) ∙ h in
-        absurd (false≢true (sym stop ∙ ap (λ k. free_at g (k * g.width + r.0)) (sym row) ∙ go))
+          let row : r.1 ≡ y = omega arith in
+          let column = free_in-column g r h in
+          let stop = t.left r.0 (omega arith) in
+          let go = sym (free_in-at g r.0 r.1 column) ∙ h in
+          absurd (false≢true (sym stop ∙ ap (λ k. free_at g (k * g.width + r.0)) (sym row) ∙ go))
     ]
 
 -- ---- stretches that wait
@@ -243,19 +242,22 @@ module _ (g : Ground) (y x end : ℕ) (old new : Spread) (t : Takes g y x end ol
         along = λ q r k e b f. elim (taken-cases g y x end old new t q k) [
           | inl o ↦ taken-kept g y x end old new t r (h.along q r o e b f)
           | inr i ↦
-            let w = free-beside g y x end old new t joined q r i.0 i.1 i.2 e b f in
-            subst (λ n. is_taken g new.taken (r.0, n) ≡ true) (i.0 ∙ e) (taken-here g y x end old new t r.0 w.0 w.1)
+              let w = free-beside g y x end old new t joined q r i.0 i.1 i.2 e b f in
+              subst (λ n. is_taken g new.taken (r.0, n) ≡ true) (i.0 ∙ e) (taken-here g y x end old new t r.0 w.0 w.1)
         ];
         across = λ q r k e b f. elim (taken-cases g y x end old new t q k) [
           | inl o ↦ elim (h.across q r o e b f) [ inl i ↦ inl (taken-kept g y x end old new t r i) | inr i ↦ inr (Waits-left ss (s ∷ []) q i) ]
           | inr i ↦ inr (Waits-right ss (s ∷ []) q (inl i))
         ];
-        stretches = Each-append (IsStretch g new.taken) ss (s ∷ []) (Each-kept ss h.stretches) (record {
-          some = omega (arith, t.from, t.to);
-          within = t.within;
-          row = row;
-          taken = taken-here g y x end old new t;
-        }, tt);
+        stretches = Each-append (IsStretch g new.taken) ss (s ∷ []) (Each-kept ss h.stretches) (
+          record {
+            some = omega (arith, t.from, t.to);
+            within = t.within;
+            row = row;
+            taken = taken-here g y x end old new t;
+          },
+          tt,
+        );
       }
 
   no_more : (a b : Bool) → not (a || b) ≡ true → not a ≡ true

@@ -1,8 +1,7 @@
 -- Cells that are joined: a list of cells leads from one to the other, exactly where as many steps as there are cells do.
-use Rattle.std.proofs.Common.{◌≡◌, ◌⊎◌, ◌↔◌, inl, inr, IsTrue, ℕ, zero, suc, ◌+◌, ◌-◌, ◌*◌, ◌/◌, ◌%◌, ◌<◌, ◌≤◌, List, [], ◌∷◌, ◌++◌, Bool, true, false, cond, ◌&&◌, ◌||◌, nat_eq, nat_lt, refl, sym, ap, ◌∙◌, subst, mul_comm, arith}
+use Rattle.std.proofs.Common.{◌≡◌, ◌⊎◌, ◌↔◌, inl, inr, ℕ, zero, suc, ◌+◌, ◌-◌, ◌*◌, ◌/◌, ◌%◌, ◌<◌, ◌≤◌, List, [], ◌∷◌, ◌++◌, Bool, true, false, cond, ◌&&◌, ◌||◌, nat_eq, refl, sym, ap, ◌∙◌, subst, mul_comm, arith}
 use Rattle.std.specs.List.{list_any}
-use Rattle.std.proofs.lemmas.Bool.{cases_Bool, cases_lt, or_cases, and_parts, and_from, eqb-true, eq-eqb, false≢true}
-use Rattle.std.proofs.lemmas.Bool.Decides.{nat_tests}
+use Rattle.std.proofs.lemmas.Bool.{cases_lt, or_cases, and_parts, and_from, eqb-true, eq-eqb, false≢true}
 use Rattle.std.proofs.lemmas.Nat.{mul-add-lt, mod-mul-add, div-mul-add}
 use Rattle.edits.specs.Flooding.{count}
 use Rattle.edits.specs.Joining.{AreBeside, AreNeighbours, Leads, AreJoined, beside, any_neighbour, is_reached}
@@ -58,10 +57,10 @@ count-lt test test' zero at h l e f = absurd (omega arith)
 count-lt test test' (suc n) at h l e f = elim (cases_lt at n) [
   | inl before ↦ by_test (test n) refl (count-lt test test' n at (λ k l e. h k (omega arith) e) before e f)
   | inr here ↦ let same : at ≡ n = omega arith in
-    let all = count-le test test' n (λ k l e. h k (omega arith) e) in
-    let old : test n ≡ false = ap test (sym same) ∙ e in
-    let new : test' n ≡ true = ap test' (sym same) ∙ f in
-    rw (old, new) (omega arith)
+      let all = count-le test test' n (λ k l e. h k (omega arith) e) in
+      let old : test n ≡ false = ap test (sym same) ∙ e in
+      let new : test' n ≡ true = ap test' (sym same) ∙ f in
+      rw (old, new) (omega arith)
 ]
   where
     by_test : (b : Bool) → test n ≡ b → count test n < count test' n → cond (test n) 1 0 + count test n < cond (test' n) 1 0 + count test' n
@@ -154,9 +153,9 @@ module _ (free : ℕ × ℕ → Bool) (p : ℕ × ℕ) where
   reached-joined (suc n) q h = elim (or_cases (is_reached free p n q) (free q && any_neighbour (is_reached free p n) q) h) [
     | inl e ↦ reached-joined n q e
     | inr e ↦
-      let f = and_parts (free q) (any_neighbour (is_reached free p n) q) e in
-      let r = neighbour-of (is_reached free p n) q f.1 in
-      AreJoined-step free p r.0 q (reached-joined n r.0 r.2) r.1 f.0
+        let f = and_parts (free q) (any_neighbour (is_reached free p n) q) e in
+        let r = neighbour-of (is_reached free p n) q f.1 in
+        AreJoined-step free p r.0 q (reached-joined n r.0 r.2) r.1 f.0
   ]
 
   -- no step leads further

@@ -1,5 +1,5 @@
 -- Marks as bits of words.
-use Rattle.std.proofs.Common.{◌≡◌, ◌≢◌, ◌⊎◌, inl, inr, ℕ, ◌+◌, ◌-◌, ◌*◌, ◌/◌, ◌%◌, ◌^◌, ◌<◌, ◌≤◌, min, max, List, length, Bool, true, false, not, ◌&&◌, ◌||◌, nat_eq, nat_le, nat_lt, get_or, set, replicate, refl, sym, ap, ◌∙◌, arith, w64, get_or-set_same, get_or-set_other}
+use Rattle.std.proofs.Common.{◌≡◌, ◌≢◌, ◌⊎◌, inl, inr, ℕ, ◌+◌, ◌-◌, ◌*◌, ◌/◌, ◌%◌, ◌^◌, ◌<◌, ◌≤◌, min, max, List, length, Bool, true, false, not, ◌||◌, nat_eq, get_or, set, replicate, refl, sym, ap, ◌∙◌, arith, w64, get_or-set_same, get_or-set_other}
 use Rattle.std.specs.Prelude.{bit_and, bit_or}
 use Rattle.std.specs.Int.{bit_at, bit_not, trailing_zeros}
 use Rattle.std.proofs.lemmas.Bool.{cases_lt, cases_eq}
@@ -165,14 +165,14 @@ pub IsRest-not : (words : List ℕ) (place word : ℕ) → word ≡ get_or words
 IsRest-not words place word e small =
     record {
       bits = λ i l. ap (λ n. nat_eq (n % 2) 1) (shr-shr (bit_not w64 word) (place % 64) i)
-      ∙ not_bit (bit_at word (place % 64 + i)) _ (bit_at-lt word (place % 64 + i)) (bit_at_not w64 word (place % 64 + i) small l)
-      ∙ ap not (ap (λ n. nat_eq (bit_at n (place % 64 + i)) 1) e ∙ has_bit-rest words place i l);
+          ∙ not_bit (bit_at word (place % 64 + i)) _ (bit_at-lt word (place % 64 + i)) (bit_at_not w64 word (place % 64 + i) small l)
+          ∙ ap not (ap (λ n. nat_eq (bit_at n (place % 64 + i)) 1) e ∙ has_bit-rest words place i l);
       small = rest_small (bit_not w64 word) place (omega arith);
     }
 
 module _ (test : ℕ → Bool) (rest place : ℕ) (h : IsRest test rest place) where
   within_64 : rest < 2 ^ 64
-  within_64 = 
+  within_64 =
       let some : 0 < 2 = omega arith in
       let shorter : 64 - place % 64 ≤ 64 = omega arith in
       let wide : 2 ^ (64 - place % 64) ≤ 2 ^ 64 = pow-le-pow_right some shorter in
@@ -243,7 +243,7 @@ set_bit b true e f = grind (arith, nat_tests)
 set_bit b false e f = refl
 
 module _ (test : ℕ → Bool) (free : ℕ → Bool) (bits place stop result : ℕ) (ends : stop ≤ (place / 64 + 1) * 64)
-  (clear : (i : ℕ) → place % 64 + i < 64 → nat_eq (bit_at bits i) 1 ≡ not (test (place + i))) (range : (place ≤ result) × (result ≤ stop)) where
+    (clear : (i : ℕ) → place % 64 + i < 64 → nat_eq (bit_at bits i) 1 ≡ not (test (place + i))) (range : (place ≤ result) × (result ≤ stop)) where
   -- the places of a word before the first one that the bits name and that passes
   pub passed-before : ((i : ℕ) → i < 64 → place + i < result → bit_at bits i ≡ 1 → free (place + i) ≡ false)
       → (k : ℕ) → place ≤ k → k < result → test k ≡ false → free k ≡ false

@@ -1,9 +1,9 @@
 -- Marks of the cells of a selection.
-use Rattle.std.proofs.Common.{◌≡◌, ◌⊎◌, ◌↔◌, inl, inr, ℕ, ◌+◌, ◌*◌, ◌/◌, ◌%◌, ◌<◌, ◌≤◌, min, List, [], ◌∷◌, length, Bool, true, false, ◌&&◌, ◌||◌, nat_eq, nat_le, nat_lt, cond, get_or, Some, None, IsTrue, refl, sym, ap, ◌∙◌, subst, mul_comm, arith}
+use Rattle.std.proofs.Common.{◌≡◌, ◌⊎◌, ◌↔◌, inl, inr, ℕ, ◌+◌, ◌*◌, ◌/◌, ◌%◌, ◌<◌, ◌≤◌, min, List, [], ◌∷◌, length, Bool, true, false, ◌&&◌, ◌||◌, nat_eq, nat_le, nat_lt, cond, get_or, Some, None, refl, sym, ap, ◌∙◌, subst, mul_comm, arith}
 use Rattle.std.specs.List.{slice_get}
 use Rattle.std.specs.FinSet as set
 use Rattle.std.proofs.lemmas.Bool.{cases_lt, or_cases, and_parts, and_from, ltb-true, lt-ltb, leb-true, le-leb, eqb-true, eq-eqb, false≢true}
-use Rattle.std.proofs.lemmas.Bool.Decides.{nat_tests, same_from_decides}
+use Rattle.std.proofs.lemmas.Bool.Decides.{same_from_decides}
 use Rattle.std.proofs.lemmas.Nat.{mul-add-lt, div-mul-add, div-add-mod'}
 use Rattle.std.proofs.lemmas.Option.{slice_get-get_or, slice_get_past}
 use Rattle.region.specs.declared.runs.Run.{Run}
@@ -153,7 +153,7 @@ module _ (g : Ground) (s : set.FinSet cell_cmp) (x y : ℕ) (h : HasCell g.width
 
 -- ---- the cells that a fill takes
 module _ (w : ℕ) (values : List ℕ) (s : set.FinSet cell_cmp) (x y : ℕ) (g : Ground) (h : IsGroundOf w values s x y g) (m : Marks)
-  (taken : (q : ℕ × ℕ) → (is_taken g m q ≡ true) ↔ AreJoined (free_in g) (start_of g) q) where
+    (taken : (q : ℕ × ℕ) → (is_taken g m q ≡ true) ↔ AreJoined (free_in g) (start_of g) q) where
   is_taken-is_joined : (q : ℕ × ℕ) → is_taken g m q ≡ is_joined w values s (x, y) q
   is_taken-is_joined q =
       let reached = is_reached-AreJoined (free_in g) (start_of g) g.width g.height (λ r f. (free_in-column g r f, free_in-row g h.sound r f)) q in

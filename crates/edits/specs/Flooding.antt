@@ -1,7 +1,7 @@
 -- How a fill finds the cells that are joined to its start.
 --
 -- Runs of cells of one row are taken whole. A run that is taken waits until the rows above and below it have been looked at.
-use Rattle.std.specs.Prelude.{◌≡◌, ◌⊎◌, ℕ, ◌+◌, ◌*◌, ◌<◌, ◌≤◌, ◌^◌, List, [], ◌∷◌, ◌++◌, zero, suc, Bool, true, false, not, ◌&&◌, ◌||◌, nat_lt, length, slice_get, slice_index, Option, Some, None, if◌then◌else◌}
+use Rattle.std.specs.Prelude.{◌≡◌, ◌⊎◌, ℕ, ◌+◌, ◌*◌, ◌<◌, ◌≤◌, List, [], ◌∷◌, ◌++◌, zero, suc, Bool, true, false, not, ◌&&◌, ◌||◌, nat_lt, length, slice_get, slice_index, Option, Some, None, if◌then◌else◌}
 use Rattle.std.specs.FinSet as set
 use Rattle.region.specs.Cells.{cell_cmp}
 use Rattle.map_model.specs.Lists.{Each}

@@ -1,5 +1,4 @@
-use Rattle.std.proofs.Common.{◌≡◌, ◌+◌, ◌-◌, ◌*◌, ◌/◌, ◌<◌, ◌≤◌, ◌++◌, ap, sym, ◌∙◌, arith}
-use Rattle.std.proofs.lemmas.Nat.{mul-add-lt, div_below}
+use Rattle.std.proofs.Common.{◌-◌, ◌*◌, ◌/◌, ◌<◌, ◌≤◌, ◌++◌, ap, sym, ◌∙◌, arith}
 use Rattle.edits.specs.Flooding.{changes_along}
 use Rattle.edits.proofs.Fills.{difference-unmarked, difference-marked}
 use Rattle.edits.proofs.filled.changes_of.Goals as goal
@@ -10,7 +9,7 @@ loop-place-init c =
     let next = c.next_marked-place in
     record {
       cells = c.in_ok-cells.ensures.items
-      ∙ sym (difference-unmarked g c.args.spread.now.taken c.args.value 0 next.result (omega (arith, c.requires.ground.column)) (omega arith) (omega (arith, next.ensures.range)) next.ensures.before);
+          ∙ sym (difference-unmarked g c.args.spread.now.taken c.args.value 0 next.result (omega (arith, c.requires.ground.column)) (omega arith) (omega (arith, next.ensures.range)) next.ensures.before);
       within = omega (arith, next.ensures.range);
       marked = next.ensures.found;
     }

@@ -9,7 +9,7 @@ abbrev pub invariant-loop-place : goal.invariant-loop-place
 invariant-loop-place l = record {
   cells : l.cells.items ≡ difference l.ground.width l.ground.tiles.now (covered l.ground.width (taken_over l.ground l.spread.taken l.value) l.ground.tiles.now) l.place;
   within : l.place ≤ l.places;
-  marked : l.place < l.places → is_marked l.spread.taken l.place ≡ true
+  marked : l.place < l.places → is_marked l.spread.taken l.place ≡ true;
 }
 
 abbrev pub decreases-loop-place : goal.decreases-loop-place

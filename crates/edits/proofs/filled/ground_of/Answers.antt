@@ -1,4 +1,4 @@
-use Rattle.std.proofs.Common.{◌≡◌, inl, inr, ◌/◌, ◌≤◌, length, refl, sym, subst, arith}
+use Rattle.std.proofs.Common.{inl, inr, ◌/◌, ◌≤◌, length, refl, sym, subst, arith}
 use Rattle.std.proofs.lemmas.List.{get_or_read}
 use Rattle.edits.specs.declared.flood.Ground.{Ground}
 use Rattle.edits.specs.Flooding.{AreSelected}
@@ -15,7 +15,13 @@ returns c =
     let x = c.args.start.0 in
     let y = c.args.start.1 in
     let g : Ground = record {
-      tiles = c.args.tiles; width = w; height = length tiles / w; start = c.args.start; value = c.index-tiles-y.result; everywhere = c.is_empty-everywhere.result; selected = c.if-everywhere.selected
+      tiles = c.args.tiles;
+      width = w;
+      height = length tiles / w;
+      start = c.args.start;
+      value = c.index-tiles-y.result;
+      everywhere = c.is_empty-everywhere.result;
+      selected = c.if-everywhere.selected;
     } in
     let whole = whole_rows g selection x y c.requires in
     let marked : AreMarked g selection = elim c.if-everywhere.branch [

@@ -1,4 +1,4 @@
-use Rattle.std.proofs.Common.{◌≡◌, ℕ, ◌∷◌, ◌+◌, ◌*◌, ◌<◌, ◌||◌, Bool, true, false, min, List, refl, ap, sym, ◌∙◌, subst, arith}
+use Rattle.std.proofs.Common.{◌≡◌, ◌+◌, ◌*◌, ◌<◌, ◌||◌, Bool, true, false, min, List, refl, ap, sym, ◌∙◌, subst, arith}
 use Rattle.std.proofs.lemmas.Nat.{div-mul-add, div_below}
 use Rattle.std.specs.FinSet as set
 use Rattle.region.specs.declared.runs.Run.{Run}
@@ -18,7 +18,7 @@ loop-run-init c =
       c.in_ok-marks.ensures.room,
       subst (λ (rs : List Run). IsMaximalRuns rs) (sym same) c.rows-run-items.ensures.maximal,
       λ x y l m. ap (λ b. b || in_runs c.into_iter-run-iterator.result (x, y)) (c.in_ok-marks.ensures.none (y * c.args.width + x))
-      ∙ ap (λ (rs : List Run). in_runs rs (x, y)) same ∙ sym (contains-set_of rows (x, y)) ∙ ap (λ s. set.contains s (x, y)) c.rows-run-items.ensures.cells,
+          ∙ ap (λ (rs : List Run). in_runs rs (x, y)) same ∙ sym (contains-set_of rows (x, y)) ∙ ap (λ s. set.contains s (x, y)) c.rows-run-items.ensures.cells,
     )
 
 pub loop-run-preserved-then-run-eq1 : goal.loop-run-preserved-then-run-eq1
@@ -37,9 +37,9 @@ loop-run-preserved-then-run-eq1 c =
       omega (arith, c.loop-run.invariant.2, c.mark_one.ensures.room),
       maximal.2,
       λ x y l m. selected-step w (run.x + 1) x y old new run rest cut l
-      (λ k. c.mark_one.ensures.marks k ∙ ap (λ e. is_marked old k || is_between (run.y * w + run.x) e k) end)
-      ∙ ap (λ (rs : List Run). is_marked old (y * w + x) || in_runs rs (x, y)) (sym split)
-      ∙ c.loop-run.invariant.4 x y l m,
+          (λ k. c.mark_one.ensures.marks k ∙ ap (λ e. is_marked old k || is_between (run.y * w + run.x) e k) end)
+          ∙ ap (λ (rs : List Run). is_marked old (y * w + x) || in_runs rs (x, y)) (sym split)
+          ∙ c.loop-run.invariant.4 x y l m,
     )
 
 pub loop-run-preserved : goal.loop-run-preserved
@@ -53,8 +53,8 @@ loop-run-preserved c =
       omega (arith, c.loop-run.invariant.2, c.mark.ensures.room),
       maximal.2,
       λ x y l m. selected-step c.args.width c.min-end.result x y c.loop-run.marks c.mark.new.self run rest c.min-end.ensures l c.mark.ensures.marks
-      ∙ ap (λ (rs : List Run). is_marked c.loop-run.marks (y * c.args.width + x) || in_runs rs (x, y)) (sym split)
-      ∙ c.loop-run.invariant.4 x y l m,
+          ∙ ap (λ (rs : List Run). is_marked c.loop-run.marks (y * c.args.width + x) || in_runs rs (x, y)) (sym split)
+          ∙ c.loop-run.invariant.4 x y l m,
     )
 
 or_false : (b : Bool) → b ≡ (b || false)
@@ -71,9 +71,9 @@ returns-clause-cells c x y l m =
     let none : in_runs left (x, y) ≡ false = elim c.match-next.branch [
       | in-None v ↦ ap (λ (rs : List Run). in_runs rs (x, y)) v.in-None.ensures.steps.0
       | in-Some+then-run-height v ↦
-        let split = v.in-Some.ensures.steps in
-        let run = v.in-Some.run' in
-        let maximal = subst (λ (rs : List Run). IsMaximalRuns rs) split c.loop-run.invariant.3 in
-        ap (λ (rs : List Run). in_runs rs (x, y)) split ∙ runs-above run c.next.new.self (x, y) maximal (omega (arith, v.if-run-height.true))
+          let split = v.in-Some.ensures.steps in
+          let run = v.in-Some.run' in
+          let maximal = subst (λ (rs : List Run). IsMaximalRuns rs) split c.loop-run.invariant.3 in
+          ap (λ (rs : List Run). in_runs rs (x, y)) split ∙ runs-above run c.next.new.self (x, y) maximal (omega (arith, v.if-run-height.true))
     ] in
     or_false marked ∙ ap (λ b. marked || b) (sym none) ∙ c.loop-run.invariant.4 x y l row

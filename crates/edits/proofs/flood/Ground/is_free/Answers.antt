@@ -1,4 +1,4 @@
-use Rattle.std.proofs.Common.{refl, sym}
+use Rattle.std.proofs.Common.{refl}
 use Rattle.edits.proofs.Flooded.{free_at-read}
 use Rattle.edits.proofs.flood.Ground.is_free.Goals as goal
 

@@ -18,5 +18,5 @@ returns-clause-cells c q =
     let spread = c.in_ok-take_joined.ensures.spread in (
       spread.joined q,
       λ joined. IsSpread-joined g c.take_joined.new.self.taken spread
-      (c.in_ok-take_joined.ensures.keeps (start_of g) (c.in_ok-take_start.ensures.start (start_free (free_in g) (start_of g) q joined))) q joined,
+          (c.in_ok-take_joined.ensures.keeps (start_of g) (c.in_ok-take_start.ensures.start (start_free (free_in g) (start_of g) q joined))) q joined,
     )

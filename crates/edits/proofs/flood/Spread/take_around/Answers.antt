@@ -1,4 +1,4 @@
-use Rattle.std.proofs.Common.{◌≡◌, ℕ, suc, ◌+◌, ◌≤◌, subst, arith}
+use Rattle.std.proofs.Common.{◌≡◌, ◌+◌, subst, arith}
 use Rattle.edits.specs.Flooding.{Covers}
 use Rattle.edits.proofs.Flooded.{IsSpread-around}
 use Rattle.edits.proofs.flood.Spread.take_around.Goals as goal
@@ -18,7 +18,7 @@ returns c =
     let below = c.in_ok-take_beside.ensures in
     record {
       spread = IsSpread-around g new.taken c.requires.ground c.take_above.new.self.taken c.args.from new.pending.items below.spread below.keeps above.covers
-      (λ y e l. let same : c.args.from.y + 1 ≡ y = omega arith in subst (λ n. Covers g new.taken c.args.from n) same below.covers);
+          (λ y e l. let same : c.args.from.y + 1 ≡ y = omega arith in subst (λ n. Covers g new.taken c.args.from n) same below.covers);
       keeps = λ q h. below.keeps q (above.keeps q h);
       work = omega (arith, above.work, below.work);
     }

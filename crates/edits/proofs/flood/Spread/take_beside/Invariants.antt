@@ -8,7 +8,7 @@ invariant-loop-place l = record {
   keeps : Keeps l.ground l.initial.self.taken l.self.taken;
   work : work_left l.ground l.self ≤ work_left l.ground l.initial.self;
   begun : l.row + l.fn.from.first ≤ l.place;
-  covers : (x : ℕ) → l.fn.from.first ≤ x → x < l.fn.from.end → l.row + x < l.place → free_in l.ground (x, l.y) ≡ true → is_taken l.ground l.self.taken (x, l.y) ≡ true
+  covers : (x : ℕ) → l.fn.from.first ≤ x → x < l.fn.from.end → l.row + x < l.place → free_in l.ground (x, l.y) ≡ true → is_taken l.ground l.self.taken (x, l.y) ≡ true;
 }
 
 abbrev pub decreases-loop-place : goal.decreases-loop-place

@@ -1,4 +1,4 @@
-use Rattle.std.proofs.Common.{◌≡◌, ◌≢◌, ◌⊎◌, inl, inr, ℕ, ◌+◌, ◌-◌, ◌*◌, ◌/◌, ◌%◌, ◌<◌, ◌≤◌, ◌||◌, false, length, get_or, set, ap, ◌∙◌, sym, arith}
+use Rattle.std.proofs.Common.{◌≡◌, ◌≢◌, ◌⊎◌, inl, inr, ℕ, ◌-◌, ◌*◌, ◌/◌, ◌%◌, ◌<◌, ◌||◌, length, set, ap, ◌∙◌, sym, arith}
 use Rattle.std.proofs.Math.ListN.{length-set}
 use Rattle.std.specs.Prelude.{bit_or}
 use Rattle.std.proofs.lemmas.Bool.{cases_lt}
@@ -27,8 +27,7 @@ loop-word-preserved c =
     ap (λ v. has_bit (set words at (bit_or v bits)) k) word
     ∙ has_bit-set_or words at bits k inside e
     ∙ ap (λ b. has_bit words k || b) (c.bits_between.ensures (k % 64) (omega arith)
-    ∙ between-word first c.args.end at c.if-word-first.low c.if-word-last.high k (omega arith) (omega arith) (omega arith) low high (sym e)) in
-    (
+    ∙ between-word first c.args.end at c.if-word-first.low c.if-word-last.high k (omega arith) (omega arith) (omega arith) low high (sym e)) in (
       length-set words at (bit_or c.index_mut.result.now bits) ∙ c.loop-word.invariant.0,
       λ k l. elim (cases_lt k (64 * at)) [
         | inl below ↦ kept k (omega arith) ∙ c.loop-word.invariant.1 k below

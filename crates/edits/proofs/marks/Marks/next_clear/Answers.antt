@@ -1,4 +1,4 @@
-use Rattle.std.proofs.Common.{◌≡◌, ℕ, ◌-◌, ◌/◌, ◌%◌, ◌^◌, ◌<◌, ◌≤◌, not, false, w64, ap, arith}
+use Rattle.std.proofs.Common.{◌/◌, ◌%◌, ◌^◌, ◌<◌, not, w64, ap, arith}
 use Rattle.std.specs.Int.{bit_not}
 use Rattle.std.proofs.lemmas.Bool.{not-true, not-false}
 use Rattle.std.proofs.lemmas.List.{get_or_read}
@@ -29,8 +29,7 @@ loop-place-preserved c =
     let words = c.args.self.now.words.items in
     let place = c.loop-place.place in
     let word = c.index.result.now in
-    let rest = IsRest-not words place word (get_or_read words (place / 64) word (omega arith) c.index.ensures 0) (omega arith) in
-    (
+    let rest = IsRest-not words place word (get_or_read words (place / 64) word (omega arith) c.index.ensures 0) (omega arith) in (
       omega (arith, c.loop-place.invariant.0),
       λ k l m. not-false (has_bit words k) (next-more (λ k. not (has_bit words k)) _ place rest c.args.from c.args.end 0 (λ k p q. ap not (c.loop-place.invariant.1 k p q)) c.if-rest-ne0.false k l m),
     )
