@@ -1,6 +1,6 @@
 -- Cells that a fill takes, stretch by stretch.
 use Rattle.std.proofs.Common.{◌≡◌, ◌⊎◌, inl, inr, ℕ, zero, suc, ◌+◌, ◌-◌, ◌*◌, ◌<◌, ◌≤◌, List, [], ◌∷◌, ◌++◌, length, Bool, true, false, not, ◌&&◌, ◌||◌, nat_eq, nat_lt, get_or, refl, sym, ap, ◌∙◌, subst, mul_comm, length-append, arith}
-use Rattle.std.proofs.lemmas.Bool.{cases_lt, or_cases, and_parts, and_from, ltb-true, lt-ltb, leb-true, le-leb, false≢true}
+use Rattle.std.proofs.lemmas.Bool.{cases_Bool, cases_lt, or_cases, and_parts, and_from, ltb-true, lt-ltb, leb-true, le-leb, false≢true}
 use Rattle.std.proofs.lemmas.Nat.{mul-add-lt, div-mul-add, div_below, same_from_place}
 use Rattle.std.proofs.lemmas.Option.{slice_get-get_or, slice_get_past}
 use Rattle.map_model.specs.Lists.{Each}
@@ -281,20 +281,14 @@ abbrev pub CoversBelow : Ground → Marks → Stretch → ℕ → ℕ → Type 0
 CoversBelow g m s y n = (x : ℕ) → s.first ≤ x → x < s.end → y * g.width + x < n → free_in g (x, y) ≡ true → is_taken g m (x, y) ≡ true
 
 module _ (g : Ground) (m : Marks) (s : Stretch) (y : ℕ) (within : s.end ≤ g.width) where
-  -- marked places may be left out
-  pub CoversBelow-marked : (n place : ℕ) → CoversBelow g m s y n → ((k : ℕ) → n ≤ k → k < place → is_marked m k ≡ true) → CoversBelow g m s y place
-  CoversBelow-marked n place h marked x l k b f = elim (cases_lt (y * g.width + x) n) [
+  -- places that are marked or not free may be left out
+  pub CoversBelow-passed : (n place : ℕ) → CoversBelow g m s y n → ((k : ℕ) → n ≤ k → k < place → is_marked m k ≡ false → free_at g k ≡ false) → CoversBelow g m s y place
+  CoversBelow-passed n place h passed x l k b f = elim (cases_lt (y * g.width + x) n) [
     | inl before ↦ h x l k before f
-    | inr from ↦ is_taken-at g m x y (omega arith) ∙ marked (y * g.width + x) from b
-  ]
-
-  -- and so may one that is not free
-  pub CoversBelow-suc : (place : ℕ) → CoversBelow g m s y place → free_at g place ≡ false → CoversBelow g m s y (place + 1)
-  CoversBelow-suc place h none x l k b f = elim (cases_lt (y * g.width + x) place) [
-    | inl before ↦ h x l k before f
-    | inr from ↦
-        let here : y * g.width + x ≡ place = omega arith in
-        absurd (false≢true (sym none ∙ ap (free_at g) (sym here) ∙ sym (free_in-at g x y (omega arith)) ∙ f))
+    | inr from ↦ elim (cases_Bool (is_marked m (y * g.width + x))) [
+      | inl marked ↦ is_taken-at g m x y (omega arith) ∙ marked
+      | inr clear ↦ absurd (false≢true (sym (passed (y * g.width + x) from b clear) ∙ sym (free_in-at g x y (omega arith)) ∙ f))
+    ]
   ]
 
 module _ (g : Ground) (y x end : ℕ) (old new : Spread) (t : Takes g y x end old new) (s : Stretch) where

@@ -2,10 +2,10 @@
 use Rattle.std.proofs.Common.{◌≡◌, ◌≢◌, ◌⊎◌, inl, inr, ℕ, ◌+◌, ◌-◌, ◌*◌, ◌/◌, ◌%◌, ◌^◌, ◌<◌, ◌≤◌, min, max, List, length, Bool, true, false, not, ◌||◌, nat_eq, get_or, set, replicate, refl, sym, ap, ◌∙◌, arith, w64, get_or-set_same, get_or-set_other}
 use Rattle.std.specs.Prelude.{bit_and, bit_or}
 use Rattle.std.specs.Int.{bit_at, bit_not, trailing_zeros}
-use Rattle.std.proofs.lemmas.Bool.{cases_lt}
+use Rattle.std.proofs.lemmas.Bool.{cases_lt, cases_eq}
 use Rattle.std.proofs.lemmas.Bool.Decides.{nat_tests}
-use Rattle.std.proofs.lemmas.Nat.{shr-shr, shr_below, mod_below}
-use Rattle.std.proofs.lemmas.Nat.Bits.{bit_at_and, bit_at_or, bit_at-zero, bit_at-lt, bit_at_not, bit_at_above, bit_at_ones, bit_at_ones_above, bit_at_mask_inside, bit_at_mask_below, ones_shl, ones_shr, shr_and_one, bit_at-trailing_zeros}
+use Rattle.std.proofs.lemmas.Nat.{shr-shr, shr_below, mod_below, and_le_l, one_shl}
+use Rattle.std.proofs.lemmas.Nat.Bits.{bit_at_and, bit_at_or, bit_at-zero, bit_at-lt, bit_at_not, bit_at_above, bit_at_ones, bit_at_ones_above, bit_at_mask_inside, bit_at_mask_below, ones_shl, ones_shr, shr_and_one, bit_at-trailing_zeros, bit_at_clear_same, bit_at_clear_other, bit_at-pow_same, bit_at-pow_other}
 use Rattle.std.proofs.lemmas.List.{get_or-replicate, get_or_past}
 use Rattle.std.proofs.Math.ListN.{length-replicate}
 use Rattle.std.proofs.Math.Nat.{pow-le-pow_right}
@@ -55,6 +55,10 @@ has_bit-zeros n place =
     by_size (inl l) = get_or-replicate n (place / 64) 0 0 l
     by_size (inr l) = get_or_past (replicate n 0) (place / 64) 0 (omega (arith, length-replicate {A = ℕ} n 0))
 
+pub has_bit-zero_word : (words : List ℕ) (place : ℕ) → get_or words (place / 64) 0 ≡ 0 → has_bit words place ≡ false
+unfolding has_bit
+has_bit-zero_word words place e = ap (λ w. nat_eq (bit_at w (place % 64)) 1) e ∙ ap (λ b. nat_eq b 1) (bit_at-zero (place % 64))
+
 -- ---- a stretch of a word is marked
 max_bit : (a b : ℕ) (p q : Bool) → a < 2 → b < 2 → nat_eq a 1 ≡ p → nat_eq b 1 ≡ q → nat_eq (max a b) 1 ≡ (p || q)
 max_bit a b p q la lb e f = grind (arith, nat_tests)
@@ -99,6 +103,34 @@ between-word first end at low high k some from to lows highs here = between_same
     stop' : ((at ≡ (end - 1) / 64) × (high ≡ (end - 1) % 64)) ⊎ ((at ≢ (end - 1) / 64) × (high ≡ 63)) → k < end → k % 64 < high + 1
     stop' (inl p) l = omega arith
     stop' (inr p) l = omega arith
+
+-- one place is marked
+pub has_bit-set_one : (words : List ℕ) (place k : ℕ) → place / 64 < length words
+    → has_bit (set words (place / 64) (bit_or (get_or words (place / 64) 0) (1 * 2 ^ (place % 64) % 2 ^ 64))) k ≡ (has_bit words k || is_between place (place + 1) k)
+has_bit-set_one words place k l = elim (cases_eq (place / 64) (k / 64)) [
+  | inl here ↦ has_bit-set_or words (place / 64) (1 * 2 ^ (place % 64) % 2 ^ 64) k l here ∙ ap (λ b. has_bit words k || b) (one_bit place k here)
+  | inr other ↦ has_bit-set_other words (place / 64) _ k other ∙ no_bit (has_bit words k) (is_between place (place + 1) k) (apart place k other)
+]
+  where
+    no_bit : (a b : Bool) → b ≡ false → a ≡ (a || b)
+    no_bit true b e = refl
+    no_bit false b e = sym e
+
+    apart : (place k : ℕ) → place / 64 ≢ k / 64 → is_between place (place + 1) k ≡ false
+    apart place k other = let differ : place ≢ k = λ e. other (ap (λ n. n / 64) e) in grind (arith, nat_tests)
+
+    bit_value : (b i j place k : ℕ) → i ≡ place % 64 → j ≡ k % 64 → place / 64 ≡ k / 64 → ((i ≡ j) × (b ≡ 1)) ⊎ ((i ≢ j) × (b ≡ 0)) → nat_eq b 1 ≡ is_between place (place + 1) k
+    bit_value b i j place k e f g (inl h) = let same : place ≡ k = omega arith in grind (arith, nat_tests)
+    bit_value b i j place k e f g (inr h) = let differ : place ≢ k = λ p. h.0 (e ∙ ap (λ n. n % 64) p ∙ sym f) in grind (arith, nat_tests)
+
+    one_bit : (place k : ℕ) → place / 64 ≡ k / 64 → nat_eq (bit_at (1 * 2 ^ (place % 64) % 2 ^ 64) (k % 64)) 1 ≡ is_between place (place + 1) k
+    one_bit place k here =
+        let within : place % 64 < 64 = omega arith in
+        ap (λ n. nat_eq (bit_at n (k % 64)) 1) (one_shl (place % 64) 64 within)
+        ∙ bit_value (bit_at (2 ^ (place % 64)) (k % 64)) (place % 64) (k % 64) place k refl refl here (elim (cases_eq (place % 64) (k % 64)) [
+          | inl e ↦ inl (e, ap (bit_at (2 ^ (place % 64))) (sym e) ∙ bit_at-pow_same (place % 64))
+          | inr e ↦ inr (e, bit_at-pow_other (place % 64) (k % 64) (λ f. e (sym f)))
+        ])
 
 -- ---- the rest of a word
 -- the bits of a word from a place on say for each of its places whether the test holds there
@@ -184,3 +216,45 @@ module _ (test : ℕ → Bool) (rest place : ℕ) (h : IsRest test rest place) w
     next-found some e l =
         let here : result ≡ place + trailing_zeros w64 rest = omega arith in
         ap test here ∙ (rest-first some).0
+
+-- ---- one bit fewer
+-- to clear the lowest bit of a word makes it smaller, and leaves its other bits
+pub cleared : (word : ℕ) → 0 < word → word < 2 ^ 64
+    → let left = bit_and word (bit_not w64 (1 * 2 ^ trailing_zeros w64 word % 2 ^ 64)) in
+    (left < word) × (bit_at left (trailing_zeros w64 word) ≡ 0) × ((i : ℕ) → i < 64 → i ≢ trailing_zeros w64 word → bit_at left i ≡ bit_at word i)
+cleared word some small =
+    let lowest = bit_at-trailing_zeros w64 word some small in
+    let bit = trailing_zeros w64 word in
+    let left : ℕ = bit_and word (bit_not w64 (1 * 2 ^ bit % 2 ^ 64)) in
+    let gone : bit_at left bit ≡ 0 = bit_at_clear_same w64 word bit lowest.0 in (
+      elim (cases_eq left word) [
+        | inl same ↦ absurd (let both : bit_at left bit ≡ bit_at word bit = ap (λ x. bit_at x bit) same in omega (arith, lowest.1))
+        | inr other ↦ omega (arith, and_le_l word (bit_not w64 (1 * 2 ^ bit % 2 ^ 64)))
+      ],
+      gone,
+      λ i l other. bit_at_clear_other w64 word bit lowest.0 i l other,
+    )
+
+bit_set : (b : ℕ) (p : Bool) → nat_eq b 1 ≡ not p → p ≡ false → b ≡ 1
+bit_set b p e f = grind (arith, nat_tests)
+
+set_bit : (b : ℕ) (p : Bool) → nat_eq b 1 ≡ not p → b ≡ 1 → p ≡ false
+set_bit b true e f = grind (arith, nat_tests)
+set_bit b false e f = refl
+
+module _ (test : ℕ → Bool) (free : ℕ → Bool) (bits place stop result : ℕ) (ends : stop ≤ (place / 64 + 1) * 64)
+    (clear : (i : ℕ) → place % 64 + i < 64 → nat_eq (bit_at bits i) 1 ≡ not (test (place + i))) (range : (place ≤ result) × (result ≤ stop)) where
+  -- the places of a word before the first one that the bits name and that passes
+  pub passed-before : ((i : ℕ) → i < 64 → place + i < result → bit_at bits i ≡ 1 → free (place + i) ≡ false)
+      → (k : ℕ) → place ≤ k → k < result → test k ≡ false → free k ≡ false
+  passed-before before k l m e =
+      let i = k - place in
+      let at : place + i ≡ k = omega arith in
+      let set = bit_set (bit_at bits i) (test (place + i)) (clear i (omega arith)) (ap test at ∙ e) in
+      rw at at (before i (omega arith) (omega arith) set)
+
+  pub passed-found : result < stop → bit_at bits (result - place) ≡ 1 → test result ≡ false
+  passed-found l set =
+      let i = result - place in
+      let at : place + i ≡ result = omega arith in
+      ap test (sym at) ∙ set_bit (bit_at bits i) (test (place + i)) (clear i (omega arith)) set

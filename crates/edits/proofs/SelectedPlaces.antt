@@ -2,13 +2,14 @@
 use Rattle.std.proofs.Common.{◌≡◌, ◌⊎◌, ◌↔◌, inl, inr, ℕ, ◌+◌, ◌*◌, ◌/◌, ◌%◌, ◌<◌, ◌≤◌, min, List, [], ◌∷◌, length, Bool, true, false, ◌&&◌, ◌||◌, nat_eq, nat_le, nat_lt, cond, get_or, Some, None, refl, sym, ap, ◌∙◌, subst, mul_comm, arith}
 use Rattle.std.specs.List.{slice_get}
 use Rattle.std.specs.FinSet as set
-use Rattle.std.proofs.lemmas.Bool.{cases_lt, and_parts, and_from, ltb-true, lt-ltb, leb-true, le-leb, eqb-true, eq-eqb, false≢true}
+use Rattle.std.proofs.lemmas.Bool.{cases_lt, or_cases, and_parts, and_from, ltb-true, lt-ltb, leb-true, le-leb, eqb-true, eq-eqb, false≢true}
 use Rattle.std.proofs.lemmas.Bool.Decides.{same_from_decides}
-use Rattle.std.proofs.lemmas.Nat.{mul-add-lt, div-mul-add, div-add-mod'}
+use Rattle.std.proofs.lemmas.Nat.{mul-add-lt, div-mul-add, div-add-mod', div_below}
 use Rattle.std.proofs.lemmas.Option.{slice_get-get_or, slice_get_past}
 use Rattle.region.specs.declared.runs.Run.{Run}
 use Rattle.region.specs.Cells.{cell_cmp}
-use Rattle.region.specs.Runs.{in_run, in_runs}
+use Rattle.region.specs.Runs.{IsMaximalRuns, in_run, in_runs}
+use Rattle.region.proofs.Canonical.{After, after}
 use Rattle.edits.specs.declared.marks.Marks.{Marks}
 use Rattle.edits.specs.declared.flood.Ground.{Ground}
 use Rattle.edits.specs.Covering.{covered, covered_value, lets_change}
@@ -52,6 +53,21 @@ pub selected-step : (w end x y : ℕ) (old new : Marks) (r : Run) (rs : List Run
 selected-step w end x y old new r rs e l marks =
     ap (λ b. b || in_runs rs (x, y)) (marks (y * w + x) ∙ ap (λ b. is_marked old (y * w + x) || b) (between-in_run w end x y r e l))
     ∙ or_assoc (is_marked old (y * w + x)) (in_run r (x, y)) (in_runs rs (x, y))
+
+-- no run has a cell of a row before the first run's
+pub runs-above : (r : Run) (rs : List Run) (q : ℕ × ℕ) → IsMaximalRuns (r ∷ rs) → q.1 < r.y → in_runs (r ∷ rs) q ≡ false
+runs-above r rs q h l = by_test (in_runs (r ∷ rs) q) refl
+  where
+    behind : After r q → ⊥
+    behind (inl a) = omega arith
+    behind (inr a) = omega (arith, a.0)
+
+    by_test : (b : Bool) → in_runs (r ∷ rs) q ≡ b → in_runs (r ∷ rs) q ≡ false
+    by_test false e = e
+    by_test true e = elim (or_cases (in_run r q) (in_runs rs q) e) [
+      | inl here ↦ absurd (let row = eqb-true r.y q.1 (and_parts (nat_eq r.y q.1) _ here).0 in omega arith)
+      | inr later ↦ absurd (behind (after r rs q h later))
+    ]
 
 -- ---- what a selection lets change
 pub lets_change-empty : (s : set.FinSet cell_cmp) (q : ℕ × ℕ) → s ≡ set.empty → lets_change s q ≡ true
@@ -182,3 +198,21 @@ difference-own w values s x y value some own =
         let found = ap (λ o. is_value o (get_or values (y * w + x) 0)) (sym (slice_get-get_or values k 0 l)) ∙ there in
         let same = eqb-true (get_or values k 0) (get_or values (y * w + x) 0) found in
         ap (λ b. covered_value (cond b (Some value) None) (get_or values k 0)) e ∙ own ∙ sym same
+
+-- ---- joined cells of a layer
+-- as many steps as a layer has cells join exactly what a path joins
+pub is_joined-AreJoined : (w : ℕ) (values : List ℕ) (s : set.FinSet cell_cmp) (x y : ℕ) → HasCell w values x y → (q : ℕ × ℕ)
+    → (is_joined w values s (x, y) q ≡ true) ↔ AreJoined (free_from w values s (x, y)) (x, y) q
+is_joined-AreJoined w values s x y h q =
+    subst (λ n. (is_reached (free_from w values s (x, y)) (x, y) n q ≡ true) ↔ AreJoined (free_from w values s (x, y)) (x, y) q) (sym h.size)
+    (is_reached-AreJoined (free_from w values s (x, y)) (x, y) w h.height bounded q)
+  where
+    bounded : (r : ℕ × ℕ) → free_from w values s (x, y) r ≡ true → (r.0 < w) × (r.1 < h.height)
+    bounded r f =
+        let own = get_or values (y * w + x) 0 in
+        let place = r.1 * w + r.0 in
+        let parts = and_parts (nat_lt r.0 w) (is_value (slice_get values place) own && lets_change s r) f in
+        let column = ltb-true r.0 w parts.0 in
+        let inside = is_value-within values place own (and_parts (is_value (slice_get values place) own) (lets_change s r) parts.1).0 in
+        let row = div_below place w h.height (omega arith) (omega (arith, h.size)) in
+        (column, omega (arith, row, div-mul-add r.1 w r.0 column))

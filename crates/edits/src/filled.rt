@@ -82,8 +82,17 @@ fn selected_places(
 {
     let mut marks = Marks::new(alloc, height as usize * width as usize)?;
     for run in selection.rows() {
-        if run.y < height && run.x < width {
-            let row = run.y as usize * width as usize;
+        // The runs come in row order.
+        if run.y >= height {
+            break;
+        }
+        if run.x >= width {
+            continue;
+        }
+        let row = run.y as usize * width as usize;
+        if run.len == 1 {
+            marks.mark_one(row + run.x as usize);
+        } else {
             let end = width.min(run.x + run.len);
             marks.mark(row + run.x as usize, row + end as usize);
         }

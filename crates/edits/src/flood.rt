@@ -1,6 +1,7 @@
 // The cells that a fill takes, stretch by stretch.
-ghost use Rattle.std.specs.Prelude.{◌≡◌, ℕ, ◌+◌, ◌*◌, ◌<◌, ◌≤◌, ◌↔◌, [], ◌∷◌, suc, IfOk, OnOk, true, false, length};
-ghost use Rattle.edits.specs.Marks.{room};
+ghost use Rattle.std.specs.Prelude.{◌≡◌, ℕ, ◌+◌, ◌-◌, ◌*◌, ◌<◌, ◌≤◌, ◌↔◌, [], ◌∷◌, suc, IfOk, OnOk, true, false, length};
+ghost use Rattle.std.specs.Int.{bit_at};
+ghost use Rattle.edits.specs.Marks.{is_marked, room};
 ghost use Rattle.edits.specs.Joining.{AreBeside, AreJoined};
 ghost use Rattle.edits.specs.Flooding.{Covers, IsGround, IsSpread, Keeps, Takes, free_at, free_in, is_taken, start_of, work_left};
 
@@ -79,6 +80,30 @@ impl Ground<'_> {
         }
         end
     }
+
+    // The first free place among those that the bits from a place on name, or the stop where none comes before it.
+    fn first_free(&self, bits: u64, place: usize, stop: usize) -> usize
+        requires ground { IsGround self.now }
+        requires ordered { place ≤ stop }
+        requires within { stop ≤ length self.now.tiles.now }
+        ensures range { (place ≤ result) × (result ≤ stop) }
+        ensures before { (i : ℕ) → i < 64 → place + i < result → bit_at bits i ≡ 1 → free_at self.now (place + i) ≡ false }
+        ensures found { result < stop → (result - place < 64) × (bit_at bits (result - place) ≡ 1) × (free_at self.now result ≡ true) }
+    {
+        let mut left = bits;
+        while left != 0 {
+            let bit = left.trailing_zeros();
+            let at = place + bit as usize;
+            if at >= stop {
+                return stop;
+            }
+            if self.is_free(at) {
+                return at;
+            }
+            left &= !(1u64 << bit);
+        }
+        stop
+    }
 }
 
 impl Spread {
@@ -94,9 +119,30 @@ impl Spread {
         let first = ground.stretch_start(row, x);
         let end = ground.stretch_end(row, x + 1);
         self.taken.mark(row + first as usize, row + end as usize);
-        self.count = self.count.saturating_add((end - first) as usize);
+        self.count = self.count.wrapping_add((end - first) as usize);
         self.pending.push(Stretch { y, first, end })?;
         Ok(end)
+    }
+
+    // The next place from one on that is free and not taken, or the end where none comes before it.
+    fn next_free(&self, ground: &Ground<'_>, from: usize, end: usize) -> usize
+        requires ground { IsGround ground.now }
+        requires room { length ground.now.tiles.now ≤ room self.now.taken }
+        requires ordered { from ≤ end }
+        requires within { end ≤ length ground.now.tiles.now }
+        ensures range { (from ≤ result) × (result ≤ end) }
+        ensures before { (k : ℕ) → from ≤ k → k < result → is_marked self.now.taken k ≡ false → free_at ground.now k ≡ false }
+        ensures found { result < end → (is_marked self.now.taken result ≡ false) × (free_at ground.now result ≡ true) }
+    {
+        let mut place = from;
+        while place < end {
+            let stop = end.min((place / 64 + 1) * 64);
+            place = ground.first_free(self.taken.clear_bits(place), place, stop);
+            if place < stop {
+                return place;
+            }
+        }
+        end
     }
 
     // Takes whatever is free beside a stretch in a row above or below it, with the stretches that it lies in.
@@ -114,15 +160,11 @@ impl Spread {
         let end = row + from.end as usize;
         let mut place = row + from.first as usize;
         while place < end {
-            place = self.taken.next_clear(place, end);
+            place = self.next_free(ground, place, end);
             if place == end {
                 break;
             }
-            place = if ground.is_free(place) {
-                row + self.take(ground, y, (place - row) as u32)? as usize
-            } else {
-                place + 1
-            };
+            place = row + self.take(ground, y, (place - row) as u32)? as usize;
         }
         Ok(())
     }

@@ -1,5 +1,5 @@
 // Marks on the places of a layer, a bit each.
-ghost use Rattle.std.specs.Prelude.{◌≡◌, ℕ, ◌+◌, ◌*◌, ◌<◌, ◌≤◌, ◌^◌, ◌||◌, IfOk, true, false, nat_eq};
+ghost use Rattle.std.specs.Prelude.{◌≡◌, ℕ, ◌+◌, ◌*◌, ◌/◌, ◌%◌, ◌<◌, ◌≤◌, ◌^◌, ◌||◌, IfOk, true, false, nat_eq, not, vec_len};
 ghost use Rattle.std.specs.Int.{bit_at};
 ghost use Rattle.edits.specs.Marks.{is_marked, room, is_between};
 
@@ -40,6 +40,15 @@ impl Marks {
         (self.words[place / 64] >> (place % 64)) & 1 == 1
     }
 
+    /// Marks a place.
+    pub(crate) fn mark_one(&mut self, place: usize)
+        requires { place < room self.old }
+        ensures marks { (k : ℕ) → is_marked self.new k ≡ (is_marked self.old k || is_between place (place + 1) k) }
+        ensures room { room self.new ≡ room self.old }
+    {
+        self.words[place / 64] |= 1u64 << (place % 64);
+    }
+
     /// Marks the places from the first to before the end.
     pub(crate) fn mark(&mut self, first: usize, end: usize)
         requires some { first < end }
@@ -53,6 +62,22 @@ impl Marks {
             let high = if word == last / 64 { last % 64 } else { 63 };
             self.words[word] |= bits_between(low as u32, high as u32);
         }
+    }
+
+    // The next word from one on that has a mark, or the end where none comes before it.
+    #[inline(never)]
+    fn next_word(&self, from: usize, end: usize) -> usize
+        requires ordered { from ≤ end }
+        requires within { end ≤ vec_len self.now.words }
+        ensures range { (from ≤ result) × (result ≤ end) }
+        ensures before { (k : ℕ) → 64 * from ≤ k → k < 64 * result → is_marked self.now k ≡ false }
+    {
+        for word in from..end {
+            if self.words[word] != 0 {
+                return word;
+            }
+        }
+        end
     }
 
     /// The next marked place from one on, or the end where none comes before it.
@@ -70,9 +95,17 @@ impl Marks {
             if rest != 0 {
                 return end.min(place + rest.trailing_zeros() as usize);
             }
-            place = (place / 64 + 1) * 64;
+            place = self.next_word(place / 64 + 1, (end - 1) / 64 + 1) * 64;
         }
         end
+    }
+
+    /// The places from one on in its word that are not marked: bit i stands for the place i further on.
+    pub(crate) fn clear_bits(&self, place: usize) -> u64
+        requires { place < room self.now }
+        ensures { (i : ℕ) → place % 64 + i < 64 → nat_eq (bit_at result i) 1 ≡ not (is_marked self.now (place + i)) }
+    {
+        !self.words[place / 64] >> (place % 64)
     }
 
     /// The next place from one on that is not marked, or the end where none comes before it.

@@ -1,4 +1,5 @@
-use Rattle.std.proofs.Common.{◌/◌, ◌%◌, ◌^◌, ◌<◌, arith}
+use Rattle.std.proofs.Common.{inl, inr, ◌+◌, ◌*◌, ◌/◌, ◌%◌, ◌^◌, ◌<◌, arith}
+use Rattle.std.proofs.lemmas.Bool.{cases_lt}
 use Rattle.std.proofs.lemmas.List.{get_or_read}
 use Rattle.edits.specs.Marks.{has_bit}
 use Rattle.edits.proofs.Marking.{IsRest-word, next-more, next-before, next-found}
@@ -28,4 +29,10 @@ loop-place-preserved c =
     let place = c.loop-place.place in
     let word = c.index.result.now in
     let rest = IsRest-word words place word (get_or_read words (place / 64) word (omega arith) c.index.ensures 0) (omega arith) in
-    (omega (arith, c.loop-place.invariant.0), next-more (has_bit words) _ place rest c.args.from c.args.end 0 c.loop-place.invariant.1 c.if-rest-ne0.false)
+    let here = next-more (has_bit words) _ place rest c.args.from c.args.end 0 c.loop-place.invariant.1 c.if-rest-ne0.false in (
+      omega (arith, c.loop-place.invariant.0, c.next_word-place.ensures.range),
+      λ k l m. elim (cases_lt k ((place / 64 + 1) * 64)) [
+        | inl before ↦ here k l before
+        | inr past ↦ c.next_word-place.ensures.before k (omega arith) (omega arith)
+      ],
+    )
