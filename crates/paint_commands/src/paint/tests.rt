@@ -9,10 +9,10 @@ use tile_id::Gid;
 // The document of the line `new town 4 3 16 16 town.tsj`.
 fn town(alloc: Global) -> Result<Document, AllocError> {
     let source = MapText::new(String::from_str(alloc, "town.tsj")?);
-    Ok(Document::new(Map::create(alloc, 4, 3, 16, 16, source)?))
+    Ok(Document::new(alloc, Map::create(alloc, 4, 3, 16, 16, source)?))
 }
 
-fn edit(x: u32, before: u32, after: u32) -> CellEdit {
+fn edit(x: u16, before: u32, after: u32) -> CellEdit {
     CellEdit {
         x,
         y: 0,

@@ -18,7 +18,7 @@ use std::test::Fail;
 // A document for commands that leave it as it is.
 fn blank(alloc: Global) -> Result<Document, AllocError> {
     let source = MapText::new(String::new(alloc));
-    Ok(Document::new(Map::create(alloc, 1, 1, 1, 1, source)?))
+    Ok(Document::new(alloc, Map::create(alloc, 1, 1, 1, 1, source)?))
 }
 
 // How often a command was turned and let go of.
