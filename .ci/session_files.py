@@ -18,10 +18,16 @@ def function_of(expression):
     return eval(b'lambda i: ' + expression, {'__builtins__': {}})
 
 
+def values_of(count, expression):
+    """So many numbers, joined by commas."""
+    value = function_of(expression)
+    return b','.join(b'%d' % value(i) for i in range(count))
+
+
 def spelled(text):
     """A function of `i` that spells out each piece in braces and each escaped byte; the text itself, where it has no `i`."""
     text = ESCAPE.sub(lambda e: b'\\' if e[1] == b'\\' else bytes.fromhex(e[1][1:].decode()), text)
-    text = VALUES.sub(lambda v: b','.join(b'%d' % function_of(v[2])(i) for i in range(int(v[1]))), text)
+    text = VALUES.sub(lambda v: values_of(int(v[1]), v[2]), text)
     text = TIMES.sub(lambda t: t[1] * int(t[2]), text)
     values = VALUE.findall(text)
     if not values:
