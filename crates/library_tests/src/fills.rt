@@ -1,6 +1,6 @@
 //! Fills of small maps, compared with a plain one that goes over all cells again and again.
 ghost use Rattle.std.specs.Prelude.{◌≡◌, ◌+◌, ◌*◌, ◌/◌, ◌%◌, ◌^◌, ◌<◌, ◌≤◌, ◌||◌, ◌&&◌, IfOk, length, slice_index};
-ghost use Rattle.edits.specs.Filling.{free_from, is_joined};
+ghost use Rattle.edits.specs.Filling.{is_joined};
 ghost use Rattle.edits.specs.Joining.{any_neighbour, is_free, is_reached};
 ghost use Rattle.library_tests.specs.Cells.{AreCells, says};
 
@@ -147,6 +147,7 @@ fn reached_cells(
     Ok(cells)
 }
 
+// The value at a place.
 fn value_at(tiles: &[Gid], place: usize) -> Gid
     requires { place < length tiles.now }
     ensures { result ≡ slice_index tiles.now place }
@@ -218,6 +219,7 @@ fn some_value(state: &mut u32) -> Gid {
     }
 }
 
+// So many of them.
 fn some_tiles(alloc: Global, count: u32, state: &mut u32) -> Result<Vec<Gid>, AllocError>
     ensures { IfOk result (λ tiles. length tiles.items ≡ count) }
 {
@@ -289,7 +291,7 @@ fn is_right(
     Ok(change.layer == 1 && change.cells.as_slice() == wanted.as_slice())
 }
 
-// How many fills of a map are right, of one from each cell. Every third map has no selection.
+// How many fills of a map are right, of one from each cell. About one map in three has no selection.
 fn right_fills(alloc: Global, width: u32, height: u32, state: &mut u32) -> Result<u32, AllocError>
     requires columns { (1 ≤ width) × (width ≤ 6) }
     requires rows { (1 ≤ height) × (height ≤ 5) }
