@@ -5,4 +5,6 @@
 #[cfg(test)]
 mod chains;
 #[cfg(test)]
+mod fills;
+#[cfg(test)]
 mod line_reading;
