@@ -8,7 +8,7 @@ use Rattle.std.proofs.lemmas.Bool.{cond_both}
 use Rattle.std.proofs.lemmas.Slice.Eq.{bytes_eq-Decides}
 use Rattle.session.specs.declared.line.Line.{Line}
 use Rattle.session.specs.declared.line.LineFault.{LineFault}
-use Rattle.session.specs.Grammar.{FieldKind, Number, Coordinate, Block, Name, LayerSort, YesNo, FieldValue, LineForm, Ends, Text, Field, Word, Fails, choose, read, field_at, ends_at, last_text_at, ◌>>=◌}
+use Rattle.session.specs.Grammar.{FieldKind, Number, Coordinate, Block, Name, File, Choice, LayerSort, YesNo, FieldValue, LineForm, Ends, Text, Field, Word, Fails, choose, read, field_at, ends_at, last_text_at, ◌>>=◌}
 use Rattle.session.specs.Spelling.{Token, Fixed, Given, Rest, tokens, token_words, field_words, IsToken}
 use Rattle.session.proofs.Coordinates.{and_then_from}
 use Rattle.session.proofs.SpelledFields.{field_at-words, last_text_at-words}
@@ -20,6 +20,8 @@ value_of Number (Given Number n) = Some n
 value_of Coordinate (Given Coordinate z) = Some z
 value_of Block (Given Block block) = Some block
 value_of Name (Given Name name) = Some name
+value_of File (Given File name) = Some name
+value_of Choice (Given Choice choice) = Some choice
 value_of LayerSort (Given LayerSort kind) = Some kind
 value_of YesNo (Given YesNo answer) = Some answer
 value_of kind token = None
@@ -37,6 +39,8 @@ given Number (Given Number n) v e = ap (Given Number) cc
 given Coordinate (Given Coordinate z) v e = ap (Given Coordinate) cc
 given Block (Given Block block) v e = ap (Given Block) cc
 given Name (Given Name name) v e = ap (Given Name) cc
+given File (Given File name) v e = ap (Given File) cc
+given Choice (Given Choice choice) v e = ap (Given Choice) cc
 given LayerSort (Given LayerSort kind) v e = ap (Given LayerSort) cc
 given YesNo (Given YesNo answer) v e = ap (Given YesNo) cc
 given kind token v e = absurd cc

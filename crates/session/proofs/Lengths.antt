@@ -1,5 +1,5 @@
 -- How long the parts of a line are.
-use Rattle.std.proofs.Common.{◌≡◌, ℕ, suc, ◌+◌, ◌^◌, ◌<◌, ◌≤◌, Bool, true, false, ltb, eqb, List, [], ◌∷◌, ◌++◌, length, ℤ, pos, negsuc, ap, arith, inl, inr, IsTrue, ◌||◌}
+use Rattle.std.proofs.Common.{◌≡◌, ℕ, suc, ◌+◌, ◌^◌, ◌<◌, ◌≤◌, Bool, true, false, ltb, eqb, List, [], ◌∷◌, ◌++◌, length, None, Some, ℤ, pos, negsuc, ap, arith, inl, inr, IsTrue, ◌||◌}
 use Rattle.std.specs.List.{AllByRecursion, flat_map}
 use Rattle.std.specs.Fmt.{decimal, signed_decimal}
 use Rattle.std.proofs.lemmas.Int.{ints}
@@ -10,7 +10,7 @@ use Rattle.std.proofs.lemmas.Bool.{ltb-true, or_cases}
 use Rattle.map_model.specs.declared.parts.LayerKind.{LayerKind}
 use Rattle.map_model.specs.declared.parts.LayerKind.TheVariants as kinds
 use Rattle.session.specs.Words.{words}
-use Rattle.session.specs.Grammar.{FieldKind, Number, Coordinate, Block, Name, LayerSort, YesNo, FieldValue}
+use Rattle.session.specs.Grammar.{FieldKind, Number, Coordinate, Block, Name, File, Choice, LayerSort, YesNo, FieldValue}
 use Rattle.session.specs.Spelling.{Token, Fixed, Given, Rest, Unspelled, token_words, field_words, has_block, layer_kind_word, yes_no_word, spaced, IsNumber, IsCoordinate, IsField, IsToken}
 
 -- no fewer than the bytes of a field's words
@@ -19,6 +19,8 @@ field_room Number = 10
 field_room Coordinate = 11
 field_room Block = 2 ^ 16
 field_room Name = 64
+field_room File = 100
+field_room Choice = 64
 field_room LayerSort = 6
 field_room YesNo = 3
 
@@ -78,6 +80,9 @@ field_within Number n h r = omega (arith, number_within n h)
 field_within Coordinate z h r = omega (arith, coordinate_within z h)
 field_within Block block h r = absurd (omega (arith, r))
 field_within Name name h r = omega (arith, h.short)
+field_within File name h r = omega (arith, h.short)
+field_within Choice None h r = omega arith
+field_within Choice (Some name) h r = omega (arith, h.short)
 field_within LayerSort kind h r = omega (arith, kind_within kind)
 field_within YesNo answer h r = omega (arith, yes_no_within answer)
 

@@ -9,9 +9,9 @@ use Rattle.std.proofs.lemmas.Bool.{leb-true, eqb-true, eq-eqb, and_parts, not-tr
 use Rattle.map_model.specs.declared.parts.LayerKind.TheVariants as kinds
 use Rattle.session.specs.declared.line.LineFault.{LineFault}
 use Rattle.session.specs.declared.line.LineFault.TheVariants.{BadWord}
-use Rattle.session.specs.Words.{words, number_of, coordinate_of, numbers_of, is_name, is_name_byte, is_text, is_text_byte, are_rows, layer_kind_of, yes_no_of}
-use Rattle.session.specs.Grammar.{FieldKind, Number, Coordinate, Block, Name, LayerSort, YesNo, FieldValue, field_at, number_at, coordinate_at, rows_at, block_at, name_at, last_text_at, layer_kind_at, yes_no_at, ends_at, ◌>>=◌, word_is}
-use Rattle.session.specs.Spelling.{spaced, commas, layer_kind_word, yes_no_word, field_words, IsField, IsName, IsText, AreRows}
+use Rattle.session.specs.Words.{words, number_of, coordinate_of, numbers_of, document_name_limit, file_name_limit, is_name, is_name_byte, is_text, is_text_byte, are_rows, layer_kind_of, yes_no_of}
+use Rattle.session.specs.Grammar.{FieldKind, Number, Coordinate, Block, Name, File, Choice, LayerSort, YesNo, FieldValue, field_at, number_at, coordinate_at, rows_at, block_at, name_at, choice_at, last_text_at, layer_kind_at, yes_no_at, ends_at, ◌>>=◌, word_is}
+use Rattle.session.specs.Spelling.{spaced, commas, choice_word, layer_kind_word, yes_no_word, field_words, IsField, IsName, IsChoice, IsText, AreRows}
 use Rattle.session.proofs.Decimals.{decimal_from}
 use Rattle.session.proofs.Coordinates.{signed_from}
 use Rattle.session.proofs.Commas.{commas_from}
@@ -76,8 +76,8 @@ block_is_read ws = if_bind (number_at ws) _ (ReadField Number ws) (ReadField Blo
 pub ne_from_not : (a b : ℕ) → not (eqb a b) ≡ true → a ≢ b
 ne_from_not a b h e = both_ways _ (not-true _ h) (eq-eqb a b e)
 
-pub is_name_from : (bytes : List ℕ) → is_name bytes ≡ true → IsName bytes
-is_name_from bytes h =
+pub is_name_from : (limit : ℕ) (bytes : List ℕ) → is_name limit bytes ≡ true → IsName limit bytes
+is_name_from limit bytes h =
     let parts = and_parts _ _ h in
     let dash = and_parts _ _ parts.0 in
     let dot = and_parts _ _ dash.0 in
@@ -90,10 +90,24 @@ is_name_from bytes h =
       bytes = AllPass-from_list_all is_name_byte bytes parts.1;
     }
 
-name_is_read : (ws : List (List ℕ)) → IfOk (name_at ws) (ReadField Name ws)
+-- a name up to that limit was read, and these words are left
+record ReadName (limit : ℕ) (ws : List (List ℕ)) (x : List ℕ × List (List ℕ)) : Type 0 where
+  fits : IsName limit x.0
+  words : ws ≡ x.0 ∷ x.1
+
+name_is_read : (limit : ℕ) (ws : List (List ℕ)) → IfOk (name_at limit ws) (ReadName limit ws)
 unfolding name_at
-name_is_read [] = tt
-name_is_read (w ∷ ws) = cond_both (is_name w) (Ok (w, ws)) (Err BadWord) (λ r. IfOk r (ReadField Name (w ∷ ws))) (λ is. record { fits = is_name_from w is; words = refl }) (λ is. tt)
+name_is_read limit [] = tt
+name_is_read limit (w ∷ ws) =
+    cond_both (is_name limit w) (Ok (w, ws)) (Err BadWord) (λ r. IfOk r (ReadName limit (w ∷ ws))) (λ is. record { fits = is_name_from limit w is; words = refl }) (λ is. tt)
+
+choice_is_read : (ws : List (List ℕ)) → IfOk (choice_at ws) (ReadField Choice ws)
+unfolding choice_at
+choice_is_read [] = tt
+choice_is_read (w ∷ ws) =
+    let P : Result (Option (List ℕ) × List (List ℕ)) LineFault → Type 0 = λ r. IfOk r (ReadField Choice (w ∷ ws)) in
+    cond_both (bytes_eq w (codes "-")) (Ok (None, ws)) _ P (λ is. record { fits = tt; words = ap (λ v. v ∷ ws) ((bytes_eq-Decides w (codes "-")).0 is) }) (λ _.
+    cond_both (is_name document_name_limit w) (Ok (Some w, ws)) (Err BadWord) P (λ is. record { fits = is_name_from document_name_limit w is; words = refl }) (λ _. tt))
 
 -- a choice between two words
 by_two : {A : Type 0} (word a b : List ℕ) (x y : A) (spelled : A → List ℕ) → spelled x ≡ a → spelled y ≡ b → (z : A) → cond (bytes_eq word a) (Some x) (cond (bytes_eq word b) (Some y) None) ≡ Some z → spelled z ≡ word
@@ -116,7 +130,9 @@ pub field_is_read : (kind : FieldKind) (ws : List (List ℕ)) → IfOk (field_at
 field_is_read Number ws = number_is_read ws
 field_is_read Coordinate ws = coordinate_is_read ws
 field_is_read Block ws = block_is_read ws
-field_is_read Name ws = name_is_read ws
+field_is_read Name ws = if_then (name_at document_name_limit ws) (ReadName document_name_limit ws) (ReadField Name ws) (name_is_read document_name_limit ws) (λ x r. record { fits = r.fits; words = r.words })
+field_is_read File ws = if_then (name_at file_name_limit ws) (ReadName file_name_limit ws) (ReadField File ws) (name_is_read file_name_limit ws) (λ x r. record { fits = r.fits; words = r.words })
+field_is_read Choice ws = choice_is_read ws
 field_is_read LayerSort ws = layer_kind_is_read ws
 field_is_read YesNo ws = yes_no_is_read ws
 

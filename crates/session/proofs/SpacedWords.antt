@@ -54,8 +54,8 @@ plain_all : (name : List ℕ) → AllByRecursion (λ b. is_name_byte b ≡ true)
 plain_all [] h = tt
 plain_all (b ∷ name) h = (name_byte b h.0, plain_all name h.1)
 
-pub plain_name : (name : List ℕ) → IsName name → Plain name
-plain_name name h = record { bytes = plain_all name (recursion_from_All (λ b. is_name_byte b ≡ true) name h.bytes) }
+pub plain_name : (limit : ℕ) (name : List ℕ) → IsName limit name → Plain name
+plain_name limit name h = record { bytes = plain_all name (recursion_from_All (λ b. is_name_byte b ≡ true) name h.bytes) }
 
 -- a word of a text
 pub record Clean (word : List ℕ) : Type 0 where

@@ -1,15 +1,16 @@
 -- What each kind of field reads of its words.
-use Rattle.std.proofs.Common.{◌≡◌, ℕ, Bool, true, false, not, List, ◌∷◌, ◌++◌, length, Ok, Some, ℤ, refl, ap, arith}
+use Rattle.std.proofs.Common.{◌≡◌, ℕ, Bool, true, false, not, List, [], ◌∷◌, ◌++◌, length, Ok, Option, None, Some, ℤ, refl, ap, arith}
 use Rattle.std.specs.Prelude.{codes}
 use Rattle.std.specs.List.{AllByRecursion}
 use Rattle.std.specs.Fmt.{decimal, signed_decimal}
+use Rattle.std.specs.Str.{bytes_eq}
 use Rattle.std.proofs.lemmas.List.Sums.{list_all-from_AllPass}
 use Rattle.std.proofs.lemmas.Bool.{le-leb, ne_eqb, eq-eqb, and_from}
 use Rattle.map_model.specs.declared.parts.LayerKind.{LayerKind}
 use Rattle.map_model.specs.declared.parts.LayerKind.TheVariants as kinds
-use Rattle.session.specs.Words.{words, is_name, is_name_byte, is_text, is_text_byte, are_rows, layer_kind_of, yes_no_of}
-use Rattle.session.specs.Grammar.{number_at, coordinate_at, rows_at, block_at, name_at, last_text_at, layer_kind_at, yes_no_at, field_at, FieldKind, Number, Coordinate, Block, Name, LayerSort, YesNo, FieldValue}
-use Rattle.session.specs.Spelling.{commas, layer_kind_word, yes_no_word, field_words, IsField, IsNumber, IsCoordinate, IsName, IsText, AreRows}
+use Rattle.session.specs.Words.{words, document_name_limit, file_name_limit, is_name, is_name_byte, is_text, is_text_byte, are_rows, layer_kind_of, yes_no_of}
+use Rattle.session.specs.Grammar.{number_at, coordinate_at, rows_at, block_at, name_at, choice_at, last_text_at, layer_kind_at, yes_no_at, field_at, FieldKind, Number, Coordinate, Block, Name, File, Choice, LayerSort, YesNo, FieldValue}
+use Rattle.session.specs.Spelling.{commas, choice_word, layer_kind_word, yes_no_word, field_words, IsField, IsNumber, IsCoordinate, IsName, IsChoice, IsText, AreRows}
 use Rattle.session.proofs.Decimals.{number_of-decimal}
 use Rattle.session.proofs.Coordinates.{coordinate_of-signed}
 use Rattle.session.proofs.Commas.{numbers_of-commas, plain_commas}
@@ -35,14 +36,24 @@ pub block_at-words : (width : ℕ) (values : List ℕ) (ws : List (List ℕ)) �
 unfolding block_at
 block_at-words width values ws h = rw (number_at-decimal width (commas values ∷ ws) (omega (arith, h.narrow))) (rows_at-commas width values ws h)
 
-name : (bytes : List ℕ) → IsName bytes → is_name bytes ≡ true
-name bytes h =
-    and_from _ _ (and_from _ _ (and_from _ _ (and_from _ _ (le-leb 1 (length bytes) h.some) (le-leb (length bytes) 64 h.short)) (ap not (ne_eqb _ 46 h.no_dot))) (ap not (ne_eqb _ 45 h.no_dash)))
+name : (limit : ℕ) (bytes : List ℕ) → IsName limit bytes → is_name limit bytes ≡ true
+name limit bytes h =
+    and_from _ _ (and_from _ _ (and_from _ _ (and_from _ _ (le-leb 1 (length bytes) h.some) (le-leb (length bytes) limit h.short)) (ap not (ne_eqb _ 46 h.no_dot))) (ap not (ne_eqb _ 45 h.no_dash)))
     (list_all-from_AllPass is_name_byte bytes h.bytes)
 
-pub name_at-name : (bytes : List ℕ) (ws : List (List ℕ)) → IsName bytes → name_at (bytes ∷ ws) ≡ Ok (bytes, ws)
+pub name_at-name : (limit : ℕ) (bytes : List ℕ) (ws : List (List ℕ)) → IsName limit bytes → name_at limit (bytes ∷ ws) ≡ Ok (bytes, ws)
 unfolding name_at
-name_at-name bytes ws h = rw (name bytes h) refl
+name_at-name limit bytes ws h = rw (name limit bytes h) refl
+
+-- a name does not begin with a dash
+not_dash : (limit : ℕ) (bytes : List ℕ) → IsName limit bytes → bytes_eq bytes (codes "-") ≡ false
+not_dash limit [] h = absurd (omega (arith, h.some))
+not_dash limit (b ∷ bytes) h = rw (ne_eqb b 45 h.no_dash) refl
+
+pub choice_at-word : (choice : Option (List ℕ)) (ws : List (List ℕ)) → IsChoice choice → choice_at (choice_word choice ∷ ws) ≡ Ok (choice, ws)
+unfolding choice_at
+choice_at-word None ws h = refl
+choice_at-word (Some bytes) ws h = rw (not_dash document_name_limit bytes h, name document_name_limit bytes h) refl
 
 text : (bytes : List ℕ) → IsText bytes → is_text bytes ≡ true
 text bytes h =
@@ -76,12 +87,18 @@ pub plain_yes_no : (answer : Bool) → Plain (yes_no_word answer)
 plain_yes_no true = plain_literal (codes "yes") refl
 plain_yes_no false = plain_literal (codes "no") refl
 
+pub plain_choice : (choice : Option (List ℕ)) → IsChoice choice → Plain (choice_word choice)
+plain_choice None h = plain_literal (codes "-") refl
+plain_choice (Some bytes) h = plain_name document_name_limit bytes h
+
 -- a field is read from its words
 pub field_at-words : (kind : FieldKind) (value : FieldValue kind) (ws : List (List ℕ)) → IsField kind value → field_at kind (field_words kind value ++ ws) ≡ Ok (value, ws)
 field_at-words Number n ws h = number_at-decimal n ws h
 field_at-words Coordinate z ws h = coordinate_at-signed z ws h
 field_at-words Block block ws h = block_at-words block.0 block.1 ws h
-field_at-words Name bytes ws h = name_at-name bytes ws h
+field_at-words Name bytes ws h = name_at-name document_name_limit bytes ws h
+field_at-words File bytes ws h = name_at-name file_name_limit bytes ws h
+field_at-words Choice choice ws h = choice_at-word choice ws h
 field_at-words LayerSort kind ws h = layer_kind_at-word kind ws
 field_at-words YesNo answer ws h = yes_no_at-word answer ws
 
@@ -89,6 +106,8 @@ pub clean_field : (kind : FieldKind) (value : FieldValue kind) → IsField kind 
 clean_field Number n h = (clean _ (plain_number n h), tt)
 clean_field Coordinate z h = (clean _ (plain_coordinate z h), tt)
 clean_field Block block h = (clean _ (plain_number block.0 (omega (arith, h.narrow))), (clean _ (plain_commas block.1 h.numbers), tt))
-clean_field Name bytes h = (clean _ (plain_name bytes h), tt)
+clean_field Name bytes h = (clean _ (plain_name document_name_limit bytes h), tt)
+clean_field File bytes h = (clean _ (plain_name file_name_limit bytes h), tt)
+clean_field Choice choice h = (clean _ (plain_choice choice h), tt)
 clean_field LayerSort kind h = (clean _ (plain_kind kind), tt)
 clean_field YesNo answer h = (clean _ (plain_yes_no answer), tt)

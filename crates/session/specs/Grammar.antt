@@ -3,13 +3,13 @@ use Rattle.std.specs.Prelude.{◌≡◌, ℕ, ◌^◌, ℤ, Bool, true, false, n
 use Rattle.std.specs.List.{join_with_byte, list_all}
 use Rattle.std.specs.Str.{bytes_eq, is_utf8}
 use Rattle.session.specs.declared.line.Line.{Line}
-use Rattle.session.specs.declared.line.Line.TheVariants.{Quiet, New, Stamp, Erase, Fill, Select, SelectNone, Tile, AddLayer, RemoveLayer, RenameLayer, ShowLayer, MoveLayer, Undo, Redo, Goto, Clean, Dirty, Clear, Show, Status, UndoText, RedoText, StepText}
+use Rattle.session.specs.declared.line.Line.TheVariants.{Quiet, New, Open, Save, Close, Discard, Use, Documents, Stamp, Erase, Fill, Select, SelectNone, Tile, AddLayer, RemoveLayer, RenameLayer, ShowLayer, MoveLayer, Undo, Redo, Goto, Clean, Dirty, Clear, Show, Status, UndoText, RedoText, StepText}
 use Rattle.session.specs.declared.line.LineFault.{LineFault}
 use Rattle.session.specs.declared.line.LineFault.TheVariants.{TooLong, NotUtf8, UnknownCommand, BadWord}
 use Rattle.map_model.specs.declared.parts.LayerKind.{LayerKind}
 use Rattle.map_model.specs.declared.selection.SelectionMode.{SelectionMode}
 use Rattle.map_model.specs.declared.selection.SelectionMode.TheVariants.{Replace, Add, Subtract, Intersect}
-use Rattle.session.specs.Words.{words, number_of, coordinate_of, numbers_of, are_rows, is_name, is_text, layer_kind_of, yes_no_of}
+use Rattle.session.specs.Words.{words, number_of, coordinate_of, numbers_of, are_rows, document_name_limit, file_name_limit, is_name, is_text, layer_kind_of, yes_no_of}
 
 infixl 10 ◌>>=◌
 abbrev pub ◌>>=◌ : {A B : Type 0} → Result A LineFault → (A → Result B LineFault) → Result B LineFault
@@ -41,10 +41,18 @@ rows_at width (w ∷ ws) =
 unfoldable pub block_at : List (List ℕ) → Result ((ℕ × List ℕ) × List (List ℕ)) LineFault
 block_at ws = number_at ws >>= λ width. rows_at width.0 width.1
 
--- a document's name, and the words after it
-unfoldable pub name_at : List (List ℕ) → Result (List ℕ × List (List ℕ)) LineFault
-name_at [] = Err BadWord
-name_at (w ∷ ws) = if is_name w then Ok (w, ws) else Err BadWord
+-- a name up to that limit, and the words after it
+unfoldable pub name_at : ℕ → List (List ℕ) → Result (List ℕ × List (List ℕ)) LineFault
+name_at limit [] = Err BadWord
+name_at limit (w ∷ ws) = if is_name limit w then Ok (w, ws) else Err BadWord
+
+-- a document's name, or `-` for none, and the words after it
+unfoldable pub choice_at : List (List ℕ) → Result (Option (List ℕ) × List (List ℕ)) LineFault
+choice_at [] = Err BadWord
+choice_at (w ∷ ws) =
+    if bytes_eq w (codes "-") then Ok (None, ws)
+    else if is_name document_name_limit w then Ok (Some w, ws)
+    else Err BadWord
 
 -- the text that all further words make
 unfoldable pub last_text_at : List (List ℕ) → Result (List ℕ) LineFault
@@ -78,6 +86,8 @@ pub data FieldKind : Type 0 where
   Coordinate : FieldKind
   Block : FieldKind
   Name : FieldKind
+  File : FieldKind
+  Choice : FieldKind
   LayerSort : FieldKind
   YesNo : FieldKind
 
@@ -86,6 +96,8 @@ FieldValue Number = ℕ
 FieldValue Coordinate = ℤ
 FieldValue Block = ℕ × List ℕ
 FieldValue Name = List ℕ
+FieldValue File = List ℕ
+FieldValue Choice = Option (List ℕ)
 FieldValue LayerSort = LayerKind
 FieldValue YesNo = Bool
 
@@ -94,7 +106,9 @@ abbrev pub field_at : (kind : FieldKind) → List (List ℕ) → Result (FieldVa
 field_at Number ws = number_at ws
 field_at Coordinate ws = coordinate_at ws
 field_at Block ws = block_at ws
-field_at Name ws = name_at ws
+field_at Name ws = name_at document_name_limit ws
+field_at File ws = name_at file_name_limit ws
+field_at Choice ws = choice_at ws
 field_at LayerSort ws = layer_kind_at ws
 field_at YesNo ws = yes_no_at ws
 
@@ -139,6 +153,21 @@ move_layer_form = Field Number λ layer. Field Number λ place. Ends (MoveLayer 
 abbrev pub new_form : LineForm
 new_form =
     Field Name λ name. Field Number λ width. Field Number λ height. Field Number λ tile_width. Field Number λ tile_height. Text (New name width height tile_width tile_height)
+
+abbrev pub open_form : LineForm
+open_form = Field Name λ name. Field File λ file. Ends (Open name file)
+
+abbrev pub save_form : LineForm
+save_form = Field File λ file. Ends (Save file)
+
+abbrev pub close_form : LineForm
+close_form = Field Name λ name. Ends (Close name)
+
+abbrev pub discard_form : LineForm
+discard_form = Field Name λ name. Ends (Discard name)
+
+abbrev pub use_form : LineForm
+use_form = Field Choice λ choice. Ends (Use choice)
 
 abbrev pub stamp_form : LineForm
 stamp_form =
@@ -189,6 +218,12 @@ layer_lines =
 abbrev pub commands : List (List ℕ × LineForm)
 commands =
     (codes "new", new_form)
+    ∷ (codes "open", open_form)
+    ∷ (codes "save", save_form)
+    ∷ (codes "close", close_form)
+    ∷ (codes "discard", discard_form)
+    ∷ (codes "use", use_form)
+    ∷ (codes "list", Ends Documents)
     ∷ (codes "stamp", stamp_form)
     ∷ (codes "erase", erase_form)
     ∷ (codes "fill", fill_form)

@@ -1,17 +1,17 @@
 -- How a line is spelled, and that this spelling is read.
-use Rattle.std.specs.Prelude.{◌≡◌, ◌≢◌, ℕ, ◌^◌, ◌%◌, ◌<◌, ◌≤◌, ℤ, pos, neg_ℤ, ◌≤ℤ◌, Bool, true, false, List, [], ◌∷◌, length, map, All, slice_index, IsTrue, Ok, Err, codes, decimal, ⊤, ◌||◌}
+use Rattle.std.specs.Prelude.{◌≡◌, ◌≢◌, ℕ, ◌^◌, ◌%◌, ◌<◌, ◌≤◌, ℤ, pos, neg_ℤ, ◌≤ℤ◌, Bool, true, false, List, [], ◌∷◌, length, map, All, slice_index, IsTrue, Option, None, Some, IfSome, Ok, Err, codes, decimal, ⊤, ◌||◌}
 use Rattle.std.specs.List.{join_with_byte, flat_map, AllByRecursion}
 use Rattle.std.specs.Fmt.{signed_decimal}
 use Rattle.std.specs.Str.{IsUtf8}
 use Rattle.session.specs.declared.line.Line.{Line}
-use Rattle.session.specs.declared.line.Line.TheVariants.{Quiet, New, Stamp, Erase, Fill, Select, SelectNone, Tile, AddLayer, RemoveLayer, RenameLayer, ShowLayer, MoveLayer, Undo, Redo, Goto, Clean, Dirty, Clear, Show, Status, UndoText, RedoText, StepText}
+use Rattle.session.specs.declared.line.Line.TheVariants.{Quiet, New, Open, Save, Close, Discard, Use, Documents, Stamp, Erase, Fill, Select, SelectNone, Tile, AddLayer, RemoveLayer, RenameLayer, ShowLayer, MoveLayer, Undo, Redo, Goto, Clean, Dirty, Clear, Show, Status, UndoText, RedoText, StepText}
 use Rattle.session.specs.declared.line.LineFault.TheVariants.{TooLong}
 use Rattle.map_model.specs.declared.parts.LayerKind.{LayerKind}
 use Rattle.map_model.specs.declared.parts.LayerKind.TheVariants as kinds
 use Rattle.map_model.specs.declared.selection.SelectionMode.{SelectionMode}
 use Rattle.map_model.specs.declared.selection.SelectionMode.TheVariants.{Replace, Add, Subtract, Intersect}
-use Rattle.session.specs.Words.{words, reach, is_name_byte}
-use Rattle.session.specs.Grammar.{FieldKind, Number, Coordinate, Block, Name, LayerSort, YesNo, FieldValue, is_quiet, line_of}
+use Rattle.session.specs.Words.{words, reach, document_name_limit, file_name_limit, is_name_byte}
+use Rattle.session.specs.Grammar.{FieldKind, Number, Coordinate, Block, Name, File, Choice, LayerSort, YesNo, FieldValue, is_quiet, line_of}
 
 -- words with one space between each two
 abbrev pub spaced : List (List ℕ) → List ℕ
@@ -57,6 +57,12 @@ tokens Quiet = []
 tokens (New name width height tile_width tile_height source) =
     Fixed (codes "new") ∷ Given Name name ∷ Given Number width ∷ Given Number height ∷ Given Number tile_width
     ∷ Given Number tile_height ∷ Rest source ∷ []
+tokens (Open name file) = Fixed (codes "open") ∷ Given Name name ∷ Given File file ∷ []
+tokens (Save file) = Fixed (codes "save") ∷ Given File file ∷ []
+tokens (Close name) = Fixed (codes "close") ∷ Given Name name ∷ []
+tokens (Discard name) = Fixed (codes "discard") ∷ Given Name name ∷ []
+tokens (Use choice) = Fixed (codes "use") ∷ Given Choice choice ∷ []
+tokens Documents = Fixed (codes "list") ∷ []
 tokens (Stamp layer x y width values follows) =
     leading (codes "stamp") follows ∷ Given Number layer ∷ Given Coordinate x ∷ Given Coordinate y
     ∷ Given Block (width, values) ∷ []
@@ -89,12 +95,19 @@ tokens UndoText = Fixed (codes "undotext") ∷ []
 tokens RedoText = Fixed (codes "redotext") ∷ []
 tokens (StepText place) = Fixed (codes "text") ∷ Given Number place ∷ []
 
+-- the word of a document's name, or of none
+abbrev pub choice_word : Option (List ℕ) → List ℕ
+choice_word None = codes "-"
+choice_word (Some name) = name
+
 -- the words of a field
 abbrev pub field_words : (kind : FieldKind) → FieldValue kind → List (List ℕ)
 field_words Number n = decimal n ∷ []
 field_words Coordinate z = signed_decimal z ∷ []
 field_words Block block = decimal block.0 ∷ commas block.1 ∷ []
 field_words Name name = name ∷ []
+field_words File name = name ∷ []
+field_words Choice choice = choice_word choice ∷ []
 field_words LayerSort kind = layer_kind_word kind ∷ []
 field_words YesNo answer = yes_no_word answer ∷ []
 
@@ -118,10 +131,10 @@ pub record IsCoordinate (z : ℤ) : Type 0 where
   pub low : neg_ℤ (pos reach) ≤ℤ z
   pub high : z ≤ℤ pos reach
 
--- a document's name
-pub record IsName (name : List ℕ) : Type 0 where
+-- a name up to that limit
+pub record IsName (limit : ℕ) (name : List ℕ) : Type 0 where
   pub some : 1 ≤ length name
-  pub short : length name ≤ 64
+  pub short : length name ≤ limit
   pub no_dot : slice_index name 0 ≢ 46
   pub no_dash : slice_index name 0 ≢ 45
   pub bytes : All (λ b. IsTrue (is_name_byte b)) name
@@ -141,12 +154,18 @@ pub record AreRows (width : ℕ) (values : List ℕ) : Type 0 where
   pub filled : 1 ≤ length values
   pub numbers : All IsNumber values
 
+-- a document's name, or none
+abbrev pub IsChoice : Option (List ℕ) → Type 0
+IsChoice choice = IfSome choice (IsName document_name_limit)
+
 -- a value that a field can be
 abbrev pub IsField : (kind : FieldKind) → FieldValue kind → Type 0
 IsField Number n = IsNumber n
 IsField Coordinate z = IsCoordinate z
 IsField Block block = AreRows block.0 block.1
-IsField Name name = IsName name
+IsField Name name = IsName document_name_limit name
+IsField File name = IsName file_name_limit name
+IsField Choice choice = IsChoice choice
 IsField LayerSort kind = ⊤
 IsField YesNo answer = ⊤
 

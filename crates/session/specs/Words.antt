@@ -82,10 +82,17 @@ are_rows width count = nat_le 1 width && nat_le width 4096 && (count % width == 
 abbrev pub is_name_byte : ℕ → Bool
 is_name_byte b = is_ascii_alphanumeric b || b == 95 || b == 46 || b == 45
 
--- a document's name: 1 to 64 such bytes, the first neither `.` nor `-`
-abbrev pub is_name : List ℕ → Bool
-is_name word =
-    nat_le 1 (length word) && nat_le (length word) 64
+-- the bytes of the longest name of a document, and of a file
+abbrev pub document_name_limit : ℕ
+document_name_limit = 64
+
+abbrev pub file_name_limit : ℕ
+file_name_limit = 100
+
+-- a name: from 1 such byte up to the limit, the first neither `.` nor `-`
+abbrev pub is_name : ℕ → List ℕ → Bool
+is_name limit word =
+    nat_le 1 (length word) && nat_le (length word) limit
     && not (slice_index word 0 == 46) && not (slice_index word 0 == 45) && list_all is_name_byte word
 
 -- a byte of a text

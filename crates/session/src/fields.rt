@@ -1,11 +1,17 @@
-ghost use Rattle.session.specs.Grammar.{Gives, number_at, coordinate_at, rows_at, block_at, name_at, last_text_at, ends_at};
+ghost use Rattle.session.specs.Grammar.{Gives, number_at, coordinate_at, rows_at, block_at, name_at, choice_at, last_text_at, ends_at};
 ghost use Rattle.std.specs.Prelude.{◌≡◌};
-ghost use Rattle.session.specs.Words.{words_left, are_rows};
+ghost use Rattle.session.specs.Words.{words_left, are_rows, document_name_limit, file_name_limit};
 
 use crate::gids::Gids;
 use crate::line::LineFault;
 use crate::text::Text;
 use crate::words::{coordinate_before, cut, is_name_word, is_text_here, number_before};
+
+/// The bytes of the longest name of a document.
+const DOCUMENT_NAME_LIMIT: usize = 64;
+
+/// The bytes of the longest name of a file.
+const FILE_NAME_LIMIT: usize = 100;
 
 /// The width of the widest block.
 const WIDTH_LIMIT: u32 = 4_096;
@@ -79,19 +85,56 @@ pub fn block_field<'a>(rest: Option<&'a str>) -> Result<(u32, Gids<'a>, Option<&
     Ok((width, values, rest))
 }
 
-/// A document's name, and what is left of the line.
+/// A name of at most so many bytes, and what is left of the line.
 #[tactic(auto, unfolding(crate::specs::Grammar::name_at))]
-pub fn name_field<'a>(rest: Option<&'a str>) -> Result<(Text<'a>, Option<&'a str>), LineFault>
-    ensures { Gives (λ x. (x.0, words_left x.1)) result (name_at (words_left rest.entry)) }
+fn name_field<'a>(
+    limit: usize,
+    rest: Option<&'a str>,
+) -> Result<(Text<'a>, Option<&'a str>), LineFault>
+    ensures { Gives (λ x. (x.0, words_left x.1)) result (name_at limit (words_left rest.entry)) }
 {
     let Some(rest) = rest else {
         return Err(LineFault::BadWord);
     };
     let (word, rest) = cut(rest, b' ');
-    if !is_name_word(word.as_bytes()) {
+    if !is_name_word(limit, word.as_bytes()) {
         return Err(LineFault::BadWord);
     }
     Ok((Text::new(word), rest))
+}
+
+/// A document's name, and what is left of the line.
+pub fn document_field<'a>(rest: Option<&'a str>) -> Result<(Text<'a>, Option<&'a str>), LineFault>
+    ensures { Gives (λ x. (x.0, words_left x.1)) result (name_at document_name_limit (words_left rest.entry)) }
+{
+    name_field(DOCUMENT_NAME_LIMIT, rest)
+}
+
+/// A file's name, and what is left of the line.
+pub fn file_field<'a>(rest: Option<&'a str>) -> Result<(Text<'a>, Option<&'a str>), LineFault>
+    ensures { Gives (λ x. (x.0, words_left x.1)) result (name_at file_name_limit (words_left rest.entry)) }
+{
+    name_field(FILE_NAME_LIMIT, rest)
+}
+
+/// A document's name, or `-` for none, and what is left of the line.
+#[tactic(auto, unfolding(crate::specs::Grammar::choice_at))]
+pub fn choice_field<'a>(
+    rest: Option<&'a str>,
+) -> Result<(Option<Text<'a>>, Option<&'a str>), LineFault>
+    ensures { Gives (λ x. (x.0, words_left x.1)) result (choice_at (words_left rest.entry)) }
+{
+    let Some(rest) = rest else {
+        return Err(LineFault::BadWord);
+    };
+    let (word, rest) = cut(rest, b' ');
+    if word == "-" {
+        return Ok((None, rest));
+    }
+    if !is_name_word(DOCUMENT_NAME_LIMIT, word.as_bytes()) {
+        return Err(LineFault::BadWord);
+    }
+    Ok((Some(Text::new(word)), rest))
 }
 
 /// The text that is left.

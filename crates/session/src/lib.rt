@@ -17,4 +17,4 @@ pub use line::{Line, LineFault};
 pub use parse::parse_line;
 pub use reply::{LocalTile, Refusal, Reply};
 pub use spelling::{long_is_not_read, quiet_is_read, read_is_spelled, spelled_is_read};
-pub use text::{MapBytes, Text};
+pub use text::{FileName, MapBytes, Text};

@@ -17,6 +17,29 @@ pub enum Line<'a> {
         tile_height: u32,
         source: Text<'a>,
     },
+    /// The map of a file, as a new document of that name.
+    Open {
+        name: Text<'a>,
+        file: Text<'a>,
+    },
+    /// The active document's map goes into that file.
+    Save {
+        file: Text<'a>,
+    },
+    /// The document of that name is closed, where it is clean.
+    Close {
+        name: Text<'a>,
+    },
+    /// The document of that name is closed.
+    Discard {
+        name: Text<'a>,
+    },
+    /// The document of that name is the active one, or none is.
+    Use {
+        choice: Option<Text<'a>>,
+    },
+    /// The names of the open documents.
+    Documents,
     /// A block of values, row by row, with its upper left at (`x`, `y`). Where it follows, it joins the step before
     /// it, if that is of its kind; there is no command for this yet.
     Stamp {

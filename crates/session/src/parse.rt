@@ -1,11 +1,12 @@
-ghost use Rattle.session.specs.Grammar.{Gives, read, Ends, line_form, is_quiet, line_of, erase_form, fill_form, goto_form, new_form, stamp_form, step_text_form, tile_form};
+ghost use Rattle.session.specs.Grammar.{Gives, read, Ends, line_form, is_quiet, line_of, erase_form, fill_form, close_form, discard_form, goto_form, new_form, open_form, save_form, stamp_form, step_text_form, tile_form, use_form};
 ghost use Rattle.session.specs.Spelling.{Says, CanBeSpelled};
 ghost use Rattle.std.specs.Prelude.{◌≡◌, ◌==◌, ◌∷◌, IfOk};
 ghost use Rattle.std.specs.List.{list_all};
 ghost use Rattle.session.specs.Words.{words_left};
 
 use crate::fields::{
-    block_field, coordinate_field, end_field, name_field, number_field, text_field,
+    block_field, choice_field, coordinate_field, document_field, end_field, file_field, number_field,
+    text_field,
 };
 use crate::layer_lines::layer;
 use crate::line::{Line, LineFault};
@@ -19,7 +20,7 @@ const LIMIT: usize = 65_536;
 fn new<'a>(rest: Option<&'a str>) -> Result<Line<'a>, LineFault>
     ensures { Gives (λ x. x) result (read new_form (words_left rest.entry)) }
 {
-    let (name, rest) = name_field(rest)?;
+    let (name, rest) = document_field(rest)?;
     let (width, rest) = number_field(rest)?;
     let (height, rest) = number_field(rest)?;
     let (tile_width, rest) = number_field(rest)?;
@@ -33,6 +34,47 @@ fn new<'a>(rest: Option<&'a str>) -> Result<Line<'a>, LineFault>
         tile_height,
         source,
     })
+}
+
+fn open_file<'a>(rest: Option<&'a str>) -> Result<Line<'a>, LineFault>
+    ensures { Gives (λ x. x) result (read open_form (words_left rest.entry)) }
+{
+    let (name, rest) = document_field(rest)?;
+    let (file, rest) = file_field(rest)?;
+    end_field(rest)?;
+    Ok(Line::Open { name, file })
+}
+
+fn save<'a>(rest: Option<&'a str>) -> Result<Line<'a>, LineFault>
+    ensures { Gives (λ x. x) result (read save_form (words_left rest.entry)) }
+{
+    let (file, rest) = file_field(rest)?;
+    end_field(rest)?;
+    Ok(Line::Save { file })
+}
+
+fn close<'a>(rest: Option<&'a str>) -> Result<Line<'a>, LineFault>
+    ensures { Gives (λ x. x) result (read close_form (words_left rest.entry)) }
+{
+    let (name, rest) = document_field(rest)?;
+    end_field(rest)?;
+    Ok(Line::Close { name })
+}
+
+fn discard<'a>(rest: Option<&'a str>) -> Result<Line<'a>, LineFault>
+    ensures { Gives (λ x. x) result (read discard_form (words_left rest.entry)) }
+{
+    let (name, rest) = document_field(rest)?;
+    end_field(rest)?;
+    Ok(Line::Discard { name })
+}
+
+fn choose_document<'a>(rest: Option<&'a str>) -> Result<Line<'a>, LineFault>
+    ensures { Gives (λ x. x) result (read use_form (words_left rest.entry)) }
+{
+    let (choice, rest) = choice_field(rest)?;
+    end_field(rest)?;
+    Ok(Line::Use { choice })
 }
 
 fn stamp<'a>(rest: Option<&'a str>) -> Result<Line<'a>, LineFault>
@@ -127,6 +169,12 @@ fn command<'a>(name: &str, rest: Option<&'a str>) -> Result<Line<'a>, LineFault>
 {
     match name {
         "new" => new(rest),
+        "open" => open_file(rest),
+        "save" => save(rest),
+        "close" => close(rest),
+        "discard" => discard(rest),
+        "use" => choose_document(rest),
+        "list" => bare(Line::Documents, rest),
         "stamp" => stamp(rest),
         "erase" => erase(rest),
         "fill" => fill(rest),

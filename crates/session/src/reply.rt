@@ -1,9 +1,10 @@
 ghost use Rattle.std.specs.Prelude.{◌≡◌, ◌++◌, ◌+◌, ◌≤◌, ◌<◌, [], Option, length, decimal};
 ghost use Rattle.arrayvec.specs.ArrayString.{array_string_len};
-ghost use Rattle.session.specs.Replies.{body_of, reply_text, refusal_text, flag_letter, flags_text, local_text};
+ghost use Rattle.session.specs.Replies.{body_of, reply_text, refusal_text, flag_letter, flags_text, local_text, word_and};
+ghost use Rattle.session.specs.Words.{file_name_limit};
 
 use crate::line::LineFault;
-use crate::text::MapBytes;
+use crate::text::{FileName, MapBytes};
 use arrayvec::ArrayString;
 use itoa::Buffer;
 use map_model::MapText;
@@ -16,6 +17,8 @@ pub enum Refusal {
     Line(LineFault),
     NoActiveDocument,
     NameTaken,
+    NoSuchDocument,
+    UnsavedChanges,
     MacroOpen,
     NothingToUndo,
     NothingToRedo,
@@ -30,6 +33,18 @@ pub enum Refusal {
     FirstIdNotAbove,
     OutOfRange,
     TooMany,
+    NoSuchFile,
+    StoreFailed,
+    NotJson,
+    Fraction,
+    MemberMissing,
+    MemberOfAnotherKind,
+    Infinite,
+    Compressed,
+    BadData,
+    IdUsedTwice,
+    OverLimit,
+    NotAMap,
     NoMemory,
 }
 
@@ -52,6 +67,13 @@ pub enum Reply {
     },
     /// No document is active after an accepted line.
     NoDocument,
+    /// The names of the open documents, with a space between each two and a `*` before the active one's.
+    Documents(MapText),
+    /// The active document's map has been written into that file, in so many bytes.
+    Saved {
+        file: FileName,
+        size: u64,
+    },
     /// A text that was asked for.
     Text(MapText),
     /// The text of a map.
@@ -77,6 +99,8 @@ fn refusal_words(refusal: Refusal) -> &'static str
         Refusal::Line(LineFault::BadWord) => "4 bad word",
         Refusal::NoActiveDocument => "10 no active document",
         Refusal::NameTaken => "11 name taken",
+        Refusal::NoSuchDocument => "12 no such document",
+        Refusal::UnsavedChanges => "13 unsaved changes",
         Refusal::MacroOpen => "20 macro open",
         Refusal::NothingToUndo => "21 nothing to undo",
         Refusal::NothingToRedo => "22 nothing to redo",
@@ -91,12 +115,24 @@ fn refusal_words(refusal: Refusal) -> &'static str
         Refusal::FirstIdNotAbove => "38 first id not above the others",
         Refusal::OutOfRange => "39 out of range",
         Refusal::TooMany => "40 too many",
+        Refusal::NoSuchFile => "50 no such file",
+        Refusal::StoreFailed => "51 store failed",
+        Refusal::NotJson => "60 not JSON",
+        Refusal::Fraction => "61 fraction",
+        Refusal::MemberMissing => "62 member missing",
+        Refusal::MemberOfAnotherKind => "63 member of another kind",
+        Refusal::Infinite => "64 infinite",
+        Refusal::Compressed => "65 compressed",
+        Refusal::BadData => "66 bad data",
+        Refusal::IdUsedTwice => "67 id used twice",
+        Refusal::OverLimit => "68 over a limit",
+        Refusal::NotAMap => "69 not a map",
         Refusal::NoMemory => "90 no memory",
     }
 }
 
 fn push_number(head: &mut ArrayString<512>, number: u64)
-    requires { array_string_len head.old ≤ 100 }
+    requires { array_string_len head.old ≤ 150 }
     ensures value { head.new.bytes ≡ head.old.bytes ++ decimal number }
     ensures size { array_string_len head.new ≤ array_string_len head.old + 20 }
 {
@@ -169,15 +205,29 @@ fn push_tile(head: &mut ArrayString<512>, value: Gid, local: Option<LocalTile>)
 }
 
 /// Writes what stands in front of a text: the word alone, where the text is empty.
-fn push_text_word(head: &mut ArrayString<512>, text: &str)
-    requires { head.old.bytes ≡ [] }
-    ensures value { head.new.bytes ++ text.now ≡ reply_text (Reply.Text text.now) }
+fn push_word(head: &mut ArrayString<512>, word: &'static str, text: &str)
+    requires empty { head.old.bytes ≡ [] }
+    requires short { length word.now ≤ 10 }
+    ensures value { head.new.bytes ++ text.now ≡ word_and word.now text.now }
     ensures size { array_string_len head.new ≤ 100 }
 {
-    head.push_str("text");
+    head.push_str(word);
     if !text.is_empty() {
         head.push_str(" ");
     }
+}
+
+/// Writes how a file was saved.
+fn push_saved(head: &mut ArrayString<512>, file: &str, size: u64)
+    requires empty { head.old.bytes ≡ [] }
+    requires short { length file.now ≤ file_name_limit }
+    ensures value { head.new.bytes ≡ reply_text (Reply.Saved file.now size) }
+    ensures size { array_string_len head.new ≤ 200 }
+{
+    head.push_str("saved ");
+    head.push_str(file);
+    head.push_str(" ");
+    push_number(head, size);
 }
 
 impl Reply {
@@ -195,7 +245,9 @@ impl Reply {
                 depth,
             } => push_state(head, *index, *count, *is_clean, *depth),
             Reply::NoDocument => head.push_str("ok none clean"),
-            Reply::Text(text) => push_text_word(head, text.as_str()),
+            Reply::Documents(names) => push_word(head, "docs", names.as_str()),
+            Reply::Saved { file, size } => push_saved(head, file.as_str(), *size),
+            Reply::Text(text) => push_word(head, "text", text.as_str()),
             Reply::Map(_) => head.push_str("map "),
             Reply::EmptyTile => head.push_str("tile 0"),
             Reply::Tile { value, local } => push_tile(head, *value, *local),
@@ -206,12 +258,13 @@ impl Reply {
         }
     }
 
-    /// What follows the head: a text that was asked for, or that of a map, and nothing for the other replies.
+    /// What follows the head: the names of the documents, a text that was asked for, or that of a map, and nothing for the
+    /// other replies.
     pub fn body(&self) -> &[u8]
         ensures { result.now ≡ body_of self.now }
     {
         match self {
-            Reply::Text(text) => text.as_str().as_bytes(),
+            Reply::Documents(text) | Reply::Text(text) => text.as_str().as_bytes(),
             Reply::Map(bytes) => bytes.as_slice(),
             _ => &[],
         }

@@ -1,4 +1,5 @@
-ghost use Rattle.std.specs.Prelude.{◌≡◌, ℕ, List};
+ghost use Rattle.std.specs.Prelude.{◌≡◌, ◌≤◌, ℕ, List, length, string_bytes};
+ghost use Rattle.session.specs.Words.{file_name_limit};
 
 use std::marker::Model;
 
@@ -25,6 +26,38 @@ impl<'a> Text<'a> {
         ensures { result.now ≡ self.now }
     {
         self.text
+    }
+}
+
+/// The name of a file: at most 100 bytes.
+#[derive(Drop)]
+pub struct FileName {
+    name: String,
+}
+
+impl Model for FileName {
+    ghost Value = { List ℕ };
+
+    ghost view = { λ f. string_bytes f.name };
+
+    ghost invariant = { λ f. length (string_bytes f.name) ≤ file_name_limit };
+}
+
+impl FileName {
+    /// The name that a string is.
+    pub fn new(name: String) -> FileName
+        requires { length (string_bytes name) ≤ file_name_limit }
+        ensures { result ≡ string_bytes name }
+    {
+        FileName { name }
+    }
+
+    /// The name.
+    pub fn as_str(&self) -> &str
+        ensures name { result.now ≡ self.now }
+        ensures short { length result.now ≤ file_name_limit }
+    {
+        self.name.as_str()
     }
 }
 

@@ -8,9 +8,6 @@ const REACH: u32 = 1_000_000_000;
 /// The largest number.
 const MAX: u64 = 4_294_967_295;
 
-/// The bytes of the longest document name.
-const NAME_LIMIT: usize = 64;
-
 /// The bytes of the longest text.
 const TEXT_LIMIT: usize = 200;
 
@@ -133,11 +130,11 @@ fn has_only_name_bytes(word: &[u8]) -> bool
     word.iter().all(|b| b.is_ascii_alphanumeric() || *b == b'_' || *b == b'.' || *b == b'-')
 }
 
-/// Whether a word can be a document's name.
-pub fn is_name_word(word: &[u8]) -> bool
-    ensures { result ≡ is_name word.now }
+/// Whether a word can be a name of at most so many bytes.
+pub fn is_name_word(limit: usize, word: &[u8]) -> bool
+    ensures { result ≡ is_name limit word.now }
 {
-    if word.is_empty() || word.len() > NAME_LIMIT {
+    if word.is_empty() || word.len() > limit {
         return false;
     }
     if word[0] == b'.' || word[0] == b'-' {
