@@ -1,257 +1,240 @@
--- The machine: what each line may do. It keeps, for the open document, a history of whole documents, and turns nothing
--- back: every accepted edit gives a new document, and undo and redo only move a position.
-use Rattle.std.specs.Prelude.{◌≡◌, ℕ, ◌-◌, List, [], ℤ, pos, negsuc, Bool, nat_eq, if◌then◌else◌, length, Option, None, Some, IsSome, Result, Ok, Err, ◌⊎◌}
-use Rattle.std.specs.Option.{option_map}
-use Rattle.map_model.specs.Document.{DocumentParts, document_of}
+-- The machine: what each line may do. It keeps, for each open document, a history of whole documents, and which document is
+-- active; the files stand beside it, as the store keeps them.
+use Rattle.std.specs.Prelude.{◌≡◌, ℕ, ◌≤◌, List, [], ◌∷◌, map, if◌then◌else◌, length, Option, None, Some, IsSome, Result, Ok, Err, ◌⊎◌, ⊤, ⊥, Bool, true, false}
+use Rattle.std.specs.List.{join_with_byte}
+use Rattle.std.specs.Str.{bytes_eq}
+use Rattle.std.specs.FinMap.{get, insert}
+use Rattle.map_model.specs.Document.{document_of}
 use Rattle.map_model.specs.declared.parts.MapParts.{MapParts}
 use Rattle.map_model.specs.NewMap.{new_map}
-use Rattle.map_model.specs.Parts.{layer_of, cell_of}
-use Rattle.map_model.specs.Tilesets.{tileset_of}
 use Rattle.map_model.specs.WellFormed.{IsSize, IsTileSize}
+use Rattle.map_json.specs.Maps.{Says}
 use Rattle.map_json.specs.Trees.{text_of}
-use Rattle.edits.specs.declared.area.Area.{Area}
-use Rattle.edits.specs.declared.selecting.Selecting.{Selecting}
-use Rattle.edits.specs.declared.selecting.Selecting.TheVariants.{Nothing, Rectangle}
-use Rattle.edits.specs.Filling.{after_fill}
-use Rattle.edits.specs.Refusals.{tile_layer_fault}
-use Rattle.edits.specs.Selecting.{after_select}
-use Rattle.edits.specs.Stamping.{after_erase, after_stamp}
-use Rattle.command_api.specs.declared.fault.EditFault.{EditFault}
-use Rattle.command_api.specs.declared.fault.EditFault.TheVariants as edit_faults
-use Rattle.command_api.specs.Law.{Names}
-use Rattle.edits.specs.LayerEdits.{after_add, after_remove, after_rename, after_show, after_move}
-use Rattle.layer_commands.specs.Changes.{add_names, remove_names, rename_names, show_names, move_names}
-use Rattle.paint_commands.specs.Painting.{erase_names, fill_names, stamp_names}
-use Rattle.paint_commands.specs.Selection.{select_names}
-use Rattle.undo_stack.specs.History.{Step, History, step_named, new_history, current, count, is_clean}
-use Rattle.undo_stack.specs.Moving.{Answer, StepsBack, StepsOn, GoesTo, MarksClean, UnmarksClean, Clears}
-use Rattle.undo_stack.specs.Reading.{undo_text_of, redo_text_of, text_at}
-use Rattle.undo_stack.specs.Pushing.{IsPushed}
-use Rattle.undo_stack.specs.declared.stack.StackFault.{StackFault}
-use Rattle.undo_stack.specs.declared.stack.StackFault.TheVariants as stack_faults
+use Rattle.map_json.specs.declared.fault.MapFault.TheVariants.{Refused}
+use Rattle.map_json.specs.declared.fault.MapRefusal.{MapRefusal}
+use Rattle.map_store.specs.Files.{StoreParts, SameOthers, HasFailed}
+use Rattle.undo_stack.specs.History.{History, new_history, current, is_clean}
+use Rattle.undo_stack.specs.Moving.{Answer, clean_answer, marked_clean}
+use Rattle.undo_stack.specs.Reading.{undo_text_of, redo_text_of}
+use Rattle.undo_group.specs.Groups.{GroupParts, OpenDocument, active_history, active_without, added, chosen, empty_group, history_named, removed, text_of_active}
+use Rattle.undo_group.specs.Groups as groups
 use Rattle.session.specs.declared.line.Line.{Line}
-use Rattle.session.specs.declared.line.Line.TheVariants.{Quiet, New, Stamp, Erase, Fill, Select, SelectNone, Tile, AddLayer, RemoveLayer, RenameLayer, ShowLayer, MoveLayer, Undo, Redo, Goto, Clean, Dirty, Clear, Show, Status, UndoText, RedoText, StepText}
+use Rattle.session.specs.declared.line.Line.TheVariants.{Quiet, New, Open, Save, Close, Discard, Use, Documents, Status, UndoText, RedoText}
 use Rattle.session.specs.declared.line.LineFault.{LineFault}
-use Rattle.session.specs.declared.reply.LocalTile.{LocalTile}
 use Rattle.session.specs.declared.reply.Refusal.{Refusal}
 use Rattle.session.specs.declared.reply.Refusal.TheVariants as refusals
 use Rattle.session.specs.declared.reply.Reply.{Reply}
 use Rattle.session.specs.declared.reply.Reply.TheVariants as replies
 use Rattle.session.specs.Grammar.{line_of}
-use Rattle.tile_id.specs.Gid.{base_of}
+use Rattle.editor.specs.DocumentSteps.{DocumentStep, state_reply}
+use Rattle.editor.specs.Refusals.{refusal_of_map, refusal_of_stack}
 
--- the undo limit of a document when it is made, and the open document's history, where one is open
+-- the undo limit of a document when it is made, and the open documents with their histories
 pub record Machine : Type 0 where
   pub limit : ℕ
-  pub open_document : Option History
+  pub group : GroupParts
 
 -- no document is open
 abbrev pub started_machine : ℕ → Machine
-started_machine limit = record { limit = limit; open_document = None }
+started_machine limit = record { limit = limit; group = empty_group }
 
--- the history of the active document, which is the open one
+-- the history of the active document
 abbrev pub active_of : Machine → Option History
-active_of m = m.open_document
+active_of m = active_history m.group
 
 -- the machine with this history of the active document, and all else as it was
 abbrev pub with_active : History → Machine → Machine
-with_active h m = record m { open_document = Some h }
-
--- ---- refusals
-abbrev pub refusal_of_edit : EditFault → Refusal
-refusal_of_edit edit_faults.NoSuchLayer = refusals.NoSuchLayer
-refusal_of_edit edit_faults.LayerOfAnotherKind = refusals.LayerOfAnotherKind
-refusal_of_edit edit_faults.OutsideTheMap = refusals.OutsideTheMap
-refusal_of_edit edit_faults.UnknownTile = refusals.UnknownTile
-refusal_of_edit edit_faults.NoSuchObject = refusals.NoSuchObject
-refusal_of_edit edit_faults.NoSuchProperty = refusals.NoSuchProperty
-refusal_of_edit edit_faults.NoSuchTileset = refusals.NoSuchTileset
-refusal_of_edit edit_faults.TilesetInUse = refusals.TilesetInUse
-refusal_of_edit edit_faults.FirstIdNotAbove = refusals.FirstIdNotAbove
-refusal_of_edit edit_faults.OutOfRange = refusals.OutOfRange
-refusal_of_edit edit_faults.TooMany = refusals.TooMany
-refusal_of_edit edit_faults.NoMemory = refusals.NoMemory
-
-abbrev pub refusal_of_stack : StackFault → Refusal
-refusal_of_stack stack_faults.MacroOpen = refusals.MacroOpen
-refusal_of_stack stack_faults.NothingToUndo = refusals.NothingToUndo
-refusal_of_stack stack_faults.NothingToRedo = refusals.NothingToRedo
+with_active h m = record m { group = groups.with_active h m.group }
 
 -- a refused line changes nothing
 abbrev pub Refuses : Refusal → Machine → Option Reply → Machine → Type 0
 Refuses refusal old reply new = (reply ≡ Some (replies.Refused refusal)) × (new ≡ old)
 
--- ---- accepted lines
--- how a history stands: its position, its count, whether it is clean, and its open levels
-abbrev pub state_reply : History → Reply
-state_reply h = replies.State h.position (count h) (is_clean h) (length h.levels)
-
--- the machine has become the old one with the active history h, and the reply says how that stands
-abbrev pub StandsAt : History → Machine → Option Reply → Machine → Type 0
-StandsAt h old reply new = (reply ≡ Some (state_reply h)) × (new ≡ with_active h old)
-
 -- the reply is this one, and nothing changes
 abbrev pub Answers : Reply → Machine → Option Reply → Machine → Type 0
 Answers answer old reply new = (reply ≡ Some answer) × (new ≡ old)
 
--- a line that needs an active document
-abbrev pub OverActive : (History → Machine → Option Reply → Machine → Type 0) → Option History → Machine → Option Reply → Machine → Type 0
-OverActive P None old reply new = Refuses refusals.NoActiveDocument old reply new
-OverActive P (Some h) old reply new = P h old reply new
-
--- ---- a new document
--- the history of a new document
-abbrev pub started : ℕ → ℕ → ℕ → ℕ → ℕ → List ℕ → History
-started limit width height tile_width tile_height source = new_history (document_of (new_map width height tile_width tile_height source)) limit
-
--- while a document is open its name is taken, whatever the new one is called; then the sizes must be within the limits
-abbrev pub NewStep : Option History → ℕ → ℕ → ℕ → ℕ → List ℕ → Machine → Option Reply → Machine → Type 0
-NewStep (Some h) width height tile_width tile_height source old reply new = Refuses refusals.NameTaken old reply new
-NewStep None width height tile_width tile_height source old reply new =
-    (IsSize width height × IsTileSize tile_width tile_height × StandsAt (started old.limit width height tile_width tile_height source) old reply new)
-    ⊎ ((IsSize width height × IsTileSize tile_width tile_height → ⊥) × Refuses refusals.OutOfRange old reply new)
-
--- ---- edits
--- the step of an edit with these names, or the edit's refusal
-abbrev pub answer_of : Names → Result DocumentParts EditFault → Result Step Refusal
-answer_of names (Ok d) = Ok (step_named names d)
-answer_of names (Err fault) = Err (refusal_of_edit fault)
-
--- the steps of an erase, a fill and an edit of the selection
-unfoldable pub erase_edit : ℕ → Area → Bool → DocumentParts → Result Step Refusal
-erase_edit layer area follows d = answer_of (erase_names layer follows) (after_erase d layer area)
-
-unfoldable pub fill_edit : ℕ → ℤ → ℤ → ℕ → DocumentParts → Result Step Refusal
-fill_edit layer x y value d = answer_of fill_names (after_fill d layer x y value)
-
-unfoldable pub select_edit : Selecting → DocumentParts → Result Step Refusal
-select_edit edit d = answer_of select_names (after_select d edit)
-
--- the lines that are edits: the step on a document, or its refusal
-abbrev pub edit_of : Line → Option (DocumentParts → Result Step Refusal)
-edit_of (Stamp layer x y width values follows) =
-    Some (λ d. answer_of (stamp_names layer follows) (after_stamp d layer (record { x = x; y = y; width = width; values = values })))
-edit_of (Erase layer x y width height follows) = Some (erase_edit layer (record { x = x; y = y; width = width; height = height }) follows)
-edit_of (Fill layer x y value) = Some (fill_edit layer x y value)
-edit_of (Select mode x y width height) = Some (select_edit (Rectangle mode (record { x = x; y = y; width = width; height = height })))
-edit_of SelectNone = Some (select_edit Nothing)
-edit_of (AddLayer kind name) = Some (λ d. answer_of add_names (after_add d kind name))
-edit_of (RemoveLayer layer) = Some (λ d. answer_of remove_names (after_remove d layer))
-edit_of (RenameLayer layer name) = Some (λ d. answer_of rename_names (after_rename d layer name))
-edit_of (ShowLayer layer visible) = Some (λ d. answer_of show_names (after_show d layer visible))
-edit_of (MoveLayer layer place) = Some (λ d. answer_of move_names (after_move d layer place))
-edit_of line = None
-
--- an accepted edit is pushed
-abbrev pub EditStep : Result Step Refusal → History → Machine → Option Reply → Machine → Type 0
-EditStep (Ok s) h old reply new = (n : History) × IsPushed h s n × StandsAt n old reply new
-EditStep (Err refusal) h old reply new = Refuses refusal old reply new
-
--- ---- moving
--- the reply to such a call
-abbrev pub moved_reply : Answer → History → Reply
-moved_reply (Ok done) n = state_reply n
-moved_reply (Err fault) n = replies.Refused (refusal_of_stack fault)
-
--- a call of the stack that may be refused
-abbrev pub MoveStep : Answer → History → Machine → Option Reply → Machine → Type 0
-MoveStep (Ok done) n old reply new = StandsAt n old reply new
-MoveStep (Err fault) n old reply new = Refuses (refusal_of_stack fault) old reply new
-
-abbrev pub Moves : (History → Answer → History → Type 0) → History → Machine → Option Reply → Machine → Type 0
-Moves Call h old reply new = (answer : Answer) × (n : History) × Call h answer n × MoveStep answer n old reply new
-
--- a call of the stack that nothing refuses
-abbrev pub Becomes : (History → History → Type 0) → History → Machine → Option Reply → Machine → Type 0
-Becomes Call h old reply new = (n : History) × Call h n × StandsAt n old reply new
-
--- ---- readings
 -- how the machine stands
 abbrev pub status_reply : Option History → Reply
 status_reply None = replies.NoDocument
 status_reply (Some h) = state_reply h
 
--- a text of the active history, and the empty one where no document is active
-abbrev pub active_text_reply : (History → List ℕ) → Option History → Reply
-active_text_reply text None = replies.Text []
-active_text_reply text (Some h) = replies.Text (text h)
+-- the machine goes on with this group, and the reply says how that stands
+abbrev pub GoesOn : GroupParts → Machine → Option Reply → Machine → Type 0
+GoesOn g old reply new = (reply ≡ Some (status_reply (active_history g))) × (new ≡ record old { group = g })
 
--- the text for lists of a step, where there is one
-abbrev pub step_text_reply : Option (List ℕ) → Reply
-step_text_reply None = replies.Refused refusals.OutOfRange
-step_text_reply (Some text) = replies.Text text
+-- ---- lines about the active document
+-- where a reply leaves the machine whose active history has become n: a refusal leaves it as it was
+abbrev pub moved_to : Reply → History → Machine → Machine
+moved_to (replies.Refused refusal) n m = m
+moved_to reply n m = with_active n m
 
--- ---- a look at a cell
--- the value of a cell; none left of the map or above it
-abbrev pub cell_value : MapParts → ℕ → ℤ → ℤ → Option ℕ
-cell_value m layer (pos x) (pos y) = cell_of m layer x y
-cell_value m layer (pos x) (negsuc y) = None
-cell_value m layer (negsuc x) y = None
+abbrev pub OverActive : (History → Reply → History → Type 0) → Option History → Machine → Option Reply → Machine → Type 0
+OverActive P None old reply new = Refuses refusals.NoActiveDocument old reply new
+OverActive P (Some h) old reply new = (answer : Reply) × (n : History) × P h answer n × (reply ≡ Some answer) × (new ≡ moved_to answer n old)
 
--- the tile that a value names: the first id of its tileset, and how far its base is above that
-abbrev pub local_tile : MapParts → ℕ → Option LocalTile
-local_tile m value = option_map (λ t. record { first_id = t.first_id; local_id = base_of value - t.first_id }) (tileset_of m value)
+-- ---- lines about the open documents
+-- the document of this name goes last, and is the active one
+abbrev pub opened : List ℕ → History → GroupParts → GroupParts
+opened name h g = chosen (Some name) (added name h g)
 
--- an empty cell, or a value with the tile that it names, where a tileset has it
-abbrev pub value_reply : MapParts → Option ℕ → Reply
-value_reply m None = replies.Refused refusals.OutsideTheMap
-value_reply m (Some value) = if nat_eq value 0 then replies.EmptyTile else replies.Tile value (local_tile m value)
+abbrev pub Opens : List ℕ → History → Machine → Option Reply → Machine → Type 0
+Opens name h old reply new = (reply ≡ Some (state_reply h)) × (new ≡ record old { group = opened name h old.group })
 
-abbrev pub tile_reply_by : Option EditFault → MapParts → Option ℕ → Reply
-tile_reply_by (Some fault) m value = replies.Refused (refusal_of_edit fault)
-tile_reply_by None m value = value_reply m value
+-- the history of a new document
+abbrev pub started : ℕ → ℕ → ℕ → ℕ → ℕ → List ℕ → History
+started limit width height tile_width tile_height source = new_history (document_of (new_map width height tile_width tile_height source)) limit
 
-abbrev pub tile_reply : MapParts → ℕ → ℤ → ℤ → Reply
-tile_reply m layer x y = tile_reply_by (tile_layer_fault (layer_of m layer)) m (cell_value m layer x y)
+-- a new document: first its name must be free, then its sizes must be within the limits
+abbrev pub NewStep : Option History → List ℕ → ℕ → ℕ → ℕ → ℕ → List ℕ → Machine → Option Reply → Machine → Type 0
+NewStep (Some h) name width height tile_width tile_height source old reply new = Refuses refusals.NameTaken old reply new
+NewStep None name width height tile_width tile_height source old reply new =
+    (IsSize width height × IsTileSize tile_width tile_height × Opens name (started old.limit width height tile_width tile_height source) old reply new)
+    ⊎ ((IsSize width height × IsTileSize tile_width tile_height → ⊥) × Refuses refusals.OutOfRange old reply new)
 
--- ---- lines
--- what a line does that is no edit, where there is memory
-abbrev pub OtherStep : Line → Machine → Option Reply → Machine → Type 0
-OtherStep Quiet old reply new = (reply ≡ None) × (new ≡ old)
-OtherStep (New name width height tile_width tile_height source) old reply new = NewStep (active_of old) width height tile_width tile_height source old reply new
-OtherStep (Tile layer x y) old reply new = OverActive (λ h. Answers (tile_reply (current h).map layer x y)) (active_of old) old reply new
-OtherStep Undo old reply new = OverActive (Moves StepsBack) (active_of old) old reply new
-OtherStep Redo old reply new = OverActive (Moves StepsOn) (active_of old) old reply new
-OtherStep (Goto index) old reply new = OverActive (Moves (GoesTo index)) (active_of old) old reply new
-OtherStep Clean old reply new = OverActive (Moves MarksClean) (active_of old) old reply new
-OtherStep Dirty old reply new = OverActive (Becomes UnmarksClean) (active_of old) old reply new
-OtherStep Clear old reply new = OverActive (Becomes Clears) (active_of old) old reply new
-OtherStep Show old reply new = OverActive (λ h. Answers (replies.Map (text_of (current h).map))) (active_of old) old reply new
-OtherStep Status old reply new = Answers (status_reply (active_of old)) old reply new
-OtherStep UndoText old reply new = Answers (active_text_reply undo_text_of (active_of old)) old reply new
-OtherStep RedoText old reply new = Answers (active_text_reply redo_text_of (active_of old)) old reply new
-OtherStep (StepText place) old reply new = OverActive (λ h. Answers (step_text_reply (text_at h place))) (active_of old) old reply new
-OtherStep line old reply new = ⊥
+-- a document that goes: where it was the active one, none is
+abbrev pub DiscardStep : Option History → List ℕ → Machine → Option Reply → Machine → Type 0
+DiscardStep None name old reply new = Refuses refusals.NoSuchDocument old reply new
+DiscardStep (Some h) name old reply new = GoesOn (removed name old.group) old reply new
 
--- what a line does where there is memory: an edit is one of the active document's current state
-abbrev pub FollowsBy : Option (DocumentParts → Result Step Refusal) → Line → Machine → Option Reply → Machine → Type 0
-FollowsBy (Some edit) line old reply new = OverActive (λ h. EditStep (edit (current h)) h) (active_of old) old reply new
-FollowsBy None line old reply new = OtherStep line old reply new
+abbrev pub CloseBy : Bool → List ℕ → Machine → Option Reply → Machine → Type 0
+CloseBy true name old reply new = GoesOn (removed name old.group) old reply new
+CloseBy false name old reply new = Refuses refusals.UnsavedChanges old reply new
 
-abbrev pub Follows : Line → Machine → Option Reply → Machine → Type 0
-Follows line old reply new = FollowsBy (edit_of line) line old reply new
+-- one that goes only where it is clean
+abbrev pub CloseStep : Option History → List ℕ → Machine → Option Reply → Machine → Type 0
+CloseStep None name old reply new = Refuses refusals.NoSuchDocument old reply new
+CloseStep (Some h) name old reply new = CloseBy (is_clean h) name old reply new
 
--- where want of memory may refuse a line: an edit or a text of an active document, or its map's, and a new document whose name is free
-abbrev pub MayLackMemoryBy : Option (DocumentParts → Result Step Refusal) → Line → Machine → Type 0
-MayLackMemoryBy (Some edit) line m = IsSome (active_of m)
-MayLackMemoryBy None (New name width height tile_width tile_height source) m = active_of m ≡ None
-MayLackMemoryBy None Show m = IsSome (active_of m)
-MayLackMemoryBy None UndoText m = IsSome (active_of m)
-MayLackMemoryBy None RedoText m = IsSome (active_of m)
-MayLackMemoryBy None (StepText place) m = IsSome (active_of m)
-MayLackMemoryBy None line m = ⊥
+-- one that becomes the active one
+abbrev pub ChooseStep : Option History → List ℕ → Machine → Option Reply → Machine → Type 0
+ChooseStep None name old reply new = Refuses refusals.NoSuchDocument old reply new
+ChooseStep (Some h) name old reply new = GoesOn (chosen (Some name) old.group) old reply new
 
+abbrev pub UseStep : Option (List ℕ) → Machine → Option Reply → Machine → Type 0
+UseStep None old reply new = GoesOn (chosen None old.group) old reply new
+UseStep (Some name) old reply new = ChooseStep (history_named name old.group.documents) name old reply new
+
+-- a name as it is listed: with a star in front where it is the active one's
+abbrev pub listed : Option (List ℕ) → List ℕ → List ℕ
+listed None name = name
+listed (Some active) name = if bytes_eq active name then 42 ∷ name else name
+
+-- the names of the open documents, in order of opening, with a space between each two
+abbrev pub documents_text : GroupParts → List ℕ
+documents_text g = join_with_byte 32 (map (λ (d : OpenDocument). listed g.active d.name) g.documents)
+
+abbrev pub GroupStep : Line → Machine → Option Reply → Machine → Type 0
+GroupStep Quiet old reply new = (reply ≡ None) × (new ≡ old)
+GroupStep (New name width height tile_width tile_height source) old reply new =
+    NewStep (history_named name old.group.documents) name width height tile_width tile_height source old reply new
+GroupStep (Close name) old reply new = CloseStep (history_named name old.group.documents) name old reply new
+GroupStep (Discard name) old reply new = DiscardStep (history_named name old.group.documents) name old reply new
+GroupStep (Use choice) old reply new = UseStep choice old reply new
+GroupStep Documents old reply new = Answers (replies.Documents (documents_text old.group)) old reply new
+GroupStep Status old reply new = Answers (status_reply (active_of old)) old reply new
+GroupStep UndoText old reply new = Answers (replies.Text (text_of_active undo_text_of (active_of old))) old reply new
+GroupStep RedoText old reply new = Answers (replies.Text (text_of_active redo_text_of (active_of old))) old reply new
+GroupStep line old reply new = ⊥
+
+-- where want of memory may refuse such a line: a new document whose name is free, the names, and a text of an active document
 abbrev pub MayLackMemory : Line → Machine → Type 0
-MayLackMemory line m = MayLackMemoryBy (edit_of line) line m
+MayLackMemory (New name width height tile_width tile_height source) m = history_named name m.group.documents ≡ None
+MayLackMemory Documents m = ⊤
+MayLackMemory UndoText m = IsSome (active_of m)
+MayLackMemory RedoText m = IsSome (active_of m)
+MayLackMemory line m = ⊥
 
--- what a line may do
-abbrev pub StepOfLine : Line → Machine → Option Reply → Machine → Type 0
-StepOfLine line old reply new = Follows line old reply new ⊎ (MayLackMemory line old × Refuses refusals.NoMemory old reply new)
+-- ---- lines about the files
+-- the files are as they were, and the count of failures has not fallen
+pub record KeepsFiles (before after : StoreParts) : Type 0 where
+  pub files : after.files ≡ before.files
+  pub count : before.failures ≤ after.failures
 
-abbrev pub StepOf : Result Line LineFault → Machine → Option Reply → Machine → Type 0
-StepOf (Ok line) old reply new = StepOfLine line old reply new
-StepOf (Err fault) old reply new = Refuses (refusals.Line fault) old reply new
+-- the bytes of a file: what they say becomes a document, or is refused
+abbrev pub ReadStep : List ℕ → List ℕ → Machine → Option Reply → Machine → Type 0
+ReadStep name bytes old reply new =
+    ((m : MapParts) × Says bytes (Ok m) × Opens name (new_history (document_of m) old.limit) old reply new)
+    ⊎ ((refusal : MapRefusal) × Says bytes (Err (Refused refusal)) × Refuses (refusal_of_map refusal) old reply new)
+
+abbrev pub LoadStep : Option (List ℕ) → List ℕ → Machine → Option Reply → Machine → Type 0
+LoadStep None name old reply new = Refuses refusals.NoSuchFile old reply new
+LoadStep (Some bytes) name old reply new = ReadStep name bytes old reply new
+
+-- a file is opened: first the name must be free, then the store answers, or fails; memory may want then too
+abbrev pub OpenStep : Option History → List ℕ → List ℕ → Machine → StoreParts → Option Reply → Machine → StoreParts → Type 0
+OpenStep (Some h) name file old before reply new after = Refuses refusals.NameTaken old reply new × (after ≡ before)
+OpenStep None name file old before reply new after = KeepsFiles before after
+    × (LoadStep (get before.files file) name old reply new
+    ⊎ (HasFailed before after × Refuses refusals.StoreFailed old reply new)
+    ⊎ Refuses refusals.NoMemory old reply new)
+
+-- the map's text is in the file, and then the position is the clean one
+pub record Saves (h : History) (file : List ℕ) (old : Machine) (before : StoreParts) (reply : Option Reply) (new : Machine) (after : StoreParts) : Type 0 where
+  pub files : after.files ≡ insert before.files file (text_of (current h).map)
+  pub count : before.failures ≤ after.failures
+  pub reply : reply ≡ Some (replies.Saved file (length (text_of (current h).map)))
+  pub machine : new ≡ with_active (marked_clean h) old
+
+-- the store failed: that one file may hold anything or be absent, and nothing else has changed
+pub record FailsToSave (file : List ℕ) (old : Machine) (before : StoreParts) (reply : Option Reply) (new : Machine) (after : StoreParts) : Type 0 where
+  pub failed : HasFailed before after
+  pub count : before.failures ≤ after.failures
+  pub others : SameOthers file before.files after.files
+  pub refused : Refuses refusals.StoreFailed old reply new
+
+-- a file is saved where no macro is open
+abbrev pub SaveBy : Answer → History → List ℕ → Machine → StoreParts → Option Reply → Machine → StoreParts → Type 0
+SaveBy (Err fault) h file old before reply new after = Refuses (refusal_of_stack fault) old reply new × (after ≡ before)
+SaveBy (Ok done) h file old before reply new after =
+    Saves h file old before reply new after
+    ⊎ FailsToSave file old before reply new after
+    ⊎ (KeepsFiles before after × Refuses refusals.NoMemory old reply new)
+
+abbrev pub SaveStep : Option History → List ℕ → Machine → StoreParts → Option Reply → Machine → StoreParts → Type 0
+SaveStep None file old before reply new after = Refuses refusals.NoActiveDocument old reply new × (after ≡ before)
+SaveStep (Some h) file old before reply new after = SaveBy (clean_answer h) h file old before reply new after
+
+abbrev pub StoreStep : Line → Machine → StoreParts → Option Reply → Machine → StoreParts → Type 0
+StoreStep (Open name file) old before reply new after = OpenStep (history_named name old.group.documents) name file old before reply new after
+StoreStep (Save file) old before reply new after = SaveStep (active_of old) file old before reply new after
+StoreStep line old before reply new after = ⊥
+
+-- ---- all lines
+-- what a line is about: the active document alone, the open documents, or a file
+pub data Scope : Type 0 where
+  OneDocument : Scope
+  AllDocuments : Scope
+  OneFile : Scope
+
+abbrev pub scope_of : Line → Scope
+scope_of Quiet = AllDocuments
+scope_of (New name width height tile_width tile_height source) = AllDocuments
+scope_of (Open name file) = OneFile
+scope_of (Save file) = OneFile
+scope_of (Close name) = AllDocuments
+scope_of (Discard name) = AllDocuments
+scope_of (Use choice) = AllDocuments
+scope_of Documents = AllDocuments
+scope_of Status = AllDocuments
+scope_of UndoText = AllDocuments
+scope_of RedoText = AllDocuments
+scope_of line = OneDocument
+
+abbrev pub StepBy : Scope → Line → Machine → StoreParts → Option Reply → Machine → StoreParts → Type 0
+StepBy OneDocument line old before reply new after = OverActive (DocumentStep line) (active_of old) old reply new × (after ≡ before)
+StepBy AllDocuments line old before reply new after =
+    (GroupStep line old reply new ⊎ (MayLackMemory line old × Refuses refusals.NoMemory old reply new)) × (after ≡ before)
+StepBy OneFile line old before reply new after = StoreStep line old before reply new after
+
+-- what a line may do: before and after are what the store keeps
+abbrev pub StepOfLine : Line → Machine → StoreParts → Option Reply → Machine → StoreParts → Type 0
+StepOfLine line old before reply new after = StepBy (scope_of line) line old before reply new after
+
+abbrev pub StepOf : Result Line LineFault → Machine → StoreParts → Option Reply → Machine → StoreParts → Type 0
+StepOf (Ok line) old before reply new after = StepOfLine line old before reply new after
+StepOf (Err fault) old before reply new after = Refuses (refusals.Line fault) old reply new × (after ≡ before)
 
 -- what the bytes of a line may do
-abbrev pub StepOfBytes : List ℕ → Machine → Option Reply → Machine → Type 0
-StepOfBytes bytes old reply new = StepOf (line_of bytes) old reply new
+abbrev pub StepOfBytes : List ℕ → Machine → StoreParts → Option Reply → Machine → StoreParts → Type 0
+StepOfBytes bytes old before reply new after = StepOf (line_of bytes) old before reply new after

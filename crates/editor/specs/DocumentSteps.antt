@@ -1,0 +1,159 @@
+-- What a line does with the history of the active document. An accepted edit gives a new document, and undo and redo only move a
+-- position: nothing is turned back.
+use Rattle.std.specs.Prelude.{◌≡◌, ℕ, ◌-◌, List, ℤ, pos, negsuc, Bool, nat_eq, if◌then◌else◌, length, Option, None, Some, Result, Ok, Err, ◌⊎◌, ⊤, ⊥}
+use Rattle.std.specs.Option.{option_map}
+use Rattle.map_model.specs.Document.{DocumentParts}
+use Rattle.map_model.specs.declared.parts.MapParts.{MapParts}
+use Rattle.map_model.specs.Parts.{layer_of, cell_of}
+use Rattle.map_model.specs.Tilesets.{tileset_of}
+use Rattle.map_json.specs.Trees.{text_of}
+use Rattle.edits.specs.declared.area.Area.{Area}
+use Rattle.edits.specs.declared.selecting.Selecting.{Selecting}
+use Rattle.edits.specs.declared.selecting.Selecting.TheVariants.{Nothing, Rectangle}
+use Rattle.edits.specs.Filling.{after_fill}
+use Rattle.edits.specs.Refusals.{tile_layer_fault}
+use Rattle.edits.specs.Selecting.{after_select}
+use Rattle.edits.specs.Stamping.{after_erase, after_stamp}
+use Rattle.command_api.specs.declared.fault.EditFault.{EditFault}
+use Rattle.command_api.specs.Law.{Names}
+use Rattle.edits.specs.LayerEdits.{after_add, after_remove, after_rename, after_show, after_move}
+use Rattle.layer_commands.specs.Changes.{add_names, remove_names, rename_names, show_names, move_names}
+use Rattle.paint_commands.specs.Painting.{erase_names, fill_names, stamp_names}
+use Rattle.paint_commands.specs.Selection.{select_names}
+use Rattle.undo_stack.specs.History.{Step, History, step_named, current, count, is_clean}
+use Rattle.undo_stack.specs.Moving.{Answer, StepsBack, StepsOn, GoesTo, MarksClean, UnmarksClean, Clears}
+use Rattle.undo_stack.specs.Reading.{text_at}
+use Rattle.undo_stack.specs.Pushing.{IsPushed}
+use Rattle.session.specs.declared.line.Line.{Line}
+use Rattle.session.specs.declared.line.Line.TheVariants.{Stamp, Erase, Fill, Select, SelectNone, Tile, AddLayer, RemoveLayer, RenameLayer, ShowLayer, MoveLayer, Undo, Redo, Goto, Clean, Dirty, Clear, Show, StepText}
+use Rattle.session.specs.declared.reply.LocalTile.{LocalTile}
+use Rattle.session.specs.declared.reply.Refusal.{Refusal}
+use Rattle.session.specs.declared.reply.Refusal.TheVariants as refusals
+use Rattle.session.specs.declared.reply.Reply.{Reply}
+use Rattle.session.specs.declared.reply.Reply.TheVariants as replies
+use Rattle.editor.specs.Refusals.{refusal_of_edit, refusal_of_stack}
+use Rattle.tile_id.specs.Gid.{base_of}
+
+-- how a history stands: its position, its count, whether it is clean, and its open levels
+abbrev pub state_reply : History → Reply
+state_reply h = replies.State h.position (count h) (is_clean h) (length h.levels)
+
+-- a refused line changes nothing
+abbrev pub Declines : Refusal → History → Reply → History → Type 0
+Declines refusal h reply n = (reply ≡ replies.Refused refusal) × (n ≡ h)
+
+-- the reply is this one, and nothing changes
+abbrev pub Tells : Reply → History → Reply → History → Type 0
+Tells answer h reply n = (reply ≡ answer) × (n ≡ h)
+
+-- ---- edits
+-- the step of an edit with these names, or the edit's refusal
+abbrev pub answer_of : Names → Result DocumentParts EditFault → Result Step Refusal
+answer_of names (Ok d) = Ok (step_named names d)
+answer_of names (Err fault) = Err (refusal_of_edit fault)
+
+-- the steps of an erase, a fill and an edit of the selection
+unfoldable pub erase_edit : ℕ → Area → Bool → DocumentParts → Result Step Refusal
+erase_edit layer area follows d = answer_of (erase_names layer follows) (after_erase d layer area)
+
+unfoldable pub fill_edit : ℕ → ℤ → ℤ → ℕ → DocumentParts → Result Step Refusal
+fill_edit layer x y value d = answer_of fill_names (after_fill d layer x y value)
+
+unfoldable pub select_edit : Selecting → DocumentParts → Result Step Refusal
+select_edit edit d = answer_of select_names (after_select d edit)
+
+-- the lines that are edits: the step on a document, or its refusal
+abbrev pub edit_of : Line → Option (DocumentParts → Result Step Refusal)
+edit_of (Stamp layer x y width values follows) =
+    Some (λ d. answer_of (stamp_names layer follows) (after_stamp d layer (record { x = x; y = y; width = width; values = values })))
+edit_of (Erase layer x y width height follows) = Some (erase_edit layer (record { x = x; y = y; width = width; height = height }) follows)
+edit_of (Fill layer x y value) = Some (fill_edit layer x y value)
+edit_of (Select mode x y width height) = Some (select_edit (Rectangle mode (record { x = x; y = y; width = width; height = height })))
+edit_of SelectNone = Some (select_edit Nothing)
+edit_of (AddLayer kind name) = Some (λ d. answer_of add_names (after_add d kind name))
+edit_of (RemoveLayer layer) = Some (λ d. answer_of remove_names (after_remove d layer))
+edit_of (RenameLayer layer name) = Some (λ d. answer_of rename_names (after_rename d layer name))
+edit_of (ShowLayer layer visible) = Some (λ d. answer_of show_names (after_show d layer visible))
+edit_of (MoveLayer layer place) = Some (λ d. answer_of move_names (after_move d layer place))
+edit_of line = None
+
+-- an accepted edit is pushed
+abbrev pub EditStep : Result Step Refusal → History → Reply → History → Type 0
+EditStep (Ok s) h reply n = IsPushed h s n × (reply ≡ state_reply n)
+EditStep (Err refusal) h reply n = Declines refusal h reply n
+
+-- ---- moving
+-- the reply to such a call
+abbrev pub moved_reply : Answer → History → Reply
+moved_reply (Ok done) n = state_reply n
+moved_reply (Err fault) n = replies.Refused (refusal_of_stack fault)
+
+-- a call of the stack that may be refused, and then leaves the history as it was
+abbrev pub Moves : (History → Answer → History → Type 0) → History → Reply → History → Type 0
+Moves Call h reply n = (answer : Answer) × Call h answer n × (reply ≡ moved_reply answer n)
+
+-- a call of the stack that nothing refuses
+abbrev pub Becomes : (History → History → Type 0) → History → Reply → History → Type 0
+Becomes Call h reply n = Call h n × (reply ≡ state_reply n)
+
+-- ---- readings
+-- the text for lists of a step, where there is one
+abbrev pub step_text_reply : Option (List ℕ) → Reply
+step_text_reply None = replies.Refused refusals.OutOfRange
+step_text_reply (Some text) = replies.Text text
+
+-- ---- a look at a cell
+-- the value of a cell; none left of the map or above it
+abbrev pub cell_value : MapParts → ℕ → ℤ → ℤ → Option ℕ
+cell_value m layer (pos x) (pos y) = cell_of m layer x y
+cell_value m layer (pos x) (negsuc y) = None
+cell_value m layer (negsuc x) y = None
+
+-- the tile that a value names: the first id of its tileset, and how far its base is above that
+abbrev pub local_tile : MapParts → ℕ → Option LocalTile
+local_tile m value = option_map (λ t. record { first_id = t.first_id; local_id = base_of value - t.first_id }) (tileset_of m value)
+
+-- an empty cell, or a value with the tile that it names, where a tileset has it
+abbrev pub value_reply : MapParts → Option ℕ → Reply
+value_reply m None = replies.Refused refusals.OutsideTheMap
+value_reply m (Some value) = if nat_eq value 0 then replies.EmptyTile else replies.Tile value (local_tile m value)
+
+abbrev pub tile_reply_by : Option EditFault → MapParts → Option ℕ → Reply
+tile_reply_by (Some fault) m value = replies.Refused (refusal_of_edit fault)
+tile_reply_by None m value = value_reply m value
+
+abbrev pub tile_reply : MapParts → ℕ → ℤ → ℤ → Reply
+tile_reply m layer x y = tile_reply_by (tile_layer_fault (layer_of m layer)) m (cell_value m layer x y)
+
+-- ---- lines
+-- what a line does that is no edit
+abbrev pub OtherStep : Line → History → Reply → History → Type 0
+OtherStep (Tile layer x y) h reply n = Tells (tile_reply (current h).map layer x y) h reply n
+OtherStep Undo h reply n = Moves StepsBack h reply n
+OtherStep Redo h reply n = Moves StepsOn h reply n
+OtherStep (Goto index) h reply n = Moves (GoesTo index) h reply n
+OtherStep Clean h reply n = Moves MarksClean h reply n
+OtherStep Dirty h reply n = Becomes UnmarksClean h reply n
+OtherStep Clear h reply n = Becomes Clears h reply n
+OtherStep Show h reply n = Tells (replies.Map (text_of (current h).map)) h reply n
+OtherStep (StepText place) h reply n = Tells (step_text_reply (text_at h place)) h reply n
+OtherStep line h reply n = ⊥
+
+-- an edit is one of the current document
+abbrev pub FollowsBy : Option (DocumentParts → Result Step Refusal) → Line → History → Reply → History → Type 0
+FollowsBy (Some edit) line h reply n = EditStep (edit (current h)) h reply n
+FollowsBy None line h reply n = OtherStep line h reply n
+
+-- where want of memory may refuse a line: an edit, a text of a step, or the map's text
+abbrev pub MayLackBy : Option (DocumentParts → Result Step Refusal) → Line → Type 0
+MayLackBy (Some edit) line = ⊤
+MayLackBy None Show = ⊤
+MayLackBy None (StepText place) = ⊤
+MayLackBy None line = ⊥
+
+abbrev pub DocumentStepBy : Option (DocumentParts → Result Step Refusal) → Line → History → Reply → History → Type 0
+DocumentStepBy edit line h reply n = FollowsBy edit line h reply n ⊎ (MayLackBy edit line × Declines refusals.NoMemory h reply n)
+
+-- what a line may do with the history of the active document
+abbrev pub DocumentStep : Line → History → Reply → History → Type 0
+DocumentStep line h reply n = DocumentStepBy (edit_of line) line h reply n
