@@ -1,0 +1,46 @@
+-- A group of stacks, seen as a group of histories, where f says what their commands do.
+use Rattle.std.specs.Prelude.{ℕ, ◌-◌, ◌<◌, ◌==◌, nat_lt, if◌then◌else◌, List, map, length, Option, Some, None, IsSome, IfSome, All, slice_get}
+use Rattle.std.specs.Option.{option_map}
+use Rattle.std.specs.String.{string_bytes}
+use Rattle.std.specs.declared.string.String.{String}
+use Rattle.command_api.specs.Law.{Change}
+use Rattle.undo_stack.specs.Stacks.{history, Holds}
+use Rattle.undo_stack.specs.declared.stack.Stack.{Stack}
+use Rattle.undo_group.specs.Groups.{OpenDocument, GroupParts, IsNew, history_named}
+use Rattle.undo_group.specs.declared.group.Group.{Group}
+use Rattle.undo_group.specs.declared.group.GroupFault.{GroupFault}
+use Rattle.undo_group.specs.declared.group.GroupFault.TheVariants.{NameTaken, NoSuchDocument, NoMemory}
+
+module _ {C : Type 0} (f : C → Change) where
+  -- the document that a name and a stack stand for
+  abbrev pub document_of : {Y : Type 0} → String Y × Stack C → OpenDocument
+  document_of e = record { name = string_bytes e.0; history = history f e.1 }
+
+  -- the documents that the entries stand for
+  abbrev pub documents_of : {Y : Type 0} → List (String Y × Stack C) → List OpenDocument
+  documents_of es = map document_of es
+
+-- the name at a place among the entries
+abbrev pub name_at : {C Y : Type 0} → List (String Y × Stack C) → Option ℕ → Option (List ℕ)
+name_at es None = None
+name_at es (Some at) = option_map (λ e. string_bytes e.0) (slice_get es at)
+
+-- the group that it stands for
+abbrev pub group_of : {C : Type 0} → (C → Change) → Group C → GroupParts
+group_of f g = record { documents = documents_of f g.stacks.entries; active = name_at g.stacks.entries g.active }
+
+-- the stacks hold, and the place of the active one is among them
+pub record AreHeld {C : Type 0} (f : C → Change) (g : Group C) : Type 0 where
+  pub stacks : All (λ e. Holds f e.1) g.stacks.entries
+  pub within : IfSome g.active (λ at. at < length g.stacks.entries)
+
+-- the place of the active one, once the entry at another place is taken out and those behind it stand one place lower
+abbrev pub place_without : ℕ → Option ℕ → Option ℕ
+place_without gone None = None
+place_without gone (Some at) = if at == gone then None else Some (if nat_lt gone at then at - 1 else at)
+
+-- a document is not added where its name is taken, or, with a new name, for want of memory
+abbrev pub IsNotAdded : List ℕ → List OpenDocument → GroupFault → Type 0
+IsNotAdded name ds NameTaken = IsSome (history_named name ds)
+IsNotAdded name ds NoSuchDocument = ⊥
+IsNotAdded name ds NoMemory = IsNew name ds
