@@ -1,0 +1,193 @@
+ghost use Rattle.std.specs.Prelude.{◌≡◌, ◌-◌, ◌^◌, ◌<◌, ◌≤◌, ◌⊎◌, IfOk, IfSome, OnOk, vec_len, length};
+
+use crate::map_store::{MapStore, StoreFault};
+use std::alloc::{AllocError, Global};
+use std::fs::{File, OpenFile};
+use std::io::{ErrorKind, Read, Write};
+use std::rt::Files;
+use std::{fs, io};
+
+/// The bytes of the longest file that is loaded.
+const LONGEST: usize = 67_108_864;
+
+/// The room that is made where a file turns out to be longer than was known.
+const MORE_ROOM: usize = 65_536;
+
+/// The calls of `read` that a load makes at most.
+const MAX_CALLS: u64 = 4_294_967_296;
+
+/// The files of a folder of the system. Nothing is claimed of them, since other programs reach them too.
+///
+/// A file's path is the folder's, a slash and its name. The name has no slash and no dot at its front.
+#[derive(Drop)]
+pub struct FolderStore<'a, R> {
+    rt: &'a R,
+    folder: &'a str,
+    failures: u64,
+}
+
+// What stands for an error of the system at a load.
+fn load_fault(kind: ErrorKind) -> StoreFault {
+    match kind {
+        ErrorKind::NotFound => StoreFault::Missing,
+        _ => StoreFault::Device,
+    }
+}
+
+// Makes room for more bytes, but for no more than the longest file has and one more.
+fn make_room(bytes: &mut Vec<u8>) -> Result<(), StoreFault>
+    ensures { OnOk result (vec_len bytes.old < vec_len bytes.new) }
+{
+    let len = bytes.len();
+    if len > LONGEST {
+        return Err(StoreFault::Device);
+    }
+    let longer = if len < MORE_ROOM {
+        MORE_ROOM
+    } else if len > LONGEST / 2 {
+        LONGEST + 1
+    } else {
+        2 * len
+    };
+    if bytes.reserve_exact(longer - len).is_err() || bytes.resize(longer, 0).is_err() {
+        return Err(StoreFault::Memory);
+    }
+    Ok(())
+}
+
+// Calls `read` once for what lies behind a place, and gives where the bytes end then. A call that was interrupted gives
+// the same place, and one at the file's end none.
+fn read_behind<F: Read>(
+    file: &mut F,
+    bytes: &mut [u8],
+    place: usize,
+) -> Result<Option<usize>, StoreFault>
+    requires { place < length bytes.old }
+    ensures { IfOk result (λ end. IfSome end (λ n. n ≤ length bytes.new)) }
+{
+    match file.read(&mut bytes[place..]) {
+        Ok(0) => Ok(None),
+        Ok(count) => Ok(Some(place + count)),
+        Err(error) if error.kind() == ErrorKind::Interrupted => Ok(Some(place)),
+        Err(_) => Err(StoreFault::Device),
+    }
+}
+
+// Reads to the end. So many bytes are looked for; where they come, room was taken once.
+fn read_whole<F: Read>(alloc: Global, file: &mut F, size: usize) -> Result<Vec<u8>, StoreFault>
+    requires { size ≤ LONGEST }
+{
+    let Ok(mut bytes) = vec![in alloc; 0; size + 1] else {
+        return Err(StoreFault::Memory);
+    };
+    let mut end = 0;
+    for _ in 0..MAX_CALLS {
+        if end >= bytes.len() {
+            make_room(&mut bytes)?;
+        }
+        match read_behind(file, &mut bytes, end)? {
+            Some(place) => end = place,
+            None => {
+                bytes.truncate(end);
+                return Ok(bytes);
+            }
+        }
+    }
+    Err(StoreFault::Device)
+}
+
+// Writes a file that is not there yet, and has the system keep it.
+fn write_new<R: Files>(rt: &R, path: &str, bytes: &[u8]) -> io::Result<()> {
+    let mut file = File::create_new(rt, path)?;
+    file.write_all(bytes)?;
+    file.sync_all()
+}
+
+// Puts bytes into a file by way of a new one, which takes its place when it is whole.
+fn replace<R: Files>(rt: &R, new_path: &str, path: &str, bytes: &[u8]) -> io::Result<()> {
+    // What a run that was killed left behind. What can't be removed is seen when the new file is made.
+    let _ = fs::remove_file(rt, new_path);
+    write_new(rt, new_path, bytes)?;
+    fs::rename(rt, new_path, path)
+}
+
+impl<'a, R: Files> FolderStore<'a, R> {
+    /// The files of a folder, which is not looked at yet. Its path is not empty.
+    pub fn new(rt: &'a R, folder: &'a str) -> FolderStore<'a, R> {
+        FolderStore {
+            rt,
+            folder,
+            failures: 0,
+        }
+    }
+
+    fn path_of(&self, alloc: Global, name: &str) -> Result<String, AllocError> {
+        let folder = self.folder;
+        format!(in alloc; "{folder}/{name}")
+    }
+
+    // Where a file is written before it takes its place. Its name begins with a dot, so it is no file of the store.
+    fn new_path_of(&self, alloc: Global, name: &str) -> Result<String, AllocError> {
+        let folder = self.folder;
+        format!(in alloc; "{folder}/.{name}.new")
+    }
+
+    fn read_file(&self, alloc: Global, name: &str) -> Result<Vec<u8>, StoreFault> {
+        let Ok(path) = self.path_of(alloc, name) else {
+            return Err(StoreFault::Memory);
+        };
+        // To open a pipe would wait for its other end, so what is no file is not opened.
+        let metadata = match fs::metadata(self.rt, path.as_str()) {
+            Ok(metadata) => metadata,
+            Err(error) => return Err(load_fault(error.kind())),
+        };
+        let size = metadata.len();
+        if !metadata.is_file() || size > LONGEST as u64 {
+            return Err(StoreFault::Device);
+        }
+        match fs::open(self.rt, path.as_str()) {
+            Ok(mut file) => read_whole(alloc, &mut file, size as usize),
+            Err(error) => Err(load_fault(error.kind())),
+        }
+    }
+
+    // Counts a fault of the device.
+    fn counted(&mut self, fault: StoreFault) -> StoreFault
+        ensures value { result ≡ fault }
+        ensures raised { result ≡ StoreFault.Device → (self.old.failures < self.new.failures) ⊎ (self.old.failures ≡ 2 ^ 64 - 1) }
+        ensures count { self.old.failures ≤ self.new.failures }
+    {
+        if fault == StoreFault::Device {
+            self.failures = self.failures.saturating_add(1);
+        }
+        fault
+    }
+}
+
+impl<'a, R: Files> MapStore for FolderStore<'a, R> {
+    ghost use Rattle.std.specs.FinMap.{empty};
+
+    ghost kept = { λ s. record { files = empty; failures = s.failures } };
+
+    ghost honest = { λ _. ⊥ };
+
+    fn load(&mut self, alloc: Global, name: &str) -> Result<Vec<u8>, StoreFault> {
+        match self.read_file(alloc, name) {
+            Ok(bytes) => Ok(bytes),
+            Err(fault) => Err(self.counted(fault)),
+        }
+    }
+
+    fn store(&mut self, alloc: Global, name: &str, bytes: &[u8]) -> Result<(), StoreFault> {
+        let (Ok(path), Ok(new_path)) = (self.path_of(alloc, name), self.new_path_of(alloc, name))
+        else {
+            return Err(StoreFault::Memory);
+        };
+        let replaced = replace(self.rt, new_path.as_str(), path.as_str(), bytes);
+        if replaced.is_ok() {
+            return Ok(());
+        }
+        let _ = fs::remove_file(self.rt, new_path.as_str());
+        Err(self.counted(StoreFault::Device))
+    }
+}

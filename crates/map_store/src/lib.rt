@@ -1,0 +1,14 @@
+//! Files by name, each read and written whole.
+#![tactic(auto)]
+
+mod folder_store;
+mod fuse_store;
+mod map_store;
+mod memory_store;
+#[cfg(test)]
+mod tests;
+
+pub use folder_store::FolderStore;
+pub use fuse_store::FuseStore;
+pub use map_store::{MapStore, StoreFault};
+pub use memory_store::MemoryStore;
