@@ -1,6 +1,6 @@
 -- What a line does with the history of the active document. An accepted edit gives a new document, and undo and redo only move a
 -- position: nothing is turned back.
-use Rattle.std.specs.Prelude.{◌≡◌, ℕ, ◌-◌, List, ℤ, pos, negsuc, Bool, nat_eq, if◌then◌else◌, length, Option, None, Some, Result, Ok, Err, ◌⊎◌, ⊤, ⊥}
+use Rattle.std.specs.Prelude.{◌≡◌, ℕ, ◌-◌, ◌≤◌, List, ℤ, pos, negsuc, Bool, nat_eq, if◌then◌else◌, length, Option, None, Some, Result, Ok, Err, ◌⊎◌, ⊤, ⊥}
 use Rattle.std.specs.Option.{option_map}
 use Rattle.map_model.specs.Document.{DocumentParts}
 use Rattle.map_model.specs.declared.parts.MapParts.{MapParts}
@@ -21,7 +21,7 @@ use Rattle.layer_commands.specs.Changes.{add_names, remove_names, rename_names, 
 use Rattle.paint_commands.specs.Painting.{erase_names, fill_names, stamp_names}
 use Rattle.paint_commands.specs.Selection.{select_names}
 use Rattle.undo_stack.specs.History.{Step, History, step_named, current, count, is_clean}
-use Rattle.undo_stack.specs.Moving.{Answer, StepsBack, StepsOn, GoesTo, MarksClean, UnmarksClean, Clears}
+use Rattle.undo_stack.specs.Moving.{Answer, StepsBack, StepsOn, GoesTo, MarksClean, UnmarksClean, Clears, clean_answer}
 use Rattle.undo_stack.specs.Reading.{text_at}
 use Rattle.undo_stack.specs.Pushing.{IsPushed}
 use Rattle.session.specs.declared.line.Line.{Line}
@@ -32,6 +32,8 @@ use Rattle.session.specs.declared.reply.Refusal.TheVariants as refusals
 use Rattle.session.specs.declared.reply.Reply.{Reply}
 use Rattle.session.specs.declared.reply.Reply.TheVariants as replies
 use Rattle.editor.specs.Refusals.{refusal_of_edit, refusal_of_stack}
+use Rattle.map_store.specs.Files.{StoreParts, KeepsFiles, SameOthers, HasFailed}
+use Rattle.std.specs.FinMap.{insert}
 use Rattle.tile_id.specs.Gid.{base_of}
 
 -- how a history stands: its position, its count, whether it is clean, and its open levels
@@ -157,3 +159,33 @@ DocumentStepBy edit line h reply n = FollowsBy edit line h reply n ⊎ (MayLackB
 -- what a line may do with the history of the active document
 abbrev pub DocumentStep : Line → History → Reply → History → Type 0
 DocumentStep line h reply n = DocumentStepBy (edit_of line) line h reply n
+
+-- ---- saving
+-- the position is the clean one
+abbrev pub marked_clean : History → History
+marked_clean h = record h { clean = Some h.position }
+
+-- the map's text is in the file, and then the position is the clean one
+pub record Saves (file : List ℕ) (h : History) (before : StoreParts) (reply : Reply) (n : History) (after : StoreParts) : Type 0 where
+  pub files : after.files ≡ insert before.files file (text_of (current h).map)
+  pub count : before.failures ≤ after.failures
+  pub reply : reply ≡ replies.Saved file (length (text_of (current h).map))
+  pub history : n ≡ marked_clean h
+
+-- the store failed: that one file may hold anything or be absent, and nothing else has changed
+pub record FailsToSave (file : List ℕ) (h : History) (before : StoreParts) (reply : Reply) (n : History) (after : StoreParts) : Type 0 where
+  pub failed : HasFailed before after
+  pub count : before.failures ≤ after.failures
+  pub others : SameOthers file before.files after.files
+  pub declined : Declines refusals.StoreFailed h reply n
+
+-- a document is saved where no macro is open
+abbrev pub SaveBy : Answer → List ℕ → History → StoreParts → Reply → History → StoreParts → Type 0
+SaveBy (Err fault) file h before reply n after = Declines (refusal_of_stack fault) h reply n × (after ≡ before)
+SaveBy (Ok done) file h before reply n after =
+    Saves file h before reply n after
+    ⊎ FailsToSave file h before reply n after
+    ⊎ (KeepsFiles before after × Declines refusals.NoMemory h reply n)
+
+abbrev pub SavesDocument : List ℕ → History → StoreParts → Reply → History → StoreParts → Type 0
+SavesDocument file h before reply n after = SaveBy (clean_answer h) file h before reply n after

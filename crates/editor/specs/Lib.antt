@@ -1,3 +1,5 @@
-pub mod Editors
+pub mod Refusals
+pub mod DocumentSteps
 pub mod Machine
+pub mod Editors
 pub mod Planning

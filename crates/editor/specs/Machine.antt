@@ -3,20 +3,18 @@
 use Rattle.std.specs.Prelude.{◌≡◌, ℕ, ◌≤◌, List, [], ◌∷◌, map, if◌then◌else◌, length, Option, None, Some, IsSome, Result, Ok, Err, ◌⊎◌, ⊤, ⊥, Bool, true, false}
 use Rattle.std.specs.List.{join_with_byte}
 use Rattle.std.specs.Str.{bytes_eq}
-use Rattle.std.specs.FinMap.{get, insert}
+use Rattle.std.specs.FinMap.{get}
 use Rattle.map_model.specs.Document.{document_of}
 use Rattle.map_model.specs.declared.parts.MapParts.{MapParts}
 use Rattle.map_model.specs.NewMap.{new_map}
 use Rattle.map_model.specs.WellFormed.{IsSize, IsTileSize}
 use Rattle.map_json.specs.Maps.{Says}
-use Rattle.map_json.specs.Trees.{text_of}
 use Rattle.map_json.specs.declared.fault.MapFault.TheVariants.{Refused}
 use Rattle.map_json.specs.declared.fault.MapRefusal.{MapRefusal}
-use Rattle.map_store.specs.Files.{StoreParts, SameOthers, HasFailed}
-use Rattle.undo_stack.specs.History.{History, new_history, current, is_clean}
-use Rattle.undo_stack.specs.Moving.{Answer, clean_answer, marked_clean}
+use Rattle.map_store.specs.Files.{StoreParts, KeepsFiles, HasFailed}
+use Rattle.undo_stack.specs.History.{History, new_history, is_clean}
 use Rattle.undo_stack.specs.Reading.{undo_text_of, redo_text_of}
-use Rattle.undo_group.specs.Groups.{GroupParts, OpenDocument, active_history, active_without, added, chosen, empty_group, history_named, removed, text_of_active}
+use Rattle.undo_group.specs.Groups.{GroupParts, OpenDocument, active_history, added, chosen, empty_group, history_named, removed, text_of_active}
 use Rattle.undo_group.specs.Groups as groups
 use Rattle.session.specs.declared.line.Line.{Line}
 use Rattle.session.specs.declared.line.Line.TheVariants.{Quiet, New, Open, Save, Close, Discard, Use, Documents, Status, UndoText, RedoText}
@@ -26,8 +24,8 @@ use Rattle.session.specs.declared.reply.Refusal.TheVariants as refusals
 use Rattle.session.specs.declared.reply.Reply.{Reply}
 use Rattle.session.specs.declared.reply.Reply.TheVariants as replies
 use Rattle.session.specs.Grammar.{line_of}
-use Rattle.editor.specs.DocumentSteps.{DocumentStep, state_reply}
-use Rattle.editor.specs.Refusals.{refusal_of_map, refusal_of_stack}
+use Rattle.editor.specs.DocumentSteps.{DocumentStep, SavesDocument, state_reply}
+use Rattle.editor.specs.Refusals.{refusal_of_map}
 
 -- the undo limit of a document when it is made, and the open documents with their histories
 pub record Machine : Type 0 where
@@ -69,9 +67,12 @@ abbrev pub moved_to : Reply → History → Machine → Machine
 moved_to (replies.Refused refusal) n m = m
 moved_to reply n m = with_active n m
 
+abbrev pub OverHistory : (History → Reply → History → Type 0) → History → Machine → Option Reply → Machine → Type 0
+OverHistory P h old reply new = (answer : Reply) × (n : History) × P h answer n × (reply ≡ Some answer) × (new ≡ moved_to answer n old)
+
 abbrev pub OverActive : (History → Reply → History → Type 0) → Option History → Machine → Option Reply → Machine → Type 0
 OverActive P None old reply new = Refuses refusals.NoActiveDocument old reply new
-OverActive P (Some h) old reply new = (answer : Reply) × (n : History) × P h answer n × (reply ≡ Some answer) × (new ≡ moved_to answer n old)
+OverActive P (Some h) old reply new = OverHistory P h old reply new
 
 -- ---- lines about the open documents
 -- the document of this name goes last, and is the active one
@@ -146,11 +147,6 @@ MayLackMemory RedoText m = IsSome (active_of m)
 MayLackMemory line m = ⊥
 
 -- ---- lines about the files
--- the files are as they were, and the count of failures has not fallen
-pub record KeepsFiles (before after : StoreParts) : Type 0 where
-  pub files : after.files ≡ before.files
-  pub count : before.failures ≤ after.failures
-
 -- the bytes of a file: what they say becomes a document, or is refused
 abbrev pub ReadStep : List ℕ → List ℕ → Machine → Option Reply → Machine → Type 0
 ReadStep name bytes old reply new =
@@ -169,31 +165,9 @@ OpenStep None name file old before reply new after = KeepsFiles before after
     ⊎ (HasFailed before after × Refuses refusals.StoreFailed old reply new)
     ⊎ Refuses refusals.NoMemory old reply new)
 
--- the map's text is in the file, and then the position is the clean one
-pub record Saves (h : History) (file : List ℕ) (old : Machine) (before : StoreParts) (reply : Option Reply) (new : Machine) (after : StoreParts) : Type 0 where
-  pub files : after.files ≡ insert before.files file (text_of (current h).map)
-  pub count : before.failures ≤ after.failures
-  pub reply : reply ≡ Some (replies.Saved file (length (text_of (current h).map)))
-  pub machine : new ≡ with_active (marked_clean h) old
-
--- the store failed: that one file may hold anything or be absent, and nothing else has changed
-pub record FailsToSave (file : List ℕ) (old : Machine) (before : StoreParts) (reply : Option Reply) (new : Machine) (after : StoreParts) : Type 0 where
-  pub failed : HasFailed before after
-  pub count : before.failures ≤ after.failures
-  pub others : SameOthers file before.files after.files
-  pub refused : Refuses refusals.StoreFailed old reply new
-
--- a file is saved where no macro is open
-abbrev pub SaveBy : Answer → History → List ℕ → Machine → StoreParts → Option Reply → Machine → StoreParts → Type 0
-SaveBy (Err fault) h file old before reply new after = Refuses (refusal_of_stack fault) old reply new × (after ≡ before)
-SaveBy (Ok done) h file old before reply new after =
-    Saves h file old before reply new after
-    ⊎ FailsToSave file old before reply new after
-    ⊎ (KeepsFiles before after × Refuses refusals.NoMemory old reply new)
-
 abbrev pub SaveStep : Option History → List ℕ → Machine → StoreParts → Option Reply → Machine → StoreParts → Type 0
 SaveStep None file old before reply new after = Refuses refusals.NoActiveDocument old reply new × (after ≡ before)
-SaveStep (Some h) file old before reply new after = SaveBy (clean_answer h) h file old before reply new after
+SaveStep (Some h) file old before reply new after = OverHistory (λ k answer n. SavesDocument file k before answer n after) h old reply new
 
 abbrev pub StoreStep : Line → Machine → StoreParts → Option Reply → Machine → StoreParts → Type 0
 StoreStep (Open name file) old before reply new after = OpenStep (history_named name old.group.documents) name file old before reply new after
@@ -238,3 +212,15 @@ StepOf (Err fault) old before reply new after = Refuses (refusals.Line fault) ol
 -- what the bytes of a line may do
 abbrev pub StepOfBytes : List ℕ → Machine → StoreParts → Option Reply → Machine → StoreParts → Type 0
 StepOfBytes bytes old before reply new after = StepOf (line_of bytes) old before reply new after
+
+-- the machine, and what the store keeps
+pub record Workspace : Type 0 where
+  pub machine : Machine
+  pub kept : StoreParts
+
+abbrev pub workspace : Machine → StoreParts → Workspace
+workspace machine kept = record { machine = machine; kept = kept }
+
+-- what the bytes of a line may do with both
+abbrev pub StepIn : List ℕ → Workspace → Option Reply → Workspace → Type 0
+StepIn bytes old reply new = StepOfBytes bytes old.machine old.kept reply new.machine new.kept

@@ -1,8 +1,12 @@
 -- How a line is refused that a layer below refuses.
 use Rattle.command_api.specs.declared.fault.EditFault.{EditFault}
 use Rattle.command_api.specs.declared.fault.EditFault.TheVariants as edit_faults
+use Rattle.map_json.specs.declared.fault.MapFault.{MapFault}
+use Rattle.map_json.specs.declared.fault.MapFault.TheVariants as map_faults
 use Rattle.map_json.specs.declared.fault.MapRefusal.{MapRefusal}
 use Rattle.map_json.specs.declared.fault.MapRefusal.TheVariants as map_refusals
+use Rattle.map_store.specs.declared.map_store.StoreFault.{StoreFault}
+use Rattle.map_store.specs.declared.map_store.StoreFault.TheVariants as store_faults
 use Rattle.undo_stack.specs.declared.stack.StackFault.{StackFault}
 use Rattle.undo_stack.specs.declared.stack.StackFault.TheVariants as stack_faults
 use Rattle.session.specs.declared.reply.Refusal.{Refusal}
@@ -38,3 +42,12 @@ refusal_of_map map_refusals.BadData = refusals.BadData
 refusal_of_map map_refusals.IdUsedTwice = refusals.IdUsedTwice
 refusal_of_map map_refusals.OverLimit = refusals.OverLimit
 refusal_of_map map_refusals.NotAMap = refusals.NotAMap
+
+abbrev pub refusal_of_map_fault : MapFault → Refusal
+refusal_of_map_fault map_faults.Memory = refusals.NoMemory
+refusal_of_map_fault (map_faults.Refused refusal) = refusal_of_map refusal
+
+abbrev pub refusal_of_store : StoreFault → Refusal
+refusal_of_store store_faults.Missing = refusals.NoSuchFile
+refusal_of_store store_faults.Device = refusals.StoreFailed
+refusal_of_store store_faults.Memory = refusals.NoMemory

@@ -1,9 +1,13 @@
-//! The editor: plans what a line asks for, and commits planned edits to the open document's stack.
+//! The editor: plans what a line asks for, over the open documents and their files, and commits planned edits to the active
+//! document's stack.
 #![tactic(auto)]
 
 mod editor;
 mod planned;
+mod planning;
 mod refusal;
+mod saving;
+mod steps;
 mod tile;
 
 pub use editor::Editor;

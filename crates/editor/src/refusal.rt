@@ -1,8 +1,10 @@
 // The refusals of the layers below, as a line is refused.
 ghost use Rattle.std.specs.Prelude.{◌≡◌};
-ghost use Rattle.editor.specs.Machine.{refusal_of_edit, refusal_of_stack};
+ghost use Rattle.editor.specs.Refusals.{refusal_of_edit, refusal_of_map_fault, refusal_of_stack, refusal_of_store};
 
 use command_api::EditFault;
+use map_json::{MapFault, MapRefusal};
+use map_store::StoreFault;
 use session::Refusal;
 use undo_stack::StackFault;
 
@@ -34,5 +36,35 @@ pub fn of_stack(fault: StackFault) -> Refusal
         StackFault::MacroOpen => Refusal::MacroOpen,
         StackFault::NothingToUndo => Refusal::NothingToUndo,
         StackFault::NothingToRedo => Refusal::NothingToRedo,
+    }
+}
+
+/// How a line is refused whose call the store refuses.
+pub fn of_store(fault: StoreFault) -> Refusal
+    ensures { result ≡ refusal_of_store fault }
+{
+    match fault {
+        StoreFault::Missing => Refusal::NoSuchFile,
+        StoreFault::Device => Refusal::StoreFailed,
+        StoreFault::Memory => Refusal::NoMemory,
+    }
+}
+
+/// How a line is refused whose file says no map.
+pub fn of_map(fault: MapFault) -> Refusal
+    ensures { result ≡ refusal_of_map_fault fault }
+{
+    match fault {
+        MapFault::Memory => Refusal::NoMemory,
+        MapFault::Refused(MapRefusal::NotJson) => Refusal::NotJson,
+        MapFault::Refused(MapRefusal::Fraction) => Refusal::Fraction,
+        MapFault::Refused(MapRefusal::MemberMissing) => Refusal::MemberMissing,
+        MapFault::Refused(MapRefusal::MemberOfAnotherKind) => Refusal::MemberOfAnotherKind,
+        MapFault::Refused(MapRefusal::Infinite) => Refusal::Infinite,
+        MapFault::Refused(MapRefusal::Compressed) => Refusal::Compressed,
+        MapFault::Refused(MapRefusal::BadData) => Refusal::BadData,
+        MapFault::Refused(MapRefusal::IdUsedTwice) => Refusal::IdUsedTwice,
+        MapFault::Refused(MapRefusal::OverLimit) => Refusal::OverLimit,
+        MapFault::Refused(MapRefusal::NotAMap) => Refusal::NotAMap,
     }
 }

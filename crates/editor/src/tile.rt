@@ -1,6 +1,6 @@
 // The reply to a look at a cell.
 ghost use Rattle.std.specs.Prelude.{◌≡◌};
-ghost use Rattle.editor.specs.Machine.{local_tile, tile_reply};
+ghost use Rattle.editor.specs.DocumentSteps.{local_tile, tile_reply};
 
 use crate::refusal;
 use edits::tiles_of_layer;

@@ -11,18 +11,19 @@ use Rattle.lines.specs.Lines.{lines_of, FindsLine}
 use Rattle.session.specs.declared.line.LineFault.TheVariants.{TooLong}
 use Rattle.session.specs.declared.reply.Reply.{Reply}
 use Rattle.session.specs.Grammar.{line_of}
-use Rattle.editor.specs.Machine.{Machine, started_machine, StepOfBytes}
-use Rattle.tile_editor.specs.Runs.{Run, Told, Goes, StepFound, Partly, RunsAll, RunsToRead, RunsToWrite, output, reply_line}
+use Rattle.editor.specs.Machine.{Machine, StepIn, Workspace, workspace}
+use Rattle.map_store.specs.Files.{StoreParts}
+use Rattle.tile_editor.specs.Runs.{Run, Told, Goes, StepFound, Partly, RunsAll, RunsSome, RunsToWrite, output, reply_line}
 use Rattle.tile_editor.proofs.Appending.{appends_more, appends_nothing}
 
 pub too_long : (long : List ℕ) → 2 ^ 16 ≤ length long → line_of long ≡ Err TooLong
 unfolding line_of
 too_long long h = rw (le-leb (2 ^ 16) (length long) h) refl
 
-run_more : (heard : List (List ℕ)) (line : List ℕ) (from now mid : Machine) (replies : List Reply) (reply : Option Reply) → Run from heard replies now → StepOfBytes line now reply mid
+run_more : (heard : List (List ℕ)) (line : List ℕ) (from now mid : Machine) (replies : List Reply) (reply : Option Reply) → Run from heard replies now → StepIn line now reply mid
     → Run from (heard ++ line ∷ []) (replies ++ option_to_list reply) mid
 run_more [] line from now mid replies reply r s =
-    let P : Machine → Type 0 = λ m. StepOfBytes line m reply mid in
+    let P : Machine → Type 0 = λ m. StepIn line m reply mid in
     (mid, reply, [], subst P r.1 s, (refl, refl), ap (λ rs. rs ++ option_to_list reply) r.0 ∙ sym (append-nil (option_to_list reply)))
 run_more (l ∷ heard) line from now mid replies reply r s = (
   r.0,
@@ -34,7 +35,7 @@ run_more (l ∷ heard) line from now mid replies reply r s = (
 )
 
 told_more : (input line : List ℕ) (left : List (List ℕ)) (now mid : Machine) (reply : Option Reply) (before after after' : Option (List ℕ)) (n k : ℕ)
-    → Told input (line ∷ left) now before after n k → StepOfBytes line now reply mid → Appends after after' (output (option_to_list reply))
+    → Told input (line ∷ left) now before after n k → StepIn line now reply mid → Appends after after' (output (option_to_list reply))
     → Told input left mid before after' (n + 1) (k + length (option_to_list reply))
 told_more input line left now mid reply before after after' n k t s w =
     let joined : output (t.replies ++ option_to_list reply) ≡ output t.replies ++ output (option_to_list reply) = flat_map-append reply_line t.replies (option_to_list reply) in
@@ -87,7 +88,7 @@ goes_all (Some input) (Some xs) None line now before after n k g l = absurd l
 goes_all (Some input) (Some xs) (Some ys) line now before after n k g l = record { now = now; told = retold input _ _ now before after n k l.0 g }
 
 pub goes_read : (known left : Option (List ℕ)) (now : Machine) (before after : Option (List ℕ)) (n k : ℕ) → Goes known left now before after n k
-    → IfSome known (λ input. RunsToRead input before after)
+    → IfSome known (λ input. RunsSome input before after)
 goes_read None left now before after n k g = tt
 goes_read (Some input) None now before after n k g = absurd g
 goes_read (Some input) (Some xs) now before after n k g = record { now = now; left = lines_of xs; lines = n; replied = k; told = g }
@@ -136,13 +137,13 @@ or_right P Q (Some input) h = inr h
 -- the reply to a line could not be written
 pub goes_unwritten : (known left left' : Option (List ℕ)) (f : Found) (line : List ℕ) (mid now : Machine) (reply : Reply) (before after after' : Option (List ℕ)) (n k : ℕ)
     → Goes known left mid before after n k → FindsLine left left' (Some f) line → StepFound f line mid (Some reply) now → Partly after after'
-    → IfSome known (λ input. RunsToRead input before after' ⊎ RunsToWrite input before after')
+    → IfSome known (λ input. RunsSome input before after' ⊎ RunsToWrite input before after')
 goes_unwritten known left left' f line mid now reply before after after' n k g l s w =
     or_right _ _ known (goes_write known left left' f line mid now reply before after after' n k g l s w)
 
 -- the replies could not be flushed
 pub goes_unflushed : (known left : Option (List ℕ)) (now : Machine) (before after : Option (List ℕ)) (n k : ℕ) → Goes known left now before after n k
-    → IfSome known (λ input. RunsToRead input before after ⊎ RunsToWrite input before after)
+    → IfSome known (λ input. RunsSome input before after ⊎ RunsToWrite input before after)
 goes_unflushed known left now before after n k g = or_left _ _ known (goes_read known left now before after n k g)
 
 kept_appends : (a b c : Option (List ℕ)) (xs : List ℕ) → Appends a b xs → Keeps b c → Appends a c xs

@@ -15,14 +15,15 @@ use Rattle.session.specs.Replies.{reply_text}
 use Rattle.editor.specs.declared.planned.Planned.{Planned}
 use Rattle.editor.specs.declared.planned.Planned.TheVariants as planned
 use Rattle.editor.specs.declared.planned.Edit.{Edit}
-use Rattle.editor.specs.Machine.{Machine, started_machine, StepOfBytes, Refuses}
+use Rattle.editor.specs.Machine.{Machine, Refuses, StepIn, Workspace, workspace}
+use Rattle.map_store.specs.Files.{StoreParts}
 use Rattle.editor.specs.Planning.{Plans, edit_change}
 
--- what the machine may reply to lines, one after another, and where it ends
-abbrev pub Run : Machine → List (List ℕ) → List Reply → Machine → Type 0
+-- what may be replied to lines, one after another, and where they lead
+abbrev pub Run : Workspace → List (List ℕ) → List Reply → Workspace → Type 0
 Run old [] replies new = (replies ≡ []) × (new ≡ old)
-Run old (line ∷ lines) replies new = (mid : Machine) × (reply : Option Reply) × (rest : List Reply)
-    × StepOfBytes line old reply mid × Run mid lines rest new × (replies ≡ option_to_list reply ++ rest)
+Run old (line ∷ lines) replies new = (mid : Workspace) × (reply : Option Reply) × (rest : List Reply)
+    × StepIn line old reply mid × Run mid lines rest new × (replies ≡ option_to_list reply ++ rest)
 
 -- a reply as it is written, and all replies
 abbrev pub reply_line : Reply → List ℕ
@@ -35,56 +36,56 @@ output replies = flat_map reply_line replies
 abbrev pub Partly : Option (List ℕ) → Option (List ℕ) → Type 0
 Partly before after = (part : List ℕ) × Appends before after part
 
--- Some lines of the input were heard, and these are left. The machine stands at `now`, and the writer, whose contents
--- went from `before` to `after`, has the replies to the lines that were heard.
-pub record Told (input : List ℕ) (left : List (List ℕ)) (now : Machine) (before after : Option (List ℕ)) (lines replied : ℕ) : Type 0 where
+-- Some lines of the input were heard, and these are left. The run began at `start` and stands at `now`, and the writer, whose
+-- contents went from `before` to `after`, has the replies to the lines that were heard.
+pub record Told (start : Workspace) (input : List ℕ) (left : List (List ℕ)) (now : Workspace) (before after : Option (List ℕ)) (lines replied : ℕ) : Type 0 where
   pub heard : List (List ℕ)
   pub replies : List Reply
   pub split : lines_of input ≡ heard ++ left
-  pub run : Run (started_machine 0) heard replies now
+  pub run : Run start heard replies now
   pub written : Appends before after (output replies)
   pub lines_counted : lines ≡ length heard
   pub replies_counted : replied ≡ length replies
 
--- all lines were heard
-pub record RunsAll (input : List ℕ) (before after : Option (List ℕ)) (lines replied : ℕ) : Type 0 where
+-- all lines were heard, and the store keeps what the run leaves
+pub record RunsAll (start : Workspace) (input : List ℕ) (before after : Option (List ℕ)) (kept : StoreParts) (lines replied : ℕ) : Type 0 where
   pub now : Machine
-  pub told : Told input [] now before after lines replied
+  pub told : Told start input [] (workspace now kept) before after lines replied
 
--- some lines were heard
-pub record RunsToRead (input : List ℕ) (before after : Option (List ℕ)) : Type 0 where
+-- some lines were heard, each is done, files and all, and each reply is written whole
+pub record RunsSome (start : Workspace) (input : List ℕ) (before after : Option (List ℕ)) (kept : StoreParts) : Type 0 where
   pub now : Machine
   pub left : List (List ℕ)
   pub lines : ℕ
   pub replied : ℕ
-  pub told : Told input left now before after lines replied
+  pub told : Told start input left (workspace now kept) before after lines replied
 
--- some lines were heard, and one more, whose step is done and to which the reply is not whole
-pub record RunsToWrite (input : List ℕ) (before after : Option (List ℕ)) : Type 0 where
-  pub mid : Machine
+-- some lines were heard, and one more, whose step is done, files and all, and to which the reply is not whole
+pub record RunsToWrite (start : Workspace) (input : List ℕ) (before after : Option (List ℕ)) (kept : StoreParts) : Type 0 where
+  pub mid : Workspace
   pub line : List ℕ
   pub left : List (List ℕ)
   pub written : Option (List ℕ)
   pub lines : ℕ
   pub replied : ℕ
-  pub told : Told input (line ∷ left) mid before written lines replied
+  pub told : Told start input (line ∷ left) mid before written lines replied
   pub reply : Reply
   pub now : Machine
-  pub step : StepOfBytes line mid (Some reply) now
+  pub step : StepIn line mid (Some reply) (workspace now kept)
   pub part : Partly written after
 
 -- ---- within a run
 -- where the input is known, some lines of it were heard, and those of `left` are left
-abbrev pub Goes : Option (List ℕ) → Option (List ℕ) → Machine → Option (List ℕ) → Option (List ℕ) → ℕ → ℕ → Type 0
-Goes None left now before after lines replied = ⊤
-Goes (Some input) None now before after lines replied = ⊥
-Goes (Some input) (Some left) now before after lines replied = Told input (lines_of left) now before after lines replied
+abbrev pub Goes : Workspace → Option (List ℕ) → Option (List ℕ) → Workspace → Option (List ℕ) → Option (List ℕ) → ℕ → ℕ → Type 0
+Goes start None left now before after lines replied = ⊤
+Goes start (Some input) None now before after lines replied = ⊥
+Goes start (Some input) (Some left) now before after lines replied = Told start input (lines_of left) now before after lines replied
 
 -- what the bytes of a line may do, where an edit is only planned
-abbrev pub PlansRead : Result Line LineFault → Machine → Planned → Machine → Type 0
-PlansRead (Ok line) old plan new = Plans line old plan new
+abbrev pub PlansRead : Result Line LineFault → Workspace → Planned → Workspace → Type 0
+PlansRead (Ok line) old plan new = Plans line old.machine old.kept plan new.machine new.kept
 PlansRead (Err fault) old planned.Quiet new = ⊥
-PlansRead (Err fault) old (planned.Reply reply) new = Refuses (refusals.Line fault) old (Some reply) new
+PlansRead (Err fault) old (planned.Reply reply) new = Refuses (refusals.Line fault) old.machine (Some reply) new.machine × (new.kept ≡ old.kept)
 PlansRead (Err fault) old (planned.Push edit) new = ⊥
 
 -- a fact on the bytes of the line that was found; of a long one only its length is known
@@ -92,7 +93,7 @@ abbrev pub OfFound : Found → List ℕ → (List ℕ → Type 0) → Type 0
 OfFound found.Line line P = P line
 OfFound found.TooLong line P = (long : List ℕ) → 2 ^ 16 ≤ length long → P long
 
-abbrev pub PlansFound : Found → List ℕ → Machine → Planned → Machine → Type 0
+abbrev pub PlansFound : Found → List ℕ → Workspace → Planned → Workspace → Type 0
 PlansFound found line old plan new = OfFound found line (λ bytes. PlansRead (line_of bytes) old plan new)
 
 -- the command that an edit was put into, where there is one, does what the edit does
@@ -100,5 +101,5 @@ abbrev pub PutsSame : {C : Type 0} → (C → Change) → Edit → Option C → 
 PutsSame change edit None = ⊤
 PutsSame change edit (Some command) = IsSame (edit_change edit) (change command)
 
-abbrev pub StepFound : Found → List ℕ → Machine → Option Reply → Machine → Type 0
-StepFound found line old reply new = OfFound found line (λ bytes. StepOfBytes bytes old reply new)
+abbrev pub StepFound : Found → List ℕ → Workspace → Option Reply → Workspace → Type 0
+StepFound found line old reply new = OfFound found line (λ bytes. StepIn bytes old reply new)

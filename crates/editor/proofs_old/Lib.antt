@@ -1,0 +1,3 @@
+pub mod Committing
+pub mod Lines
+pub mod Stepping

@@ -1,0 +1,231 @@
+// The lines about the open documents: a new one, one that goes or becomes the active one, and what stands open.
+ghost use Rattle.std.specs.Prelude.{◌≡◌, ◌↔◌, ◌⊎◌, IsTrue, IsSome, IfOk, Some, string_bytes};
+ghost use Rattle.std.specs.Option.{option_map};
+ghost use Rattle.map_model.specs.Document.{document_of};
+ghost use Rattle.map_model.specs.NewMap.{new_map};
+ghost use Rattle.map_model.specs.WellFormed.{IsSize, IsTileSize};
+ghost use Rattle.undo_group.specs.Groups.{IsNew, history_named, text_of_active};
+ghost use Rattle.undo_group.specs.Stacks.{group_of, AreHeld};
+ghost use Rattle.undo_stack.specs.History.{new_history};
+ghost use Rattle.undo_stack.specs.Reading.{redo_text_of, undo_text_of};
+ghost use Rattle.session.specs.declared.reply.Refusal.TheVariants as refusals;
+ghost use Rattle.session.specs.declared.reply.Reply.TheVariants as replies;
+ghost use Rattle.editor.specs.Editors.{machine_of, IsSound};
+ghost use Rattle.editor.specs.Machine.{active_of, documents_text, status_reply, CloseStep, DiscardStep, NewStep, Opens, Refuses, UseStep};
+ghost use Rattle.editor.specs.Planning.{KeepsReply};
+
+use crate::editor::Editor;
+use crate::steps::{state_of, text_reply};
+use command_api::Command;
+use map_model::{Document, Map, MapText};
+use session::{Refusal, Reply, Text};
+use std::alloc::{AllocError, Global};
+use undo_group::Group;
+use undo_stack::Stack;
+
+/// The sizes of a new map: its columns and rows, and the pixels of a tile.
+#[derive(Clone, Copy)]
+pub(crate) struct Sizes {
+    pub(crate) width: u32,
+    pub(crate) height: u32,
+    pub(crate) tile_width: u32,
+    pub(crate) tile_height: u32,
+}
+
+impl Sizes {
+    // Whether a map may have these sizes.
+    fn are_within_limits(self) -> bool
+        ensures { IsTrue result ↔ (IsSize self.width self.height × IsTileSize self.tile_width self.tile_height) }
+    {
+        (1..=4096).contains(&self.width)
+            && (1..=4096).contains(&self.height)
+            && self.width * self.height <= 1_048_576
+            && (1..=65_535).contains(&self.tile_width)
+            && (1..=65_535).contains(&self.tile_height)
+    }
+}
+
+// The document of a new map.
+fn new_document(alloc: Global, sizes: Sizes, source: &str) -> Result<Document, AllocError>
+    requires size { IsSize sizes.width sizes.height }
+    requires tile_size { IsTileSize sizes.tile_width sizes.tile_height }
+    ensures { IfOk result (λ d. d ≡ document_of (new_map sizes.width sizes.height sizes.tile_width sizes.tile_height source.now)) }
+{
+    let source = MapText::new(String::from_str(alloc, source)?);
+    let map = Map::create(
+        alloc,
+        sizes.width,
+        sizes.height,
+        sizes.tile_width,
+        sizes.tile_height,
+        source,
+    )?;
+    Ok(Document::new(alloc, map))
+}
+
+// The names of the open documents, in order of opening, with a `*` before the active one's.
+fn documents_text<C: Command>(alloc: Global, group: &Group<C>) -> Result<String, AllocError>
+    requires { AreHeld C.change group.now }
+    ensures { IfOk result (λ text. string_bytes text ≡ documents_text (group_of C.change group.now)) }
+{
+    let active = group.active_name();
+    let mut text = String::new(alloc);
+    for (place, name) in group.names().enumerate() {
+        if place > 0 {
+            text.push(' ')?;
+        }
+        if active == Some(name) {
+            text.push('*')?;
+        }
+        text.push_str(name)?;
+    }
+    Ok(text)
+}
+
+impl<C: Command> Editor<C> {
+    // Opens a new document.
+    pub(crate) fn open_new(
+        &mut self,
+        alloc: Global,
+        name: &Text<'_>,
+        sizes: Sizes,
+        source: &Text<'_>,
+    ) -> Reply
+        requires { IsSound C.change self.old }
+        ensures sound { IsSound C.change self.new }
+        ensures step { NewStep (history_named name.now (machine_of C.change self.old).group.documents) name.now
+            sizes.width sizes.height sizes.tile_width sizes.tile_height source.now
+            (machine_of C.change self.old) (Some result) (machine_of C.change self.new)
+            ⊎ (IsNew name.now (machine_of C.change self.old).group.documents × Refuses refusals.NoMemory (machine_of C.change self.old) (Some result) (machine_of C.change self.new)) }
+        ensures kept { KeepsReply result (machine_of C.change self.old) (machine_of C.change self.new) }
+    {
+        if self.group.get(name.as_str()).is_some() {
+            return Reply::Refused(Refusal::NameTaken);
+        }
+        if !sizes.are_within_limits() {
+            return Reply::Refused(Refusal::OutOfRange);
+        }
+        match new_document(alloc, sizes, source.as_str()) {
+            Ok(document) => self.add_document(alloc, name, document),
+            Err(_) => Reply::Refused(Refusal::NoMemory),
+        }
+    }
+
+    // Puts a document with a free name last, and makes it the active one.
+    pub(crate) fn add_document(
+        &mut self,
+        alloc: Global,
+        name: &Text<'_>,
+        document: Document,
+    ) -> Reply
+        requires sound { IsSound C.change self.old }
+        requires new { IsNew name.now (machine_of C.change self.old).group.documents }
+        ensures sound { IsSound C.change self.new }
+        ensures step { Opens name.now (new_history document (machine_of C.change self.old).limit) (machine_of C.change self.old) (Some result) (machine_of C.change self.new)
+            ⊎ Refuses refusals.NoMemory (machine_of C.change self.old) (Some result) (machine_of C.change self.new) }
+        ensures kept { KeepsReply result (machine_of C.change self.old) (machine_of C.change self.new) }
+    {
+        let stack = Stack::new(alloc, document, self.limit);
+        let reply = state_of(&stack);
+        if self.group.add(alloc, name.as_str(), stack).is_err() {
+            return Reply::Refused(Refusal::NoMemory);
+        }
+        match self.group.set_active(Some(name.as_str())) {
+            Ok(()) => reply,
+            Err(_) => unreachable!(),
+        }
+    }
+
+    // Closes a document that is clean.
+    pub(crate) fn close(&mut self, name: &Text<'_>) -> Reply
+        requires { IsSound C.change self.old }
+        ensures sound { IsSound C.change self.new }
+        ensures step { CloseStep (history_named name.now (machine_of C.change self.old).group.documents) name.now
+            (machine_of C.change self.old) (Some result) (machine_of C.change self.new) }
+        ensures kept { KeepsReply result (machine_of C.change self.old) (machine_of C.change self.new) }
+    {
+        if let Some(stack) = self.group.get(name.as_str()) {
+            if !stack.is_clean() {
+                return Reply::Refused(Refusal::UnsavedChanges);
+            }
+        }
+        self.discard(name)
+    }
+
+    // Closes a document.
+    pub(crate) fn discard(&mut self, name: &Text<'_>) -> Reply
+        requires { IsSound C.change self.old }
+        ensures sound { IsSound C.change self.new }
+        ensures step { DiscardStep (history_named name.now (machine_of C.change self.old).group.documents) name.now
+            (machine_of C.change self.old) (Some result) (machine_of C.change self.new) }
+        ensures kept { KeepsReply result (machine_of C.change self.old) (machine_of C.change self.new) }
+    {
+        match self.group.remove(name.as_str()) {
+            Ok(_) => self.status(),
+            Err(_) => Reply::Refused(Refusal::NoSuchDocument),
+        }
+    }
+
+    // Makes a document the active one, or none.
+    pub(crate) fn choose(&mut self, choice: &Option<Text<'_>>) -> Reply
+        requires { IsSound C.change self.old }
+        ensures sound { IsSound C.change self.new }
+        ensures step { UseStep choice.now (machine_of C.change self.old) (Some result) (machine_of C.change self.new) }
+        ensures kept { KeepsReply result (machine_of C.change self.old) (machine_of C.change self.new) }
+    {
+        let name = match choice {
+            Some(name) => Some(name.as_str()),
+            None => None,
+        };
+        match self.group.set_active(name) {
+            Ok(()) => self.status(),
+            Err(_) => Reply::Refused(Refusal::NoSuchDocument),
+        }
+    }
+
+    // The names of the open documents, where there is memory for them.
+    pub(crate) fn list(&self, alloc: Global) -> Reply
+        requires { IsSound C.change self.now }
+        ensures { (result ≡ replies.Documents (documents_text (machine_of C.change self.now).group)) ⊎ (result ≡ replies.Refused refusals.NoMemory) }
+    {
+        match documents_text(alloc, &self.group) {
+            Ok(text) => Reply::Documents(MapText::new(text)),
+            Err(_) => Reply::Refused(Refusal::NoMemory),
+        }
+    }
+
+    // How the active document stands.
+    pub(crate) fn status(&self) -> Reply
+        requires { IsSound C.change self.now }
+        ensures { result ≡ status_reply (active_of (machine_of C.change self.now)) }
+    {
+        match self.group.active() {
+            Some(stack) => state_of(stack),
+            None => Reply::NoDocument,
+        }
+    }
+
+    // The text for undo.
+    pub(crate) fn undo_text(&self, alloc: Global) -> Reply
+        requires { IsSound C.change self.now }
+        ensures { (result ≡ replies.Text (text_of_active undo_text_of (active_of (machine_of C.change self.now))))
+            ⊎ (IsSome (active_of (machine_of C.change self.now)) × (result ≡ replies.Refused refusals.NoMemory)) }
+    {
+        match self.group.active() {
+            Some(stack) => text_reply(alloc, stack.undo_text()),
+            None => Reply::Text(MapText::new(String::new(alloc))),
+        }
+    }
+
+    // The text for redo.
+    pub(crate) fn redo_text(&self, alloc: Global) -> Reply
+        requires { IsSound C.change self.now }
+        ensures { (result ≡ replies.Text (text_of_active redo_text_of (active_of (machine_of C.change self.now))))
+            ⊎ (IsSome (active_of (machine_of C.change self.now)) × (result ≡ replies.Refused refusals.NoMemory)) }
+    {
+        match self.group.active() {
+            Some(stack) => text_reply(alloc, stack.redo_text()),
+            None => Reply::Text(MapText::new(String::new(alloc))),
+        }
+    }
+}

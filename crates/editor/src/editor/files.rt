@@ -1,0 +1,68 @@
+// The lines about files.
+ghost use Rattle.std.specs.Prelude.{◌≡◌, ◌≤◌, length, Some};
+ghost use Rattle.undo_group.specs.Groups.{history_named};
+ghost use Rattle.session.specs.Words.{file_name_limit};
+ghost use Rattle.editor.specs.Editors.{machine_of, IsSound};
+ghost use Rattle.editor.specs.Machine.{active_of, OpenStep, SaveStep};
+ghost use Rattle.editor.specs.Planning.{KeepsReply};
+
+use crate::editor::Editor;
+use crate::refusal;
+use crate::saving::save_document;
+use command_api::Command;
+use map_json::read_map;
+use map_model::Document;
+use map_store::MapStore;
+use session::{Refusal, Reply, Text};
+use std::alloc::Global;
+
+impl<C: Command> Editor<C> {
+    // Opens the map of a file as a new document.
+    pub(crate) fn open_file<S: MapStore>(
+        &mut self,
+        alloc: Global,
+        store: &mut S,
+        name: &Text<'_>,
+        file: &Text<'_>,
+    ) -> Reply
+        requires { IsSound C.change self.old }
+        ensures sound { IsSound C.change self.new }
+        ensures honest { S.honest store.old → S.honest store.new }
+        ensures step { S.honest store.old → OpenStep (history_named name.now (machine_of C.change self.old).group.documents) name.now file.now
+            (machine_of C.change self.old) (S.kept store.old) (Some result) (machine_of C.change self.new) (S.kept store.new) }
+        ensures kept { KeepsReply result (machine_of C.change self.old) (machine_of C.change self.new) }
+    {
+        if self.group.get(name.as_str()).is_some() {
+            return Reply::Refused(Refusal::NameTaken);
+        }
+        let bytes = match store.load(alloc, file.as_str()) {
+            Ok(bytes) => bytes,
+            Err(fault) => return Reply::Refused(refusal::of_store(fault)),
+        };
+        match read_map(alloc, bytes.as_slice()) {
+            Ok(map) => self.add_document(alloc, name, Document::new(alloc, map)),
+            Err(fault) => Reply::Refused(refusal::of_map(fault)),
+        }
+    }
+
+    // Writes the active document's map into a file.
+    pub(crate) fn save<S: MapStore>(
+        &mut self,
+        alloc: Global,
+        store: &mut S,
+        file: &Text<'_>,
+    ) -> Reply
+        requires sound { IsSound C.change self.old }
+        requires short { length file.now ≤ file_name_limit }
+        ensures sound { IsSound C.change self.new }
+        ensures honest { S.honest store.old → S.honest store.new }
+        ensures step { S.honest store.old → SaveStep (active_of (machine_of C.change self.old)) file.now
+            (machine_of C.change self.old) (S.kept store.old) (Some result) (machine_of C.change self.new) (S.kept store.new) }
+        ensures kept { KeepsReply result (machine_of C.change self.old) (machine_of C.change self.new) }
+    {
+        match self.group.active_mut() {
+            Some(stack) => save_document(alloc, store, stack, file),
+            None => Reply::Refused(Refusal::NoActiveDocument),
+        }
+    }
+}

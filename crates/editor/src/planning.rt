@@ -1,0 +1,162 @@
+// The lines about the active document: those that are edits plan their command, and change nothing.
+ghost use Rattle.std.specs.Prelude.{◌≡◌, IfOk, Some};
+ghost use Rattle.undo_stack.specs.Stacks.{history};
+ghost use Rattle.session.specs.Spelling.{CanBeSpelled};
+ghost use Rattle.session.specs.declared.line.Line.TheVariants as lines;
+ghost use Rattle.editor.specs.DocumentSteps.{edit_of};
+ghost use Rattle.editor.specs.Editors.{IsUnlimited};
+ghost use Rattle.editor.specs.Machine.{OneDocument, scope_of};
+ghost use Rattle.editor.specs.Planning.{PlansEdit, PlansLine, PlansOn, plan_of, refused};
+
+use crate::planned::{Edit, Planned};
+use crate::refusal;
+use crate::steps::step;
+use command_api::{Command, EditFault};
+use edits::{Area, Block, Selecting};
+use layer_commands::{AddLayer, MoveLayer, RemoveLayer, RenameLayer, ShowLayer};
+use map_model::Document;
+use paint_commands::{PaintCommand, SelectCommand};
+use session::{Gids, Line, Refusal, Reply};
+use std::alloc::{AllocError, Global};
+use tile_id::Gid;
+use undo_stack::Stack;
+
+/// The plan of a line that is refused.
+pub fn refused(refusal: Refusal) -> Planned
+    ensures { result ≡ refused refusal }
+{
+    Planned::Reply(Reply::Refused(refusal))
+}
+
+// The plan of an edit: its command, or its refusal.
+fn planned(edit: Result<Edit, EditFault>) -> Planned
+    ensures { result ≡ plan_of edit }
+{
+    match edit {
+        Ok(edit) => Planned::Push(edit),
+        Err(fault) => refused(refusal::of_edit(fault)),
+    }
+}
+
+// The values of a line, one after another, for which room is taken once.
+fn collected(alloc: Global, values: &Gids<'_>) -> Result<Vec<Gid>, AllocError>
+    ensures { IfOk result (λ v. v.items ≡ values.now) }
+{
+    let mut collected = Vec::with_capacity(alloc, values.len())?;
+    for value in values.values() {
+        collected.push(value)?;
+    }
+    Ok(collected)
+}
+
+// A stamp.
+fn plan_stamp(
+    alloc: Global,
+    document: &Document,
+    layer: u32,
+    x: i32,
+    y: i32,
+    width: u32,
+    values: &Gids<'_>,
+    follows: bool,
+) -> Planned
+    requires { CanBeSpelled (lines.Stamp layer x y width values.now follows) }
+    ensures { PlansLine (edit_of (lines.Stamp layer x y width values.now follows)) document.now (Some result) }
+{
+    let Ok(values) = collected(alloc, values) else {
+        return refused(Refusal::NoMemory);
+    };
+    let block = Block {
+        x,
+        y,
+        width,
+        values: values.as_slice(),
+    };
+    planned(PaintCommand::stamp(alloc, document, layer, &block, follows).map(Edit::Paint))
+}
+
+/// The plan of a line that is an edit, and none of another.
+fn plan_edit(alloc: Global, document: &Document, line: &Line<'_>) -> Option<Planned>
+    requires { CanBeSpelled line.now }
+    ensures { PlansLine (edit_of line.now) document.now result }
+{
+    let plan = match line {
+        Line::Stamp {
+            layer,
+            x,
+            y,
+            width,
+            values,
+            follows,
+        } => plan_stamp(alloc, document, *layer, *x, *y, *width, values, *follows),
+        Line::Erase {
+            layer,
+            x,
+            y,
+            width,
+            height,
+            follows,
+        } => {
+            let area = Area {
+                x: *x,
+                y: *y,
+                width: *width,
+                height: *height,
+            };
+            planned(PaintCommand::erase(alloc, document, *layer, &area, *follows).map(Edit::Paint))
+        }
+        Line::Fill { layer, x, y, value } => {
+            planned(PaintCommand::fill(alloc, document, *layer, *x, *y, *value).map(Edit::Paint))
+        }
+        Line::Select {
+            mode,
+            x,
+            y,
+            width,
+            height,
+        } => {
+            let area = Area {
+                x: *x,
+                y: *y,
+                width: *width,
+                height: *height,
+            };
+            let edit = Selecting::Rectangle { mode: *mode, area };
+            planned(SelectCommand::new(alloc, document, edit).map(Edit::Select))
+        }
+        Line::SelectNone => {
+            planned(SelectCommand::new(alloc, document, Selecting::Nothing).map(Edit::Select))
+        }
+        Line::AddLayer { kind, name } => {
+            planned(AddLayer::new(alloc, document, *kind, name.as_str()).map(Edit::AddLayer))
+        }
+        Line::RemoveLayer { layer } => {
+            planned(RemoveLayer::new(document, *layer).map(Edit::RemoveLayer))
+        }
+        Line::RenameLayer { layer, name } => planned(
+            RenameLayer::new(alloc, document, *layer, name.as_str()).map(Edit::RenameLayer),
+        ),
+        Line::ShowLayer { layer, visible } => {
+            planned(ShowLayer::new(document, *layer, *visible).map(Edit::ShowLayer))
+        }
+        Line::MoveLayer { layer, place } => {
+            planned(MoveLayer::new(document, *layer, *place).map(Edit::MoveLayer))
+        }
+        _ => return None,
+    };
+    Some(plan)
+}
+
+/// Plans a line about a document, the active one: an edit is left to be committed, and any other line is done.
+pub fn on_document<C: Command>(alloc: Global, stack: &mut Stack<C>, line: &Line<'_>) -> Planned
+    requires sound { IsUnlimited C.change stack.old }
+    requires spelled { CanBeSpelled line.now }
+    requires scope { scope_of line.now ≡ OneDocument }
+    ensures sound { IsUnlimited C.change stack.new }
+    ensures plans { PlansOn line.now (history C.change stack.old) result (history C.change stack.new) }
+{
+    match plan_edit(alloc, stack.document(), line) {
+        Some(plan) => plan,
+        None => Planned::Reply(step(alloc, stack, line)),
+    }
+}

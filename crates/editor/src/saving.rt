@@ -1,0 +1,49 @@
+ghost use Rattle.std.specs.Prelude.{◌≡◌, ◌≤◌, length};
+ghost use Rattle.undo_stack.specs.Stacks.{history};
+ghost use Rattle.session.specs.Words.{file_name_limit};
+ghost use Rattle.editor.specs.Editors.{IsUnlimited};
+ghost use Rattle.editor.specs.DocumentSteps.{SavesDocument};
+ghost use Rattle.editor.specs.Planning.{KeepsHistory};
+
+use crate::refusal;
+use command_api::Command;
+use map_json::write_map;
+use map_store::MapStore;
+use session::{FileName, Refusal, Reply, Text};
+use std::alloc::Global;
+use undo_stack::Stack;
+
+/// Writes a document's map into a file. Once the store has answered, the index is the clean one.
+pub fn save_document<C: Command, S: MapStore>(
+    alloc: Global,
+    store: &mut S,
+    stack: &mut Stack<C>,
+    file: &Text<'_>,
+) -> Reply
+    requires sound { IsUnlimited C.change stack.old }
+    requires short { length file.now ≤ file_name_limit }
+    ensures sound { IsUnlimited C.change stack.new }
+    ensures honest { S.honest store.old → S.honest store.new }
+    ensures saves { S.honest store.old → SavesDocument file.now (history C.change stack.old) (S.kept store.old) result (history C.change stack.new) (S.kept store.new) }
+    ensures kept { KeepsHistory result (history C.change stack.old) (history C.change stack.new) }
+{
+    if stack.depth() > 0 {
+        return Reply::Refused(Refusal::MacroOpen);
+    }
+    let Ok(bytes) = write_map(alloc, stack.document().map()) else {
+        return Reply::Refused(Refusal::NoMemory);
+    };
+    let Ok(name) = String::from_str(alloc, file.as_str()) else {
+        return Reply::Refused(Refusal::NoMemory);
+    };
+    if let Err(fault) = store.store(alloc, file.as_str(), bytes.as_slice()) {
+        return Reply::Refused(refusal::of_store(fault));
+    }
+    match stack.set_clean() {
+        Ok(()) => Reply::Saved {
+            file: FileName::new(name),
+            size: bytes.len() as u64,
+        },
+        Err(_) => unreachable!(),
+    }
+}
