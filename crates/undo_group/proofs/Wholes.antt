@@ -1,10 +1,12 @@
 -- A group of stacks as a whole: that it is a group, what its active place says, and what each change makes of it.
-use Rattle.std.proofs.Common.{◌≡◌, ℕ, zero, suc, ◌<◌, ◌+◌, ◌≤◌, List, [], ◌∷◌, ◌++◌, map, length, slice_get, get_or, position, Bool, true, false, Option, Some, None, IsSome, IfSome, is_some, All, refl, sym, ◌∙◌, ap, subst, arith, length-append}
+use Rattle.std.proofs.Common.{◌≡◌, ℕ, zero, suc, ◌<◌, ◌+◌, ◌≤◌, List, [], ◌∷◌, ◌++◌, map, length, slice_get, take, drop, remove, position, Bool, true, false, Option, Some, None, IsSome, IfSome, is_some, All, refl, sym, ◌∙◌, ap, subst, arith, length-append}
 use Rattle.std.proofs.lemmas.Bool.{false≢true}
 use Rattle.std.proofs.lemmas.List.{map-append}
-use Rattle.std.proofs.lemmas.List.Elements.{All-push}
+use Rattle.std.proofs.lemmas.List.Edits.{length-remove}
+use Rattle.std.proofs.lemmas.Option.{same_Some}
+use Rattle.std.proofs.lemmas.List.Elements.{All-push, All-append, All-take, All-drop}
 use Rattle.std.specs.List.{IsDistinct}
-use Rattle.std.specs.Map.{keys_of, values_of, lookup, remove_entry}
+use Rattle.std.specs.Map.{keys_of, values_of, lookup}
 use Rattle.std.specs.Option.{option_map}
 use Rattle.std.specs.String.{string_bytes, string_eq}
 use Rattle.std.specs.declared.string.String.{String}
@@ -21,10 +23,10 @@ use Rattle.undo_stack.specs.Stacks.{history, Holds}
 use Rattle.undo_stack.specs.declared.stack.Stack.{Stack}
 use Rattle.undo_group.specs.declared.group.Group.{Group}
 use Rattle.undo_group.specs.Lending.{IsLeft}
-use Rattle.undo_group.specs.Groups.{OpenDocument, GroupParts, IsGroup, IsNew, AreDistinct, history_named, active_among, active_history, added, removed, chosen, with_history, with_history_of, with_active}
+use Rattle.undo_group.specs.Groups.{OpenDocument, GroupParts, IsGroup, IsNew, AreDistinct, history_named, active_among, active_history, active_without, added, removed, with_history_of, with_active}
 use Rattle.undo_group.specs.Stacks.{document_of, documents_of, name_at, group_of, place_without, AreHeld}
 use Rattle.undo_group.proofs.Places.{slice_get-values_of, entry_at, All-slice_get_values, none_from_is_some, is_some-option_map}
-use Rattle.undo_group.proofs.Entries.{is_name, history_named-documents_of, AreDistinct-documents_of, history_named-at, documents_of-set_value_at, All-set_value_at}
+use Rattle.undo_group.proofs.Entries.{is_name, history_named-documents_of, AreDistinct-documents_of, history_named-at, documents_of-set_value_at, documents_of-remove, name_at-remove, within_without, named_at, All-set_value_at}
 
 -- the map of a group
 abbrev pub Stacks : Type 0 → Type 0
@@ -165,3 +167,45 @@ module _ {C : Type 0} (f : C → Change) (g : Group C) where
     stacks = subst (λ es. All (λ e. Holds f e.1) es) (sym same) held.stacks;
     within = subst (λ es. IfSome g.active (λ at. at < length es)) (sym same) held.within;
   }
+
+module _ {C : Type 0} (f : C → Change) {Y : Type 0} (name : List ℕ) (es : List (String Y × Stack C)) (at : ℕ) (found : position (is_name name) (keys_of es) ≡ Some at) where
+  -- a look-up found an entry, and its place has the name
+  pub IsSome-found : IsSome (slice_get es at)
+  IsSome-found = ap is_some (named_at name es at found).1
+
+  pub name_at-found : name_at es (Some at) ≡ Some name
+  name_at-found =
+      let p = named_at name es at found in
+      ap (option_map (λ e. string_bytes e.0)) p.1 ∙ ap Some (sym p.2)
+
+  module _ (k : String Y) (s : Stack C) (entry : slice_get es at ≡ Some (k, s)) where
+    name-found : string_bytes k ≡ name
+    name-found =
+        let e : ◌≡◌ {A = Option (List ℕ)} (Some (string_bytes k)) (Some name) = sym (ap (option_map (λ e. string_bytes e.0)) entry) ∙ name_at-found in
+        same_Some (string_bytes k) name e
+
+    pub history_named-found : IsDistinct string_eq (keys_of es) → history_named name (documents_of f es) ≡ Some (history f s)
+    history_named-found unique =
+        ap (λ n. history_named n (documents_of f es)) (sym name-found) ∙ history_named-at f es at k s (AreDistinct-documents_of f es unique) entry
+
+    active-removed : (o : Option ℕ) → AreDistinct (documents_of f es) → name_at (remove es at) (place_without at o) ≡ active_without (string_bytes k) (name_at es o)
+    active-removed None distinct = refl
+    active-removed (Some i) distinct = name_at-remove f es at k s i distinct entry
+
+    pub removed-found : (o : Option ℕ) → IsDistinct string_eq (keys_of es)
+        → ◌≡◌ {A = GroupParts} (record { documents = documents_of f (remove es at); active = name_at (remove es at) (place_without at o) }) (removed name (record { documents = documents_of f es; active = name_at es o }))
+    removed-found o unique =
+        let distinct = AreDistinct-documents_of f es unique in
+        let documents = documents_of-remove f es at k s distinct entry in
+        let active = active-removed o distinct in
+        (λ i. record { documents = documents i; active = active i }) ∙ ap (λ n. removed n (record { documents = documents_of f es; active = name_at es o })) name-found
+
+-- the entry at a place goes
+pub AreHeld-removed : {C : Type 0} (f : C → Change) (g : Group C) (at : ℕ) (m : Stacks C) (o : Option ℕ) → at < length g.stacks.entries → m.entries ≡ remove g.stacks.entries at → o ≡ place_without at g.active → AreHeld f g → AreHeld f (record { stacks = m; active = o })
+AreHeld-removed f g at m o within entries active held =
+    let es = g.stacks.entries in
+    let shorter : length m.entries + 1 ≡ length es = ap (λ l. length l + 1) entries ∙ length-remove es at within in
+    record {
+      stacks = subst (λ l. All (λ e. Holds f e.1) l) (sym entries) (All-append (λ e. Holds f e.1) (take at es) (drop (suc at) es) (All-take (λ e. Holds f e.1) at es held.stacks) (All-drop (λ e. Holds f e.1) (suc at) es held.stacks));
+      within = subst (λ p. IfSome p (λ k. k < length m.entries)) (sym active) (within_without at g.active (length es) (length m.entries) shorter within held.within);
+    }
