@@ -1,4 +1,4 @@
-ghost use Rattle.std.specs.Prelude.{◌≡◌, map, IsSome, IfOk, IfErr, IfSome, IsSomeAnd, OnOk, Some};
+ghost use Rattle.std.specs.Prelude.{◌≡◌, map, IsSome, IfOk, IfErr, IfSome, IsSomeAnd, OnSome, OnOk, Some};
 ghost use Rattle.std.specs.Borrow.{sem};
 ghost use Rattle.std.specs.Option.{option_map, option_copied};
 ghost use Rattle.undo_stack.specs.History.{is_clean};
@@ -106,13 +106,12 @@ impl<C: Command> Group<C> {
         ensures none { IfErr result (λ _. IsNew name.now (group_of C.change self.old).documents) }
         ensures kept { IfErr result (λ _. group_of C.change self.new ≡ group_of C.change self.old) }
     {
-        match self.stacks.shift_remove_full(name) {
-            Some((at, _, stack)) => {
-                self.active = place_without(self.active, at);
-                Ok(stack)
-            }
-            None => Err(GroupFault::NoSuchDocument),
-        }
+        let Some(at) = self.stacks.get_index_of(name) else {
+            return Err(GroupFault::NoSuchDocument);
+        };
+        let (_, stack) = self.stacks.shift_remove_index(at).unwrap();
+        self.active = place_without(self.active, at);
+        Ok(stack)
     }
 
     /// Makes the document of this name the active one, or none. Takes no memory.
@@ -155,7 +154,7 @@ impl<C: Command> Group<C> {
         ensures* lends { sem 𝓛 (LendsActive C.row C.change self.entry result) }
         ensures active { option_map (λ stack. history C.change stack.now) result ≡ active_history (group_of C.change self.old) }
         ensures held { IfSome result (λ stack. Holds C.change stack.now) }
-        ensures whole { IsGroup (group_of C.change self.old) }
+        ensures whole { OnSome result (IsGroup (group_of C.change self.old)) }
     {
         match self.active {
             Some(at) => self.stacks.get_index_mut(at),

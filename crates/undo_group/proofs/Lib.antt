@@ -1,0 +1,5 @@
+pub mod NameTests
+pub mod Documents
+pub mod Places
+pub mod Entries
+pub mod Wholes

@@ -1,0 +1,12 @@
+use Rattle.std.proofs.Common.{sym, ◌∙◌, ap, Some}
+use Rattle.undo_stack.specs.Stacks.{history, Holds}
+use Rattle.undo_group.proofs.Wholes.{active_history-found, Holds-place}
+use Rattle.undo_group.proofs.group.Group.active.Goals as goal
+
+pub returns-clause-active : goal.returns-clause-active
+returns-clause-active g c =
+    active_history-found g.C.Command.change c.args.self.now c.in_ok-self.field-0 c.in_ok-stack.field-0-0.now c.in_ok-stack.stack.now (c.in_ok-self.was) c.in_ok-stack.ensures.entry c.in_ok-stack.ensures.value
+
+pub returns-clause-held : goal.returns-clause-held
+returns-clause-held g c =
+    Holds-place g.C.Command.change c.args.self.now.stacks.entries c.in_ok-self.field-0 c.in_ok-stack.field-0-0.now c.in_ok-stack.stack.now c.in_ok-stack.ensures.entry c.requires.stacks
