@@ -1,6 +1,6 @@
 -- What a line does with the history of the active document. An accepted edit gives a new document, and undo and redo only move a
 -- position: nothing is turned back.
-use Rattle.std.specs.Prelude.{◌≡◌, ℕ, ◌-◌, ◌≤◌, List, ℤ, pos, negsuc, Bool, nat_eq, if◌then◌else◌, length, Option, None, Some, Result, Ok, Err, ◌⊎◌, ⊤, ⊥}
+use Rattle.std.specs.Prelude.{◌≡◌, ℕ, ◌-◌, ◌≤◌, List, ℤ, pos, negsuc, Bool, nat_eq, if◌then◌else◌, length, Option, None, Some, Result, Ok, Err, ◌⊎◌, ⊤}
 use Rattle.std.specs.Option.{option_map}
 use Rattle.map_model.specs.Document.{DocumentParts}
 use Rattle.map_model.specs.declared.parts.MapParts.{MapParts}
@@ -169,7 +169,7 @@ marked_clean h = record h { clean = Some h.position }
 pub record Saves (file : List ℕ) (h : History) (before : StoreParts) (reply : Reply) (n : History) (after : StoreParts) : Type 0 where
   pub files : after.files ≡ insert before.files file (text_of (current h).map)
   pub count : before.failures ≤ after.failures
-  pub reply : reply ≡ replies.Saved file (length (text_of (current h).map))
+  pub replied : reply ≡ replies.Saved file (length (text_of (current h).map))
   pub history : n ≡ marked_clean h
 
 -- the store failed: that one file may hold anything or be absent, and nothing else has changed

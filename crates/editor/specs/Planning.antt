@@ -1,5 +1,5 @@
 -- What planning a line and committing an edit say of each other.
-use Rattle.std.specs.Prelude.{◌≡◌, Option, None, Some, Result, Ok, Err, false, ◌⊎◌, ⊤, ⊥}
+use Rattle.std.specs.Prelude.{◌≡◌, Option, None, Some, Result, Ok, Err, false, ◌⊎◌, ⊤}
 use Rattle.map_model.specs.Document.{DocumentParts}
 use Rattle.map_store.specs.Files.{StoreParts}
 use Rattle.command_api.specs.declared.fault.EditFault.{EditFault}

@@ -80,7 +80,7 @@ fn plan_edit(alloc: Global, document: &Document, line: &Line<'_>) -> Option<Plan
     requires { CanBeSpelled line.now }
     ensures { PlansLine (edit_of line.now) document.now result }
 {
-    let plan = match line {
+    match line {
         Line::Stamp {
             layer,
             x,
@@ -88,7 +88,9 @@ fn plan_edit(alloc: Global, document: &Document, line: &Line<'_>) -> Option<Plan
             width,
             values,
             follows,
-        } => plan_stamp(alloc, document, *layer, *x, *y, *width, values, *follows),
+        } => Some(plan_stamp(
+            alloc, document, *layer, *x, *y, *width, values, *follows,
+        )),
         Line::Erase {
             layer,
             x,
@@ -103,10 +105,12 @@ fn plan_edit(alloc: Global, document: &Document, line: &Line<'_>) -> Option<Plan
                 width: *width,
                 height: *height,
             };
-            planned(PaintCommand::erase(alloc, document, *layer, &area, *follows).map(Edit::Paint))
+            let edit = PaintCommand::erase(alloc, document, *layer, &area, *follows);
+            Some(planned(edit.map(Edit::Paint)))
         }
         Line::Fill { layer, x, y, value } => {
-            planned(PaintCommand::fill(alloc, document, *layer, *x, *y, *value).map(Edit::Paint))
+            let edit = PaintCommand::fill(alloc, document, *layer, *x, *y, *value);
+            Some(planned(edit.map(Edit::Paint)))
         }
         Line::Select {
             mode,
@@ -121,30 +125,36 @@ fn plan_edit(alloc: Global, document: &Document, line: &Line<'_>) -> Option<Plan
                 width: *width,
                 height: *height,
             };
-            let edit = Selecting::Rectangle { mode: *mode, area };
-            planned(SelectCommand::new(alloc, document, edit).map(Edit::Select))
+            let selecting = Selecting::Rectangle { mode: *mode, area };
+            let edit = SelectCommand::new(alloc, document, selecting);
+            Some(planned(edit.map(Edit::Select)))
         }
         Line::SelectNone => {
-            planned(SelectCommand::new(alloc, document, Selecting::Nothing).map(Edit::Select))
+            let edit = SelectCommand::new(alloc, document, Selecting::Nothing);
+            Some(planned(edit.map(Edit::Select)))
         }
         Line::AddLayer { kind, name } => {
-            planned(AddLayer::new(alloc, document, *kind, name.as_str()).map(Edit::AddLayer))
+            let edit = AddLayer::new(alloc, document, *kind, name.as_str());
+            Some(planned(edit.map(Edit::AddLayer)))
         }
         Line::RemoveLayer { layer } => {
-            planned(RemoveLayer::new(document, *layer).map(Edit::RemoveLayer))
+            let edit = RemoveLayer::new(document, *layer);
+            Some(planned(edit.map(Edit::RemoveLayer)))
         }
-        Line::RenameLayer { layer, name } => planned(
-            RenameLayer::new(alloc, document, *layer, name.as_str()).map(Edit::RenameLayer),
-        ),
+        Line::RenameLayer { layer, name } => {
+            let edit = RenameLayer::new(alloc, document, *layer, name.as_str());
+            Some(planned(edit.map(Edit::RenameLayer)))
+        }
         Line::ShowLayer { layer, visible } => {
-            planned(ShowLayer::new(document, *layer, *visible).map(Edit::ShowLayer))
+            let edit = ShowLayer::new(document, *layer, *visible);
+            Some(planned(edit.map(Edit::ShowLayer)))
         }
         Line::MoveLayer { layer, place } => {
-            planned(MoveLayer::new(document, *layer, *place).map(Edit::MoveLayer))
+            let edit = MoveLayer::new(document, *layer, *place);
+            Some(planned(edit.map(Edit::MoveLayer)))
         }
-        _ => return None,
-    };
-    Some(plan)
+        _ => None,
+    }
 }
 
 /// Plans a line about a document, the active one: an edit is left to be committed, and any other line is done.

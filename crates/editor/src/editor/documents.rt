@@ -70,12 +70,14 @@ fn documents_text<C: Command>(alloc: Global, group: &Group<C>) -> Result<String,
 {
     let active = group.active_name();
     let mut text = String::new(alloc);
-    for (place, name) in group.names().enumerate() {
-        if place > 0 {
-            text.push(' ')?;
+    let mut is_first = true;
+    for name in group.names() {
+        if !is_first {
+            text.push_str(" ")?;
         }
+        is_first = false;
         if active == Some(name) {
-            text.push('*')?;
+            text.push_str("*")?;
         }
         text.push_str(name)?;
     }

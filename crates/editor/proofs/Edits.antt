@@ -1,0 +1,144 @@
+-- Planned edits, and the lines that ask for them.
+use Rattle.std.proofs.Common.{◌≡◌, ℕ, ◌+◌, ◌^◌, ◌<◌, ◌≤◌, List, [], ◌∷◌, length, map, Option, None, Some, Result, Ok, Err, Bool, true, false, ◌⊎◌, inl, inr, refl, sym, ap, ◌∙◌, subst, arith, length-append}
+use Rattle.std.proofs.lemmas.List.{length-map}
+use Rattle.std.specs.Prelude.{ℤ, decimal, codes, IfOk, IfErr, MatchResult, IsOkAnd}
+use Rattle.std.specs.Fmt.{signed_decimal}
+use Rattle.std.specs.List.{join_with_byte}
+use Rattle.map_model.specs.Document.{DocumentParts}
+use Rattle.edits.specs.Blocks.{ValueBlock}
+use Rattle.edits.specs.declared.area.Area.{Area}
+use Rattle.edits.specs.declared.selecting.Selecting.{Selecting}
+use Rattle.edits.specs.declared.selecting.Selecting.TheVariants.{Nothing, Rectangle}
+use Rattle.edits.specs.Filling.{after_fill}
+use Rattle.edits.specs.Selecting.{after_select}
+use Rattle.edits.specs.Stamping.{after_erase, after_stamp, IsBlock}
+use Rattle.command_api.specs.declared.fault.EditFault.{EditFault}
+use Rattle.command_api.specs.declared.fault.EditFault.TheVariants.{NoSuchLayer, LayerOfAnotherKind, OutsideTheMap, UnknownTile, NoSuchObject, NoSuchProperty, NoSuchTileset, TilesetInUse, FirstIdNotAbove, OutOfRange, TooMany, NoMemory}
+use Rattle.command_api.specs.Law.{Change, Names}
+use Rattle.command_api.specs.Making.{IsRefusalOf, Makes}
+use Rattle.paint_commands.specs.Painting.{erase_names, fill_names, stamp_names}
+use Rattle.paint_commands.specs.Selection.{select_names}
+use Rattle.undo_stack.specs.History.{History, Step, current}
+use Rattle.undo_stack.specs.Pushing.{step_of}
+use Rattle.session.specs.declared.line.Line.{Line}
+use Rattle.session.specs.declared.line.Line.TheVariants.{Erase, Fill, Select, SelectNone, Stamp}
+use Rattle.session.specs.declared.reply.Refusal.{Refusal}
+use Rattle.session.specs.declared.reply.Reply.{Reply}
+use Rattle.session.specs.declared.reply.Reply.TheVariants.{Refused}
+use Rattle.session.specs.Spelling.{AreRows, CanBeSpelled, commas, spelling}
+use Rattle.editor.specs.declared.planned.Edit.{Edit}
+use Rattle.editor.specs.declared.planned.Planned.{Planned}
+use Rattle.editor.specs.declared.planned.Planned.TheVariants as planned
+use Rattle.editor.specs.DocumentSteps.{DocumentStepBy, EditStep, answer_of, edit_of}
+use Rattle.editor.specs.Planning.{FitsDocument, IsEditBy, KeepsHistory, PlansEdit, PlansLine, PlansOn, edit_change, plan_of}
+use Rattle.editor.specs.Refusals.{refusal_of_edit}
+
+-- a refusal is want of memory, or the edit's own
+IsRefusalOf-cases : (after : Result DocumentParts EditFault) (fault : EditFault) → IsRefusalOf after fault → (fault ≡ NoMemory) ⊎ (after ≡ Err fault)
+IsRefusalOf-cases after NoMemory h = inl refl
+IsRefusalOf-cases after NoSuchLayer h = inr h
+IsRefusalOf-cases after LayerOfAnotherKind h = inr h
+IsRefusalOf-cases after OutsideTheMap h = inr h
+IsRefusalOf-cases after UnknownTile h = inr h
+IsRefusalOf-cases after NoSuchObject h = inr h
+IsRefusalOf-cases after NoSuchProperty h = inr h
+IsRefusalOf-cases after NoSuchTileset h = inr h
+IsRefusalOf-cases after TilesetInUse h = inr h
+IsRefusalOf-cases after FirstIdNotAbove h = inr h
+IsRefusalOf-cases after OutOfRange h = inr h
+IsRefusalOf-cases after TooMany h = inr h
+
+-- an edit that was made, or refused, is planned so
+pub made-PlansEdit : (names : Names) (d : DocumentParts) (after : Result DocumentParts EditFault) (edit : Result Edit EditFault) → names.follows ≡ false
+    → IfOk edit (λ e. Makes names d after (edit_change e)) → IfErr edit (IsRefusalOf after) → PlansEdit (answer_of names after) d (plan_of edit)
+made-PlansEdit names d after (Ok edit) alone is r =
+    (rw (is.document, is.names) refl, record { fits = is.fits; straight = ap (λ (n : Names). n.follows) is.names ∙ alone })
+made-PlansEdit names d after (Err fault) alone is r = elim (IsRefusalOf-cases after fault r) [
+  | inl e ↦ inl (ap (λ f. Refused (refusal_of_edit f)) e)
+  | inr e ↦ inr (refusal_of_edit fault, ap (answer_of names) e, refl)
+]
+
+-- a command that was made, or refused, and then put into an edit
+pub mapped-PlansEdit : {K : Type 0} (wrap : K → Edit) (names : Names) (d : DocumentParts) (after : Result DocumentParts EditFault) (made : Result K EditFault) (edit : Result Edit EditFault)
+    → names.follows ≡ false → IfOk made (λ k. Makes names d after (edit_change (wrap k))) → IfErr made (IsRefusalOf after)
+    → MatchResult made (λ k. IsOkAnd edit (λ e. e ≡ wrap k)) (λ e. edit ≡ Err e) → PlansEdit (answer_of names after) d (plan_of edit)
+mapped-PlansEdit wrap names d after (Ok k) (Ok e) alone is r m =
+    let P : Edit → Type 0 = λ x. PlansEdit (answer_of names after) d (plan_of (Ok x)) in
+    subst P (sym m) (made-PlansEdit names d after (Ok (wrap k)) alone is tt)
+mapped-PlansEdit wrap names d after (Ok k) (Err e) alone is r m = absurd m
+mapped-PlansEdit wrap names d after (Err fault) edit alone is r m =
+    let P : Result Edit EditFault → Type 0 = λ x. PlansEdit (answer_of names after) d (plan_of x) in
+    subst P (sym m) (made-PlansEdit names d after (Err fault) alone tt r)
+
+-- an erase that can be spelled does not follow
+pub erase-straight : (layer : ℕ) (x y : ℤ) (width height : ℕ) (follows : Bool) → CanBeSpelled (Erase layer x y width height follows) → follows ≡ false
+erase-straight layer x y width height true h = absurd h.0.0
+erase-straight layer x y width height false h = refl
+
+-- a stamp that can be spelled does not follow
+pub stamp-straight : (layer : ℕ) (x y : ℤ) (width : ℕ) (values : List ℕ) (follows : Bool) → CanBeSpelled (Stamp layer x y width values follows) → follows ≡ false
+stamp-straight layer x y width values true h = absurd h.0.0
+stamp-straight layer x y width values false h = refl
+
+-- ---- the values of a line
+length-join : (b : ℕ) (ws : List (List ℕ)) → length ws ≤ length (join_with_byte b ws) + 1
+length-join b [] = omega arith
+length-join b (w ∷ []) = omega arith
+length-join b (w ∷ v ∷ ws) =
+    let rest = length-join b (v ∷ ws) in
+    omega (arith, length-append w (b ∷ join_with_byte b (v ∷ ws)))
+
+length-join_rest : (b : ℕ) (w v : List ℕ) (ws : List (List ℕ)) → length (join_with_byte b (v ∷ ws)) ≤ length (join_with_byte b (w ∷ v ∷ ws))
+length-join_rest b w v ws = omega (arith, length-append w (b ∷ join_with_byte b (v ∷ ws)))
+
+-- a line is short, so its values are few
+values-few : (layer : ℕ) (x y : ℤ) (width : ℕ) (values : List ℕ) (follows : Bool) → CanBeSpelled (Stamp layer x y width values follows) → length values < 2 ^ 32
+values-few layer x y width values true h = absurd h.0.0
+values-few layer x y width values false h =
+    let many = length-join 44 (map decimal values) in
+    let same : length (map decimal values) ≡ length values = length-map values decimal in
+    let last = length-join_rest 32 (decimal width) (commas values) [] in
+    let row = length-join_rest 32 (signed_decimal y) (decimal width) (commas values ∷ []) in
+    let column = length-join_rest 32 (signed_decimal x) (signed_decimal y) (decimal width ∷ commas values ∷ []) in
+    let id = length-join_rest 32 (decimal layer) (signed_decimal x) (signed_decimal y ∷ decimal width ∷ commas values ∷ []) in
+    let all = length-join_rest 32 (codes "stamp") (decimal layer) (signed_decimal x ∷ signed_decimal y ∷ decimal width ∷ commas values ∷ []) in
+    let short : length (spelling (Stamp layer x y width values false)) < 2 ^ 16 = h.1 refl in
+    omega (arith, short)
+
+-- its values are a block
+pub stamp-IsBlock : (layer : ℕ) (x y : ℤ) (width : ℕ) (values : List ℕ) (follows : Bool) → CanBeSpelled (Stamp layer x y width values follows) → IsBlock (record { x = x; y = y; width = width; values = values })
+stamp-IsBlock layer x y width values follows h =
+    let rows : AreRows width values = h.0.1.1.1.1.0 in
+    record { wide = rows.some; narrow = rows.narrow; whole = rows.rows; few = values-few layer x y width values follows h }
+
+
+-- ---- over the active document
+keeps_same : (reply : Reply) (h : History) → KeepsHistory reply h h
+keeps_same (Refused refusal) h = refl
+keeps_same reply h = tt
+
+quiet_edit : (edit : Option (DocumentParts → Result Step Refusal)) (d : DocumentParts) → PlansLine edit d (Some planned.Quiet) → ⊥
+quiet_edit None d p = p
+quiet_edit (Some edit) d p = p
+
+reply_edit : (edit : Option (DocumentParts → Result Step Refusal)) (line : Line) (h : History) (reply : Reply) → PlansLine edit (current h) (Some (planned.Reply reply)) → DocumentStepBy edit line h reply h
+reply_edit None line h reply p = absurd p
+reply_edit (Some edit) line h reply (inl e) = inr (tt, (e, refl))
+reply_edit (Some edit) line h reply (inr p) =
+    let Q : Result Step Refusal → Type 0 = λ a. EditStep a h reply h in
+    inl (subst Q (sym p.1) (p.2, refl))
+
+push_edit : (edit : Option (DocumentParts → Result Step Refusal)) (h : History) (e : Edit) → PlansLine edit (current h) (Some (planned.Push e)) → IsEditBy edit (Some h) (edit_change e) × FitsDocument (current h) (edit_change e)
+push_edit None h e p = absurd p
+push_edit (Some edit) h e p = p
+
+plan-PlansOn : (line : Line) (h : History) (plan : Planned) → PlansLine (edit_of line) (current h) (Some plan) → PlansOn line h plan h
+plan-PlansOn line h planned.Quiet p = quiet_edit (edit_of line) (current h) p
+plan-PlansOn line h (planned.Reply reply) p = (reply_edit (edit_of line) line h reply p, keeps_same reply h)
+plan-PlansOn line h (planned.Push e) p = let is = push_edit (edit_of line) h e p in (refl, is.0, is.1)
+
+-- an edit of the current document is planned over it, and the history is as it was
+pub line-PlansOn : (line : Line) (h : History) (d : DocumentParts) (plan : Planned) → d ≡ current h → PlansLine (edit_of line) d (Some plan) → PlansOn line h plan h
+line-PlansOn line h d plan e p =
+    let Q : DocumentParts → Type 0 = λ k. PlansLine (edit_of line) k (Some plan) in
+    plan-PlansOn line h plan (subst Q e p)
