@@ -209,3 +209,14 @@ AreHeld-removed f g at m o within entries active held =
       stacks = subst (λ l. All (λ e. Holds f e.1) l) (sym entries) (All-append (λ e. Holds f e.1) (take at es) (drop (suc at) es) (All-take (λ e. Holds f e.1) at es held.stacks) (All-drop (λ e. Holds f e.1) (suc at) es held.stacks));
       within = subst (λ p. IfSome p (λ k. k < length m.entries)) (sym active) (within_without at g.active (length es) (length m.entries) shorter within held.within);
     }
+
+-- where none is active, no stack is written
+pub IsLeft-none : {C : Type 0} (f : C → Change) (g : Group C) (w : Stack C) → g.active ≡ None → AreHeld f g → IsLeft f g w g
+IsLeft-none f g w is held =
+    let es = g.stacks.entries in
+    record {
+      sound = held;
+      group =
+          ap (λ o. record { documents = documents_of f es; active = name_at es o }) is
+          ∙ ap (λ o. with_active (history f w) (record { documents = documents_of f es; active = name_at es o })) (sym is);
+    }
