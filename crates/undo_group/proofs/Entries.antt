@@ -1,7 +1,7 @@
 -- The entries of a group's map, as documents: what a look-up, a place, a write by place and a removal say of them.
-use Rattle.std.proofs.Common.{◌≡◌, ℕ, zero, suc, ◌+◌, ◌-◌, ◌<◌, ◌≤◌, ◌==◌, List, [], ◌∷◌, ◌++◌, map, length, get_or, slice_get, remove, position, Bool, true, false, cond, nat_lt, Option, Some, None, IsSome, IfSome, if◌then◌else◌, All, refl, sym, ◌∙◌, ap, subst, inl, inr, arith}
-use Rattle.std.proofs.lemmas.Bool.{false≢true, true≢false, eq-eqb, ne_eqb, lt-ltb, le-ltb, cases_order}
-use Rattle.std.proofs.lemmas.List.Elements.{All-nil, All-cons, All-head, All-tail}
+use Rattle.std.proofs.Common.{◌≡◌, ℕ, zero, suc, ◌+◌, ◌-◌, ◌<◌, List, [], ◌∷◌, length, slice_get, remove, position, Bool, true, false, Option, Some, None, IfSome, All, refl, sym, ◌∙◌, ap, subst, inl, inr, arith}
+use Rattle.std.proofs.lemmas.Bool.{eq-eqb, ne_eqb, lt-ltb, le-ltb, cases_order}
+use Rattle.std.proofs.lemmas.List.Elements.{All-cons, All-head, All-tail}
 use Rattle.std.proofs.lemmas.List.Quantifiers.{position-Some}
 use Rattle.std.proofs.lemmas.Map.Entries.{length-keys_of}
 use Rattle.std.proofs.lemmas.Map.Keys.{IsDistinct-head, IsDistinct-tail}
@@ -12,12 +12,12 @@ use Rattle.std.specs.Option.{option_map}
 use Rattle.std.specs.Str.{bytes_eq}
 use Rattle.std.specs.String.{string_bytes, string_eq}
 use Rattle.std.specs.declared.string.String.{String}
-use Rattle.indexmap.specs.Layout.{set_value_at, length-set_value_at}
+use Rattle.indexmap.specs.Layout.{set_value_at}
 use Rattle.command_api.specs.Law.{Change}
 use Rattle.undo_stack.specs.History.{History}
 use Rattle.undo_stack.specs.Stacks.{history, Holds}
 use Rattle.undo_stack.specs.declared.stack.Stack.{Stack}
-use Rattle.undo_group.specs.Groups.{OpenDocument, IsNew, AreDistinct, history_named, without, active_without, with_history}
+use Rattle.undo_group.specs.Groups.{IsNew, AreDistinct, history_named, without, active_without, with_history}
 use Rattle.undo_group.specs.Stacks.{document_of, documents_of, name_at, place_without}
 use Rattle.undo_group.proofs.Places.{entry_at, get_or-keys_of, position_within}
 use Rattle.undo_group.proofs.NameTests.{bytes_eq-same, same_from_bytes_eq}
@@ -164,10 +164,10 @@ module _ {C : Type 0} (f : C → Change) {Y : Type 0} where
 pub within_without : (gone : ℕ) (o : Option ℕ) (n m : ℕ) → m + 1 ≡ n → gone < n → IfSome o (λ at. at < n) → IfSome (place_without gone o) (λ at. at < m)
 within_without gone None n m e g within = tt
 within_without gone (Some at) n m e g within = elim (cases_order at gone) [
-    inl same ↦ subst (λ o. IfSome o (λ k. k < m)) (sym (place_without-here gone at same)) tt
+  | inl same ↦ subst (λ o. IfSome o (λ k. k < m)) (sym (place_without-here gone at same)) tt
   | inr (inl below) ↦ subst (λ o. IfSome o (λ k. k < m)) (sym (place_without-below gone at below)) (let h : at < m = omega arith in h)
   | inr (inr above) ↦ subst (λ o. IfSome o (λ k. k < m)) (sym (place_without-above gone at above)) (let h : at - 1 < m = omega (arith, within) in h)
-  ]
+]
 
 -- a look-up of a place finds an entry of the name
 pub named_at : {C Y : Type 0} (name : List ℕ) (es : List (String Y × Stack C)) (i : ℕ) → position (is_name name) (keys_of es) ≡ Some i → (p : String Y × Stack C) × (slice_get es i ≡ Some p) × (name ≡ string_bytes p.0)

@@ -1,11 +1,10 @@
 -- Options of references: what a place among the entries, or a look-up, has.
-use Rattle.std.proofs.Common.{◌≡◌, ℕ, suc, zero, ◌<◌, List, [], ◌∷◌, map, length, get_or, slice_get, position, Bool, true, false, Option, Some, None, IsSome, IfSome, OnSome, is_some, All, refl, sym, ◌∙◌, ap, subst, arith}
+use Rattle.std.proofs.Common.{◌≡◌, ℕ, suc, zero, ◌<◌, List, [], ◌∷◌, length, get_or, slice_get, position, Bool, false, Option, Some, None, IfSome, OnSome, is_some, All, refl, sym, ap, subst, arith}
 use Rattle.std.proofs.lemmas.List.Elements.{All-head, All-tail}
 use Rattle.std.proofs.lemmas.List.Quantifiers.{position-Some}
 use Rattle.std.proofs.lemmas.Option.{same_Some}
 use Rattle.std.specs.Borrow.{Bor, MutBor}
 use Rattle.std.specs.Map.{keys_of, values_of}
-use Rattle.std.specs.Map.Iter.{deref_pair}
 use Rattle.std.specs.Option.{option_map, option_copied, option_copied_mut}
 
 module _ {X Y : Type 0} (h : X → Y) where

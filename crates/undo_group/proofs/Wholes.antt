@@ -1,6 +1,5 @@
 -- A group of stacks as a whole: that it is a group, what its active place says, and what each change makes of it.
-use Rattle.std.proofs.Common.{◌≡◌, ℕ, zero, suc, ◌<◌, ◌+◌, ◌≤◌, List, [], ◌∷◌, ◌++◌, map, length, slice_get, take, drop, remove, position, Bool, true, false, Option, Some, None, IsSome, IfSome, is_some, All, refl, sym, ◌∙◌, ap, subst, arith, length-append}
-use Rattle.std.proofs.lemmas.Bool.{false≢true}
+use Rattle.std.proofs.Common.{◌≡◌, ℕ, zero, suc, ◌<◌, ◌+◌, List, [], ◌∷◌, ◌++◌, map, length, slice_get, take, drop, remove, position, false, Option, Some, None, IsSome, IfSome, is_some, All, refl, sym, ◌∙◌, ap, subst, arith, length-append}
 use Rattle.std.proofs.lemmas.List.{map-append}
 use Rattle.std.proofs.lemmas.List.Edits.{length-remove}
 use Rattle.std.proofs.lemmas.Option.{same_Some}
@@ -18,12 +17,11 @@ use Rattle.indexmap.specs.IndexMap.{with_value_at, insert_entry}
 use Rattle.indexmap.proofs.CallerLemmas.{insert_entry-new}
 use Rattle.indexmap.specs.Layout.{set_value_at, length-set_value_at}
 use Rattle.command_api.specs.Law.{Change}
-use Rattle.undo_stack.specs.History.{History}
 use Rattle.undo_stack.specs.Stacks.{history, Holds}
 use Rattle.undo_stack.specs.declared.stack.Stack.{Stack}
 use Rattle.undo_group.specs.declared.group.Group.{Group}
 use Rattle.undo_group.specs.Lending.{IsLeft}
-use Rattle.undo_group.specs.Groups.{OpenDocument, GroupParts, IsGroup, IsNew, AreDistinct, history_named, active_among, active_history, active_without, added, removed, with_history_of, with_active}
+use Rattle.undo_group.specs.Groups.{GroupParts, IsGroup, IsNew, AreDistinct, history_named, active_among, active_history, active_without, added, removed, with_history_of, with_active}
 use Rattle.undo_group.specs.Stacks.{document_of, documents_of, name_at, group_of, place_without, AreHeld}
 use Rattle.undo_group.proofs.Places.{slice_get-values_of, entry_at, All-slice_get_values, none_from_is_some, is_some-option_map}
 use Rattle.undo_group.proofs.Entries.{is_name, history_named-documents_of, AreDistinct-documents_of, history_named-at, documents_of-set_value_at, documents_of-remove, name_at-remove, within_without, named_at, All-set_value_at}
@@ -48,6 +46,7 @@ module _ {C : Type 0} (f : C → Change) {Y : Type 0} (es : List (String Y × St
       at_place : (at : ℕ) (r : Option (String Y × Stack C)) → slice_get es at ≡ r → IfSome (option_map (λ e. string_bytes e.0) r) (λ name. IsSome (history_named name (documents_of f es)))
       at_place at None e = tt
       at_place at (Some p) e = ap is_some (history_named-at f es at p.0 p.1 (AreDistinct-documents_of f es unique) e)
+
       by : (o : Option ℕ) → IfSome (name_at es o) (λ name. IsSome (history_named name (documents_of f es)))
       by None = tt
       by (Some at) = at_place at (slice_get es at) refl
@@ -137,10 +136,10 @@ module _ {C : Type 0} (f : C → Change) (g : Group C) where
   active_history-found at k s is place found =
       let es = g.stacks.entries in
       sym
-        ( ap (λ o. active_among (name_at es o) (documents_of f es)) is
-        ∙ ap (λ o. active_among (option_map (λ e. string_bytes e.0) o) (documents_of f es)) (sym place)
-        ∙ history_named-documents_of f (string_bytes k) es
-        ∙ ap (option_map (history f)) found )
+      (ap (λ o. active_among (name_at es o) (documents_of f es)) is
+      ∙ ap (λ o. active_among (option_map (λ e. string_bytes e.0) o) (documents_of f es)) (sym place)
+      ∙ history_named-documents_of f (string_bytes k) es
+      ∙ ap (option_map (history f)) found)
 
   module _ (name : List ℕ) (key : String Global) (stack : Stack C) (m : Stacks C) (named : string_bytes key ≡ name) (absent : is_some (lookup (is_name name) g.stacks.entries) ≡ false) (entries : m.entries ≡ insert_entry string_eq g.stacks.entries key stack) where
     entries-added : m.entries ≡ g.stacks.entries ++ (key, stack) ∷ []
@@ -208,4 +207,15 @@ AreHeld-removed f g at m o within entries active held =
     record {
       stacks = subst (λ l. All (λ e. Holds f e.1) l) (sym entries) (All-append (λ e. Holds f e.1) (take at es) (drop (suc at) es) (All-take (λ e. Holds f e.1) at es held.stacks) (All-drop (λ e. Holds f e.1) (suc at) es held.stacks));
       within = subst (λ p. IfSome p (λ k. k < length m.entries)) (sym active) (within_without at g.active (length es) (length m.entries) shorter within held.within);
+    }
+
+-- where none is active, no stack is written
+pub IsLeft-none : {C : Type 0} (f : C → Change) (g : Group C) (w : Stack C) → g.active ≡ None → AreHeld f g → IsLeft f g w g
+IsLeft-none f g w is held =
+    let es = g.stacks.entries in
+    record {
+      sound = held;
+      group =
+          ap (λ o. record { documents = documents_of f es; active = name_at es o }) is
+          ∙ ap (λ o. with_active (history f w) (record { documents = documents_of f es; active = name_at es o })) (sym is);
     }

@@ -1,5 +1,5 @@
 -- What a group ends as, once the stack that it lent is given back.
-use Rattle.std.specs.Prelude.{◌≡◌, Option, OnSome}
+use Rattle.std.specs.Prelude.{◌≡◌, Option}
 use Rattle.std.specs.Borrow.{LendsSo, MutBor, Fml}
 use denote.RattleType.{RattleType}
 use Rattle.command_api.specs.Law.{Change}
@@ -18,4 +18,4 @@ pub record IsLeft {C : Type 0} (f : C → Change) (g : Group C) (s : Stack C) (n
 
 -- the group ends with the active stack as it is left behind r, where that holds; at `None` it stays as it is
 abbrev pub LendsActive : (R : RattleType) → (R.Denot → Change) → MutBor (Group R.Denot) → Option (MutBor (Stack R.Denot)) → Fml
-LendsActive R f g r = LendsSo (the_row R) (stack_row R) g r (λ n s. OnSome r (Holds f s → IsLeft f g.now s n)) (λ n. n ≡ g.now)
+LendsActive R f g r = LendsSo (the_row R) (stack_row R) g r (λ n s. Holds f s → IsLeft f g.now s n) (λ n. n ≡ g.now)

@@ -1,5 +1,3 @@
-use Rattle.std.proofs.Common.{sym, ◌∙◌, ap, Some}
-use Rattle.undo_stack.specs.Stacks.{history, Holds}
 use Rattle.undo_group.proofs.Wholes.{active_history-found, Holds-place}
 use Rattle.undo_group.proofs.group.Group.active.Goals as goal
 

@@ -1,4 +1,4 @@
-use Rattle.std.proofs.Common.{sym, ◌∙◌, ap, is_some}
+use Rattle.std.proofs.Common.{sym, ◌∙◌}
 use Rattle.undo_group.proofs.Wholes.{is_some-named, IsNew-absent, AreHeld-added, group_of-added, AreHeld-same}
 use Rattle.undo_group.proofs.group.Group.add.Goals as goal
 

@@ -1,6 +1,5 @@
 use Rattle.std.proofs.Common.{sym, ◌∙◌, ap, is_some}
-use Rattle.undo_group.specs.Groups.{removed}
-use Rattle.undo_group.specs.Stacks.{documents_of, name_at, group_of}
+use Rattle.undo_group.specs.Stacks.{documents_of, name_at}
 use Rattle.undo_group.proofs.Wholes.{IsNew-absent, IsSome-found, Holds-place, history_named-found, removed-found, AreHeld-removed}
 use Rattle.undo_group.proofs.group.Group.remove.Goals as goal
 
