@@ -10,8 +10,9 @@ use Rattle.session.specs.declared.line.Line.TheVariants.{Stamp, Erase, Fill, Sel
 use Rattle.session.specs.declared.reply.Refusal.{Refusal}
 use Rattle.session.specs.declared.reply.Refusal.TheVariants.{NoMemory}
 use Rattle.session.specs.declared.reply.Reply.{Reply}
+use Rattle.session.specs.declared.reply.Reply.TheVariants.{Refused}
 use Rattle.editor.specs.DocumentSteps.{DocumentStep, DocumentStepBy, EditStep, edit_of, state_reply}
-use Rattle.editor.specs.Machine.{Machine, OneDocument, OverActive, Refuses, Scope, StepBy, StepOfLine, active_of, scope_of}
+use Rattle.editor.specs.Machine.{Machine, OneDocument, OverActive, Refuses, Scope, StepBy, StepOfLine, active_of, scope_of, with_active}
 use Rattle.editor.specs.Planning.{Commits, IsEditBy, IsEditOf}
 
 -- commands that do the same make the same step
@@ -32,6 +33,13 @@ edit-scope (ShowLayer layer visible) edit e = refl
 edit-scope (MoveLayer layer place) edit e = refl
 edit-scope line edit e = absurd cc
 
+asked-scope_by : (line : Line) (edit : Option (DocumentParts → Result Step Refusal)) (active : Option History) (c : Change) → edit_of line ≡ edit → IsEditBy edit active c → scope_of line ≡ OneDocument
+asked-scope_by line None active c e asks = absurd asks
+asked-scope_by line (Some edit) active c e asks = edit-scope line edit e
+
+asked-scope : (line : Line) (active : Option History) (c : Change) → IsEditOf line active c → scope_of line ≡ OneDocument
+asked-scope line active c asks = asked-scope_by line (edit_of line) active c refl asks
+
 -- an edit that was committed, where the command that it was put into does the same
 commit_by : (edit : Option (DocumentParts → Result Step Refusal)) (line : Line) (active : Option History) (old new : Machine) (c w : Change) (reply : Reply)
     → IsEditBy edit active c → IsSame c w → Commits active w reply old new → OverActive (DocumentStepBy edit line) active old (Some reply) new
@@ -43,8 +51,21 @@ commit_by (Some edit) line (Some h) old new c w reply asks same (inl p) =
     (state_reply p.0, p.0, inl (subst P (sym asks) (subst Q (step_of-same c w (current h) same) p.1, refl)), (p.2 , p.3))
 commit_by (Some edit) line (Some h) old new c w reply asks same (inr p) = (reply, h, inr (tt, (p.0, refl)), (refl, p.1))
 
+-- a command that was pushed
+pub Commits-pushed : (c : Change) (h n : History) (old new : Machine) (reply : Reply) → active_of old ≡ Some h → IsPushed h (step_of c (current h)) n → reply ≡ state_reply n → new ≡ with_active n old
+    → Commits (active_of old) c reply old new
+Commits-pushed c h n old new reply e pushed is left =
+    let Q : Option History → Type 0 = λ o. Commits o c reply old new in
+    subst Q (sym e) (inl (n, pushed, is, left))
+
+-- one for which there was no memory
+pub Commits-refused : (c : Change) (h : History) (old new : Machine) → active_of old ≡ Some h → new ≡ old → Commits (active_of old) c (Refused NoMemory) old new
+Commits-refused c h old new e left =
+    let Q : Option History → Type 0 = λ o. Commits o c (Refused NoMemory) old new in
+    subst Q (sym e) (inr (refl, left))
+
 pub commit_step : (line : Line) (old new : Machine) (kept : StoreParts) (c w : Change) (reply : Reply) → IsEditOf line (active_of old) c → IsSame c w → Commits (active_of old) w reply old new
     → StepOfLine line old kept (Some reply) new kept
 commit_step line old new kept c w reply asks same p =
     let Q : Scope → Type 0 = λ scope. StepBy scope line old kept (Some reply) new kept in
-    subst Q (sym (scope (edit_of line) refl asks)) (commit_by (edit_of line) line (active_of old) old new c w reply asks same p, refl)
+    subst Q (sym (asked-scope line (active_of old) c asks)) (commit_by (edit_of line) line (active_of old) old new c w reply asks same p, refl)

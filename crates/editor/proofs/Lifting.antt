@@ -1,5 +1,5 @@
 -- From what a line does with the active history to what it does with the machine.
-use Rattle.std.proofs.Common.{◌≡◌, ℕ, Option, Some, None, Ok, Err, Result, refl, sym, ap, ◌∙◌, subst, inl, inr}
+use Rattle.std.proofs.Common.{◌≡◌, ℕ, List, Option, Some, None, Ok, Err, Result, refl, sym, ap, ◌∙◌, subst, inl, inr}
 use Rattle.map_store.specs.Files.{StoreParts}
 use Rattle.command_api.specs.Law.{Change}
 use Rattle.undo_stack.specs.History.{History, current}
@@ -12,8 +12,8 @@ use Rattle.session.specs.declared.reply.Reply.{Reply}
 use Rattle.session.specs.declared.reply.Reply.TheVariants.{Refused}
 use Rattle.editor.specs.declared.planned.Planned.{Planned}
 use Rattle.editor.specs.declared.planned.Planned.TheVariants as planned
-use Rattle.editor.specs.DocumentSteps.{DocumentStep}
-use Rattle.editor.specs.Machine.{Machine, OneDocument, OverActive, OverHistory, Scope, StepBy, active_of, moved_to, scope_of, with_active}
+use Rattle.editor.specs.DocumentSteps.{DocumentStep, SavesDocument}
+use Rattle.editor.specs.Machine.{Machine, OneDocument, OverActive, OverHistory, SaveStep, Scope, StepBy, active_of, moved_to, scope_of, with_active}
 use Rattle.editor.specs.Planning.{FitsActive, FitsPlan, IsEditBy, IsEditOf, KeepsHistory, KeepsPlan, KeepsReply, Plans, PlansOn, edit_change, refused}
 
 -- a machine with this group
@@ -74,3 +74,11 @@ none-Plans line old kept s e =
     let Q : Scope → Type 0 = λ scope. StepBy scope line old kept (Some (Refused NoActiveDocument)) old kept in
     let R : Option History → Type 0 = λ o. OverActive (DocumentStep line) o old (Some (Refused NoActiveDocument)) old in
     subst Q (sym s) (subst R (sym e) (refl, refl), refl)
+
+-- a document was saved, or not
+pub saves : (file : List ℕ) (h n : History) (reply : Reply) (old new : Machine) (before after : StoreParts) → IsGroup old.group → active_of old ≡ Some h → SavesDocument file h before reply n after
+    → KeepsHistory reply h n → new ≡ with_active n old → SaveStep (active_of old) file old before (Some reply) new after
+saves file h n reply old new before after w e p k left =
+    let Q : Option History → Type 0 = λ o. SaveStep o file old before (Some reply) new after in
+    let R : Machine → Type 0 = λ m. SaveStep (Some h) file old before (Some reply) m after in
+    subst Q (sym e) (subst R (sym left) (over_history (λ i answer m. SavesDocument file i before answer m after) h n reply old w e p k))

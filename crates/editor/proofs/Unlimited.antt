@@ -5,7 +5,15 @@ use Rattle.std.specs.Str.{bytes_eq}
 use Rattle.std.proofs.lemmas.Bool.{cond_both}
 use Rattle.undo_stack.specs.History.{History}
 use Rattle.undo_group.specs.Groups.{OpenDocument, GroupParts, active_history, active_among, added, history_named, removed, with_active, with_history, with_history_of, without}
-use Rattle.editor.specs.Editors.{AreUnlimited}
+use Rattle.command_api.specs.Law.{Change}
+use Rattle.undo_stack.specs.Stacks.{history}
+use Rattle.undo_stack.specs.declared.stack.Stack.{Stack}
+use Rattle.undo_group.specs.Lending.{IsLeft}
+use Rattle.undo_group.specs.Stacks.{group_of, AreHeld}
+use Rattle.undo_group.specs.declared.group.Group.{Group}
+use Rattle.editor.specs.declared.editor.Editor.{Editor}
+use Rattle.editor.specs.Editors.{AreUnlimited, IsSound, machine_of}
+use Rattle.editor.specs.Machine.{Machine, with_active}
 
 history_named-unlimited : (name : List ℕ) (ds : List OpenDocument) (h : History) → AreUnlimited ds → history_named name ds ≡ Some h → h.limit ≡ 0
 history_named-unlimited name [] h a e = absurd cc
@@ -50,3 +58,23 @@ without-unlimited name (d ∷ ds) a =
 
 pub removed-unlimited : (name : List ℕ) (g : GroupParts) → AreUnlimited g.documents → AreUnlimited (removed name g).documents
 removed-unlimited name g a = without-unlimited name g.documents a
+
+-- an editor whose active stack was lent and left as s, or whose document was taken out
+module _ {C : Type 0} (f : C → Change) (old new : Editor C) where
+  pub left-IsSound : (s : Stack C) → IsSound f old → new.limit ≡ old.limit → IsLeft f old.group s new.group → (history f s).limit ≡ 0 → IsSound f new
+  left-IsSound s sound same left unlimited =
+      record {
+        limit = same ∙ sound.limit;
+        held = left.sound;
+        unlimited = subst (λ (g : GroupParts). AreUnlimited g.documents) (sym left.group) (with_active-unlimited (history f s) (group_of f old.group) sound.unlimited unlimited);
+      }
+
+  pub left-machine : (s : Stack C) → new.limit ≡ old.limit → IsLeft f old.group s new.group → machine_of f new ≡ with_active (history f s) (machine_of f old)
+  left-machine s same left = rw (same, left.group) refl
+
+  pub removed-IsSound : (name : List ℕ) → IsSound f old → new.limit ≡ old.limit → AreHeld f new.group → group_of f new.group ≡ removed name (group_of f old.group) → IsSound f new
+  removed-IsSound name sound same held left = record {
+    limit = same ∙ sound.limit;
+    held = held;
+    unlimited = subst (λ (g : GroupParts). AreUnlimited g.documents) (sym left) (removed-unlimited name (group_of f old.group) sound.unlimited);
+  }
