@@ -1,15 +1,17 @@
-use Rattle.std.proofs.Common.{◌≡◌, ◌∙◌, ◌<◌, true, List, [], length, Option, map, refl, sym, ap, ap₂, subst, slice_index, inl, inr, arith, codes}
+use Rattle.std.proofs.Common.{◌≡◌, ◌∙◌, ◌<◌, true, false, Some, List, [], length, Option, map, refl, sym, ap, ap₂, subst, slice_index, inl, inr, arith, codes}
 use Rattle.std.specs.Prelude.{unwrap_or}
 use Rattle.std.specs.Borrow.{Bor}
-use Rattle.clap.specs.Words.{App, HasKind, Text, app_of, fault_of, first_of, first_value, found_of, is_simple, is_simple_and_free, matches_of, with_rule}
+use Rattle.clap.specs.Words.{AddsArg, App, HasKind, Text, app_of, fault_of, first_of, first_value, found_of, is_simple, is_simple_and_free, matches_of, new_app, rule_of, with_rule}
 use Rattle.clap.specs.Simple.{app_of_fields, on_top}
 use Rattle.clap.specs.Walk.{Rule}
+use Rattle.clap.specs.declared.builder.arg.Arg.{Arg}
 use Rattle.clap.specs.declared.builder.command.Command.{Command}
+use Rattle.clap.specs.declared.builder.command.Command.TheViews.{out-Command}
 use Rattle.clap.specs.declared.builder.command.Command.TheOpen.{Command-F}
 use Rattle.clap.specs.declared.builder.value_parser.ValueParser.TheVariants as parser
 use Rattle.clap.proofs.OnLiterals.{clap_on_literals}
 use Rattle.clap.proofs.WalkLemmas.{first_value-rows}
-use Rattle.tile_editor.specs.Options.{command}
+use Rattle.tile_editor.specs.Options.{command, folder_option}
 use Rattle.tile_editor.proofs.Commands.{one_option_passes, texts_added, unwrapped_some, unwrapped_text}
 use Rattle.tile_editor.proofs.options.parse_options.Goals as goal
 
@@ -21,26 +23,30 @@ command_is_simple : is_simple command ≡ true
 unfolding clap_on_literals
 command_is_simple = refl
 
+-- the command that is made is the one of the contract
+made_command : (new after made : Command) (arg : Arg) (v a h : Bor Text) → app_of new ≡ new_app (codes "tile_editor")
+    → out-Command after ≡ record (out-Command new) { version = Some v; about = Some a; after_help = Some h }
+    → AddsArg after arg made → arg.global ≡ false → rule_of arg ≡ folder_option → app_of made ≡ command
+made_command new after made arg v a h is_new texts added local rule =
+    added.shape local ∙ ap₂ with_rule (ap app_of_fields texts ∙ ap (on_top (λ shape. record shape { has_version = true })) is_new) rule
+
 pub returns-in-Err-clause-answer : goal.returns-in-Err-clause-answer
 returns-in-Err-clause-answer g c =
     let texts = texts_added c.new.result c.version.result c.about.result c.after_help.result _ _ _ c.version.ensures c.about.ensures c.after_help.ensures in
-    let made : app_of c.in_ok-command.command ≡ command = c.in_ok-command.ensures.shape c.folder_arg.ensures.local
-    ∙ ap₂ with_rule (ap app_of_fields texts ∙ ap (on_top (λ shape. record shape { has_version = true })) c.new.ensures.app) c.folder_arg.ensures.rule in
+    let made = made_command c.new.result c.after_help.result c.in_ok-command.command c.folder_arg.result _ _ _ c.new.ensures.app texts c.in_ok-command.ensures c.folder_arg.ensures.local c.folder_arg.ensures.rule in
     subst (λ (a : App). HasKind (fault_of a (map g.S.AsStr.text c.args.words.now)) c.in-Err.error) made
     (c.in-Err.ensures.kinds (ap is_simple_and_free made ∙ command_is_free))
 
 pub returns-in-Ok-clause-answer : goal.returns-in-Ok-clause-answer
 returns-in-Ok-clause-answer g c =
     let texts = texts_added c.new.result c.version.result c.about.result c.after_help.result _ _ _ c.version.ensures c.about.ensures c.after_help.ensures in
-    let made : app_of c.in_ok-command.command ≡ command = c.in_ok-command.ensures.shape c.folder_arg.ensures.local
-    ∙ ap₂ with_rule (ap app_of_fields texts ∙ ap (on_top (λ shape. record shape { has_version = true })) c.new.ensures.app) c.folder_arg.ensures.rule in
+    let made = made_command c.new.result c.after_help.result c.in_ok-command.command c.folder_arg.result _ _ _ c.new.ensures.app texts c.in_ok-command.ensures c.folder_arg.ensures.local c.folder_arg.ensures.rule in
     ap (λ (a : App). fault_of a (map g.S.AsStr.text c.args.words.now)) (sym made) ∙ c.in-Ok.ensures.kinds (ap is_simple_and_free made ∙ command_is_free)
 
 pub returns-in-Ok-clause-folder : goal.returns-in-Ok-clause-folder
 returns-in-Ok-clause-folder g c =
     let texts = texts_added c.new.result c.version.result c.about.result c.after_help.result _ _ _ c.version.ensures c.about.ensures c.after_help.ensures in
-    let made : app_of c.in_ok-command.command ≡ command = c.in_ok-command.ensures.shape c.folder_arg.ensures.local
-    ∙ ap₂ with_rule (ap app_of_fields texts ∙ ap (on_top (λ shape. record shape { has_version = true })) c.new.ensures.app) c.folder_arg.ensures.rule in
+    let made = made_command c.new.result c.after_help.result c.in_ok-command.command c.folder_arg.result _ _ _ c.new.ensures.app texts c.in_ok-command.ensures c.folder_arg.ensures.local c.folder_arg.ensures.rule in
     let words : List Text = map g.S.AsStr.text c.args.words.now in
     let rows = (c.in-Ok.ensures.matches (ap is_simple made ∙ command_is_simple)).0 ∙ ap (λ (a : App). matches_of a words) made in
     ap (λ (s : Bor Text). s.now) c.unwrap_or.ensures ∙ unwrapped_text c.get_str.result _
