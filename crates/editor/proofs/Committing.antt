@@ -69,3 +69,15 @@ pub commit_step : (line : Line) (old new : Machine) (kept : StoreParts) (c w : C
 commit_step line old new kept c w reply asks same p =
     let Q : Scope → Type 0 = λ scope. StepBy scope line old kept (Some reply) new kept in
     subst Q (sym (asked-scope line (active_of old) c asks)) (commit_by (edit_of line) line (active_of old) old new c w reply asks same p, refl)
+
+self-IsSame : (c : Change) → IsSame c c
+self-IsSame c = record { names = refl; obsolete = refl; redone = λ d. refl; undone = λ d. refl; fits_redo = λ d. ((λ p. p), (λ p. p)); fits_undo = λ d. ((λ p. p), (λ p. p)) }
+
+no_memory : (edit : Option (DocumentParts → Result Step Refusal)) (active : Option History) (c : Change) (old : Machine) → IsEditBy edit active c → Commits active c (Refused NoMemory) old old
+no_memory None active c old asks = absurd asks
+no_memory (Some edit) None c old asks = absurd asks
+no_memory (Some edit) (Some h) c old asks = inr (refl, refl)
+
+-- an edit for which there was no memory
+pub uncommitted : (line : Line) (old : Machine) (kept : StoreParts) (c : Change) → IsEditOf line (active_of old) c → StepOfLine line old kept (Some (Refused NoMemory)) old kept
+uncommitted line old kept c asks = commit_step line old old kept c c (Refused NoMemory) asks (self-IsSame c) (no_memory (edit_of line) (active_of old) c old asks)
