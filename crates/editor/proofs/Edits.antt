@@ -111,7 +111,6 @@ stamp-IsBlock layer x y width values follows h =
     let rows : AreRows width values = h.0.1.1.1.1.0 in
     record { wide = rows.some; narrow = rows.narrow; whole = rows.rows; few = values-few layer x y width values follows h }
 
-
 -- ---- over the active document
 keeps_same : (reply : Reply) (h : History) → KeepsHistory reply h h
 keeps_same (Refused refusal) h = refl

@@ -88,9 +88,7 @@ fn plan_edit(alloc: Global, document: &Document, line: &Line<'_>) -> Option<Plan
             width,
             values,
             follows,
-        } => Some(plan_stamp(
-            alloc, document, *layer, *x, *y, *width, values, *follows,
-        )),
+        } => Some(plan_stamp(alloc, document, *layer, *x, *y, *width, values, *follows)),
         Line::Erase {
             layer,
             x,

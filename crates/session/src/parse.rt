@@ -5,8 +5,8 @@ ghost use Rattle.std.specs.List.{list_all};
 ghost use Rattle.session.specs.Words.{words_left};
 
 use crate::fields::{
-    block_field, choice_field, coordinate_field, document_field, end_field, file_field, number_field,
-    text_field,
+    block_field, choice_field, coordinate_field, document_field, end_field, file_field,
+    number_field, text_field,
 };
 use crate::layer_lines::layer;
 use crate::line::{Line, LineFault};

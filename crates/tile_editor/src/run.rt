@@ -114,7 +114,7 @@ pub fn run<R: Read, W: Write, S: MapStore>(
     // All lines of the input were heard, and the replies and the files are those of the machine.
     ensures ok { S.honest store.old → IfOk result (λ summary. IfSome (R.remaining reader.old) (λ input.
         RunsAll (workspace (started_machine limit) (S.kept store.old)) input (W.contents writer.old) (W.contents writer.new) (S.kept store.new)
-            summary.lines summary.replies)) }
+        summary.lines summary.replies)) }
 
     // The lines that were heard before the fault are done, files and all, and the replies to them were written whole.
     ensures read { S.honest store.old → IsErrOf result RunFault.Read → IfSome (R.remaining reader.old) (λ input.

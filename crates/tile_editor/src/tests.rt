@@ -1,4 +1,5 @@
 use crate::run::{RunFault, Summary, run};
+use map_store::MemoryStore;
 use std::alloc::{AllocError, Global};
 use std::io;
 use std::io::{BufWriter, Read, Write};
@@ -7,6 +8,7 @@ use std::test::Fail;
 mod faults;
 mod flushes;
 mod options;
+mod stores;
 
 /// More than a test's calls, and more than its bytes.
 const MANY: u32 = 1_000_000;
@@ -108,12 +110,13 @@ fn taken(
     mut sink: Sink,
     has_buffer: bool,
 ) -> Result<String, AllocError> {
+    let mut store = MemoryStore::new(alloc);
     if has_buffer {
         let mut writer = BufWriter::new(alloc, sink).map_err(|_| AllocError)?;
-        let end = run(alloc, &mut source, &mut writer);
+        let end = run(alloc, &mut source, &mut writer, &mut store, 0);
         return told_of(alloc, writer.get_ref(), &end);
     }
-    let end = run(alloc, &mut source, &mut sink);
+    let end = run(alloc, &mut source, &mut sink, &mut store, 0);
     told_of(alloc, &sink, &end)
 }
 

@@ -2,6 +2,7 @@ use super::{
     MANY, ROW_1, Sink, Source, WHOLE, first_replies, read_script, stretched, taken, whole_lines,
 };
 use crate::run::{Summary, run};
+use map_store::MemoryStore;
 use std::cell::Cell;
 use std::io;
 use std::io::{BufWriter, Read, Write};
@@ -95,10 +96,12 @@ fn each_read_finds_all_replies_flushed(rt: HostRuntime) -> Result<(), Fail> {
                 seen: Vec::new(alloc),
             };
             let mut writer = Counter { bytes: 0, flushed };
+            let mut store = MemoryStore::new(alloc);
             if has_buffer {
-                run(alloc, &mut reader, &mut BufWriter::new(alloc, writer)?)?;
+                let mut writer = BufWriter::new(alloc, writer)?;
+                run(alloc, &mut reader, &mut writer, &mut store, 0)?;
             } else {
-                run(alloc, &mut reader, &mut writer)?;
+                run(alloc, &mut reader, &mut writer, &mut store, 0)?;
             }
             assert_eq!(rt; reader.seen.as_slice(), due.as_slice(), "by {step}");
         }
@@ -118,7 +121,8 @@ fn writes_once_a_reply(rt: HostRuntime) -> Result<(), Fail> {
         calls_left: MANY,
     };
     let mut sink = Sink::new(alloc, WHOLE, MANY, MANY);
-    let summary = run(alloc, &mut source, &mut sink)?;
+    let mut store = MemoryStore::new(alloc);
+    let summary = run(alloc, &mut source, &mut sink, &mut store, 0)?;
     assert_eq!(rt;
         summary,
         Summary {
@@ -134,7 +138,10 @@ fn writes_once_a_reply(rt: HostRuntime) -> Result<(), Fail> {
         calls_left: MANY,
     };
     let mut writer = BufWriter::new(alloc, Sink::new(alloc, WHOLE, MANY, MANY))?;
-    assert_eq!(rt; run(alloc, &mut source, &mut writer)?, summary);
+    assert_eq!(rt;
+        run(alloc, &mut source, &mut writer, &mut store, 0)?,
+        summary
+    );
     assert!(rt; MANY.saturating_sub(writer.get_ref().writes_left) < 20);
     assert!(rt; writer.get_ref().text() == sink.text());
     Ok(())
