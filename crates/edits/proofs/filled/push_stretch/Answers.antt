@@ -1,0 +1,1 @@
+use Rattle.edits.proofs.filled.push_stretch.Goals as goal
