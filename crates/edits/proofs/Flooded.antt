@@ -1,16 +1,16 @@
 -- Cells that a fill takes, word by word.
-use Rattle.std.proofs.Common.{◌≡◌, ◌≢◌, ◌⊎◌, inl, inr, ℕ, zero, suc, ◌+◌, ◌-◌, ◌*◌, ◌/◌, ◌%◌, ◌^◌, ◌<◌, ◌≤◌, List, [], ◌∷◌, ◌++◌, length, Bool, true, false, not, cond, ◌&&◌, ◌||◌, nat_eq, nat_lt, get_or, refl, sym, ap, ◌∙◌, subst, mul_comm, length-append, arith}
+use Rattle.std.proofs.Common.{◌≡◌, ◌≢◌, inl, inr, ℕ, suc, ◌+◌, ◌-◌, ◌*◌, ◌/◌, ◌%◌, ◌<◌, ◌≤◌, List, length, true, false, ◌&&◌, nat_eq, nat_lt, sym, ap, ◌∙◌, mul_comm, arith}
 use Rattle.std.specs.List.{slice_get}
 use Rattle.std.proofs.lemmas.Bool.{cases_lt, and_parts, and_from, ltb-true, lt-ltb, leb-true, le-leb, eq-eqb, false≢true}
 use Rattle.std.proofs.lemmas.Bool.Decides.{nat_tests}
 use Rattle.std.proofs.lemmas.Nat.{mul-add-lt, mod-mul-add, div-mul-add, div-add-mod', div_below, mod_below, same_from_place}
-use Rattle.std.proofs.lemmas.Option.{slice_get-get_or, slice_get_past}
+use Rattle.std.proofs.lemmas.Option.{slice_get_past}
 use Rattle.edits.specs.declared.ground.Ground.{Ground}
 use Rattle.edits.specs.declared.flood.Spread.{Spread}
 use Rattle.edits.specs.Covering.{lets_change}
-use Rattle.edits.specs.Joining.{AreBeside, AreNeighbours, AreJoined, is_value}
-use Rattle.edits.specs.Marks.{is_marked, is_between, room}
-use Rattle.edits.specs.Flooding.{AreNear, AreSideBySide, IsGround, IsLed, cell_of, free_at, free_in, is_taken, start_of, taken_at}
+use Rattle.edits.specs.Joining.{AreNeighbours, is_value}
+use Rattle.edits.specs.Marks.{is_between}
+use Rattle.edits.specs.Flooding.{AreNear, IsGround, IsLed, cell_of, free_at, free_in, is_taken, start_of, taken_at}
 use Rattle.edits.proofs.Joined.{AreJoined-step}
 
 -- ---- places

@@ -1,8 +1,8 @@
 -- What a fill reaches from the cells of a batch.
-use Rattle.std.proofs.Common.{◌≡◌, ◌≢◌, ◌⊎◌, inl, inr, ℕ, suc, ◌+◌, ◌-◌, ◌*◌, ◌/◌, ◌%◌, ◌^◌, ◌<◌, ◌≤◌, List, [], ◌∷◌, length, Bool, true, false, not, ◌&&◌, ◌↔◌, nat_eq, refl, sym, ap, ◌∙◌, subst, arith}
+use Rattle.std.proofs.Common.{◌≡◌, ◌⊎◌, inl, inr, ℕ, ◌+◌, ◌-◌, ◌*◌, ◌/◌, ◌%◌, ◌^◌, ◌<◌, ◌≤◌, List, [], length, Bool, true, false, not, ◌&&◌, ◌↔◌, refl, sym, ap, ◌∙◌, subst, arith}
 use Rattle.std.specs.List.{slice_get}
 use Rattle.std.specs.Int.{bit_at}
-use Rattle.std.proofs.lemmas.Bool.{cases_lt, cases_eq, false≢true}
+use Rattle.std.proofs.lemmas.Bool.{cases_lt, false≢true}
 use Rattle.std.proofs.lemmas.Nat.{mod-mul-add, div-mul-add}
 use Rattle.std.proofs.lemmas.Nat.Bits.{bit_at_above}
 use Rattle.std.proofs.lemmas.Option.{slice_get_past}
@@ -14,7 +14,7 @@ use Rattle.edits.specs.declared.flood.Spread.{Spread}
 use Rattle.edits.specs.Covering.{lets_change}
 use Rattle.edits.specs.Joining.{AreJoined, AreNeighbours, is_value}
 use Rattle.edits.specs.Marks.{has_bit, is_marked, room}
-use Rattle.edits.specs.Flooding.{AreAllowed, AreNear, AreSideBySide, InBatch, IsBatch, IsClosed, IsGround, IsLed, IsSound, Means, cell_of, free_at, free_in, is_taken, start_of, taken_at}
+use Rattle.edits.specs.Flooding.{AreAllowed, AreNear, InBatch, IsBatch, IsClosed, IsGround, IsLed, IsSound, Means, cell_of, free_at, free_in, is_taken, start_of, taken_at}
 use Rattle.edits.proofs.Flooded.{IsLed-step, free_at-read, free_in-at, free_in-column, is_taken-at, is_taken-column, neighbours-near}
 use Rattle.edits.proofs.Joined.{AreJoined-self, along_path, start_free}
 use Rattle.edits.proofs.Marking.{shl_high, shl_low, shr_bit}

@@ -1,11 +1,11 @@
 -- Marks of the cells of a selection.
-use Rattle.std.proofs.Common.{◌≡◌, ◌⊎◌, ◌↔◌, inl, inr, ℕ, ◌+◌, ◌*◌, ◌/◌, ◌%◌, ◌<◌, ◌≤◌, min, List, [], ◌∷◌, length, Bool, true, false, ◌&&◌, ◌||◌, nat_eq, nat_le, nat_lt, cond, get_or, Some, None, refl, sym, ap, ◌∙◌, subst, mul_comm, arith}
+use Rattle.std.proofs.Common.{◌≡◌, ◌↔◌, inl, inr, ℕ, ◌+◌, ◌*◌, ◌/◌, ◌%◌, ◌<◌, min, List, [], ◌∷◌, length, Bool, true, false, ◌&&◌, ◌||◌, nat_eq, nat_le, nat_lt, cond, get_or, Some, None, refl, sym, ap, ◌∙◌, subst, mul_comm, arith}
 use Rattle.std.specs.List.{slice_get}
 use Rattle.std.specs.FinSet as set
-use Rattle.std.proofs.lemmas.Bool.{cases_lt, or_cases, and_parts, and_from, ltb-true, lt-ltb, leb-true, le-leb, eqb-true, eq-eqb, false≢true}
+use Rattle.std.proofs.lemmas.Bool.{or_cases, and_parts, and_from, ltb-true, lt-ltb, leb-true, le-leb, eqb-true, eq-eqb}
 use Rattle.std.proofs.lemmas.Bool.Decides.{same_from_decides}
 use Rattle.std.proofs.lemmas.Nat.{mul-add-lt, div-mul-add, div-add-mod', div_below, mod_below}
-use Rattle.std.proofs.lemmas.Option.{slice_get-get_or, slice_get_past}
+use Rattle.std.proofs.lemmas.Option.{slice_get-get_or}
 use Rattle.region.specs.declared.runs.Run.{Run}
 use Rattle.region.specs.Cells.{cell_cmp}
 use Rattle.region.specs.Runs.{IsMaximalRuns, in_run, in_runs}
@@ -18,7 +18,7 @@ use Rattle.edits.specs.Difference.{difference}
 use Rattle.edits.specs.Filling.{fill_over, free_from, is_joined}
 use Rattle.edits.specs.Flooding.{AreAllowed, AreSelected, HasCell, IsGround, IsGroundOf, cell_of, free_in, is_taken, start_of, taken_over}
 use Rattle.edits.specs.Joining.{AreJoined, is_free, is_reached, is_value}
-use Rattle.edits.specs.Marks.{is_marked, is_between, room}
+use Rattle.edits.specs.Marks.{is_marked, is_between}
 use Rattle.edits.proofs.Differences.{difference-skip, get_or-each_at}
 use Rattle.edits.proofs.Joined.{end_free, is_reached-AreJoined, reached-free}
 use Rattle.edits.proofs.Flooded.{in_row, is_between-true, is_value-within, between, free_in-column, free_in-row}

@@ -125,5 +125,6 @@ pub(crate) fn fill_cells(
         return Ok(Vec::new(alloc));
     }
     let spread = Spread::over(alloc, &ground)?;
-    changes_of(alloc, &ground, &spread, value)
+    let cells = changes_of(alloc, &ground, &spread, value)?;
+    Ok(cells)
 }

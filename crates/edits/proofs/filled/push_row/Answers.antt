@@ -1,1 +1,0 @@
-use Rattle.edits.proofs.filled.push_row.Goals as goal

@@ -1,4 +1,4 @@
-use Rattle.std.proofs.Common.{◌^◌, ◌<◌, ◌+◌, ◌*◌, ◌&&◌, false, nat_eq, refl, ap, ◌∙◌, sym, arith}
+use Rattle.std.proofs.Common.{◌+◌, ◌*◌, ◌&&◌, nat_eq, refl, ap, ◌∙◌, sym, arith}
 use Rattle.std.specs.Int.{bit_at}
 use Rattle.std.proofs.lemmas.Nat.Bits.{bit_at-zero}
 use Rattle.edits.specs.declared.flood.Spread.{Spread}

@@ -1,8 +1,8 @@
-use Rattle.std.proofs.Common.{◌≡◌, inl, inr, List, [], ◌∷◌, length, refl, sym, subst, ◌∙◌, append-nil, arith}
+use Rattle.std.proofs.Common.{inl, inr, List, refl, sym, subst, ◌∙◌, append-nil, arith}
 use Rattle.edits.specs.declared.flood.Batch.{Batch}
 use Rattle.edits.specs.declared.flood.Spread.{Spread}
 use Rattle.map_model.specs.Lists.{Each}
-use Rattle.edits.specs.Flooding.{IsBatch, Waits}
+use Rattle.edits.specs.Flooding.{IsBatch}
 use Rattle.edits.proofs.Spreading.{IsBatch-off, IsClosed-done, IsSound-off, Waits-none, pending-off, taken-off, work-off}
 use Rattle.edits.proofs.flood.Spread.take_joined.Goals as goal
 

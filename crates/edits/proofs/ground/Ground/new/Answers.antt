@@ -1,4 +1,4 @@
-use Rattle.std.proofs.Common.{◌/◌, length, refl, arith}
+use Rattle.std.proofs.Common.{◌/◌, length, refl}
 use Rattle.std.proofs.lemmas.List.{get_or_read}
 use Rattle.edits.specs.declared.ground.Ground.{Ground}
 use Rattle.edits.proofs.SelectedPlaces.{IsGroundOf-made, place_of}

@@ -1,11 +1,10 @@
-use Rattle.std.proofs.Common.{◌≡◌, inl, inr, ℕ, suc, ◌+◌, ◌-◌, ◌*◌, ◌/◌, ◌%◌, ◌<◌, ◌≤◌, ◌&&◌, ◌||◌, false, nat_eq, nat_lt, ap, ◌∙◌, sym, arith}
-use Rattle.std.specs.Int.{bit_at}
-use Rattle.std.proofs.lemmas.Bool.{cases_lt, eqb-true, ltb-true, lt-ltb}
+use Rattle.std.proofs.Common.{◌≡◌, ℕ, suc, ◌+◌, ◌*◌, ◌/◌, ◌%◌, ◌<◌, ◌||◌, false, nat_eq, nat_lt, ap, ◌∙◌, arith}
+use Rattle.std.proofs.lemmas.Bool.{eqb-true, ltb-true, lt-ltb}
 use Rattle.std.proofs.lemmas.Bool.Decides.{nat_tests}
 use Rattle.std.proofs.lemmas.Nat.{div-add-mod', mod_below}
 use Rattle.std.proofs.lemmas.Nat.Bits.{bit_at-zero}
 use Rattle.edits.proofs.Flooded.{row_start, no_row_start}
-use Rattle.edits.proofs.Marking.{found-all, found-more, found-none, has_one}
+use Rattle.edits.proofs.Marking.{found-more, found-none, has_one}
 use Rattle.edits.proofs.ground.Ground.row_starts.Goals as goal
 use Rattle.edits.proofs.ground.Ground.row_starts.Goals.{then-past-eq0, else-past-eq0}
 

@@ -1,6 +1,5 @@
 use Rattle.std.proofs.Common.{◌≡◌, ◌/◌, ◌+◌, ◌^◌, ◌-◌, ap, ◌∙◌, replicate, arith}
 use Rattle.std.proofs.Math.Seq.{take-nil}
-use Rattle.std.proofs.Math.ListN.{length-replicate}
 use Rattle.edits.specs.Marks.{has_bit}
 use Rattle.edits.proofs.Marking.{has_bit-ones}
 use Rattle.edits.proofs.marks.Marks.all.Goals as goal
