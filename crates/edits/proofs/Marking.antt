@@ -168,7 +168,6 @@ cleared word some small =
       λ i l other. bit_at_clear_other w64 word bit lowest.0 i l other,
     )
 
-
 -- ---- bits moved
 bit_at_mod : (n i : ℕ) → i < 64 → bit_at (n % 2 ^ 64) i ≡ bit_at n i
 bit_at_mod n i l = sym (bit_at_cat_low (n / 2 ^ 64) 64 (n % 2 ^ 64) i l) ∙ ap (λ x. bit_at x i) (div-add-mod' n (2 ^ 64))

@@ -45,7 +45,7 @@ Each-turned s (c ∷ bs) b h = let rest = Each-turned s bs b h.1 in (rest.0, (h.
 
 module _ (g : Ground) where
   pub Spreads-same : (s : Spread) → Spreads g s s
-  Spreads-same s = record { keeps = λ p h. h; waits = λ p h. h; fresh = λ p h. inl h; work = omega arith; }
+  Spreads-same s = record { keeps = λ p h. h; waits = λ p h. h; fresh = λ p h. inl h; work = omega arith }
 
   pub Spreads-then : (s t u : Spread) → Spreads g s t → Spreads g t u → Spreads g s u
   Spreads-then s t u a b = record {
@@ -56,7 +56,7 @@ module _ (g : Ground) where
   }
 
 pub IsBatch-kept : (s t : Spread) (b : Batch) → room t.open ≡ room s.open → ((p : ℕ) → taken_at s p ≡ true → taken_at t p ≡ true) → IsBatch s b → IsBatch t b
-IsBatch-kept s t b rooms keeps h = record { within = omega (arith, rooms, h.within); taken = λ p i. keeps p (h.taken p i); }
+IsBatch-kept s t b rooms keeps h = record { within = omega (arith, rooms, h.within); taken = λ p i. keeps p (h.taken p i) }
 
 Each-kept : (s t : Spread) (bs : List Batch) → room t.open ≡ room s.open → ((p : ℕ) → taken_at s p ≡ true → taken_at t p ≡ true) → Each (IsBatch s) bs → Each (IsBatch t) bs
 Each-kept s t [] rooms keeps h = tt
@@ -151,9 +151,9 @@ module _ (g : Ground) (s t : Spread) (word opened taken equal : ℕ) (fits : ope
         e,
         equals i place.0 ∙ ap (λ n. is_value (slice_get g.tiles.now n) g.value) place.1,
         set_here s.open t.open word _ open_set p at ∙ has_and opened (bit_or (unseen_of opened taken) equal) i ∙ ap (λ b. b && nat_eq (bit_at (bit_or (unseen_of opened taken) equal) i) 1) o
-        ∙ ap (λ b. is_marked s.open p && b) (has_or (unseen_of opened taken) equal i ∙ ap (λ b. b || e) unseen),
+            ∙ ap (λ b. is_marked s.open p && b) (has_or (unseen_of opened taken) equal i ∙ ap (λ b. b || e) unseen),
         set_here s.taken t.taken word _ taken_set p at ∙ has_and taken (unseen_of opened taken) i ∙ ap (λ b. b && nat_eq (bit_at (unseen_of opened taken) i) 1) k
-        ∙ ap (λ b. is_marked s.taken p && b) unseen,
+            ∙ ap (λ b. is_marked s.taken p && b) unseen,
       )
 
   seen-taken : (p : ℕ) → taken_at t p ≡ taken_at s p
@@ -265,9 +265,9 @@ module _ (g : Ground) (s t : Spread) (word opened taken bits : ℕ) (fits : bits
         let place = in_word p word at in
         let here : nat_eq (bit_at bits i) 1 ≡ is_new p = sym (ap (λ b. b && nat_eq (bit_at bits i) 1) (eq-eqb (p / 64) word at)) in (
           set_here s.open t.open word _ open_set p at ∙ has_and opened (bit_not w64 bits) i ∙ ap (λ b. b && nat_eq (bit_at (bit_not w64 bits) i) 1) (bits_here s.open word opened p opens at)
-          ∙ ap (λ b. is_marked s.open p && b) (has_not bits i fits place.0 ∙ ap not here),
+              ∙ ap (λ b. is_marked s.open p && b) (has_not bits i fits place.0 ∙ ap not here),
           set_here s.taken t.taken word _ taken_set p at ∙ has_or taken bits i ∙ ap (λ b. b || nat_eq (bit_at bits i) 1) (bits_here s.taken word taken p takens at)
-          ∙ ap (λ b. is_marked s.taken p || b) here,
+              ∙ ap (λ b. is_marked s.taken p || b) here,
         )
     | inr other ↦
         let differ : nat_eq (p / 64) word ≡ false = grind (arith, nat_tests) in

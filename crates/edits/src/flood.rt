@@ -30,7 +30,6 @@ pub(crate) struct Spread {
 
 impl Spread {
     // Looks at the values of a word.
-    #[inline(never)]
     fn look_at(&mut self, ground: &Ground<'_>, word: usize)
         requires ground { IsGround ground.now }
         requires sound { IsSound ground.now self.old }

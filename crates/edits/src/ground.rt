@@ -93,13 +93,22 @@ impl Ground<'_> {
         }
     }
 
-    /// The places of a word whose values are the fill's: bit i stands for its place i.
-    #[inline(never)]
-    pub(crate) fn equal_bits(&self, word: usize) -> u64
-        requires { word < 2 ^ 32 }
-        ensures { (i : ℕ) → i < 64 → nat_eq (bit_at result i) 1 ≡ is_value (slice_get self.now.tiles.now (64 * word + i)) self.now.value }
+    // The places from one on in its word whose values are the fill's, where the layer has all 64.
+    fn equal_in_whole(&self, first: usize) -> u64
+        requires { first + 64 ≤ length self.now.tiles.now }
+        ensures { (i : ℕ) → i < 64 → nat_eq (bit_at result i) 1 ≡ is_value (slice_get self.now.tiles.now (first + i)) self.now.value }
     {
-        let first = word * 64;
+        let mut bits = 0;
+        for i in 0..64 {
+            bits = (bits << 1) | u64::from(self.tiles[first + 63 - i] == self.value);
+        }
+        bits
+    }
+
+    // The same where the layer ends in the word, or before it.
+    fn equal_in_last(&self, first: usize) -> u64
+        ensures { (i : ℕ) → i < 64 → nat_eq (bit_at result i) 1 ≡ is_value (slice_get self.now.tiles.now (first + i)) self.now.value }
+    {
         let count = self.tiles.len().saturating_sub(first).min(64);
         let mut bits = 0;
         for i in 0..count {
@@ -108,6 +117,20 @@ impl Ground<'_> {
             }
         }
         bits
+    }
+
+    /// The places of a word whose values are the fill's: bit i stands for its place i.
+    #[inline(never)]
+    pub(crate) fn equal_bits(&self, word: usize) -> u64
+        requires { word < 2 ^ 32 }
+        ensures { (i : ℕ) → i < 64 → nat_eq (bit_at result i) 1 ≡ is_value (slice_get self.now.tiles.now (64 * word + i)) self.now.value }
+    {
+        let first = 64 * word;
+        if first + 64 <= self.tiles.len() {
+            self.equal_in_whole(first)
+        } else {
+            self.equal_in_last(first)
+        }
     }
 
     // The places of a word in which a row begins.

@@ -47,7 +47,7 @@ loop-left-preserved c =
       bit + 1,
       omega (arith, before),
       c.in_ok-push.ensures.items ∙ ap (λ es. es ++ (record { x = first + bit; y = c.args.stretch.y; before = g.value; after = value } ∷ [])) (so_far ∙ sym skip) ∙ sym more
-      ∙ ap (changes_below g s value) next,
+          ∙ ap (changes_below g s value) next,
       λ i l m. elim (cases_eq i bit) [
         | inl here ↦ ap (bit_at _) here ∙ less.1
         | inr other ↦ less.2 i l other ∙ lowest.2 i (omega arith)

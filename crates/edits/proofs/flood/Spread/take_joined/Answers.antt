@@ -10,19 +10,19 @@ pub take_around-requires-clause-sound : goal.take_around-requires-clause-sound
 take_around-requires-clause-sound c =
     let g = c.args.ground.now in
     let s = c.loop-from.self in
-    let t : Spread = record { «open» = s.open; taken = s.taken; count = s.count; first = s.first; end = s.end; pending = c.pop.new.self; } in
+    let t : Spread = record { «open» = s.open; taken = s.taken; count = s.count; first = s.first; end = s.end; pending = c.pop.new.self } in
     IsSound-off g s t refl refl refl refl c.loop-from.invariant.sound (pending-off g s t refl refl refl refl c.in-Some.from c.in-Some.ensures.items c.loop-from.invariant.sound).1
 
 pub take_around-requires-clause-batch : goal.take_around-requires-clause-batch
 take_around-requires-clause-batch c =
     let s = c.loop-from.self in
-    let t : Spread = record { «open» = s.open; taken = s.taken; count = s.count; first = s.first; end = s.end; pending = c.pop.new.self; } in
+    let t : Spread = record { «open» = s.open; taken = s.taken; count = s.count; first = s.first; end = s.end; pending = c.pop.new.self } in
     IsBatch-off c.args.ground.now s t refl refl refl refl c.in-Some.from c.in-Some.ensures.items c.loop-from.invariant.sound
 
 pub loop-from-smaller : goal.loop-from-smaller
 loop-from-smaller c =
     let s = c.loop-from.self in
-    let t : Spread = record { «open» = s.open; taken = s.taken; count = s.count; first = s.first; end = s.end; pending = c.pop.new.self; } in
+    let t : Spread = record { «open» = s.open; taken = s.taken; count = s.count; first = s.first; end = s.end; pending = c.pop.new.self } in
     let off = work-off c.args.ground.now s t refl refl refl refl c.in-Some.from c.in-Some.ensures.items in
     omega (arith, off, c.in_ok-take_around.ensures.spreads.work)
 
@@ -30,7 +30,7 @@ pub loop-from-preserved : goal.loop-from-preserved
 loop-from-preserved c =
     let g = c.args.ground.now in
     let s = c.loop-from.self in
-    let t : Spread = record { «open» = s.open; taken = s.taken; count = s.count; first = s.first; end = s.end; pending = c.pop.new.self; } in
+    let t : Spread = record { «open» = s.open; taken = s.taken; count = s.count; first = s.first; end = s.end; pending = c.pop.new.self } in
     let around = c.in_ok-take_around.ensures in
     record {
       sound = around.sound;
@@ -41,7 +41,7 @@ loop-from-preserved c =
 pub returns-clause-sound : goal.returns-clause-sound
 returns-clause-sound c =
     let s = c.loop-from.self in
-    let t : Spread = record { «open» = s.open; taken = s.taken; count = s.count; first = s.first; end = s.end; pending = c.pop.new.self; } in
+    let t : Spread = record { «open» = s.open; taken = s.taken; count = s.count; first = s.first; end = s.end; pending = c.pop.new.self } in
     let all = c.in_default.ensures.items ∙ append-nil c.pop.new.self.items in
     IsSound-off c.args.ground.now s t refl refl refl refl c.loop-from.invariant.sound (subst (λ (bs : List Batch). Each (IsBatch s) bs) all c.loop-from.invariant.sound.pending)
 
@@ -49,7 +49,7 @@ pub returns-clause-closed : goal.returns-clause-closed
 returns-clause-closed c p r h near free =
     let g = c.args.ground.now in
     let s = c.loop-from.self in
-    let t : Spread = record { «open» = s.open; taken = s.taken; count = s.count; first = s.first; end = s.end; pending = c.pop.new.self; } in
+    let t : Spread = record { «open» = s.open; taken = s.taken; count = s.count; first = s.first; end = s.end; pending = c.pop.new.self } in
     elim (c.loop-from.invariant.closed p r (sym (taken-off g s t refl refl refl refl p) ∙ h) near free) [
       | inl taken ↦ inl (taken-off g s t refl refl refl refl r ∙ taken)
       | inr waits ↦ absurd (Waits-none s.pending.items p (omega (arith, c.in_default.ensures.cases)) waits)
@@ -58,5 +58,5 @@ returns-clause-closed c p r h near free =
 pub returns-clause-keeps : goal.returns-clause-keeps
 returns-clause-keeps c p h =
     let s = c.loop-from.self in
-    let t : Spread = record { «open» = s.open; taken = s.taken; count = s.count; first = s.first; end = s.end; pending = c.pop.new.self; } in
+    let t : Spread = record { «open» = s.open; taken = s.taken; count = s.count; first = s.first; end = s.end; pending = c.pop.new.self } in
     taken-off c.args.ground.now s t refl refl refl refl p ∙ c.loop-from.invariant.keeps p h
