@@ -16,8 +16,11 @@ pub(crate) struct Batch {
     pub bits: u64,
 }
 
-/// How far a fill is. A place that is open is free and not taken, and one that is taken is; one that is both may be changed, and its value was
-/// not looked at. The taken cells lie in the words from the first to before the end. Those of the pending batches have neighbours to be looked at.
+/// How far a fill is, with two bits for each place: one that is open is free and not taken yet, and one that is taken is no longer open. One
+/// with both bits may be changed, and its value was not looked at.
+///
+/// The taken cells are so many, modulo 2^64, and lie in the words from the first to before the end. The neighbours of those in the pending
+/// batches are still to be looked at.
 #[derive(Drop)]
 pub(crate) struct Spread {
     pub open: Marks,
@@ -29,7 +32,7 @@ pub(crate) struct Spread {
 }
 
 impl Spread {
-    // Looks at the values of a word.
+    // Looks at the values of a word, where that was not done.
     fn look_at(&mut self, ground: &Ground<'_>, word: usize)
         requires ground { IsGround ground.now }
         requires sound { IsSound ground.now self.old }
@@ -49,7 +52,7 @@ impl Spread {
         }
     }
 
-    // Takes the open cells of a word that some of its cells lead to, which are themselves joined to the start where they are free.
+    // Takes what is free of some cells of a word, and what these lead to in it. Each is joined to the start, where it is free.
     fn take(&mut self, ground: &Ground<'_>, word: usize, seeds: u64) -> Result<(), AllocError>
         requires ground { IsGround ground.now }
         requires sound { IsSound ground.now self.old }
@@ -76,7 +79,7 @@ impl Spread {
         Ok(())
     }
 
-    // Takes what is free of some cells of a word, and what these lead to in it.
+    // The same where there is such a word, and one of the cells is open.
     fn reach(&mut self, ground: &Ground<'_>, word: usize, seeds: u64) -> Result<(), AllocError>
         requires ground { IsGround ground.now }
         requires sound { IsSound ground.now self.old }

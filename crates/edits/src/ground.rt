@@ -93,7 +93,7 @@ impl Ground<'_> {
         }
     }
 
-    // The places from one on in its word whose values are the fill's, where the layer has all 64.
+    // Which of the 64 places from one on have the fill's value: bit i stands for the place i further on. The layer has them all.
     fn equal_in_whole(&self, first: usize) -> u64
         requires { first + 64 ≤ length self.now.tiles.now }
         ensures { (i : ℕ) → i < 64 → nat_eq (bit_at result i) 1 ≡ is_value (slice_get self.now.tiles.now (first + i)) self.now.value }
@@ -105,7 +105,7 @@ impl Ground<'_> {
         bits
     }
 
-    // The same where the layer ends in the word, or before it.
+    // The same where the layer ends among them, or before.
     fn equal_in_last(&self, first: usize) -> u64
         ensures { (i : ℕ) → i < 64 → nat_eq (bit_at result i) 1 ≡ is_value (slice_get self.now.tiles.now (first + i)) self.now.value }
     {
@@ -150,7 +150,7 @@ impl Ground<'_> {
         starts
     }
 
-    /// The cells of a word that cells of a row lead to from some of them, all within a mask of free cells.
+    /// The cells of a word to which some of them, the seeds, lead along their rows, all within a mask of free cells.
     pub(crate) fn joined_bits(&self, word: usize, seeds: u64, mask: u64) -> u64
         requires ground { IsGround self.now }
         requires within { word < 2 ^ 32 }
