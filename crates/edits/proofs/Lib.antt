@@ -8,6 +8,8 @@ pub mod Joined
 pub mod Marking
 pub mod Overs
 pub mod Reaches
+pub mod Reaching
 pub mod RowOrder
 pub mod SelectedPlaces
+pub mod Spreading
 pub mod Turns

@@ -1,14 +1,13 @@
 -- Marks as bits of words.
-use Rattle.std.proofs.Common.{◌≡◌, ◌≢◌, ◌⊎◌, inl, inr, ℕ, ◌+◌, ◌-◌, ◌*◌, ◌/◌, ◌%◌, ◌^◌, ◌<◌, ◌≤◌, min, max, List, length, Bool, true, false, not, ◌||◌, nat_eq, get_or, set, replicate, refl, sym, ap, ◌∙◌, arith, w64, get_or-set_same, get_or-set_other}
+use Rattle.std.proofs.Common.{◌≡◌, ◌≢◌, ◌⊎◌, inl, inr, ℕ, ◌+◌, ◌-◌, ◌*◌, ◌/◌, ◌%◌, ◌^◌, ◌<◌, ◌≤◌, min, max, List, length, suc, Bool, true, false, cond, not, ◌&&◌, ◌||◌, nat_eq, nat_lt, get_or, set, replicate, refl, sym, ap, ◌∙◌, arith, w64, get_or-set_same, get_or-set_other}
 use Rattle.std.specs.Prelude.{bit_and, bit_or}
 use Rattle.std.specs.Int.{bit_at, bit_not, trailing_zeros}
-use Rattle.std.proofs.lemmas.Bool.{cases_lt, cases_eq}
+use Rattle.std.proofs.lemmas.Bool.{cases_lt, cases_eq, eq-eqb, eqb-true, lt-ltb}
 use Rattle.std.proofs.lemmas.Bool.Decides.{nat_tests}
-use Rattle.std.proofs.lemmas.Nat.{shr-shr, shr_below, mod_below, and_le_l, one_shl}
-use Rattle.std.proofs.lemmas.Nat.Bits.{bit_at_and, bit_at_or, bit_at-zero, bit_at-lt, bit_at_not, bit_at_above, bit_at_ones, bit_at_ones_above, bit_at_mask_inside, bit_at_mask_below, ones_shl, ones_shr, shr_and_one, bit_at-trailing_zeros, bit_at_clear_same, bit_at_clear_other, bit_at-pow_same, bit_at-pow_other}
+use Rattle.std.proofs.lemmas.Nat.{shr-shr, and_le_l, one_shl, pow_pos, div-add-mod'}
+use Rattle.std.proofs.lemmas.Nat.Bits.{bit_at_and, bit_at_or, bit_at-zero, bit_at-lt, bit_at_not, bit_at_ones, bit_at_ones_above, bit_at_mask_inside, bit_at_mask_below, bit_at_cat_low, bit_at_cat_high, bit_at_set_same, bit_at_set_other, ones_shl, ones_shr, bit_at-trailing_zeros, bit_at_clear_same, bit_at_clear_other, bit_at-pow_same, bit_at-pow_other}
 use Rattle.std.proofs.lemmas.List.{get_or-replicate, get_or_past}
 use Rattle.std.proofs.Math.ListN.{length-replicate}
-use Rattle.std.proofs.Math.Nat.{pow-le-pow_right}
 use Rattle.edits.specs.Marks.{has_bit, is_between}
 
 -- ---- the bits of a stretch
@@ -40,11 +39,7 @@ bit_at-stretch first last i o l m =
     ∙ bit_at_and (2 ^ 64 - 2 ^ first) (2 ^ (last + 1) - 1) i)
     (high_bits first i m) (low_bits (last + 1) i)
 
--- ---- one place
-pub has_bit-test : (words : List ℕ) (place : ℕ) → nat_eq (bit_and (get_or words (place / 64) 0 / 2 ^ (place % 64)) 1) 1 ≡ has_bit words place
-unfolding has_bit
-has_bit-test words place = ap (λ n. nat_eq n 1) (shr_and_one (get_or words (place / 64) 0) (place % 64))
-
+-- ---- all places, or none
 pub has_bit-zeros : (n place : ℕ) → has_bit (replicate n 0) place ≡ false
 unfolding has_bit
 has_bit-zeros n place =
@@ -55,9 +50,19 @@ has_bit-zeros n place =
     by_size (inl l) = get_or-replicate n (place / 64) 0 0 l
     by_size (inr l) = get_or_past (replicate n 0) (place / 64) 0 (omega (arith, length-replicate {A = ℕ} n 0))
 
-pub has_bit-zero_word : (words : List ℕ) (place : ℕ) → get_or words (place / 64) 0 ≡ 0 → has_bit words place ≡ false
+pub has_bit-ones : (n place : ℕ) → place < 64 * n → has_bit (replicate n (2 ^ 64 - 1)) place ≡ true
 unfolding has_bit
-has_bit-zero_word words place e = ap (λ w. nat_eq (bit_at w (place % 64)) 1) e ∙ ap (λ b. nat_eq b 1) (bit_at-zero (place % 64))
+has_bit-ones n place l =
+    ap (λ w. nat_eq (bit_at w (place % 64)) 1) (get_or-replicate n (place / 64) (2 ^ 64 - 1) 0 (omega arith))
+    ∙ ap (λ b. nat_eq b 1) (bit_at_ones 64 (place % 64) (omega arith))
+
+-- ---- whole words
+pub has_bit-at : (words : List ℕ) (word i : ℕ) → i < 64 → nat_eq (bit_at (get_or words word 0) i) 1 ≡ has_bit words (64 * word + i)
+unfolding has_bit
+has_bit-at words word i l =
+    let w : word ≡ (64 * word + i) / 64 = omega arith in
+    let b : i ≡ (64 * word + i) % 64 = omega arith in
+    ap (λ k. nat_eq (bit_at (get_or words k 0) i) 1) w ∙ ap (λ k. nat_eq (bit_at (get_or words ((64 * word + i) / 64) 0) k) 1) b
 
 -- ---- a stretch of a word is marked
 max_bit : (a b : ℕ) (p q : Bool) → a < 2 → b < 2 → nat_eq a 1 ≡ p → nat_eq b 1 ≡ q → nat_eq (max a b) 1 ≡ (p || q)
@@ -67,6 +72,19 @@ pub has_bit-set_other : (words : List ℕ) (at word place : ℕ) → at ≢ plac
 unfolding has_bit
 has_bit-set_other words at word place apart =
     ap (λ w. nat_eq (bit_at w (place % 64)) 1) (get_or-set_other words at (place / 64) word 0 (λ e. apart (sym e)))
+
+pub has_bit-set_word : (words : List ℕ) (at word place : ℕ) → at < length words
+    → has_bit (set words at word) place ≡ cond (nat_eq (place / 64) at) (nat_eq (bit_at word (place % 64)) 1) (has_bit words place)
+unfolding has_bit
+has_bit-set_word words at word place l = elim (cases_eq (place / 64) at) [
+  | inl here ↦
+      ap (λ k. nat_eq (bit_at (get_or (set words at word) k 0) (place % 64)) 1) here ∙ ap (λ w. nat_eq (bit_at w (place % 64)) 1) (get_or-set_same words at word 0 l)
+      ∙ sym (ap (λ b. cond b (nat_eq (bit_at word (place % 64)) 1) (nat_eq (bit_at (get_or words (place / 64) 0) (place % 64)) 1)) (eq-eqb (place / 64) at here))
+  | inr other ↦
+      let differ : nat_eq (place / 64) at ≡ false = grind (arith, nat_tests) in
+      has_bit-set_other words at word place (λ e. other (sym e))
+      ∙ sym (ap (λ b. cond b (nat_eq (bit_at word (place % 64)) 1) (nat_eq (bit_at (get_or words (place / 64) 0) (place % 64)) 1)) differ)
+]
 
 pub has_bit-set_or : (words : List ℕ) (at bits place : ℕ) → at < length words → at ≡ place / 64
     → has_bit (set words at (bit_or (get_or words at 0) bits)) place ≡ (has_bit words place || nat_eq (bit_at bits (place % 64)) 1)
@@ -132,91 +150,6 @@ has_bit-set_one words place k l = elim (cases_eq (place / 64) (k / 64)) [
           | inr e ↦ inr (e, bit_at-pow_other (place % 64) (k % 64) (λ f. e (sym f)))
         ])
 
--- ---- the rest of a word
--- the bits of a word from a place on say for each of its places whether the test holds there
-pub record IsRest (test : ℕ → Bool) (rest place : ℕ) : Type 0 where
-  pub bits : (i : ℕ) → place % 64 + i < 64 → nat_eq (bit_at rest i) 1 ≡ test (place + i)
-  pub small : rest < 2 ^ (64 - place % 64)
-
-at_place : (place i : ℕ) → place % 64 + i < 64 → ((place + i) / 64 ≡ place / 64) × ((place + i) % 64 ≡ place % 64 + i)
-at_place place i l = (omega arith, omega arith)
-
-has_bit-rest : (words : List ℕ) (place i : ℕ) → place % 64 + i < 64 → nat_eq (bit_at (get_or words (place / 64) 0) (place % 64 + i)) 1 ≡ has_bit words (place + i)
-unfolding has_bit
-has_bit-rest words place i l = let e = at_place place i l in
-    ap (λ k. nat_eq (bit_at (get_or words k 0) (place % 64 + i)) 1) (sym e.0) ∙ ap (λ k. nat_eq (bit_at (get_or words ((place + i) / 64) 0) k) 1) (sym e.1)
-
-rest_small : (word place : ℕ) → word < 2 ^ 64 → word / 2 ^ (place % 64) < 2 ^ (64 - place % 64)
-rest_small word place l =
-    let all : 64 - place % 64 + place % 64 ≡ 64 = omega (arith, mod_below place 64) in
-    shr_below word (64 - place % 64) (place % 64) (rw all l)
-
-pub IsRest-word : (words : List ℕ) (place word : ℕ) → word ≡ get_or words (place / 64) 0 → word < 2 ^ 64 → IsRest (has_bit words) (word / 2 ^ (place % 64)) place
-IsRest-word words place word e small =
-    record {
-      bits = λ i l. ap (λ n. nat_eq (n % 2) 1) (shr-shr word (place % 64) i) ∙ ap (λ n. nat_eq (bit_at n (place % 64 + i)) 1) e ∙ has_bit-rest words place i l;
-      small = rest_small word place small;
-    }
-
-not_bit : (a b : ℕ) → a < 2 → b ≡ 1 - a → nat_eq b 1 ≡ not (nat_eq a 1)
-not_bit a b l e = grind (arith, nat_tests)
-
-pub IsRest-not : (words : List ℕ) (place word : ℕ) → word ≡ get_or words (place / 64) 0 → word < 2 ^ 64 → IsRest (λ k. not (has_bit words k)) (bit_not w64 word / 2 ^ (place % 64)) place
-IsRest-not words place word e small =
-    record {
-      bits = λ i l. ap (λ n. nat_eq (n % 2) 1) (shr-shr (bit_not w64 word) (place % 64) i)
-          ∙ not_bit (bit_at word (place % 64 + i)) _ (bit_at-lt word (place % 64 + i)) (bit_at_not w64 word (place % 64 + i) small l)
-          ∙ ap not (ap (λ n. nat_eq (bit_at n (place % 64 + i)) 1) e ∙ has_bit-rest words place i l);
-      small = rest_small (bit_not w64 word) place (omega arith);
-    }
-
-module _ (test : ℕ → Bool) (rest place : ℕ) (h : IsRest test rest place) where
-  within_64 : rest < 2 ^ 64
-  within_64 =
-      let some : 0 < 2 = omega arith in
-      let shorter : 64 - place % 64 ≤ 64 = omega arith in
-      let wide : 2 ^ (64 - place % 64) ≤ 2 ^ 64 = pow-le-pow_right some shorter in
-      omega (arith, h.small)
-
-  none_at : (i : ℕ) → place % 64 + i < 64 → bit_at rest i ≡ 0 → test (place + i) ≡ false
-  none_at i l e = sym (h.bits i l) ∙ ap (λ b. nat_eq b 1) e
-
-  -- no place of an empty rest has it
-  pub rest-none : rest ≡ 0 → (k : ℕ) → place ≤ k → k < (place / 64 + 1) * 64 → test k ≡ false
-  rest-none e k l m =
-      let i = k - place in
-      let at : place + i ≡ k = omega arith in
-      rw at at (none_at i (omega arith) (ap (λ n. bit_at n i) e ∙ bit_at-zero i))
-
-  -- the first place that has it
-  pub rest-first : 0 < rest → (test (place + trailing_zeros w64 rest) ≡ true) × ((k : ℕ) → place ≤ k → k < place + trailing_zeros w64 rest → test k ≡ false) × (place % 64 + trailing_zeros w64 rest < 64)
-  rest-first l =
-      let t = trailing_zeros w64 rest in
-      let f = bit_at-trailing_zeros w64 rest l within_64 in
-      let inside : place % 64 + t < 64 = by_end f.1 (cases_lt (place % 64 + t) 64) in (
-        sym (h.bits t inside) ∙ ap (λ b. nat_eq b 1) f.1,
-        λ k p q. let i = k - place in let at : place + i ≡ k = omega arith in rw at at (none_at i (omega arith) (f.2 i (omega arith))),
-        inside,
-      )
-    where
-      by_end : bit_at rest (trailing_zeros w64 rest) ≡ 1 → (place % 64 + trailing_zeros w64 rest < 64) ⊎ (64 ≤ place % 64 + trailing_zeros w64 rest) → place % 64 + trailing_zeros w64 rest < 64
-      by_end e (inl p) = p
-      by_end e (inr p) =
-          let past = bit_at_above rest (64 - place % 64) (trailing_zeros w64 rest) h.small (omega arith) in
-          absurd (omega arith)
-
-  module _ (from end result : ℕ) (before : (k : ℕ) → from ≤ k → k < place → test k ≡ false) where
-    pub next-more : rest ≡ 0 → (k : ℕ) → from ≤ k → k < (place / 64 + 1) * 64 → test k ≡ false
-    next-more e k p q = elim (cases_lt k place) [ inl l ↦ before k p l | inr l ↦ rest-none e k l q ]
-
-    pub next-before : 0 < rest → result ≡ min end (place + trailing_zeros w64 rest) → (k : ℕ) → from ≤ k → k < result → test k ≡ false
-    next-before some e k p q = elim (cases_lt k place) [ inl l ↦ before k p l | inr l ↦ (rest-first some).1 k l (omega arith) ]
-
-    pub next-found : 0 < rest → result ≡ min end (place + trailing_zeros w64 rest) → result < end → test result ≡ true
-    next-found some e l =
-        let here : result ≡ place + trailing_zeros w64 rest = omega arith in
-        ap test here ∙ (rest-first some).0
-
 -- ---- one bit fewer
 -- to clear the lowest bit of a word makes it smaller, and leaves its other bits
 pub cleared : (word : ℕ) → 0 < word → word < 2 ^ 64
@@ -235,26 +168,161 @@ cleared word some small =
       λ i l other. bit_at_clear_other w64 word bit lowest.0 i l other,
     )
 
-bit_set : (b : ℕ) (p : Bool) → nat_eq b 1 ≡ not p → p ≡ false → b ≡ 1
-bit_set b p e f = grind (arith, nat_tests)
+-- ---- bits moved
+bit_at_mod : (n i : ℕ) → i < 64 → bit_at (n % 2 ^ 64) i ≡ bit_at n i
+bit_at_mod n i l = sym (bit_at_cat_low (n / 2 ^ 64) 64 (n % 2 ^ 64) i l) ∙ ap (λ x. bit_at x i) (div-add-mod' n (2 ^ 64))
 
-set_bit : (b : ℕ) (p : Bool) → nat_eq b 1 ≡ not p → b ≡ 1 → p ≡ false
-set_bit b true e f = grind (arith, nat_tests)
-set_bit b false e f = refl
+pub shl_low : (n by i : ℕ) → i < 64 → i < by → bit_at (n * 2 ^ by % 2 ^ 64) i ≡ 0
+shl_low n by i l below =
+    let same : n * 2 ^ by ≡ n * 2 ^ by + 0 = omega arith in
+    bit_at_mod (n * 2 ^ by) i l ∙ ap (λ x. bit_at x i) same ∙ bit_at_cat_low n by 0 i below ∙ bit_at-zero i
 
-module _ (test : ℕ → Bool) (free : ℕ → Bool) (bits place stop result : ℕ) (ends : stop ≤ (place / 64 + 1) * 64)
-    (clear : (i : ℕ) → place % 64 + i < 64 → nat_eq (bit_at bits i) 1 ≡ not (test (place + i))) (range : (place ≤ result) × (result ≤ stop)) where
-  -- the places of a word before the first one that the bits name and that passes
-  pub passed-before : ((i : ℕ) → i < 64 → place + i < result → bit_at bits i ≡ 1 → free (place + i) ≡ false)
-      → (k : ℕ) → place ≤ k → k < result → test k ≡ false → free k ≡ false
-  passed-before before k l m e =
-      let i = k - place in
-      let at : place + i ≡ k = omega arith in
-      let set = bit_set (bit_at bits i) (test (place + i)) (clear i (omega arith)) (ap test at ∙ e) in
-      rw at at (before i (omega arith) (omega arith) set)
+pub shl_high : (n by i : ℕ) → i < 64 → by ≤ i → bit_at (n * 2 ^ by % 2 ^ 64) i ≡ bit_at n (i - by)
+shl_high n by i l from =
+    let same : n * 2 ^ by ≡ n * 2 ^ by + 0 = omega arith in
+    bit_at_mod (n * 2 ^ by) i l ∙ ap (λ x. bit_at x i) same ∙ bit_at_cat_high n by 0 i (pow_pos by) from
 
-  pub passed-found : result < stop → bit_at bits (result - place) ≡ 1 → test result ≡ false
-  passed-found l set =
-      let i = result - place in
-      let at : place + i ≡ result = omega arith in
-      ap test (sym at) ∙ set_bit (bit_at bits i) (test (place + i)) (clear i (omega arith)) set
+pub shr_bit : (n by i : ℕ) → bit_at (n / 2 ^ by) i ≡ bit_at n (by + i)
+shr_bit n by i = ap (λ x. x % 2) (shr-shr n by i)
+
+-- one bit of a word is set
+pub has_one : (n at i : ℕ) → at < 64 → i < 64 → nat_eq (bit_at (bit_or n (1 * 2 ^ at % 2 ^ 64)) i) 1 ≡ (nat_eq (bit_at n i) 1 || nat_eq at i)
+has_one n at i l m = elim (cases_eq at i) [
+  | inl here ↦ ap (λ k. nat_eq (bit_at (bit_or n (1 * 2 ^ at % 2 ^ 64)) k) 1) (sym here) ∙ ap (λ b. nat_eq b 1) (bit_at_set_same w64 n at l)
+      ∙ yes (nat_eq (bit_at n i) 1) (nat_eq at i) (eq-eqb at i here)
+  | inr other ↦ ap (λ b. nat_eq b 1) (bit_at_set_other w64 n at l i (λ e. other (sym e))) ∙ no (nat_eq (bit_at n i) 1) (nat_eq at i) (let differ : nat_eq at i ≡ false = grind (arith, nat_tests) in differ)
+]
+  where
+    yes : (a b : Bool) → b ≡ true → true ≡ (a || b)
+    yes true b e = refl
+    yes false b e = sym e
+
+    no : (a b : Bool) → b ≡ false → a ≡ (a || b)
+    no true b e = refl
+    no false b e = sym e
+
+-- ---- words together
+and_test : (a b : ℕ) → a < 2 → b < 2 → nat_eq (min a b) 1 ≡ (nat_eq a 1 && nat_eq b 1)
+and_test a b l m = grind (arith, nat_tests)
+
+or_test : (a b : ℕ) → a < 2 → b < 2 → nat_eq (max a b) 1 ≡ (nat_eq a 1 || nat_eq b 1)
+or_test a b l m = grind (arith, nat_tests)
+
+not_test : (a b : ℕ) → a < 2 → b ≡ 1 - a → nat_eq b 1 ≡ not (nat_eq a 1)
+not_test a b l e = grind (arith, nat_tests)
+
+pub has_and : (m n i : ℕ) → nat_eq (bit_at (bit_and m n) i) 1 ≡ (nat_eq (bit_at m i) 1 && nat_eq (bit_at n i) 1)
+has_and m n i = ap (λ b. nat_eq b 1) (bit_at_and m n i) ∙ and_test (bit_at m i) (bit_at n i) (bit_at-lt m i) (bit_at-lt n i)
+
+pub has_or : (m n i : ℕ) → nat_eq (bit_at (bit_or m n) i) 1 ≡ (nat_eq (bit_at m i) 1 || nat_eq (bit_at n i) 1)
+has_or m n i = ap (λ b. nat_eq b 1) (bit_at_or m n i) ∙ or_test (bit_at m i) (bit_at n i) (bit_at-lt m i) (bit_at-lt n i)
+
+pub has_not : (n i : ℕ) → n < 2 ^ 64 → i < 64 → nat_eq (bit_at (bit_not w64 n) i) 1 ≡ not (nat_eq (bit_at n i) 1)
+has_not n i fits l = not_test (bit_at n i) (bit_at (bit_not w64 n) i) (bit_at-lt n i) (bit_at_not w64 n i fits l)
+
+-- ---- bits that lead to others
+-- the bits, and those beside them that lie within a mask: to the left where they stand on an inner bit, to the right onto one
+abbrev pub stepped : ℕ → ℕ → ℕ → ℕ
+stepped bits inner mask = bit_or bits (bit_and (bit_or (bit_and (bits * 2 ^ 1 % 2 ^ 64) inner) (bit_and bits inner / 2 ^ 1)) mask)
+
+module _ (bits inner mask i : ℕ) (l : i < 64) where
+  stepped-at : bit_at (stepped bits inner mask) i ≡ max (bit_at bits i) (min (max (min (bit_at (bits * 2 ^ 1 % 2 ^ 64) i) (bit_at inner i)) (min (bit_at bits (1 + i)) (bit_at inner (1 + i)))) (bit_at mask i))
+  stepped-at =
+      bit_at_or bits _ i
+      ∙ ap (max (bit_at bits i)) (bit_at_and _ mask i
+      ∙ ap (λ n. min n (bit_at mask i)) (bit_at_or (bit_and (bits * 2 ^ 1 % 2 ^ 64) inner) (bit_and bits inner / 2 ^ 1) i
+      ∙ ap (λ n. max n (bit_at (bit_and bits inner / 2 ^ 1) i)) (bit_at_and (bits * 2 ^ 1 % 2 ^ 64) inner i)
+      ∙ ap (max (min (bit_at (bits * 2 ^ 1 % 2 ^ 64) i) (bit_at inner i))) (shr_bit (bit_and bits inner) 1 i ∙ bit_at_and bits inner (1 + i))))
+
+  pub stepped-kept : bit_at bits i ≡ 1 → bit_at (stepped bits inner mask) i ≡ 1
+  stepped-kept e = omega (arith, stepped-at, bit_at-lt (stepped bits inner mask) i)
+
+  pub stepped-right : (k : ℕ) → i ≡ suc k → bit_at bits k ≡ 1 → bit_at inner i ≡ 1 → bit_at mask i ≡ 1 → bit_at (stepped bits inner mask) i ≡ 1
+  stepped-right k at e f g =
+      let before : i - 1 ≡ k = omega arith in
+      let moved : bit_at (bits * 2 ^ 1 % 2 ^ 64) i ≡ 1 = shl_high bits 1 i l (omega arith) ∙ ap (bit_at bits) before ∙ e in
+      omega (arith, stepped-at, moved, f, g, bit_at-lt (stepped bits inner mask) i)
+
+  pub stepped-left : (k : ℕ) → k ≡ suc i → bit_at bits k ≡ 1 → bit_at inner k ≡ 1 → bit_at mask i ≡ 1 → bit_at (stepped bits inner mask) i ≡ 1
+  stepped-left k at e f g =
+      let here : k ≡ 1 + i = omega arith in
+      let own : bit_at bits (1 + i) ≡ 1 = ap (bit_at bits) (sym here) ∙ e in
+      let on : bit_at inner (1 + i) ≡ 1 = ap (bit_at inner) (sym here) ∙ f in
+      omega (arith, stepped-at, own, on, g, bit_at-lt (stepped bits inner mask) i)
+
+  pub stepped-from : bit_at (stepped bits inner mask) i ≡ 1
+      → (bit_at bits i ≡ 1) ⊎ ((bit_at mask i ≡ 1) × (((k : ℕ) × (i ≡ suc k) × (bit_at bits k ≡ 1) × (bit_at inner i ≡ 1)) ⊎ ((bit_at bits (suc i) ≡ 1) × (bit_at inner (suc i) ≡ 1))))
+  stepped-from h = elim (cases_eq (bit_at bits i) 1) [
+    | inl e ↦ inl e
+    | inr e ↦ inr (omega (arith, h, stepped-at, bit_at-lt bits i, bit_at-lt mask i), beside e)
+  ]
+    where
+      up : suc i ≡ 1 + i
+      up = omega arith
+
+      beside : bit_at bits i ≢ 1 → ((k : ℕ) × (i ≡ suc k) × (bit_at bits k ≡ 1) × (bit_at inner i ≡ 1)) ⊎ ((bit_at bits (suc i) ≡ 1) × (bit_at inner (suc i) ≡ 1))
+      beside e = elim (cases_eq (min (bit_at bits (1 + i)) (bit_at inner (1 + i))) 1) [
+        | inl f ↦ inr (ap (bit_at bits) up ∙ omega (arith, f, bit_at-lt bits (1 + i)), ap (bit_at inner) up ∙ omega (arith, f, bit_at-lt inner (1 + i)))
+        | inr f ↦
+            let both : min (bit_at (bits * 2 ^ 1 % 2 ^ 64) i) (bit_at inner i) ≡ 1 =
+            omega (arith, h, e, f, stepped-at, bit_at-lt bits i, bit_at-lt mask i, bit_at-lt (bits * 2 ^ 1 % 2 ^ 64) i, bit_at-lt inner i, bit_at-lt bits (1 + i), bit_at-lt inner (1 + i)) in
+            elim (cases_lt i 1) [
+              | inl first ↦ absurd (omega (arith, both, shl_low bits 1 i l first))
+              | inr later ↦
+                  inl (i - 1, omega arith, sym (shl_high bits 1 i l later) ∙ omega (arith, both, bit_at-lt (bits * 2 ^ 1 % 2 ^ 64) i), omega (arith, both, bit_at-lt inner i))
+            ]
+      ]
+
+-- the other bits
+pub other_yes : (n i m : ℕ) → n < 2 ^ 64 → i < 64 → nat_eq (bit_at n i) 1 ≡ nat_eq m 0 → bit_at (bit_not w64 n) i ≡ 1 → m ≢ 0
+other_yes n i m fits l e on zero =
+    let clear : bit_at n i ≡ 0 = omega (arith, bit_at_not w64 n i fits l) in
+    let set : bit_at n i ≡ 1 = eqb-true (bit_at n i) 1 (e ∙ eq-eqb m 0 zero) in
+    omega (arith, clear, set)
+
+pub other_no : (n i m : ℕ) → n < 2 ^ 64 → i < 64 → nat_eq (bit_at n i) 1 ≡ nat_eq m 0 → m ≢ 0 → bit_at (bit_not w64 n) i ≡ 1
+other_no n i m fits l e some = elim (cases_eq (bit_at n i) 1) [
+  | inl set ↦ absurd (some (eqb-true m 0 (sym e ∙ eq-eqb (bit_at n i) 1 set)))
+  | inr clear ↦ omega (arith, bit_at_not w64 n i fits l, bit_at-lt n i)
+]
+
+-- ---- bits found one after another
+pub found-none : (a t : Bool) → (a ≡ true → t ≡ false) → false ≡ (a && t)
+found-none true t h = sym (h refl)
+found-none false t h = refl
+
+pub found-more : (a t e b : Bool) → (a ≡ true → (e ≡ false) × (b ≡ true)) → (e ≡ true → (t ≡ true) × (b ≡ true)) → (a ≡ false → e ≡ false → b ≡ true → t ≡ false)
+    → ((a && t) || e) ≡ (b && t)
+found-more true true e b h k m = sym ((h refl).1) ∙ sym (and_true b)
+  where
+    and_true : (b : Bool) → (b && true) ≡ b
+    and_true true = refl
+    and_true false = refl
+found-more true false e b h k m = (h refl).0 ∙ sym (and_false b)
+  where
+    and_false : (b : Bool) → (b && false) ≡ false
+    and_false true = refl
+    and_false false = refl
+found-more false t true b h k m = let both = k refl in sym (ap (λ x. x && t) both.1 ∙ both.0)
+found-more false t false true h k m = sym (m refl refl refl)
+found-more false t false false h k m = refl
+
+pub found-same : (a t b : Bool) → (a ≡ true → b ≡ true) → (a ≡ false → b ≡ true → t ≡ false) → (a && t) ≡ (b && t)
+found-same true t b h k = sym (ap (λ x. x && t) (h refl))
+found-same false t true h k = sym (k refl refl)
+found-same false t false h k = refl
+
+pub found-all : (a t : Bool) → (a ≡ false → t ≡ false) → (a && t) ≡ t
+found-all true t h = refl
+found-all false t h = sym (h refl)
+
+-- the low bits of a word
+pub low_mask : (n i : ℕ) → n ≤ 64 → nat_eq (bit_at ((2 ^ 64 - 1) / 2 ^ (64 - n)) i) 1 ≡ nat_lt i n
+low_mask n i l =
+    let within : 64 - n ≤ 64 = omega arith in
+    let size : 64 - (64 - n) ≡ n = omega arith in
+    ap (λ m. nat_eq (bit_at m i) 1) (ones_shr 64 (64 - n) within ∙ ap (λ k. 2 ^ k - 1) size) ∙ by_bit (bit_at (2 ^ n - 1) i) (low_bits n i)
+  where
+    by_bit : (b : ℕ) → ((b ≡ 1) × (i < n)) ⊎ ((b ≡ 0) × (n ≤ i)) → nat_eq b 1 ≡ nat_lt i n
+    by_bit b (inl h) = eq-eqb b 1 h.0 ∙ sym (lt-ltb i n h.1)
+    by_bit b (inr h) = let out : nat_lt i n ≡ false = grind (arith, nat_tests) in ap (λ m. nat_eq m 1) h.0 ∙ sym out

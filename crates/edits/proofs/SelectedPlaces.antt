@@ -1,26 +1,27 @@
 -- Marks of the cells of a selection.
-use Rattle.std.proofs.Common.{◌≡◌, ◌⊎◌, ◌↔◌, inl, inr, ℕ, ◌+◌, ◌*◌, ◌/◌, ◌%◌, ◌<◌, ◌≤◌, min, List, [], ◌∷◌, length, Bool, true, false, ◌&&◌, ◌||◌, nat_eq, nat_le, nat_lt, cond, get_or, Some, None, refl, sym, ap, ◌∙◌, subst, mul_comm, arith}
+use Rattle.std.proofs.Common.{◌≡◌, ◌↔◌, inl, inr, ℕ, ◌+◌, ◌*◌, ◌/◌, ◌%◌, ◌<◌, min, List, [], ◌∷◌, length, Bool, true, false, ◌&&◌, ◌||◌, nat_eq, nat_le, nat_lt, cond, get_or, Some, None, refl, sym, ap, ◌∙◌, subst, mul_comm, arith}
 use Rattle.std.specs.List.{slice_get}
 use Rattle.std.specs.FinSet as set
-use Rattle.std.proofs.lemmas.Bool.{cases_lt, or_cases, and_parts, and_from, ltb-true, lt-ltb, leb-true, le-leb, eqb-true, eq-eqb, false≢true}
+use Rattle.std.proofs.lemmas.Bool.{or_cases, and_parts, and_from, ltb-true, lt-ltb, leb-true, le-leb, eqb-true, eq-eqb}
 use Rattle.std.proofs.lemmas.Bool.Decides.{same_from_decides}
-use Rattle.std.proofs.lemmas.Nat.{mul-add-lt, div-mul-add, div-add-mod', div_below}
-use Rattle.std.proofs.lemmas.Option.{slice_get-get_or, slice_get_past}
+use Rattle.std.proofs.lemmas.Nat.{mul-add-lt, div-mul-add, div-add-mod', div_below, mod_below}
+use Rattle.std.proofs.lemmas.Option.{slice_get-get_or}
 use Rattle.region.specs.declared.runs.Run.{Run}
 use Rattle.region.specs.Cells.{cell_cmp}
 use Rattle.region.specs.Runs.{IsMaximalRuns, in_run, in_runs}
 use Rattle.region.proofs.Canonical.{After, after}
 use Rattle.edits.specs.declared.marks.Marks.{Marks}
-use Rattle.edits.specs.declared.flood.Ground.{Ground}
+use Rattle.edits.specs.declared.flood.Spread.{Spread}
+use Rattle.edits.specs.declared.ground.Ground.{Ground}
 use Rattle.edits.specs.Covering.{covered, covered_value, lets_change}
 use Rattle.edits.specs.Difference.{difference}
 use Rattle.edits.specs.Filling.{fill_over, free_from, is_joined}
-use Rattle.edits.specs.Flooding.{AreSelected, HasCell, IsGroundOf, free_at, free_in, is_taken, start_of, taken_over}
-use Rattle.edits.specs.Joining.{AreJoined, is_reached, is_value}
-use Rattle.edits.specs.Marks.{is_marked, is_between, room}
+use Rattle.edits.specs.Flooding.{AreAllowed, AreSelected, HasCell, IsGround, IsGroundOf, cell_of, free_in, is_taken, start_of, taken_over}
+use Rattle.edits.specs.Joining.{AreJoined, is_free, is_reached, is_value}
+use Rattle.edits.specs.Marks.{is_marked, is_between}
 use Rattle.edits.proofs.Differences.{difference-skip, get_or-each_at}
 use Rattle.edits.proofs.Joined.{end_free, is_reached-AreJoined, reached-free}
-use Rattle.edits.proofs.Flooded.{in_row, is_between-true, between, free_in-column, free_in-row}
+use Rattle.edits.proofs.Flooded.{in_row, is_between-true, is_value-within, between, free_in-column, free_in-row}
 
 or_assoc : (a b c : Bool) → ((a || b) || c) ≡ (a || (b || c))
 or_assoc true b c = refl
@@ -80,34 +81,7 @@ lets_change-some s q other = by_len (nat_eq (set.len s) 0) refl
     by_len true e = absurd (other (set.empty_of_len s (eqb-true (set.len s) 0 e)))
     by_len false e = ap (λ b. b || set.contains s q) e
 
--- two tests at a cell of the layer decide alike
-pub same_tests : (a b x y : Bool) → (a ≡ true → b ≡ true → x ≡ y) → (a && (b && x)) ≡ (a && (b && y))
-same_tests true true x y h = h refl refl
-same_tests true false x y h = refl
-same_tests false b x y h = refl
-
-is_value-within : (vs : List ℕ) (place value : ℕ) → is_value (slice_get vs place) value ≡ true → place < length vs
-is_value-within vs place value h = elim (cases_lt place (length vs)) [
-  | inl l ↦ l
-  | inr l ↦ absurd (false≢true (ap (λ o. is_value o value) (sym (slice_get_past vs place l)) ∙ h))
-]
-
--- the free cells of what a fill goes over are those of the definition
-pub free_in-from : (g : Ground) (s : set.FinSet cell_cmp) (x y : ℕ) → g.value ≡ get_or g.tiles.now (y * g.width + x) 0
-    → ((cx cy : ℕ) → cx < g.width → cy * g.width + cx < length g.tiles.now → (g.everywhere || is_marked g.selected (cy * g.width + cx)) ≡ lets_change s (cx, cy))
-    → (q : ℕ × ℕ) → free_in g q ≡ free_from g.width g.tiles.now s (x, y) q
-unfolding free_in free_at
-free_in-from g s x y own lets q =
-    let place = q.1 * g.width + q.0 in
-    same_tests (nat_lt q.0 g.width) (is_value (slice_get g.tiles.now place) g.value) (g.everywhere || is_marked g.selected place) (lets_change s q)
-    (λ column value. lets q.0 q.1 (ltb-true q.0 g.width column) (is_value-within g.tiles.now place g.value value))
-    ∙ ap (λ v. nat_lt q.0 g.width && (is_value (slice_get g.tiles.now place) v && lets_change s q)) own
-
--- nothing is selected, or the selected cells are marked
-abbrev pub AreMarked : Ground → set.FinSet cell_cmp → Type 0
-AreMarked g s = (g.everywhere ≡ true) ⊎ ((g.everywhere ≡ false) × (length g.tiles.now ≤ room g.selected) × AreSelected g.width (length g.tiles.now) s g.selected)
-
-module _ (g : Ground) (s : set.FinSet cell_cmp) (x y : ℕ) (h : HasCell g.width g.tiles.now x y) where
+module _ (g : Ground) (x y : ℕ) (h : HasCell g.width g.tiles.now x y) where
   rows_of : length g.tiles.now / g.width ≡ h.height
   rows_of =
       let some : 0 < g.width = omega (arith, h.column) in
@@ -122,8 +96,8 @@ module _ (g : Ground) (s : set.FinSet cell_cmp) (x y : ℕ) (h : HasCell g.width
 
   -- what a fill goes over, as it is made
   pub IsGroundOf-made : g.height ≡ length g.tiles.now / g.width → g.start.0 ≡ x → g.start.1 ≡ y → g.value ≡ get_or g.tiles.now (y * g.width + x) 0
-      → (g.everywhere ≡ true) ↔ (s ≡ set.empty) → AreMarked g s → IsGroundOf g.width g.tiles.now s x y g
-  IsGroundOf-made height column row own empty marked =
+      → IsGroundOf g.width g.tiles.now g.selection.now x y g
+  IsGroundOf-made height column row own =
       let rows = height ∙ rows_of in record {
         sound = record {
           size = h.size ∙ ap (λ n. n * g.width) (sym rows);
@@ -131,28 +105,27 @@ module _ (g : Ground) (s : set.FinSet cell_cmp) (x y : ℕ) (h : HasCell g.width
           low = omega (arith, h.low);
           column = omega (arith, h.column);
           row = omega (arith, h.row);
-          room = λ e. room_of e marked;
         };
         width = refl;
         tiles = refl;
         column = column;
         row = row;
         value = own;
-        cells = free_in-from g s x y own (λ cx cy l m. lets cx cy l m marked);
+        cells = λ q. ap (λ v. is_free g.width g.tiles.now g.selection.now v q) own;
       }
-    where
-      room_of : g.everywhere ≡ false → AreMarked g s → length g.tiles.now ≤ room g.selected
-      room_of e (inl all) = absurd (false≢true (sym e ∙ all))
-      room_of e (inr m) = m.1
 
-      lets : (cx cy : ℕ) → cx < g.width → cy * g.width + cx < length g.tiles.now → AreMarked g s → (g.everywhere || is_marked g.selected (cy * g.width + cx)) ≡ lets_change s (cx, cy)
-      lets cx cy l m (inl all) = ap (λ b. b || is_marked g.selected (cy * g.width + cx)) all ∙ sym (lets_change-empty s (cx, cy) (empty.0 all))
-      lets cx cy l m (inr marks) =
-          ap (λ b. b || is_marked g.selected (cy * g.width + cx)) marks.0 ∙ marks.2 cx cy l m
-          ∙ sym (lets_change-some s (cx, cy) (λ none. false≢true (sym marks.0 ∙ empty.1 none)))
+-- the selected cells may be changed, or all where there are none
+pub AreAllowed-all : (g : Ground) (m : Marks) → g.selection.now ≡ set.empty → ((p : ℕ) → p < length g.tiles.now → is_marked m p ≡ true) → AreAllowed g m
+AreAllowed-all g m none all p l = all p l ∙ sym (lets_change-empty g.selection.now (cell_of g p) none)
+
+pub AreAllowed-selected : (g : Ground) (m : Marks) → IsGround g → (g.selection.now ≡ set.empty → ⊥) → AreSelected g.width (g.height * g.width) g.selection.now m → AreAllowed g m
+AreAllowed-selected g m ground some marks p l =
+    let at = div-add-mod' p g.width in
+    ap (is_marked m) (sym at) ∙ marks (p % g.width) (p / g.width) (mod_below p g.width (omega (arith, ground.column))) (omega (arith, at, ground.size))
+    ∙ sym (lets_change-some g.selection.now (cell_of g p) some)
 
 -- ---- the cells that a fill takes
-module _ (w : ℕ) (values : List ℕ) (s : set.FinSet cell_cmp) (x y : ℕ) (g : Ground) (h : IsGroundOf w values s x y g) (m : Marks)
+module _ (w : ℕ) (values : List ℕ) (s : set.FinSet cell_cmp) (x y : ℕ) (g : Ground) (h : IsGroundOf w values s x y g) (m : Spread)
     (taken : (q : ℕ × ℕ) → (is_taken g m q ≡ true) ↔ AreJoined (free_in g) (start_of g) q) where
   is_taken-is_joined : (q : ℕ × ℕ) → is_taken g m q ≡ is_joined w values s (x, y) q
   is_taken-is_joined q =

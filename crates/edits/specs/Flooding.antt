@@ -1,18 +1,22 @@
 -- How a fill finds the cells that are joined to its start.
 --
--- Runs of cells of one row are taken whole. A run that is taken waits until the rows above and below it have been looked at.
-use Rattle.std.specs.Prelude.{◌≡◌, ◌⊎◌, ℕ, ◌+◌, ◌*◌, ◌<◌, ◌≤◌, List, [], ◌∷◌, ◌++◌, zero, suc, Bool, true, false, not, ◌&&◌, ◌||◌, nat_lt, length, slice_get, slice_index, Option, Some, None, if◌then◌else◌}
+-- Cells are seen by their places, row by row, 64 to a word. What is taken in a word waits, as a batch, until the cells beside it have been
+-- looked at.
+use Rattle.std.specs.Prelude.{◌≡◌, ◌≢◌, ◌⊎◌, ℕ, ◌+◌, ◌*◌, ◌/◌, ◌%◌, ◌<◌, ◌≤◌, ◌^◌, List, [], ◌∷◌, zero, suc, Bool, true, false, not, ◌&&◌, nat_lt, length, slice_get, slice_index, Option, Some, None, if◌then◌else◌}
+use Rattle.std.specs.Int.{bit_at}
 use Rattle.std.specs.FinSet as set
 use Rattle.region.specs.Cells.{cell_cmp}
 use Rattle.map_model.specs.Lists.{Each}
-use Rattle.map_model.specs.declared.edit.CellEdit.{CellEdit}
 use Rattle.edits.specs.declared.marks.Marks.{Marks}
-use Rattle.edits.specs.declared.flood.Ground.{Ground}
+use Rattle.edits.specs.declared.ground.Ground.{Ground}
+use Rattle.edits.specs.declared.flood.Batch.{Batch}
 use Rattle.edits.specs.declared.flood.Spread.{Spread}
-use Rattle.edits.specs.declared.flood.Stretch.{Stretch}
+use Rattle.map_model.specs.declared.edit.CellEdit.{CellEdit}
+use Rattle.edits.specs.Covering.{covered, lets_change}
+use Rattle.edits.specs.Difference.{difference}
 use Rattle.edits.specs.Filling.{free_from}
-use Rattle.edits.specs.Joining.{AreBeside, AreJoined, is_value}
-use Rattle.edits.specs.Marks.{is_marked, is_between, room}
+use Rattle.edits.specs.Joining.{AreJoined, is_free, is_value}
+use Rattle.edits.specs.Marks.{is_marked, room}
 
 -- how many numbers below one pass the test
 abbrev pub count : (ℕ → Bool) → ℕ → ℕ
@@ -20,81 +24,100 @@ count test zero = 0
 count test (suc n) = (if test n then 1 else 0) + count test n
 
 -- ---- free cells
--- whether the cell at a place has the value, and may be changed
-unfoldable pub free_at : Ground → ℕ → Bool
-free_at ground place = is_value (slice_get ground.tiles.now place) ground.value && (ground.everywhere || is_marked ground.selected place)
-
 -- whether a cell lies in the layer, has the value, and may be changed
-unfoldable pub free_in : Ground → ℕ × ℕ → Bool
-free_in ground q = nat_lt q.0 ground.width && free_at ground (q.1 * ground.width + q.0)
+abbrev pub free_in : Ground → ℕ × ℕ → Bool
+free_in ground = is_free ground.width ground.tiles.now ground.selection.now ground.value
+
+-- the cell at a place
+abbrev pub cell_of : Ground → ℕ → ℕ × ℕ
+cell_of ground place = (place % ground.width, place / ground.width)
+
+-- the same of the cell at a place
+unfoldable pub free_at : Ground → ℕ → Bool
+free_at ground place = free_in ground (cell_of ground place)
 
 abbrev pub start_of : Ground → ℕ × ℕ
 start_of ground = (ground.start.0, ground.start.1)
 
--- the values are those of a layer that has the start, and each of its cells is marked as selected or not
+-- the values are those of a layer that has the start
 pub record IsGround (ground : Ground) : Type 0 where
   pub size : length ground.tiles.now ≡ ground.height * ground.width
   pub narrow : ground.width ≤ 4096
   pub low : ground.height ≤ 4096
   pub column : ground.start.0 < ground.width
   pub row : ground.start.1 < ground.height
-  pub room : ground.everywhere ≡ false → length ground.tiles.now ≤ room ground.selected
+
+-- the cell at a place is joined to the start
+unfoldable pub IsLed : Ground → ℕ → Type 0
+IsLed ground place = AreJoined (free_in ground) (start_of ground) (cell_of ground place)
+
+-- two places side by side in a row
+abbrev pub AreSideBySide : Ground → ℕ → ℕ → Type 0
+AreSideBySide ground p r = ((r ≡ suc p) × (r % ground.width ≢ 0)) ⊎ ((p ≡ suc r) × (p % ground.width ≢ 0))
+
+-- two places side by side, in one row or in one column
+abbrev pub AreNear : Ground → ℕ → ℕ → Type 0
+AreNear ground p r = (r ≡ p + ground.width) ⊎ ((p ≡ r + ground.width) ⊎ AreSideBySide ground p r)
 
 -- ---- taken cells
--- whether a cell of the layer is marked
-unfoldable pub is_taken : Ground → Marks → ℕ × ℕ → Bool
-is_taken ground marks q = nat_lt q.0 ground.width && is_marked marks (q.1 * ground.width + q.0)
+-- whether a place is taken
+unfoldable pub taken_at : Spread → ℕ → Bool
+taken_at s place = is_marked s.taken place && not (is_marked s.open place)
 
--- the cell lies in the stretch
-abbrev pub InStretch : Stretch → ℕ × ℕ → Type 0
-InStretch s q = (s.y ≡ q.1) × (s.first ≤ q.0) × (q.0 < s.end)
+-- whether a cell of the layer is taken
+unfoldable pub is_taken : Ground → Spread → ℕ × ℕ → Bool
+is_taken ground s q = nat_lt q.0 ground.width && taken_at s (q.1 * ground.width + q.0)
 
--- the cell lies in one of the stretches
-abbrev pub Waits : List Stretch → ℕ × ℕ → Type 0
-Waits [] q = ⊥
-Waits (s ∷ ss) q = InStretch s q ⊎ Waits ss q
+-- the place is that of a cell of the batch
+abbrev pub InBatch : Batch → ℕ → Type 0
+InBatch b place = (place / 64 ≡ b.word) × (bit_at b.bits (place % 64) ≡ 1)
 
--- a stretch of cells of one row, all taken
-pub record IsStretch (ground : Ground) (marks : Marks) (s : Stretch) : Type 0 where
-  pub some : s.first < s.end
-  pub within : s.end ≤ ground.width
-  pub row : s.y < ground.height
-  pub taken : (x : ℕ) → s.first ≤ x → x < s.end → is_taken ground marks (x, s.y) ≡ true
+-- the place is that of a cell of one of the batches
+abbrev pub Waits : List Batch → ℕ → Type 0
+Waits [] place = ⊥
+Waits (b ∷ bs) place = InBatch b place ⊎ Waits bs place
 
--- the taken cells are joined to the start. Whatever is free beside them in their row is taken too, and so is whatever is free
--- above and below them, but for those that wait
-pub record IsSpread (ground : Ground) (marks : Marks) (waiting : List Stretch) : Type 0 where
-  pub room : length ground.tiles.now ≤ room marks
-  pub joined : (q : ℕ × ℕ) → is_taken ground marks q ≡ true → AreJoined (free_in ground) (start_of ground) q
-  pub along : (q r : ℕ × ℕ) → is_taken ground marks q ≡ true → q.1 ≡ r.1 → AreBeside q.0 r.0 → free_in ground r ≡ true → is_taken ground marks r ≡ true
-  pub across : (q r : ℕ × ℕ) → is_taken ground marks q ≡ true → q.0 ≡ r.0 → AreBeside q.1 r.1 → free_in ground r ≡ true
-      → (is_taken ground marks r ≡ true) ⊎ Waits waiting q
-  pub stretches : Each (IsStretch ground marks) waiting
+-- a batch of taken cells of a word that there is
+pub record IsBatch (s : Spread) (b : Batch) : Type 0 where
+  pub within : 64 * b.word < room s.open
+  pub taken : (p : ℕ) → InBatch b p → taken_at s p ≡ true
 
--- a stretch of free cells, as long as may be, is taken: it has the column x and ends at a column
-pub record Takes (ground : Ground) (y x end : ℕ) (old new : Spread) : Type 0 where
-  pub first : ℕ
-  pub from : first ≤ x
-  pub to : x < end
-  pub within : end ≤ ground.width
-  pub free : (k : ℕ) → first ≤ k → k < end → free_at ground (y * ground.width + k) ≡ true
-  pub left : (k : ℕ) → suc k ≡ first → free_at ground (y * ground.width + k) ≡ false
-  pub right : end < ground.width → free_at ground (y * ground.width + end) ≡ false
-  pub marks : (k : ℕ) → is_marked new.taken k ≡ (is_marked old.taken k || is_between (y * ground.width + first) (y * ground.width + end) k)
-  pub room : room new.taken ≡ room old.taken
-  pub pending : new.pending.items ≡ old.pending.items ++ record { y = y; first = first; end = end } ∷ []
+-- what is known of a place, by whether it is open and whether it is taken: where it is both, only that it may be changed
+abbrev pub Means : Ground → ℕ → Bool → Bool → Type 0
+Means ground p true true = free_at ground p ≡ is_value (slice_get ground.tiles.now p) ground.value
+Means ground p true false = free_at ground p ≡ true
+Means ground p false true = free_at ground p ≡ true
+Means ground p false false = free_at ground p ≡ false
 
--- whatever is free beside a stretch in another row is taken
-abbrev pub Covers : Ground → Marks → Stretch → ℕ → Type 0
-Covers ground marks s y = (x : ℕ) → s.first ≤ x → x < s.end → free_in ground (x, y) ≡ true → is_taken ground marks (x, y) ≡ true
+-- the marks say what is known. The taken cells are joined to the start; whatever is free beside them in their word and row is taken too, and
+-- they lie between two words
+pub record IsSound (ground : Ground) (s : Spread) : Type 0 where
+  pub large : length ground.tiles.now < room s.open
+  pub same_room : room s.taken ≡ room s.open
+  pub small : room s.open < 2 ^ 32
+  pub places : (p : ℕ) → Means ground p (is_marked s.open p) (is_marked s.taken p)
+  pub led : (p : ℕ) → taken_at s p ≡ true → IsLed ground p
+  pub inner : (p r : ℕ) → taken_at s p ≡ true → p / 64 ≡ r / 64 → AreSideBySide ground p r → free_at ground r ≡ true → taken_at s r ≡ true
+  pub pending : Each (IsBatch s) s.pending.items
+  pub from : (p : ℕ) → taken_at s p ≡ true → 64 * s.first ≤ p
+  pub to : (p : ℕ) → taken_at s p ≡ true → p < 64 * s.end
+  pub first : 64 * s.first ≤ room s.open
+  pub end : 64 * s.end ≤ room s.open
 
--- what was taken is taken
-abbrev pub Keeps : Ground → Marks → Marks → Type 0
-Keeps ground old new = (q : ℕ × ℕ) → is_taken ground old q ≡ true → is_taken ground new q ≡ true
+-- whatever is free beside the taken cells is taken too, but for those that wait
+abbrev pub IsClosed : Ground → Spread → List Batch → Type 0
+IsClosed ground s waiting = (p r : ℕ) → taken_at s p ≡ true → AreNear ground p r → free_at ground r ≡ true → (taken_at s r ≡ true) ⊎ Waits waiting p
 
--- how much may be left to do: the places that are not marked, and the stretches that wait
+-- how much may be left to do: the places that are not taken, and the batches that wait
 abbrev pub work_left : Ground → Spread → ℕ
-work_left ground s = count (λ k. not (is_marked s.taken k)) (length ground.tiles.now) + length s.pending.items
+work_left ground s = count (λ k. not (taken_at s k)) (length ground.tiles.now) + length s.pending.items
+
+-- what was taken is taken, what waited waits, and so does what was not taken before
+pub record Spreads (ground : Ground) (old new : Spread) : Type 0 where
+  pub keeps : (p : ℕ) → taken_at old p ≡ true → taken_at new p ≡ true
+  pub waits : (p : ℕ) → Waits old.pending.items p → Waits new.pending.items p
+  pub fresh : (p : ℕ) → taken_at new p ≡ true → (taken_at old p ≡ true) ⊎ Waits new.pending.items p
+  pub work : work_left ground new ≤ work_left ground old
 
 -- ---- changes
 -- the values are those of a layer of this width that has the cell
@@ -107,17 +130,20 @@ pub record HasCell (width : ℕ) (tiles : List ℕ) (x y : ℕ) : Type 0 where
   pub row : y < height
 
 -- what a fill puts over the cells that it has taken
-abbrev pub taken_over : Ground → Marks → ℕ → ℕ → ℕ → Option ℕ
-taken_over ground marks value x y = if is_taken ground marks (x, y) then Some value else None
+abbrev pub taken_over : Ground → Spread → ℕ → ℕ → ℕ → Option ℕ
+taken_over ground s value x y = if is_taken ground s (x, y) then Some value else None
 
--- the changes of so many cells of a row side by side, from a column on
-abbrev pub changes_along : ℕ → ℕ → ℕ → ℕ → ℕ → List CellEdit
-changes_along y x before after zero = []
-changes_along y x before after (suc n) = changes_along y x before after n ++ record { x = x + n; y = y; before = before; after = after } ∷ []
+-- the changes of the taken cells in so many places of the layer, from the first
+abbrev pub changes_below : Ground → Spread → ℕ → ℕ → List CellEdit
+changes_below ground s value = difference ground.width ground.tiles.now (covered ground.width (taken_over ground s value) ground.tiles.now)
 
 -- the marks are those of the cells of the layer that the selection has
 abbrev pub AreSelected : ℕ → ℕ → set.FinSet cell_cmp → Marks → Type 0
 AreSelected width places selection marks = (x y : ℕ) → x < width → y * width + x < places → is_marked marks (y * width + x) ≡ set.contains selection (x, y)
+
+-- the marks are those of the cells of the layer that may be changed
+abbrev pub AreAllowed : Ground → Marks → Type 0
+AreAllowed ground marks = (p : ℕ) → p < length ground.tiles.now → is_marked marks p ≡ lets_change ground.selection.now (cell_of ground p)
 
 -- what a fill of a layer of this width goes over, from a cell, within a selection
 pub record IsGroundOf (w : ℕ) (values : List ℕ) (selection : set.FinSet cell_cmp) (x y : ℕ) (g : Ground) : Type 0 where

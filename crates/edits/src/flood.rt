@@ -1,226 +1,212 @@
-// The cells that a fill takes, stretch by stretch.
-ghost use Rattle.std.specs.Prelude.{◌≡◌, ℕ, ◌+◌, ◌-◌, ◌*◌, ◌<◌, ◌≤◌, ◌↔◌, [], ◌∷◌, suc, IfOk, OnOk, true, false, length};
+// The cells that a fill takes, word by word.
+ghost use Rattle.std.specs.Prelude.{◌≡◌, ◌≢◌, ℕ, ◌+◌, ◌-◌, ◌*◌, ◌/◌, ◌%◌, ◌<◌, ◌≤◌, ◌↔◌, ◌&&◌, [], suc, IfOk, OnOk, true, false, length, nat_eq, nat_lt};
 ghost use Rattle.std.specs.Int.{bit_at};
+ghost use Rattle.edits.specs.Joining.{AreJoined};
+ghost use Rattle.edits.specs.Flooding.{AreNear, InBatch, IsBatch, IsClosed, IsGround, IsLed, IsSound, Spreads, free_at, free_in, is_taken, start_of, taken_at, work_left};
 ghost use Rattle.edits.specs.Marks.{is_marked, room};
-ghost use Rattle.edits.specs.Joining.{AreBeside, AreJoined};
-ghost use Rattle.edits.specs.Flooding.{Covers, IsGround, IsSpread, Keeps, Takes, free_at, free_in, is_taken, start_of, work_left};
 
+use crate::ground::Ground;
 use crate::marks::Marks;
 use std::alloc::{AllocError, Global};
-use tile_id::Gid;
 
-/// What a fill spreads over: the values of a layer, row by row, the cell that it starts from, that cell's value, and
-/// the selected cells.
-#[derive(Drop)]
-pub(crate) struct Ground<'a> {
-    pub tiles: &'a [Gid],
-    pub width: u32,
-    pub height: u32,
-    pub start: (u32, u32),
-    pub value: Gid,
-    /// Nothing is selected, and so every cell may be changed.
-    pub everywhere: bool,
-    pub selected: Marks,
-}
-
-/// Cells of a row side by side: from the first column to before the end.
+/// Cells of a word: bit i stands for its place i.
 #[derive(Clone, Copy)]
-pub(crate) struct Stretch {
-    pub y: u32,
-    pub first: u32,
-    pub end: u32,
+pub(crate) struct Batch {
+    pub word: usize,
+    pub bits: u64,
 }
 
-/// The cells that a fill has taken, how many they are, and the stretches of them whose rows above and below are to be
-/// looked at.
+/// How far a fill is, with two bits for each place: one that is open is free and not taken yet, and one that is taken is no longer open. One
+/// with both bits may be changed, and its value was not looked at.
+///
+/// The taken cells are so many, modulo 2^64, and lie in the words from the first to before the end. The neighbours of those in the pending
+/// batches are still to be looked at.
 #[derive(Drop)]
 pub(crate) struct Spread {
+    pub open: Marks,
     pub taken: Marks,
     pub count: usize,
-    pub pending: Vec<Stretch>,
-}
-
-impl Ground<'_> {
-    // Whether the cell at a place has the value and may be changed.
-    fn is_free(&self, place: usize) -> bool
-        requires ground { IsGround self.now }
-        requires within { place < length self.now.tiles.now }
-        ensures { result ≡ free_at self.now place }
-    {
-        self.tiles[place] == self.value && (self.everywhere || self.selected.get(place))
-    }
-
-    // The first column of the free cells that lead to a column from the left.
-    fn stretch_start(&self, row: usize, x: u32) -> u32
-        requires ground { IsGround self.now }
-        requires within { row + x < length self.now.tiles.now }
-        ensures range { result ≤ x }
-        ensures free { (k : ℕ) → result ≤ k → k < x → free_at self.now (row + k) ≡ true }
-        ensures stops { (k : ℕ) → suc k ≡ result → free_at self.now (row + k) ≡ false }
-    {
-        let mut first = x;
-        while first > 0 && self.is_free(row + first as usize - 1) {
-            first -= 1;
-        }
-        first
-    }
-
-    // The column behind the free cells from a column on.
-    fn stretch_end(&self, row: usize, x: u32) -> u32
-        requires ground { IsGround self.now }
-        requires row { row + self.now.width ≤ length self.now.tiles.now }
-        requires within { x ≤ self.now.width }
-        ensures range { (x ≤ result) × (result ≤ self.now.width) }
-        ensures free { (k : ℕ) → x ≤ k → k < result → free_at self.now (row + k) ≡ true }
-        ensures stops { result < self.now.width → free_at self.now (row + result) ≡ false }
-    {
-        let mut end = x;
-        while end < self.width && self.is_free(row + end as usize) {
-            end += 1;
-        }
-        end
-    }
-
-    // The first free place among those that the bits from a place on name, or the stop where none comes before it.
-    fn first_free(&self, bits: u64, place: usize, stop: usize) -> usize
-        requires ground { IsGround self.now }
-        requires ordered { place ≤ stop }
-        requires within { stop ≤ length self.now.tiles.now }
-        ensures range { (place ≤ result) × (result ≤ stop) }
-        ensures before { (i : ℕ) → i < 64 → place + i < result → bit_at bits i ≡ 1 → free_at self.now (place + i) ≡ false }
-        ensures found { result < stop → (result - place < 64) × (bit_at bits (result - place) ≡ 1) × (free_at self.now result ≡ true) }
-    {
-        let mut left = bits;
-        while left != 0 {
-            let bit = left.trailing_zeros();
-            let at = place + bit as usize;
-            if at >= stop {
-                return stop;
-            }
-            if self.is_free(at) {
-                return at;
-            }
-            left &= !(1u64 << bit);
-        }
-        stop
-    }
+    pub first: usize,
+    pub end: usize,
+    pub pending: Vec<Batch>,
 }
 
 impl Spread {
-    // Takes the stretch of free cells that has a free cell, and says where it ends.
-    fn take(&mut self, ground: &Ground<'_>, y: u32, x: u32) -> Result<u32, AllocError>
+    // Looks at the values of a word, where that was not done.
+    fn look_at(&mut self, ground: &Ground<'_>, word: usize)
         requires ground { IsGround ground.now }
-        requires room { length ground.now.tiles.now ≤ room self.old.taken }
-        requires cell { (x < ground.now.width) × (y < ground.now.height) }
-        requires free { free_at ground.now (y * ground.now.width + x) ≡ true }
-        ensures { IfOk result (λ end. Takes ground.now y x end self.old self.new) }
+        requires sound { IsSound ground.now self.old }
+        requires within { 64 * word < room self.old.open }
+        ensures sound { IsSound ground.now self.new }
+        ensures spreads { Spreads ground.now self.old self.new }
+        ensures seen { (i : ℕ) → i < 64 → (is_marked self.new.open (64 * word + i) && is_marked self.new.taken (64 * word + i)) ≡ false }
+        ensures room { room self.new.open ≡ room self.old.open }
     {
-        let row = y as usize * ground.width as usize;
-        let first = ground.stretch_start(row, x);
-        let end = ground.stretch_end(row, x + 1);
-        self.taken.mark(row + first as usize, row + end as usize);
-        self.count = self.count.wrapping_add((end - first) as usize);
-        self.pending.push(Stretch { y, first, end })?;
-        Ok(end)
-    }
-
-    // The next place from one on that is free and not taken, or the end where none comes before it.
-    fn next_free(&self, ground: &Ground<'_>, from: usize, end: usize) -> usize
-        requires ground { IsGround ground.now }
-        requires room { length ground.now.tiles.now ≤ room self.now.taken }
-        requires ordered { from ≤ end }
-        requires within { end ≤ length ground.now.tiles.now }
-        ensures range { (from ≤ result) × (result ≤ end) }
-        ensures before { (k : ℕ) → from ≤ k → k < result → is_marked self.now.taken k ≡ false → free_at ground.now k ≡ false }
-        ensures found { result < end → (is_marked self.now.taken result ≡ false) × (free_at ground.now result ≡ true) }
-    {
-        let mut place = from;
-        while place < end {
-            let stop = end.min((place / 64 + 1) * 64);
-            place = ground.first_free(self.taken.clear_bits(place), place, stop);
-            if place < stop {
-                return place;
-            }
+        let open = self.open.word(word);
+        let taken = self.taken.word(word);
+        let unseen = open & taken;
+        if unseen != 0 {
+            let equal = ground.equal_bits(word);
+            self.open.set_word(word, open & (!unseen | equal));
+            self.taken.set_word(word, taken & !unseen);
         }
-        end
     }
 
-    // Takes whatever is free beside a stretch in a row above or below it, with the stretches that it lies in.
-    fn take_beside(&mut self, ground: &Ground<'_>, from: Stretch, y: u32) -> Result<(), AllocError>
+    // Takes what is free of some cells of a word, and what these lead to in it. Each is joined to the start, where it is free.
+    fn take(&mut self, ground: &Ground<'_>, word: usize, seeds: u64) -> Result<(), AllocError>
         requires ground { IsGround ground.now }
-        requires spread { IsSpread ground.now self.old.taken (from ∷ self.old.pending.items) }
-        requires beside { AreBeside from.y y }
-        requires row { y < ground.now.height }
-        ensures spread { OnOk result (IsSpread ground.now self.new.taken (from ∷ self.new.pending.items)) }
-        ensures covers { OnOk result (Covers ground.now self.new.taken from y) }
-        ensures keeps { OnOk result (Keeps ground.now self.old.taken self.new.taken) }
-        ensures work { OnOk result (work_left ground.now self.new ≤ work_left ground.now self.old) }
+        requires sound { IsSound ground.now self.old }
+        requires within { 64 * word < room self.old.open }
+        requires led { (i : ℕ) → i < 64 → bit_at seeds i ≡ 1 → free_at ground.now (64 * word + i) ≡ true → IsLed ground.now (64 * word + i) }
+        ensures sound { OnOk result (IsSound ground.now self.new) }
+        ensures spreads { OnOk result (Spreads ground.now self.old self.new) }
+        ensures covers { OnOk result ((i : ℕ) → i < 64 → bit_at seeds i ≡ 1 → free_at ground.now (64 * word + i) ≡ true → taken_at self.new (64 * word + i) ≡ true) }
+        ensures room { room self.new.open ≡ room self.old.open }
     {
-        let row = y as usize * ground.width as usize;
-        let end = row + from.end as usize;
-        let mut place = row + from.first as usize;
-        while place < end {
-            place = self.next_free(ground, place, end);
-            if place == end {
-                break;
-            }
-            place = row + self.take(ground, y, (place - row) as u32)? as usize;
+        self.look_at(ground, word);
+        let open = self.open.word(word);
+        let bits = ground.joined_bits(word, seeds & open, open);
+        if bits == 0 {
+            return Ok(());
+        }
+        let taken = self.taken.word(word);
+        self.open.set_word(word, open & !bits);
+        self.taken.set_word(word, taken | bits);
+        self.count = self.count.wrapping_add(bits.count_ones() as usize);
+        self.first = self.first.min(word);
+        self.end = self.end.max(word + 1);
+        self.pending.push(Batch { word, bits })?;
+        Ok(())
+    }
+
+    // The same where there is such a word, and one of the cells is open.
+    fn reach(&mut self, ground: &Ground<'_>, word: usize, seeds: u64) -> Result<(), AllocError>
+        requires ground { IsGround ground.now }
+        requires sound { IsSound ground.now self.old }
+        requires led { (i : ℕ) → i < 64 → bit_at seeds i ≡ 1 → free_at ground.now (64 * word + i) ≡ true → IsLed ground.now (64 * word + i) }
+        ensures sound { OnOk result (IsSound ground.now self.new) }
+        ensures spreads { OnOk result (Spreads ground.now self.old self.new) }
+        ensures covers { OnOk result ((i : ℕ) → i < 64 → bit_at seeds i ≡ 1 → free_at ground.now (64 * word + i) ≡ true → taken_at self.new (64 * word + i) ≡ true) }
+        ensures room { room self.new.open ≡ room self.old.open }
+    {
+        if word < self.open.words() && seeds & self.open.word(word) != 0 {
+            self.take(ground, word, seeds)
+        } else {
+            Ok(())
+        }
+    }
+
+    // Takes what is free below the cells of a batch.
+    fn take_below(&mut self, ground: &Ground<'_>, from: Batch) -> Result<(), AllocError>
+        requires ground { IsGround ground.now }
+        requires sound { IsSound ground.now self.old }
+        requires batch { IsBatch self.old from }
+        ensures sound { OnOk result (IsSound ground.now self.new) }
+        ensures spreads { OnOk result (Spreads ground.now self.old self.new) }
+        ensures covers { OnOk result ((p : ℕ) → InBatch from p → free_at ground.now (p + ground.now.width) ≡ true → taken_at self.new (p + ground.now.width) ≡ true) }
+        ensures room { room self.new.open ≡ room self.old.open }
+    {
+        let words = ground.width as usize / 64;
+        let shift = ground.width % 64;
+        self.reach(ground, from.word + words, from.bits << shift)?;
+        if shift != 0 {
+            self.reach(ground, from.word + words + 1, from.bits >> (64 - shift))?;
         }
         Ok(())
     }
 
-    // Takes whatever is free above a stretch.
-    fn take_above(&mut self, ground: &Ground<'_>, from: Stretch) -> Result<(), AllocError>
+    // Takes what is free above the cells of a batch.
+    fn take_above(&mut self, ground: &Ground<'_>, from: Batch) -> Result<(), AllocError>
         requires ground { IsGround ground.now }
-        requires spread { IsSpread ground.now self.old.taken (from ∷ self.old.pending.items) }
-        ensures spread { OnOk result (IsSpread ground.now self.new.taken (from ∷ self.new.pending.items)) }
-        ensures covers { OnOk result ((y : ℕ) → suc y ≡ from.y → Covers ground.now self.new.taken from y) }
-        ensures keeps { OnOk result (Keeps ground.now self.old.taken self.new.taken) }
-        ensures work { OnOk result (work_left ground.now self.new ≤ work_left ground.now self.old) }
+        requires sound { IsSound ground.now self.old }
+        requires batch { IsBatch self.old from }
+        ensures sound { OnOk result (IsSound ground.now self.new) }
+        ensures spreads { OnOk result (Spreads ground.now self.old self.new) }
+        ensures covers { OnOk result ((p : ℕ) → InBatch from (p + ground.now.width) → free_at ground.now p ≡ true → taken_at self.new p ≡ true) }
+        ensures room { room self.new.open ≡ room self.old.open }
     {
-        if from.y == 0 {
-            return Ok(());
+        let words = ground.width as usize / 64;
+        let shift = ground.width % 64;
+        if from.word >= words {
+            self.reach(ground, from.word - words, from.bits >> shift)?;
         }
-        self.take_beside(ground, from, from.y - 1)
+        if shift != 0 && from.word > words {
+            self.reach(ground, from.word - words - 1, from.bits << (64 - shift))?;
+        }
+        Ok(())
     }
 
-    // Takes whatever is free above and below a stretch, which is then done with.
-    fn take_around(&mut self, ground: &Ground<'_>, from: Stretch) -> Result<(), AllocError>
+    // Takes what is free left of the first cell of a batch's word, in its row.
+    fn take_left(&mut self, ground: &Ground<'_>, from: Batch) -> Result<(), AllocError>
         requires ground { IsGround ground.now }
-        requires spread { IsSpread ground.now self.old.taken (from ∷ self.old.pending.items) }
-        ensures spread { OnOk result (IsSpread ground.now self.new.taken self.new.pending.items) }
-        ensures keeps { OnOk result (Keeps ground.now self.old.taken self.new.taken) }
-        ensures work { OnOk result (work_left ground.now self.new ≤ work_left ground.now self.old) }
+        requires sound { IsSound ground.now self.old }
+        requires batch { IsBatch self.old from }
+        ensures sound { OnOk result (IsSound ground.now self.new) }
+        ensures spreads { OnOk result (Spreads ground.now self.old self.new) }
+        ensures covers { OnOk result ((p : ℕ) → InBatch from (suc p) → suc p % 64 ≡ 0 → suc p % ground.now.width ≢ 0 → free_at ground.now p ≡ true → taken_at self.new p ≡ true) }
+        ensures room { room self.new.open ≡ room self.old.open }
+    {
+        if from.bits & 1 == 0 || from.word * 64 % ground.width as usize == 0 {
+            return Ok(());
+        }
+        self.reach(ground, from.word - 1, 1 << 63)
+    }
+
+    // Takes what is free right of the last cell of a batch's word, in its row.
+    fn take_right(&mut self, ground: &Ground<'_>, from: Batch) -> Result<(), AllocError>
+        requires ground { IsGround ground.now }
+        requires sound { IsSound ground.now self.old }
+        requires batch { IsBatch self.old from }
+        ensures sound { OnOk result (IsSound ground.now self.new) }
+        ensures spreads { OnOk result (Spreads ground.now self.old self.new) }
+        ensures covers { OnOk result ((p : ℕ) → InBatch from p → suc p % 64 ≡ 0 → suc p % ground.now.width ≢ 0 → free_at ground.now (suc p) ≡ true → taken_at self.new (suc p) ≡ true) }
+        ensures room { room self.new.open ≡ room self.old.open }
+    {
+        if from.bits >> 63 == 0 || (from.word + 1) * 64 % ground.width as usize == 0 {
+            return Ok(());
+        }
+        self.reach(ground, from.word + 1, 1)
+    }
+
+    // Takes whatever is free beside the cells of a batch.
+    fn take_around(&mut self, ground: &Ground<'_>, from: Batch) -> Result<(), AllocError>
+        requires ground { IsGround ground.now }
+        requires sound { IsSound ground.now self.old }
+        requires batch { IsBatch self.old from }
+        ensures sound { OnOk result (IsSound ground.now self.new) }
+        ensures spreads { OnOk result (Spreads ground.now self.old self.new) }
+        ensures covers { OnOk result ((p r : ℕ) → InBatch from p → AreNear ground.now p r → free_at ground.now r ≡ true → taken_at self.new r ≡ true) }
     {
         self.take_above(ground, from)?;
-        if from.y + 1 == ground.height {
-            return Ok(());
-        }
-        self.take_beside(ground, from, from.y + 1)?;
+        self.take_below(ground, from)?;
+        self.take_left(ground, from)?;
+        self.take_right(ground, from)?;
         Ok(())
     }
 
-    // Takes the stretch of the start, where it may be changed.
+    // Takes the start, where it may be changed.
     fn take_start(&mut self, ground: &Ground<'_>) -> Result<(), AllocError>
         requires ground { IsGround ground.now }
-        requires spread { IsSpread ground.now self.old.taken self.old.pending.items }
-        ensures spread { OnOk result (IsSpread ground.now self.new.taken self.new.pending.items) }
-        ensures start { OnOk result (free_in ground.now (start_of ground.now) ≡ true → is_taken ground.now self.new.taken (start_of ground.now) ≡ true) }
+        requires sound { IsSound ground.now self.old }
+        requires none { (p : ℕ) → taken_at self.old p ≡ false }
+        ensures sound { OnOk result (IsSound ground.now self.new) }
+        ensures closed { OnOk result (IsClosed ground.now self.new self.new.pending.items) }
+        ensures start { OnOk result (free_in ground.now (start_of ground.now) ≡ true → is_taken ground.now self.new (start_of ground.now) ≡ true) }
     {
         let (x, y) = ground.start;
-        if !ground.is_free(y as usize * ground.width as usize + x as usize) {
-            return Ok(());
-        }
-        self.take(ground, y, x)?;
+        let place = y as usize * ground.width as usize + x as usize;
+        self.reach(ground, place / 64, 1 << (place % 64))?;
         Ok(())
     }
 
     // Takes whatever is joined to the cells taken so far.
     fn take_joined(&mut self, ground: &Ground<'_>) -> Result<(), AllocError>
         requires ground { IsGround ground.now }
-        requires spread { IsSpread ground.now self.old.taken self.old.pending.items }
-        ensures spread { OnOk result (IsSpread ground.now self.new.taken []) }
-        ensures keeps { OnOk result (Keeps ground.now self.old.taken self.new.taken) }
+        requires sound { IsSound ground.now self.old }
+        requires closed { IsClosed ground.now self.old self.old.pending.items }
+        ensures sound { OnOk result (IsSound ground.now self.new) }
+        ensures closed { OnOk result (IsClosed ground.now self.new []) }
+        ensures keeps { OnOk result ((p : ℕ) → taken_at self.old p ≡ true → taken_at self.new p ≡ true) }
     {
         while let Some(from) = self.pending.pop() {
             self.take_around(ground, from)?;
@@ -231,16 +217,32 @@ impl Spread {
     /// The cells that are joined to the start of a fill: none where the start itself is not selected.
     pub(crate) fn over(alloc: Global, ground: &Ground<'_>) -> Result<Spread, AllocError>
         requires { IsGround ground.now }
-        ensures room { IfOk result (λ spread. length ground.now.tiles.now ≤ room spread.taken) }
-        ensures cells { IfOk result (λ spread. (q : ℕ × ℕ) → (is_taken ground.now spread.taken q ≡ true) ↔ AreJoined (free_in ground.now) (start_of ground.now) q) }
+        ensures sound { IfOk result (IsSound ground.now) }
+        ensures cells { IfOk result (λ spread. (q : ℕ × ℕ) → (is_taken ground.now spread q ≡ true) ↔ AreJoined (free_in ground.now) (start_of ground.now) q) }
     {
+        let open = ground.allowed_places(alloc)?;
         let mut spread = Spread {
-            taken: Marks::new(alloc, ground.tiles.len())?,
+            taken: open.copied(alloc)?,
             count: 0,
+            first: open.words(),
+            end: 0,
             pending: Vec::new(alloc),
+            open,
         };
         spread.take_start(ground)?;
         spread.take_joined(ground)?;
         Ok(spread)
+    }
+
+    /// The taken places from one on and before a stop, in one word: bit i stands for the place i further on.
+    pub(crate) fn taken_bits(&self, place: usize, stop: usize) -> u64
+        requires some { place < stop }
+        requires word { (stop - 1) / 64 ≡ place / 64 }
+        requires open { stop ≤ room self.now.open }
+        requires taken { stop ≤ room self.now.taken }
+        ensures { (i : ℕ) → i < 64 → nat_eq (bit_at result i) 1 ≡ (nat_lt (place + i) stop && taken_at self.now (place + i)) }
+    {
+        let word = self.taken.word(place / 64) & !self.open.word(place / 64);
+        (word >> (place % 64)) & (u64::MAX >> (64 - (stop - place)))
     }
 }

@@ -9,6 +9,7 @@ mod erase;
 mod fill;
 mod filled;
 mod flood;
+mod ground;
 mod layer;
 mod marks;
 mod reach;

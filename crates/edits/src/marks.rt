@@ -1,5 +1,5 @@
 // Marks on the places of a layer, a bit each.
-ghost use Rattle.std.specs.Prelude.{◌≡◌, ℕ, ◌+◌, ◌*◌, ◌/◌, ◌%◌, ◌<◌, ◌≤◌, ◌^◌, ◌||◌, IfOk, true, false, nat_eq, not, vec_len};
+ghost use Rattle.std.specs.Prelude.{◌≡◌, ℕ, ◌+◌, ◌*◌, ◌/◌, ◌%◌, ◌<◌, ◌≤◌, ◌^◌, ◌||◌, IfOk, true, false, nat_eq, if◌then◌else◌};
 ghost use Rattle.std.specs.Int.{bit_at};
 ghost use Rattle.edits.specs.Marks.{is_marked, room, is_between};
 
@@ -24,7 +24,7 @@ impl Marks {
     /// So many places or more, none of which is marked.
     pub(crate) fn new(alloc: Global, places: usize) -> Result<Marks, AllocError>
         requires { places < 2 ^ 32 }
-        ensures room { IfOk result (λ marks. places ≤ room marks) }
+        ensures room { IfOk result (λ marks. room marks ≡ 64 * (places / 64 + 1)) }
         ensures none { IfOk result (λ marks. (k : ℕ) → is_marked marks k ≡ false) }
     {
         let mut words = Vec::new(alloc);
@@ -32,12 +32,48 @@ impl Marks {
         Ok(Marks { words })
     }
 
-    /// Whether a place is marked.
-    pub(crate) fn get(&self, place: usize) -> bool
-        requires { place < room self.now }
-        ensures { result ≡ is_marked self.now place }
+    /// So many places or more, all of which are marked.
+    pub(crate) fn all(alloc: Global, places: usize) -> Result<Marks, AllocError>
+        requires { places < 2 ^ 32 }
+        ensures room { IfOk result (λ marks. room marks ≡ 64 * (places / 64 + 1)) }
+        ensures all { IfOk result (λ marks. (k : ℕ) → k < room marks → is_marked marks k ≡ true) }
     {
-        (self.words[place / 64] >> (place % 64)) & 1 == 1
+        let mut words = Vec::new(alloc);
+        words.resize(places / 64 + 1, u64::MAX)?;
+        Ok(Marks { words })
+    }
+
+    /// The same marks once more.
+    pub(crate) fn copied(&self, alloc: Global) -> Result<Marks, AllocError>
+        ensures { IfOk result (λ marks. marks.words.items ≡ self.now.words.items) }
+    {
+        let mut words = Vec::new(alloc);
+        words.extend_from_slice(&self.words)?;
+        Ok(Marks { words })
+    }
+
+    /// How many words there are, each with the marks of 64 places.
+    pub(crate) fn words(&self) -> usize
+        ensures { 64 * result ≡ room self.now }
+    {
+        self.words.len()
+    }
+
+    /// The marks of a word: bit i stands for its place i.
+    pub(crate) fn word(&self, word: usize) -> u64
+        requires { 64 * word < room self.now }
+        ensures { (i : ℕ) → i < 64 → nat_eq (bit_at result i) 1 ≡ is_marked self.now (64 * word + i) }
+    {
+        self.words[word]
+    }
+
+    /// Sets the marks of a word.
+    pub(crate) fn set_word(&mut self, word: usize, bits: u64)
+        requires { 64 * word < room self.old }
+        ensures marks { (k : ℕ) → is_marked self.new k ≡ (if nat_eq (k / 64) word then nat_eq (bit_at bits (k % 64)) 1 else is_marked self.old k) }
+        ensures room { room self.new ≡ room self.old }
+    {
+        self.words[word] = bits;
     }
 
     /// Marks a place.
@@ -62,69 +98,5 @@ impl Marks {
             let high = if word == last / 64 { last % 64 } else { 63 };
             self.words[word] |= bits_between(low as u32, high as u32);
         }
-    }
-
-    // The next word from one on that has a mark, or the end where none comes before it.
-    #[inline(never)]
-    fn next_word(&self, from: usize, end: usize) -> usize
-        requires ordered { from ≤ end }
-        requires within { end ≤ vec_len self.now.words }
-        ensures range { (from ≤ result) × (result ≤ end) }
-        ensures before { (k : ℕ) → 64 * from ≤ k → k < 64 * result → is_marked self.now k ≡ false }
-    {
-        for word in from..end {
-            if self.words[word] != 0 {
-                return word;
-            }
-        }
-        end
-    }
-
-    /// The next marked place from one on, or the end where none comes before it.
-    pub(crate) fn next_marked(&self, from: usize, end: usize) -> usize
-        requires ordered { from ≤ end }
-        requires within { end ≤ room self.now }
-        requires small { end < 2 ^ 32 }
-        ensures range { (from ≤ result) × (result ≤ end) }
-        ensures before { (k : ℕ) → from ≤ k → k < result → is_marked self.now k ≡ false }
-        ensures found { result < end → is_marked self.now result ≡ true }
-    {
-        let mut place = from;
-        while place < end {
-            let rest = self.words[place / 64] >> (place % 64);
-            if rest != 0 {
-                return end.min(place + rest.trailing_zeros() as usize);
-            }
-            place = self.next_word(place / 64 + 1, (end - 1) / 64 + 1) * 64;
-        }
-        end
-    }
-
-    /// The places from one on in its word that are not marked: bit i stands for the place i further on.
-    pub(crate) fn clear_bits(&self, place: usize) -> u64
-        requires { place < room self.now }
-        ensures { (i : ℕ) → place % 64 + i < 64 → nat_eq (bit_at result i) 1 ≡ not (is_marked self.now (place + i)) }
-    {
-        !self.words[place / 64] >> (place % 64)
-    }
-
-    /// The next place from one on that is not marked, or the end where none comes before it.
-    pub(crate) fn next_clear(&self, from: usize, end: usize) -> usize
-        requires ordered { from ≤ end }
-        requires within { end ≤ room self.now }
-        requires small { end < 2 ^ 32 }
-        ensures range { (from ≤ result) × (result ≤ end) }
-        ensures before { (k : ℕ) → from ≤ k → k < result → is_marked self.now k ≡ true }
-        ensures found { result < end → is_marked self.now result ≡ false }
-    {
-        let mut place = from;
-        while place < end {
-            let rest = !self.words[place / 64] >> (place % 64);
-            if rest != 0 {
-                return end.min(place + rest.trailing_zeros() as usize);
-            }
-            place = (place / 64 + 1) * 64;
-        }
-        end
     }
 }

@@ -1,16 +1,6 @@
-use Rattle.std.proofs.Common.{◌≡◌, ◌-◌, ◌<◌, ◌≤◌, true}
-use Rattle.edits.specs.Covering.{covered}
-use Rattle.edits.specs.Difference.{difference}
-use Rattle.edits.specs.Flooding.{taken_over}
-use Rattle.edits.specs.Marks.{is_marked}
+use Rattle.std.proofs.Common.{◌≡◌, ◌*◌}
+use Rattle.edits.specs.Flooding.{changes_below}
 use Rattle.edits.proofs.filled.changes_of.Given as goal
 
-abbrev pub invariant-loop-place : goal.invariant-loop-place
-invariant-loop-place l = record {
-  cells : l.cells.items ≡ difference l.ground.width l.ground.tiles.now (covered l.ground.width (taken_over l.ground l.spread.taken l.value) l.ground.tiles.now) l.place;
-  within : l.place ≤ l.places;
-  marked : l.place < l.places → is_marked l.spread.taken l.place ≡ true;
-}
-
-abbrev pub decreases-loop-place : goal.decreases-loop-place
-decreases-loop-place l = l.places - l.place
+abbrev pub invariant-loop-y : goal.invariant-loop-y
+invariant-loop-y l = l.cells.items ≡ changes_below l.ground l.spread l.value (l.y * l.ground.width)

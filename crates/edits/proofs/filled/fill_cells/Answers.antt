@@ -5,17 +5,17 @@ use Rattle.edits.proofs.filled.fill_cells.Goals as goal
 
 pub returns-then-eq : goal.returns-then-eq
 returns-then-eq c =
-    let g = c.in_ok-ground.ground in
+    let g = c.new-ground.result in
     let same = c.if-eq.ensures in
     c.new.ensures.items
     ∙ difference-own c.args.width c.args.tiles.now c.args.selection.now c.args.start.0 c.args.start.1 c.args.value (omega (arith, c.requires.column))
-    (sym (eqb-true g.value c.args.value (sym same)) ∙ c.in_ok-ground.ensures.value)
+    (sym (eqb-true g.value c.args.value (sym same)) ∙ c.new-ground.ensures.value)
 
 pub changes_of-requires-clause-free : goal.changes_of-requires-clause-free
 changes_of-requires-clause-free c =
-    taken-free c.args.width c.args.tiles.now c.args.selection.now c.args.start.0 c.args.start.1 c.in_ok-ground.ground c.in_ok-ground.ensures c.in_ok-spread.spread.taken c.in_ok-spread.ensures.cells
+    taken-free c.args.width c.args.tiles.now c.args.selection.now c.args.start.0 c.args.start.1 c.new-ground.result c.new-ground.ensures c.in_ok-spread.spread c.in_ok-spread.ensures.cells
 
 pub returns : goal.returns
 returns c =
     c.in_ok-cells.ensures
-    ∙ difference-taken c.args.width c.args.tiles.now c.args.selection.now c.args.start.0 c.args.start.1 c.in_ok-ground.ground c.in_ok-ground.ensures c.in_ok-spread.spread.taken c.in_ok-spread.ensures.cells c.args.value
+    ∙ difference-taken c.args.width c.args.tiles.now c.args.selection.now c.args.start.0 c.args.start.1 c.new-ground.result c.new-ground.ensures c.in_ok-spread.spread c.in_ok-spread.ensures.cells c.args.value

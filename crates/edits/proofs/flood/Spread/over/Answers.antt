@@ -1,22 +1,22 @@
-use Rattle.std.proofs.Common.{List, subst, sym}
-use Rattle.edits.specs.declared.flood.Stretch.{Stretch}
-use Rattle.edits.specs.Flooding.{IsSpread, start_of}
-use Rattle.edits.proofs.Flooded.{IsSpread-none, IsSpread-joined}
-use Rattle.edits.proofs.Joined.{start_free}
-use Rattle.edits.specs.Flooding.{free_in}
+use Rattle.std.proofs.Common.{refl}
+use Rattle.edits.specs.declared.flood.Spread.{Spread}
+use Rattle.edits.specs.Flooding.{start_of}
+use Rattle.edits.proofs.Reaching.{IsSound-first, is_taken-kept, taken-first, taken-joined}
 use Rattle.edits.proofs.flood.Spread.over.Goals as goal
 
-pub take_start-requires-clause-spread : goal.take_start-requires-clause-spread
-take_start-requires-clause-spread c =
-    let g = c.args.ground.now in
-    let marks = c.in_ok-new.field-0 in
-    subst (λ (ss : List Stretch). IsSpread g marks ss) (sym c.new-2.ensures.items) (IsSpread-none g marks c.in_ok-new.ensures.room c.in_ok-new.ensures.none)
+pub take_start-requires-clause-sound : goal.take_start-requires-clause-sound
+take_start-requires-clause-sound c =
+    let s : Spread = record { «open» = c.in_ok-open.open; taken = c.in_ok-copied.field-0; count = 0; first = c.words.result; end = 0; pending = c.new.result } in
+    IsSound-first c.args.ground.now s c.requires c.in_ok-open.ensures.room c.in_ok-copied.ensures c.in_ok-open.ensures.cells c.new.ensures.items c.words.ensures refl
+
+pub take_start-requires-clause-none : goal.take_start-requires-clause-none
+take_start-requires-clause-none c =
+    let s : Spread = record { «open» = c.in_ok-open.open; taken = c.in_ok-copied.field-0; count = 0; first = c.words.result; end = 0; pending = c.new.result } in
+    taken-first s c.in_ok-copied.ensures
 
 pub returns-clause-cells : goal.returns-clause-cells
-returns-clause-cells c q =
+returns-clause-cells c =
     let g = c.args.ground.now in
-    let spread = c.in_ok-take_joined.ensures.spread in (
-      spread.joined q,
-      λ joined. IsSpread-joined g c.take_joined.new.self.taken spread
-          (c.in_ok-take_joined.ensures.keeps (start_of g) (c.in_ok-take_start.ensures.start (start_free (free_in g) (start_of g) q joined))) q joined,
-    )
+    let joined = c.in_ok-take_joined.ensures in
+    taken-joined g c.take_joined.new.self joined.sound joined.closed
+    (λ h. is_taken-kept g c.take_start.new.self c.take_joined.new.self joined.keeps (start_of g) (c.in_ok-take_start.ensures.start h))

@@ -1,19 +1,29 @@
-use Rattle.std.proofs.Common.{sym, ◌∙◌}
-use Rattle.std.proofs.lemmas.Bool.{false≢true}
-use Rattle.edits.proofs.Flooded.{IsSpread-start, start_taken, free_in-at}
+use Rattle.std.proofs.Common.{◌≡◌, inl, inr, ◌+◌, ◌*◌, ◌/◌, ◌%◌, ◌^◌, true, ap, subst, ◌∙◌, sym, arith}
+use Rattle.std.specs.Int.{bit_at}
+use Rattle.std.proofs.lemmas.Bool.{cases_eq}
+use Rattle.std.proofs.lemmas.Nat.{one_shl}
+use Rattle.std.proofs.lemmas.Nat.Bits.{bit_at-pow_other, bit_at-pow_same}
+use Rattle.edits.specs.Flooding.{IsLed, free_at}
+use Rattle.edits.proofs.Flooded.{free_in-at, is_taken-at}
+use Rattle.edits.proofs.Reaching.{IsLed-start, reached_at}
 use Rattle.edits.proofs.flood.Spread.take_start.Goals as goal
 
-pub returns-then-not-is_free-clause-start : goal.returns-then-not-is_free-clause-start
-returns-then-not-is_free-clause-start c free =
+pub reach-requires-clause-led : goal.reach-requires-clause-led
+reach-requires-clause-led c i l e free =
     let g = c.args.ground.now in
-    let no = c.if-not-is_free.ensures in
-    absurd (false≢true (no ∙ sym (free_in-at g g.start.0 g.start.1 c.requires.ground.column) ∙ free))
+    let place = g.start.1 * g.width + g.start.0 in
+    elim (cases_eq i (place % 64)) [
+      | inr other ↦ absurd (omega (arith, e, ap (λ n. bit_at n i) (one_shl (place % 64) 64 (omega arith)), bit_at-pow_other (place % 64) i other))
+      | inl here ↦
+          let at : place ≡ 64 * (place / 64) + i = omega (arith, here) in
+          subst (IsLed g) at (IsLed-start g c.requires.ground (subst (λ n. free_at g n ≡ true) (sym at) free))
+    ]
 
-pub returns : goal.returns
-returns c =
+pub returns-clause-start : goal.returns-clause-start
+returns-clause-start c free =
     let g = c.args.ground.now in
-    let yes = c.if-not-is_free.ensures in
-    record {
-      spread = IsSpread-start g c.requires.ground c.in_ok-take.field-0 c.args.self.now c.take.new.self c.in_ok-take.ensures (sym yes) c.requires.spread;
-      start = λ h. start_taken g c.requires.ground c.in_ok-take.field-0 c.args.self.now c.take.new.self c.in_ok-take.ensures;
-    }
+    let place = g.start.1 * g.width + g.start.0 in
+    let set : bit_at (1 * 2 ^ (place % 64) % 2 ^ 64) (place % 64) ≡ 1 = ap (λ n. bit_at n (place % 64)) (one_shl (place % 64) 64 (omega arith)) ∙ bit_at-pow_same (place % 64) in
+    is_taken-at g c.reach.new.self g.start.0 g.start.1 c.requires.ground.column
+    ∙ reached_at g c.reach.new.self (64 * (place / 64) + place % 64) place (omega arith) (c.in_ok-reach.ensures.covers (place % 64) (omega arith) set)
+    (sym (free_in-at g g.start.0 g.start.1 c.requires.ground.column) ∙ free)

@@ -1,9 +1,0 @@
-use Rattle.std.proofs.Common.{◌-◌, ◌≡◌, ℕ, ◌<◌, ◌≤◌, false}
-use Rattle.edits.specs.Marks.{is_marked}
-use Rattle.edits.proofs.marks.Marks.next_marked.Given as goal
-
-abbrev pub invariant-loop-place : goal.invariant-loop-place
-invariant-loop-place l = (l.from ≤ l.place) × ((k : ℕ) → l.from ≤ k → k < l.place → is_marked l.self k ≡ false)
-
-abbrev pub decreases-loop-place : goal.decreases-loop-place
-decreases-loop-place l = l.end - l.place
