@@ -1,5 +1,5 @@
 -- The step of a line that was planned as an edit.
-use Rattle.std.proofs.Common.{◌≡◌, Option, Some, None, Result, Ok, refl, sym, subst, inl, inr, ◌⊎◌}
+use Rattle.std.proofs.Common.{◌≡◌, Option, Some, None, Result, Ok, refl, sym, ap, subst, inl, inr, ◌⊎◌}
 use Rattle.map_model.specs.Document.{DocumentParts}
 use Rattle.map_store.specs.Files.{StoreParts}
 use Rattle.command_api.specs.Law.{Change, IsSame}
@@ -48,8 +48,8 @@ commit_by (Some edit) line None old new c w reply asks same p = absurd p
 commit_by (Some edit) line (Some h) old new c w reply asks same (inl p) =
     let Q : Step → Type 0 = λ s. IsPushed h s p.0 in
     let P : Result Step Refusal → Type 0 = λ a. EditStep a h (state_reply p.0) p.0 in
-    (state_reply p.0, p.0, inl (subst P (sym asks) (subst Q (step_of-same c w (current h) same) p.1, refl)), (p.2 , p.3))
-commit_by (Some edit) line (Some h) old new c w reply asks same (inr p) = (reply, h, inr (tt, (p.0, refl)), (refl, p.1))
+    (state_reply p.0, p.0, inl (subst P (sym asks) (subst Q (step_of-same c w (current h) same) p.1, refl)), ap Some p.2, p.3)
+commit_by (Some edit) line (Some h) old new c w reply asks same (inr p) = (Refused NoMemory, h, inr (tt, (refl, refl)), p.0, p.1)
 
 -- a command that was pushed
 pub Commits-pushed : (c : Change) (h n : History) (old new : Machine) (reply : Reply) → active_of old ≡ Some h → IsPushed h (step_of c (current h)) n → reply ≡ state_reply n → new ≡ with_active n old
@@ -69,3 +69,15 @@ pub commit_step : (line : Line) (old new : Machine) (kept : StoreParts) (c w : C
 commit_step line old new kept c w reply asks same p =
     let Q : Scope → Type 0 = λ scope. StepBy scope line old kept (Some reply) new kept in
     subst Q (sym (asked-scope line (active_of old) c asks)) (commit_by (edit_of line) line (active_of old) old new c w reply asks same p, refl)
+
+self-IsSame : (c : Change) → IsSame c c
+self-IsSame c = record { names = refl; obsolete = refl; redone = λ d. refl; undone = λ d. refl; fits_redo = λ d. ((λ p. p), (λ p. p)); fits_undo = λ d. ((λ p. p), (λ p. p)) }
+
+no_memory : (edit : Option (DocumentParts → Result Step Refusal)) (active : Option History) (c : Change) (old : Machine) → IsEditBy edit active c → Commits active c (Refused NoMemory) old old
+no_memory None active c old asks = absurd asks
+no_memory (Some edit) None c old asks = absurd asks
+no_memory (Some edit) (Some h) c old asks = inr (refl, refl)
+
+-- an edit for which there was no memory
+pub uncommitted : (line : Line) (old : Machine) (kept : StoreParts) (c : Change) → IsEditOf line (active_of old) c → StepOfLine line old kept (Some (Refused NoMemory)) old kept
+uncommitted line old kept c asks = commit_step line old old kept c c (Refused NoMemory) asks (self-IsSame c) (no_memory (edit_of line) (active_of old) c old asks)

@@ -32,7 +32,7 @@ with_active-moved_to reply h n old w e k = refl
 -- what was done with the active history was done with the machine
 pub over_history : (P : History → Reply → History → Type 0) (h n : History) (reply : Reply) (old : Machine) → IsGroup old.group → active_of old ≡ Some h → P h reply n → KeepsHistory reply h n
     → OverHistory P h old (Some reply) (with_active n old)
-over_history P h n reply old w e p k = (reply, n, p, (refl, with_active-moved_to reply h n old w e k))
+over_history P h n reply old w e p k = (reply, n, p, refl, with_active-moved_to reply h n old w e k)
 
 over_active : (P : History → Reply → History → Type 0) (h n : History) (reply : Reply) (old : Machine) → IsGroup old.group → active_of old ≡ Some h → P h reply n → KeepsHistory reply h n
     → OverActive P (active_of old) old (Some reply) (with_active n old)
@@ -48,7 +48,7 @@ on-Plans line h n (planned.Reply reply) old kept s w e p =
     subst Q (sym s) (over_active (DocumentStep line) h n reply old w e p.0 p.1, refl)
 on-Plans line h n (planned.Push edit) old kept s w e p =
     let Q : Option History → Type 0 = λ o. IsEditOf line o (edit_change edit) in
-    (with_active-kept h n old w e p.0, (refl, subst Q (sym e) p.1))
+    (with_active-kept h n old w e p.0, refl, subst Q (sym e) p.1)
 
 -- a refusal has left the machine as it was
 pub on-KeepsReply : (reply : Reply) (h n : History) (old : Machine) → IsGroup old.group → active_of old ≡ Some h → KeepsHistory reply h n → KeepsReply reply old (with_active n old)

@@ -4,7 +4,8 @@ use Rattle.std.specs.List.{AllByRecursion}
 use Rattle.std.specs.Str.{bytes_eq}
 use Rattle.std.proofs.lemmas.Bool.{cond_both}
 use Rattle.undo_stack.specs.History.{History}
-use Rattle.undo_group.specs.Groups.{OpenDocument, GroupParts, active_history, active_among, added, history_named, removed, with_active, with_history, with_history_of, without}
+use Rattle.undo_group.specs.Groups as groups
+use Rattle.undo_group.specs.Groups.{OpenDocument, GroupParts, active_history, active_among, added, history_named, removed, with_history, with_history_of, without}
 use Rattle.command_api.specs.Law.{Change}
 use Rattle.undo_stack.specs.Stacks.{history}
 use Rattle.undo_stack.specs.declared.stack.Stack.{Stack}
@@ -13,7 +14,7 @@ use Rattle.undo_group.specs.Stacks.{group_of, AreHeld}
 use Rattle.undo_group.specs.declared.group.Group.{Group}
 use Rattle.editor.specs.declared.editor.Editor.{Editor}
 use Rattle.editor.specs.Editors.{AreUnlimited, IsSound, machine_of}
-use Rattle.editor.specs.Machine.{Machine, with_active}
+use Rattle.editor.specs.Machine.{Machine, opened, with_active}
 
 history_named-unlimited : (name : List ℕ) (ds : List OpenDocument) (h : History) → AreUnlimited ds → history_named name ds ≡ Some h → h.limit ≡ 0
 history_named-unlimited name [] h a e = absurd cc
@@ -36,7 +37,7 @@ with_history-unlimited name n (d ∷ ds) a e =
     let Q : OpenDocument → Type 0 = λ x. x.history.limit ≡ 0 in
     (cond_both (bytes_eq name d.name) (record { name = d.name; history = n }) d Q (λ _. e) (λ _. a.0), with_history-unlimited name n ds a.1 e)
 
-pub with_active-unlimited : (n : History) (g : GroupParts) → AreUnlimited g.documents → n.limit ≡ 0 → AreUnlimited (with_active n g).documents
+pub with_active-unlimited : (n : History) (g : GroupParts) → AreUnlimited g.documents → n.limit ≡ 0 → AreUnlimited (groups.with_active n g).documents
 with_active-unlimited n g a e =
     let by : (o : Option (List ℕ)) → AreUnlimited (with_history_of o n g.documents) = λ o. elim o as (λ p. AreUnlimited (with_history_of p n g.documents)) [
       | None ↦ a
@@ -77,4 +78,11 @@ module _ {C : Type 0} (f : C → Change) (old new : Editor C) where
     limit = same ∙ sound.limit;
     held = held;
     unlimited = subst (λ (g : GroupParts). AreUnlimited g.documents) (sym left) (removed-unlimited name (group_of f old.group) sound.unlimited);
+  }
+
+  pub opened-IsSound : (name : List ℕ) (h : History) → IsSound f old → new.limit ≡ old.limit → AreHeld f new.group → group_of f new.group ≡ opened name h (group_of f old.group) → h.limit ≡ 0 → IsSound f new
+  opened-IsSound name h sound same held left unlimited = record {
+    limit = same ∙ sound.limit;
+    held = held;
+    unlimited = subst (λ (g : GroupParts). AreUnlimited g.documents) (sym left) (added-unlimited name h (group_of f old.group) sound.unlimited unlimited);
   }

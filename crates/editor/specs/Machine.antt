@@ -116,10 +116,19 @@ abbrev pub UseStep : Option (List ℕ) → Machine → Option Reply → Machine 
 UseStep None old reply new = GoesOn (chosen None old.group) old reply new
 UseStep (Some name) old reply new = ChooseStep (history_named name old.group.documents) name old reply new
 
+-- whether this is the name of the active document
+abbrev pub is_active : Option (List ℕ) → List ℕ → Bool
+is_active None name = false
+is_active (Some active) name = bytes_eq active name
+
+-- with a star in front, or without
+abbrev pub starred : Bool → List ℕ → List ℕ
+starred true name = 42 ∷ name
+starred false name = name
+
 -- a name as it is listed: with a star in front where it is the active one's
 abbrev pub listed : Option (List ℕ) → List ℕ → List ℕ
-listed None name = name
-listed (Some active) name = if bytes_eq active name then 42 ∷ name else name
+listed active name = starred (is_active active name) name
 
 -- the names of the open documents, in order of opening, with a space between each two
 abbrev pub documents_text : GroupParts → List ℕ

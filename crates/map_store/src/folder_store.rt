@@ -112,8 +112,12 @@ fn replace<R: Files>(rt: &R, new_path: &str, path: &str, bytes: &[u8]) -> io::Re
 }
 
 impl<'a, R: Files> FolderStore<'a, R> {
+    ghost use Rattle.std.specs.FinMap.{empty};
+
     /// The files of a folder, which is not looked at yet. Its path is not empty.
-    pub fn new(rt: &'a R, folder: &'a str) -> FolderStore<'a, R> {
+    pub fn new(rt: &'a R, folder: &'a str) -> FolderStore<'a, R>
+        ensures { ⟦<FolderStore<'a, R> as MapStore>⟧.kept result ≡ record { files = empty; failures = 0 } }
+    {
         FolderStore {
             rt,
             folder,

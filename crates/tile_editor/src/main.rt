@@ -1,25 +1,88 @@
 //! The program: session lines from standard input, and a reply to each on standard output.
 #![tactic(auto)]
 
+mod options;
 mod run;
 #[cfg(test)]
 mod tests;
 mod writing;
 
-use crate::run::run;
+use crate::options::parse_options;
+use crate::run::{RunFault, run};
+use clap::error::ErrorKind;
+use map_store::FolderStore;
+use std::env::Env;
+use std::fmt::Display;
 use std::io::BufWriter;
 use std::process::ExitCode;
+use std::{env, io};
+
+/// The status after a command line that is refused.
+const REFUSED: u8 = 2;
+
+/// The status after a read, a write or an allocation that failed.
+const FAILED: u8 = 1;
+
+// Says on standard error what ended the program.
+fn ends(rt: &impl Eprint, what: impl Display + Drop, status: u8) -> ExitCode {
+    let _ = eprintln!(rt; "tile_editor: {what}");
+    ExitCode::from(status)
+}
+
+// The words of the command line, of which the first is the program's name. They are pushed and not collected, since `collect`
+// asks again where it is refused memory.
+fn read_words(rt: &(impl Env + AllocGlobal)) -> io::Result<Vec<String>> {
+    let mut words = Vec::new(rt.alloc());
+    for word in env::args(rt)? {
+        words.push(word)?;
+    }
+    Ok(words)
+}
+
+// What stands for words that could not be read.
+fn ends_without_words(rt: &impl Eprint, error: &io::Error) -> ExitCode {
+    match error.kind() {
+        io::ErrorKind::OutOfMemory => ends(rt, RunFault::Memory, FAILED),
+        _ => ends(rt, "a word of the command line is not UTF-8", REFUSED),
+    }
+}
+
+// Shows help or the version, or why the command line is refused.
+fn ends_with_answer(rt: &(impl Print + Eprint), answer: &clap::Error) -> ExitCode {
+    if answer.kind() == ErrorKind::OutOfMemory {
+        return ends(rt, RunFault::Memory, FAILED);
+    }
+    let is_shown = answer.print(rt).is_ok();
+    if answer.use_stderr() {
+        ExitCode::from(REFUSED)
+    } else if is_shown {
+        ExitCode::SUCCESS
+    } else {
+        ends(rt, RunFault::Write, FAILED)
+    }
+}
 
 fn main(rt: HostRuntime) -> ExitCode {
-    let Ok(mut writer) = BufWriter::new(rt.alloc(), rt.stdout()) else {
-        let _ = eprintln!(rt; "tile_editor: no memory");
-        return ExitCode::FAILURE;
+    let words = match read_words(&rt) {
+        Ok(words) => words,
+        Err(error) => return ends_without_words(&rt, &error),
     };
-    match run(rt.alloc(), &mut rt.stdin(), &mut writer) {
+    let options = match parse_options(rt.alloc(), words.as_slice()) {
+        Ok(options) => options,
+        Err(answer) => return ends_with_answer(&rt, &answer),
+    };
+    let Ok(mut writer) = BufWriter::new(rt.alloc(), rt.stdout()) else {
+        return ends(&rt, RunFault::Memory, FAILED);
+    };
+    let mut store = FolderStore::new(&rt, options.folder);
+    match run(
+        rt.alloc(),
+        &mut rt.stdin(),
+        &mut writer,
+        &mut store,
+        0,
+    ) {
         Ok(_) => ExitCode::SUCCESS,
-        Err(fault) => {
-            let _ = eprintln!(rt; "tile_editor: {fault}");
-            ExitCode::FAILURE
-        }
+        Err(fault) => ends(&rt, fault, FAILED),
     }
 }

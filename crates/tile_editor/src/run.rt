@@ -2,14 +2,16 @@ ghost use Rattle.std.specs.Prelude.{◌≡◌, Option, IsErrOf, IfOk, IfSome, �
 ghost use Rattle.lines.specs.Lines.{lines_of};
 ghost use Rattle.editor.specs.declared.planned.Edit.{Edit};
 ghost use Rattle.editor.specs.Editors.{IsSound, machine_of};
+ghost use Rattle.editor.specs.Machine.{started_machine, workspace};
 ghost use Rattle.editor.specs.Planning.{FitsPlan};
-ghost use Rattle.tile_editor.specs.Runs.{PlansFound, PutsSame, RunsAll, RunsToRead, RunsToWrite, StepFound};
+ghost use Rattle.tile_editor.specs.Runs.{PlansFound, PutsSame, RunsAll, RunsSome, RunsToWrite, StepFound};
 
 use crate::writing::{flush_if, write_reply};
 use arrayvec::ArrayString;
 use command_api::Command;
 use editor::{Edit, Editor, Planned};
 use lines::{Found, LineReader};
+use map_store::MapStore;
 use session::{LineFault, Refusal, Reply, parse_line};
 use std::alloc::Global;
 use std::io::{Read, Write};
@@ -37,21 +39,24 @@ pub enum RunFault {
 }
 
 // Plans what a line that was found asks for.
-fn plan_found<C: Command>(
+fn plan_found<C: Command, S: MapStore>(
     alloc: Global,
     editor: &mut Editor<C>,
+    store: &mut S,
     found: Found,
     line: &[u8],
 ) -> Planned
     requires { IsSound C.change editor.old }
     ensures sound { IsSound C.change editor.new }
-    ensures plans { PlansFound found line.now (machine_of C.change editor.old) result (machine_of C.change editor.new) }
+    ensures honest { S.honest store.old → S.honest store.new }
+    ensures plans { S.honest store.old → PlansFound found line.now
+        (workspace (machine_of C.change editor.old) (S.kept store.old)) result (workspace (machine_of C.change editor.new) (S.kept store.new)) }
     ensures fits { FitsPlan (machine_of C.change editor.new) result }
 {
     match found {
         Found::TooLong => Planned::Reply(Reply::Refused(Refusal::Line(LineFault::TooLong))),
         Found::Line => match parse_line(line) {
-            Ok(line) => editor.plan(alloc, &line),
+            Ok(line) => editor.plan(alloc, store, &line),
             Err(fault) => Planned::Reply(Reply::Refused(Refusal::Line(fault))),
         },
     }
@@ -66,9 +71,10 @@ fn boxed<K: Command>(alloc: Global, command: K) -> Option<Box<K>>
 
 // Hears a line that was found: the reply to it, and none to a quiet one. What it plans is put into a command and
 // committed.
-fn hear<C: Command, F: FnOnce(Edit) -> Option<C>>(
+fn hear<C: Command, S: MapStore, F: FnOnce(Edit) -> Option<C>>(
     alloc: Global,
     editor: &mut Editor<C>,
+    store: &mut S,
     found: Found,
     line: &[u8],
     put: F,
@@ -77,9 +83,11 @@ fn hear<C: Command, F: FnOnce(Edit) -> Option<C>>(
     requires callable { F.IsAlwaysCallable put }
     requires same { (edit : Edit) (command : Option C) → F.post put edit command → PutsSame C.change edit command }
     ensures sound { IsSound C.change editor.new }
-    ensures step { StepFound found line.now (machine_of C.change editor.old) result (machine_of C.change editor.new) }
+    ensures honest { S.honest store.old → S.honest store.new }
+    ensures step { S.honest store.old → StepFound found line.now
+        (workspace (machine_of C.change editor.old) (S.kept store.old)) result (workspace (machine_of C.change editor.new) (S.kept store.new)) }
 {
-    match plan_found(alloc, editor, found, line) {
+    match plan_found(alloc, editor, store, found, line) {
         Planned::Quiet => None,
         Planned::Reply(reply) => Some(reply),
         Planned::Push(edit) => match put(edit) {
@@ -89,36 +97,42 @@ fn hear<C: Command, F: FnOnce(Edit) -> Option<C>>(
     }
 }
 
-/// Reads session lines to the end of the input, and writes a reply to each but the quiet ones.
+/// Reads session lines to the end of the input, and writes a reply to each but the quiet ones. The maps that lines open
+/// and save are files of the store. The limit is the undo limit of each document when it is made: 0, for none.
 ///
-/// The replies are those of the machine that keeps, for the open document, a history of whole documents. The writer
-/// is flushed before each read that may wait, and before an `Ok`.
-pub fn run<R: Read, W: Write>(
+/// Of a store that is honest, the replies and the files are those of the machine that keeps, for each open document, a
+/// history of whole documents. The writer is flushed before each read that may wait, and before an `Ok`.
+pub fn run<R: Read, W: Write, S: MapStore>(
     alloc: Global,
     reader: &mut R,
     writer: &mut W,
+    store: &mut S,
+    limit: usize,
 ) -> Result<Summary, RunFault>
-    // All lines of the input were heard, and the replies are those of the machine.
-    ensures ok { IfOk result (λ summary. IfSome (R.remaining reader.old) (λ input.
-        RunsAll input (W.contents writer.old) (W.contents writer.new) summary.lines summary.replies)) }
+    requires { limit ≡ 0 }
 
-    // The replies to all lines that were heard before the fault were written whole.
-    ensures read { IsErrOf result RunFault.Read → IfSome (R.remaining reader.old) (λ input.
-        RunsToRead input (W.contents writer.old) (W.contents writer.new)) }
+    // All lines of the input were heard, and the replies and the files are those of the machine.
+    ensures ok { S.honest store.old → IfOk result (λ summary. IfSome (R.remaining reader.old) (λ input.
+        RunsAll (workspace (started_machine limit) (S.kept store.old)) input (W.contents writer.old) (W.contents writer.new) (S.kept store.new)
+            summary.lines summary.replies)) }
 
-    // All replies before the one that could not be written were written whole, and its line is done; or all replies
-    // were written whole and could not be flushed.
-    ensures write { IsErrOf result RunFault.Write → IfSome (R.remaining reader.old) (λ input.
-        RunsToRead input (W.contents writer.old) (W.contents writer.new)
-        ⊎ RunsToWrite input (W.contents writer.old) (W.contents writer.new)) }
+    // The lines that were heard before the fault are done, files and all, and the replies to them were written whole.
+    ensures read { S.honest store.old → IsErrOf result RunFault.Read → IfSome (R.remaining reader.old) (λ input.
+        RunsSome (workspace (started_machine limit) (S.kept store.old)) input (W.contents writer.old) (W.contents writer.new) (S.kept store.new)) }
+
+    // All lines that were heard are done, files and all, and all replies were written whole and could not be flushed; or all
+    // replies before the one that could not be written were written whole, and its line is done too.
+    ensures write { S.honest store.old → IsErrOf result RunFault.Write → IfSome (R.remaining reader.old) (λ input.
+        RunsSome (workspace (started_machine limit) (S.kept store.old)) input (W.contents writer.old) (W.contents writer.new) (S.kept store.new)
+        ⊎ RunsToWrite (workspace (started_machine limit) (S.kept store.old)) input (W.contents writer.old) (W.contents writer.new) (S.kept store.new)) }
 
     // For the line buffer alone, and before anything was read or written.
-    ensures memory { IsErrOf result RunFault.Memory → (writer.new ≡ writer.old) × (reader.new ≡ reader.old) }
+    ensures memory { IsErrOf result RunFault.Memory → (writer.new ≡ writer.old) × (reader.new ≡ reader.old) × (store.new ≡ store.old) }
 {
     let Ok(mut lines) = LineReader::new(alloc) else {
         return Err(RunFault::Memory);
     };
-    let mut editor: Editor<Box<dyn Command>> = Editor::new(0);
+    let mut editor: Editor<Box<dyn Command>> = Editor::new(alloc, limit);
     let mut head = ArrayString::<512>::new();
     let mut heard = 0u64;
     let mut replies = 0u64;
@@ -152,7 +166,7 @@ pub fn run<R: Read, W: Write>(
                 Edit::Select(command) => Some(boxed(alloc, command)?),
             }
         };
-        let Some(reply) = hear(alloc, &mut editor, found, lines.line(), put) else {
+        let Some(reply) = hear(alloc, &mut editor, store, found, lines.line(), put) else {
             continue 'session;
         };
         if write_reply(writer, &mut head, reply).is_err() {

@@ -6,6 +6,7 @@ use std::test::Fail;
 
 mod faults;
 mod flushes;
+mod options;
 
 /// More than a test's calls, and more than its bytes.
 const MANY: u32 = 1_000_000;

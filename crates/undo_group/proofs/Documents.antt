@@ -1,8 +1,9 @@
 -- Documents by name: what changing, adding or taking out one of them leaves. What callers of a group cite.
-use Rattle.std.proofs.Common.{◌≡◌, ℕ, List, [], ◌∷◌, ◌++◌, Bool, true, false, Option, Some, None, IsSome, refl, sym, ◌∙◌, ap, subst}
+use Rattle.std.proofs.Common.{◌≡◌, ℕ, List, [], ◌∷◌, ◌++◌, Bool, true, false, Option, Some, None, IsSome, Ok, Err, OnErr, refl, sym, ◌∙◌, ap, subst}
 use Rattle.std.proofs.lemmas.Bool.{false≢true}
 use Rattle.std.specs.Str.{bytes_eq}
 use Rattle.undo_stack.specs.History.{History}
+use Rattle.undo_stack.specs.Moving.{Answer, Leads}
 use Rattle.undo_group.specs.Groups.{OpenDocument, GroupParts, IsGroup, IsNew, AreDistinct, history_named, active_history, added, chosen, without, with_history, with_active}
 use Rattle.undo_group.proofs.NameTests.{bytes_eq-same, same_from_bytes_eq}
 
@@ -106,3 +107,8 @@ with_active-with_active n m g = by g.active g.documents
     by : (o : Option (List ℕ)) (ds : List OpenDocument) → with_active n (with_active m (record { documents = ds; active = o })) ≡ with_active n (record { documents = ds; active = o })
     by None ds = refl
     by (Some name) ds = ap (λ es. record { documents = es; active = Some name }) (with_history-with_history name n m ds)
+
+-- a refused call of the active stack leaves the group as it was
+pub with_active-refused : (answer : Answer) (h next n : History) (g : GroupParts) → Leads answer h next n → IsGroup g → active_history g ≡ Some h → OnErr answer (with_active n g ≡ g)
+with_active-refused (Ok done) h next n g leads whole at = tt
+with_active-refused (Err fault) h next n g leads whole at = ap (λ m. with_active m g) leads ∙ with_active-same h g whole at

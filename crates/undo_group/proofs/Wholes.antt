@@ -6,7 +6,8 @@ use Rattle.std.proofs.lemmas.Option.{same_Some}
 use Rattle.std.proofs.lemmas.List.Elements.{All-push, All-append, All-take, All-drop}
 use Rattle.std.specs.List.{IsDistinct}
 use Rattle.std.specs.Map.{keys_of, values_of, lookup}
-use Rattle.std.specs.Option.{option_map}
+use Rattle.std.specs.Option.{option_map, option_copied_mut}
+use Rattle.std.specs.Borrow.{MutBor}
 use Rattle.std.specs.String.{string_bytes, string_eq}
 use Rattle.std.specs.declared.string.String.{String}
 use Rattle.std.specs.HashMap.{HashMap}
@@ -23,7 +24,7 @@ use Rattle.undo_group.specs.declared.group.Group.{Group}
 use Rattle.undo_group.specs.Lending.{IsLeft}
 use Rattle.undo_group.specs.Groups.{GroupParts, IsGroup, IsNew, AreDistinct, history_named, active_among, active_history, active_without, added, removed, with_history_of, with_active}
 use Rattle.undo_group.specs.Stacks.{document_of, documents_of, name_at, group_of, place_without, AreHeld}
-use Rattle.undo_group.proofs.Places.{slice_get-values_of, entry_at, All-slice_get_values, none_from_is_some, is_some-option_map}
+use Rattle.undo_group.proofs.Places.{option_map-now_mut, IfSome-now_mut, IfSome-same, slice_get-values_of, entry_at, All-slice_get_values, none_from_is_some, is_some-option_map}
 use Rattle.undo_group.proofs.Entries.{is_name, history_named-documents_of, AreDistinct-documents_of, history_named-at, documents_of-set_value_at, documents_of-remove, name_at-remove, within_without, named_at, All-set_value_at}
 
 -- the map of a group
@@ -96,6 +97,11 @@ module _ {C : Type 0} (f : C → Change) (g : Group C) (at : ℕ) where
       ap (λ o. active_among (name_at g.stacks.entries o) (documents_of f g.stacks.entries)) is
       ∙ active_among-place f g.stacks.entries at (AreDistinct-documents_of f g.stacks.entries unique)
 
+  -- the reference that a look-up of the active place gave has the active history
+  pub active_history-lent : (r : Option (MutBor (Stack C))) → IsDistinct string_eq (keys_of g.stacks.entries) → g.active ≡ Some at → option_copied_mut r ≡ slice_get (values_of g.stacks.entries) at → option_map (λ s. history f s.now) r ≡ active_history (group_of f g)
+  active_history-lent r unique is read =
+      option_map-now_mut (history f) r ∙ ap (option_map (history f)) read ∙ sym (active_history-place unique is)
+
   -- the stack at the active place is written
   pub IsLeft-set_value_at : (w : Stack C) → IsDistinct string_eq (keys_of g.stacks.entries) → AreHeld f g → g.active ≡ Some at → Holds f w → IsLeft f g w (record { stacks = with_value_at g.stacks at w; active = g.active })
   IsLeft-set_value_at w unique held is holds =
@@ -129,6 +135,10 @@ module _ {C : Type 0} (f : C → Change) {Y : Type 0} where
   -- the stack at a place holds
   pub Holds-place : (es : List (String Y × Stack C)) (at : ℕ) (k : String Y) (s : Stack C) → Some (k, s) ≡ slice_get es at → All (λ e. Holds f e.1) es → Holds f s
   Holds-place es at k s is all = subst (λ o. IfSome o (Holds f)) (slice_get-values_of es at ∙ ap (option_map (λ e. e.1)) (sym is)) (All-slice_get_values (Holds f) es at all)
+
+  -- so does one that a reference to that place gave
+  pub Holds-lent : (es : List (String Y × Stack C)) (at : ℕ) (r : Option (MutBor (Stack C))) → option_copied_mut r ≡ slice_get (values_of es) at → All (λ e. Holds f e.1) es → IfSome r (λ s. Holds f s.now)
+  Holds-lent es at r read all = IfSome-now_mut (Holds f) r (IfSome-same (Holds f) (option_copied_mut r) (slice_get (values_of es) at) read (All-slice_get_values (Holds f) es at all))
 
 module _ {C : Type 0} (f : C → Change) (g : Group C) where
   -- the stack that is found at the active place, and by its key, has the active history

@@ -1,6 +1,6 @@
 // The lines about the open documents: a new one, one that goes or becomes the active one, and what stands open.
-ghost use Rattle.std.specs.Prelude.{◌≡◌, ◌↔◌, ◌⊎◌, IsTrue, IsSome, IfOk, Some, string_bytes};
-ghost use Rattle.std.specs.Option.{option_map};
+ghost use Rattle.std.specs.Prelude.{◌≡◌, ◌↔◌, ◌⊎◌, ◌++◌, ◌∷◌, [], if◌then◌else◌, IsTrue, IsSome, IfOk, OnOk, Some, string_bytes};
+ghost use Rattle.std.specs.Option.{option_copied};
 ghost use Rattle.map_model.specs.Document.{document_of};
 ghost use Rattle.map_model.specs.NewMap.{new_map};
 ghost use Rattle.map_model.specs.WellFormed.{IsSize, IsTileSize};
@@ -11,7 +11,7 @@ ghost use Rattle.undo_stack.specs.Reading.{redo_text_of, undo_text_of};
 ghost use Rattle.session.specs.declared.reply.Refusal.TheVariants as refusals;
 ghost use Rattle.session.specs.declared.reply.Reply.TheVariants as replies;
 ghost use Rattle.editor.specs.Editors.{machine_of, IsSound};
-ghost use Rattle.editor.specs.Machine.{active_of, documents_text, status_reply, CloseStep, DiscardStep, NewStep, Opens, Refuses, UseStep};
+ghost use Rattle.editor.specs.Machine.{active_of, documents_text, is_active, starred, status_reply, CloseStep, DiscardStep, NewStep, Opens, Refuses, UseStep};
 ghost use Rattle.editor.specs.Planning.{KeepsReply};
 
 use crate::editor::Editor;
@@ -63,6 +63,34 @@ fn new_document(alloc: Global, sizes: Sizes, source: &str) -> Result<Document, A
     Ok(Document::new(alloc, map))
 }
 
+// Whether this is the name of the active document.
+fn is_active(active: Option<&str>, name: &str) -> bool
+    ensures { result ≡ is_active (option_copied active.entry) name.now }
+{
+    match active {
+        Some(active) => active == name,
+        None => false,
+    }
+}
+
+// Puts a name behind others: with a space before it where it is not the first, and a `*` where it is the active one.
+fn push_listed(
+    text: &mut String,
+    is_first: bool,
+    is_active: bool,
+    name: &str,
+) -> Result<(), AllocError>
+    ensures { OnOk result (string_bytes text.new ≡ string_bytes text.old ++ (if is_first then [] else 32 ∷ []) ++ starred is_active name.now) }
+{
+    if !is_first {
+        text.push_str(" ")?;
+    }
+    if is_active {
+        text.push_str("*")?;
+    }
+    text.push_str(name)
+}
+
 // The names of the open documents, in order of opening, with a `*` before the active one's.
 fn documents_text<C: Command>(alloc: Global, group: &Group<C>) -> Result<String, AllocError>
     requires { AreHeld C.change group.now }
@@ -72,14 +100,8 @@ fn documents_text<C: Command>(alloc: Global, group: &Group<C>) -> Result<String,
     let mut text = String::new(alloc);
     let mut is_first = true;
     for name in group.names() {
-        if !is_first {
-            text.push_str(" ")?;
-        }
+        push_listed(&mut text, is_first, is_active(active, name), name)?;
         is_first = false;
-        if active == Some(name) {
-            text.push_str("*")?;
-        }
-        text.push_str(name)?;
     }
     Ok(text)
 }
@@ -129,9 +151,9 @@ impl<C: Command> Editor<C> {
     {
         let stack = Stack::new(alloc, document, self.limit);
         let reply = state_of(&stack);
-        if self.group.add(alloc, name.as_str(), stack).is_err() {
+        let Ok(()) = self.group.add(alloc, name.as_str(), stack) else {
             return Reply::Refused(Refusal::NoMemory);
-        }
+        };
         match self.group.set_active(Some(name.as_str())) {
             Ok(()) => reply,
             Err(_) => unreachable!(),
@@ -162,10 +184,10 @@ impl<C: Command> Editor<C> {
             (machine_of C.change self.old) (Some result) (machine_of C.change self.new) }
         ensures kept { KeepsReply result (machine_of C.change self.old) (machine_of C.change self.new) }
     {
-        match self.group.remove(name.as_str()) {
-            Ok(_) => self.status(),
-            Err(_) => Reply::Refused(Refusal::NoSuchDocument),
-        }
+        let Ok(_) = self.group.remove(name.as_str()) else {
+            return Reply::Refused(Refusal::NoSuchDocument);
+        };
+        self.status()
     }
 
     // Makes a document the active one, or none.

@@ -1,8 +1,10 @@
 use Rattle.std.proofs.Common.{Some}
-use Rattle.tile_editor.proofs.Planned.{push_step}
+use Rattle.editor.specs.Editors.{machine_of}
+use Rattle.editor.specs.Machine.{workspace}
+use Rattle.tile_editor.proofs.Planned.{push_step, unput_step}
 use Rattle.tile_editor.proofs.run.hear.Goals as goal
 
 pub returns-in-Some-clause-step : goal.returns-in-Some-clause-step
-returns-in-Some-clause-step g c =
-    push_step c.args.found c.args.line.now _ _ _ c.in-Push.edit (g.C.Command.change c.in-Some.command) c.commit.result c.in-Push.ensures.plans
-    (c.requires.same c.in-Push.edit (Some c.in-Some.command) c.in-Some.ensures) c.commit.ensures.commits
+returns-in-Some-clause-step g c = λ honest.
+    push_step c.args.found c.args.line.now _ (workspace (machine_of g.C.Command.change c.plan_found.new.editor) (g.S.MapStore.kept c.plan_found.new.store)) _ c.in-Push.edit (g.C.Command.change c.in-Some.command) c.commit.result
+    (c.in-Push.ensures.plans honest) (c.requires.same c.in-Push.edit (Some c.in-Some.command) c.in-Some.ensures) c.commit.ensures.commits

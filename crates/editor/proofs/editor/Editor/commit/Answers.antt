@@ -1,5 +1,6 @@
 use Rattle.std.proofs.Common.{refl, sym, ap, ◌∙◌}
-use Rattle.undo_stack.specs.History.{History}
+use Rattle.undo_stack.specs.History.{History, current}
+use Rattle.undo_stack.specs.Pushing.{step_of}
 use Rattle.undo_stack.specs.Stacks.{history}
 use Rattle.undo_group.specs.Stacks.{group_of}
 use Rattle.editor.specs.Editors.{machine_of}
@@ -17,7 +18,7 @@ pub returns-in-Ok-clause-sound : goal.returns-in-Ok-clause-sound
 returns-in-Ok-clause-sound g c =
     let change = g.C.Command.change in
     let before = active-unlimited (group_of change c.args.self.now.group) (history change c.in-Some.stack.now) c.requires.sound.unlimited (sym c.in-Some.ensures.active) in
-    left-IsSound change c.args.self.now _ c.push.new.self c.requires.sound refl (c.active_mut.follows.holds c.push.new.self c.push.ensures.sound) (pushed-limit _ _ _ c.in-Ok.ensures.pushed ∙ before)
+    left-IsSound change c.args.self.now _ c.push.new.self c.requires.sound refl (c.active_mut.follows.holds c.push.new.self c.push.ensures.sound) (pushed-limit (history change c.in-Some.stack.now) (step_of (change c.args.command) (current (history change c.in-Some.stack.now))) (history change c.push.new.self) c.in-Ok.ensures.pushed ∙ before)
 
 pub returns-in-Ok-clause-commits : goal.returns-in-Ok-clause-commits
 returns-in-Ok-clause-commits g c =

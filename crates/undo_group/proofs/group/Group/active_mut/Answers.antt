@@ -1,8 +1,8 @@
-use Rattle.std.proofs.Common.{refl, sym, ◌∙◌, ap}
-use Rattle.std.specs.Option.{option_map}
-use Rattle.undo_stack.specs.Stacks.{history, Holds}
-use Rattle.undo_group.proofs.Places.{option_map-now_mut, IfSome-now_mut, IfSome-same, OnSome-from, All-slice_get_values}
-use Rattle.undo_group.proofs.Wholes.{IsGroup-entries, IsLeft-set_value_at, IsLeft-none, active_history-place}
+use Rattle.std.proofs.Common.{refl}
+use Rattle.undo_group.specs.Groups.{IsGroup}
+use Rattle.undo_group.specs.Stacks.{group_of}
+use Rattle.undo_group.proofs.Places.{OnSome-from}
+use Rattle.undo_group.proofs.Wholes.{IsGroup-entries, IsLeft-set_value_at, IsLeft-none, Holds-lent, active_history-lent}
 use Rattle.undo_group.proofs.group.Group.active_mut.Goals as goal
 
 pub returns-in-Some : goal.returns-in-Some
@@ -16,9 +16,9 @@ returns-in-Some g c =
       (refl, λ w holds. IsLeft-set_value_at f old c.in-Some.at w unique c.requires c.in-Some.is holds, refl),
       record {
         lends = tt;
-        active = option_map-now_mut (history f) r ∙ ap (option_map (history f)) read ∙ sym (active_history-place f old c.in-Some.at unique c.in-Some.is);
-        held = IfSome-now_mut (Holds f) r (IfSome-same (Holds f) _ _ read (All-slice_get_values (Holds f) es c.in-Some.at c.requires.stacks));
-        whole = OnSome-from r _ (IsGroup-entries f es old.active unique);
+        active = active_history-lent f old c.in-Some.at r unique c.in-Some.is read;
+        held = Holds-lent f es c.in-Some.at r read c.requires.stacks;
+        whole = OnSome-from r (IsGroup (group_of f old)) (IsGroup-entries f es old.active unique);
       },
     )
 
