@@ -1,5 +1,6 @@
-"""Reads the session files of `sessions/`, as sessions/README.md describes them."""
+"""Reads the session files of `sessions/`, as sessions/README.md describes them, and runs the program on them."""
 import contextlib
+import itertools
 import re
 import subprocess
 import tempfile
@@ -46,11 +47,13 @@ def times(rows, count):
 
 
 class Run:
-    """One run of the program: the bytes that it hears, and those that it replies."""
+    """One run of the program: the bytes that it hears and those that it replies, and the files of its folder by their
+    names, as they are before it and after it."""
 
     def __init__(self, name):
         self.name = name
         self.session, self.replies = b'', b''
+        self.before, self.after = {}, {}
         self.has_last_newline = True
         self.refuses_growths = False
 
@@ -58,6 +61,12 @@ class Run:
         """Adds these rows, pairs of a line and its reply or None, so many times."""
         self.session += times([spelled(line) for line, _ in rows], count)
         self.replies += times([spelled(reply) for _, reply in rows if reply is not None], count)
+
+
+def file_of(text):
+    """A file's name in the folder of a run, and its bytes, which are those of a file of the repository."""
+    name, path = text.decode().split(' ')
+    return name, (TOP / path).read_bytes()
 
 
 def row_of(text):
@@ -81,6 +90,12 @@ def runs_of(file):
             runs[-1].has_last_newline = False
         elif text == b'@growths':
             runs[-1].refuses_growths = True
+        elif text.startswith(b'@before '):
+            name, data = file_of(text[8:])
+            runs[-1].before[name] = runs[-1].after[name] = data
+        elif text.startswith(b'@after '):
+            name, data = file_of(text[7:])
+            runs[-1].after[name] = data
         elif text.startswith(b'@'):
             raise ValueError(f'{file.name}: {text.decode()}')
         elif repeated is not None:
@@ -96,6 +111,46 @@ def runs_of(file):
 def all_runs():
     """The runs of all session files."""
     return [run for file in sorted((TOP / 'sessions').glob('*.session')) for run in runs_of(file)]
+
+
+def files_in(folder):
+    """The files of a folder by their names."""
+    return {path.name: path.read_bytes() for path in folder.iterdir()}
+
+
+def heard(program, session, before, env=None):
+    """What a program does with a session over a folder of these files, and the files that stand there behind it."""
+    with tempfile.TemporaryDirectory() as top:
+        folder = Path(top) / 'maps'
+        folder.mkdir()
+        for name, data in before.items():
+            (folder / name).write_bytes(data)
+        words = [program, '--folder', 'maps']
+        done = subprocess.run(words, input=session, capture_output=True, timeout=120, env=env, cwd=top)
+        return done, files_in(folder)
+
+
+def fault_of_replies(wanted, given):
+    """How replies differ from those that are wanted, or None."""
+    if wanted == given:
+        return None
+    pairs = itertools.zip_longest(wanted.split(b'\n'), given.split(b'\n'), fillvalue=b'nothing')
+    return next(f'reply {at + 1}: wanted {w[:200]!r}, given {g[:200]!r}' for at, (w, g) in enumerate(pairs) if w != g)
+
+
+def fault_of_files(wanted, given):
+    """How the files of a folder differ from those that are wanted, or None."""
+    for name in sorted(wanted.keys() | given.keys()):
+        if wanted.get(name) != given.get(name):
+            return f'file {name}: wanted {wanted.get(name, b"nothing")[:200]!r}, given {given.get(name, b"nothing")[:200]!r}'
+
+
+def fault_of(program, run, env=None):
+    """How a run of a program differs from its file, or None."""
+    done, files = heard(program, run.session, run.before, env)
+    if done.returncode != 0 or done.stderr:
+        return f'exit status {done.returncode}, {done.stderr.decode()}'
+    return fault_of_replies(run.replies, done.stdout) or fault_of_files(run.after, files)
 
 
 @contextlib.contextmanager
