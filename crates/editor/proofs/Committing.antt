@@ -1,5 +1,5 @@
 -- The step of a line that was planned as an edit.
-use Rattle.std.proofs.Common.{◌≡◌, Option, Some, None, Result, Ok, refl, sym, ap, subst, inl, inr, ◌⊎◌}
+use Rattle.std.proofs.Common.{◌≡◌, Option, Some, None, Result, refl, sym, ap, subst, inl, inr}
 use Rattle.map_model.specs.Document.{DocumentParts}
 use Rattle.map_store.specs.Files.{StoreParts}
 use Rattle.command_api.specs.Law.{Change, IsSame}
@@ -11,8 +11,8 @@ use Rattle.session.specs.declared.reply.Refusal.{Refusal}
 use Rattle.session.specs.declared.reply.Refusal.TheVariants.{NoMemory}
 use Rattle.session.specs.declared.reply.Reply.{Reply}
 use Rattle.session.specs.declared.reply.Reply.TheVariants.{Refused}
-use Rattle.editor.specs.DocumentSteps.{DocumentStep, DocumentStepBy, EditStep, edit_of, state_reply}
-use Rattle.editor.specs.Machine.{Machine, OneDocument, OverActive, Refuses, Scope, StepBy, StepOfLine, active_of, scope_of, with_active}
+use Rattle.editor.specs.DocumentSteps.{DocumentStepBy, EditStep, edit_of, state_reply}
+use Rattle.editor.specs.Machine.{Machine, OneDocument, OverActive, Scope, StepBy, StepOfLine, active_of, scope_of, with_active}
 use Rattle.editor.specs.Planning.{Commits, IsEditBy, IsEditOf}
 
 -- commands that do the same make the same step

@@ -5,23 +5,14 @@ use Rattle.std.specs.Prelude.{ℤ, decimal, codes, IfOk, IfErr, MatchResult, IsO
 use Rattle.std.specs.Fmt.{signed_decimal}
 use Rattle.std.specs.List.{join_with_byte}
 use Rattle.map_model.specs.Document.{DocumentParts}
-use Rattle.edits.specs.Blocks.{ValueBlock}
-use Rattle.edits.specs.declared.area.Area.{Area}
-use Rattle.edits.specs.declared.selecting.Selecting.{Selecting}
-use Rattle.edits.specs.declared.selecting.Selecting.TheVariants.{Nothing, Rectangle}
-use Rattle.edits.specs.Filling.{after_fill}
-use Rattle.edits.specs.Selecting.{after_select}
-use Rattle.edits.specs.Stamping.{after_erase, after_stamp, IsBlock}
+use Rattle.edits.specs.Stamping.{IsBlock}
 use Rattle.command_api.specs.declared.fault.EditFault.{EditFault}
 use Rattle.command_api.specs.declared.fault.EditFault.TheVariants.{NoSuchLayer, LayerOfAnotherKind, OutsideTheMap, UnknownTile, NoSuchObject, NoSuchProperty, NoSuchTileset, TilesetInUse, FirstIdNotAbove, OutOfRange, TooMany, NoMemory}
-use Rattle.command_api.specs.Law.{Change, Names}
+use Rattle.command_api.specs.Law.{Names}
 use Rattle.command_api.specs.Making.{IsRefusalOf, Makes}
-use Rattle.paint_commands.specs.Painting.{erase_names, fill_names, stamp_names}
-use Rattle.paint_commands.specs.Selection.{select_names}
 use Rattle.undo_stack.specs.History.{History, Step, current}
-use Rattle.undo_stack.specs.Pushing.{step_of}
 use Rattle.session.specs.declared.line.Line.{Line}
-use Rattle.session.specs.declared.line.Line.TheVariants.{Erase, Fill, Select, SelectNone, Stamp}
+use Rattle.session.specs.declared.line.Line.TheVariants.{Erase, Stamp}
 use Rattle.session.specs.declared.reply.Refusal.{Refusal}
 use Rattle.session.specs.declared.reply.Reply.{Reply}
 use Rattle.session.specs.declared.reply.Reply.TheVariants.{Refused}

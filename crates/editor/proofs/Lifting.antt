@@ -1,11 +1,10 @@
 -- From what a line does with the active history to what it does with the machine.
-use Rattle.std.proofs.Common.{◌≡◌, ℕ, List, Option, Some, None, Ok, Err, Result, refl, sym, ap, ◌∙◌, subst, inl, inr}
+use Rattle.std.proofs.Common.{◌≡◌, ℕ, List, Option, Some, None, refl, sym, ap, ◌∙◌, subst}
 use Rattle.map_store.specs.Files.{StoreParts}
-use Rattle.command_api.specs.Law.{Change}
-use Rattle.undo_stack.specs.History.{History, current}
+use Rattle.undo_stack.specs.History.{History}
 use Rattle.undo_group.specs.Groups.{GroupParts, IsGroup, active_history}
 use Rattle.undo_group.specs.Groups as groups
-use Rattle.undo_group.proofs.Documents.{active_history-with_active, with_active-same}
+use Rattle.undo_group.proofs.Documents.{with_active-same}
 use Rattle.session.specs.declared.line.Line.{Line}
 use Rattle.session.specs.declared.reply.Refusal.TheVariants.{NoActiveDocument}
 use Rattle.session.specs.declared.reply.Reply.{Reply}
@@ -14,7 +13,7 @@ use Rattle.editor.specs.declared.planned.Planned.{Planned}
 use Rattle.editor.specs.declared.planned.Planned.TheVariants as planned
 use Rattle.editor.specs.DocumentSteps.{DocumentStep, SavesDocument}
 use Rattle.editor.specs.Machine.{Machine, OneDocument, OverActive, OverHistory, SaveStep, Scope, StepBy, active_of, moved_to, scope_of, with_active}
-use Rattle.editor.specs.Planning.{FitsActive, FitsPlan, IsEditBy, IsEditOf, KeepsHistory, KeepsPlan, KeepsReply, Plans, PlansOn, edit_change, refused}
+use Rattle.editor.specs.Planning.{FitsActive, FitsPlan, IsEditOf, KeepsHistory, KeepsPlan, KeepsReply, Plans, PlansOn, edit_change, refused}
 
 -- a machine with this group
 abbrev pub machine_at : ℕ → GroupParts → Machine

@@ -1,12 +1,12 @@
 -- Documents that are opened.
-use Rattle.std.proofs.Common.{◌≡◌, ℕ, List, Option, None, Some, Err, refl, sym, ap, ◌∙◌, subst, inl, inr}
+use Rattle.std.proofs.Common.{◌≡◌, ℕ, List, Option, None, Some, Err, refl, sym, ◌∙◌, subst, inl, inr}
 use Rattle.std.specs.FinMap.{get}
 use Rattle.map_json.specs.Maps.{Says}
 use Rattle.map_json.specs.declared.fault.MapFault.{MapFault}
 use Rattle.map_json.specs.declared.fault.MapFault.TheVariants.{Memory, Refused}
 use Rattle.map_store.specs.Files.{KeepsFiles, StoreParts}
 use Rattle.undo_stack.specs.History.{History}
-use Rattle.undo_group.specs.Groups.{GroupParts, IsNew, added, history_named}
+use Rattle.undo_group.specs.Groups.{GroupParts, IsNew, added}
 use Rattle.undo_group.proofs.Documents.{history_named-added}
 use Rattle.session.specs.declared.reply.Reply.TheVariants as replies
 use Rattle.editor.specs.Machine.{LoadStep, Machine, OpenStep}

@@ -1,7 +1,7 @@
 -- A push leaves the limit.
 use Rattle.std.proofs.Common.{◌≡◌, ◌∙◌, ℕ, zero, suc, Bool, true, false, List, [], ◌∷◌, refl, ap}
 use Rattle.undo_stack.specs.History.{History, Open, Step}
-use Rattle.undo_stack.specs.Pushing.{IsPushed, cut, cut_in, limited, limited_to, next_of, with_added, with_target_at, without_target}
+use Rattle.undo_stack.specs.Pushing.{IsPushed, cut, cut_in, limited_to, next_of, with_added, with_target_at, without_target}
 
 cut-limit : (ls : List Open) (h : History) → (cut_in ls h).limit ≡ h.limit
 cut-limit [] h = refl

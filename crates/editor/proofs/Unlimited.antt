@@ -1,6 +1,5 @@
 -- Documents without a limit, under what is done with a group.
-use Rattle.std.proofs.Common.{◌≡◌, ℕ, Bool, true, false, cond, not, List, [], ◌∷◌, ◌++◌, Option, Some, None, refl, ap, subst, sym, ◌∙◌}
-use Rattle.std.specs.List.{AllByRecursion}
+use Rattle.std.proofs.Common.{◌≡◌, ℕ, not, List, [], ◌∷◌, ◌++◌, Option, Some, None, refl, subst, sym, ◌∙◌}
 use Rattle.std.specs.Str.{bytes_eq}
 use Rattle.std.proofs.lemmas.Bool.{cond_both}
 use Rattle.undo_stack.specs.History.{History}
@@ -11,10 +10,9 @@ use Rattle.undo_stack.specs.Stacks.{history}
 use Rattle.undo_stack.specs.declared.stack.Stack.{Stack}
 use Rattle.undo_group.specs.Lending.{IsLeft}
 use Rattle.undo_group.specs.Stacks.{group_of, AreHeld}
-use Rattle.undo_group.specs.declared.group.Group.{Group}
 use Rattle.editor.specs.declared.editor.Editor.{Editor}
 use Rattle.editor.specs.Editors.{AreUnlimited, IsSound, machine_of}
-use Rattle.editor.specs.Machine.{Machine, opened, with_active}
+use Rattle.editor.specs.Machine.{opened, with_active}
 
 history_named-unlimited : (name : List ℕ) (ds : List OpenDocument) (h : History) → AreUnlimited ds → history_named name ds ≡ Some h → h.limit ≡ 0
 history_named-unlimited name [] h a e = absurd cc

@@ -1,6 +1,6 @@
 -- The machine: what each line may do. It keeps, for each open document, a history of whole documents, and which document is
 -- active; the files stand beside it, as the store keeps them.
-use Rattle.std.specs.Prelude.{◌≡◌, ℕ, ◌≤◌, List, [], ◌∷◌, map, if◌then◌else◌, length, Option, None, Some, IsSome, Result, Ok, Err, ◌⊎◌, ⊤, Bool, true, false}
+use Rattle.std.specs.Prelude.{◌≡◌, ℕ, List, ◌∷◌, map, Option, None, Some, IsSome, Result, Ok, Err, ◌⊎◌, ⊤, Bool, true, false}
 use Rattle.std.specs.List.{join_with_byte}
 use Rattle.std.specs.Str.{bytes_eq}
 use Rattle.std.specs.FinMap.{get}

@@ -4,15 +4,12 @@ use Rattle.map_model.specs.Document.{DocumentParts}
 use Rattle.map_store.specs.Files.{StoreParts}
 use Rattle.command_api.specs.declared.fault.EditFault.{EditFault}
 use Rattle.command_api.specs.Law.{Change}
-use Rattle.edits.specs.declared.selecting.Selecting.{Selecting}
-use Rattle.edits.specs.declared.selecting.Selecting.TheVariants.{Nothing, Rectangle}
 use Rattle.layer_commands.specs.Changes.{add_change, remove_change, rename_change, show_change, move_change}
 use Rattle.paint_commands.specs.Painting.{paint_change}
 use Rattle.paint_commands.specs.Selection.{select_change}
 use Rattle.undo_stack.specs.History.{Step, History, current}
 use Rattle.undo_stack.specs.Pushing.{IsPushed, step_of}
 use Rattle.session.specs.declared.line.Line.{Line}
-use Rattle.session.specs.declared.line.Line.TheVariants as lines
 use Rattle.session.specs.declared.reply.Refusal.{Refusal}
 use Rattle.session.specs.declared.reply.Refusal.TheVariants as refusals
 use Rattle.session.specs.declared.reply.Reply.{Reply}

@@ -2,10 +2,8 @@ use Rattle.std.proofs.Common.{refl, rules}
 use Rattle.std.proofs.lemmas.Int.{to_z-of_z}
 use mir.Syntax.{w32}
 use mir.Val.{SFits}
-use Rattle.edits.specs.declared.selecting.Selecting.TheVariants.{Nothing, Rectangle}
-use Rattle.edits.specs.Filling.{after_fill}
+use Rattle.edits.specs.declared.selecting.Selecting.TheVariants.{Nothing}
 use Rattle.edits.specs.Selecting.{after_select}
-use Rattle.edits.specs.Stamping.{after_erase}
 use Rattle.paint_commands.specs.Painting.{erase_names, fill_names}
 use Rattle.paint_commands.specs.Selection.{select_names}
 use Rattle.editor.specs.DocumentSteps.{select_edit, erase_edit, fill_edit}

@@ -2,7 +2,6 @@ use Rattle.std.proofs.Common.{rules}
 use Rattle.std.proofs.lemmas.Int.{to_z-of_z}
 use mir.Syntax.{w32}
 use mir.Val.{SFits}
-use Rattle.edits.specs.Stamping.{after_stamp}
 use Rattle.paint_commands.specs.Painting.{stamp_names}
 use Rattle.editor.specs.declared.planned.Edit.TheVariants.{Paint}
 use Rattle.editor.proofs.Edits.{mapped-PlansEdit, stamp-IsBlock, stamp-straight}

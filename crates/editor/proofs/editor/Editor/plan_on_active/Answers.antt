@@ -1,4 +1,4 @@
-use Rattle.std.proofs.Common.{◌≡◌, refl, sym, subst, ap}
+use Rattle.std.proofs.Common.{◌≡◌, refl, sym, subst}
 use Rattle.undo_stack.specs.Stacks.{history}
 use Rattle.undo_group.specs.Stacks.{group_of}
 use Rattle.editor.specs.Editors.{machine_of}

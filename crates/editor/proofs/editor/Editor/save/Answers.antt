@@ -1,9 +1,8 @@
-use Rattle.std.proofs.Common.{◌≡◌, refl, sym, subst, ap}
+use Rattle.std.proofs.Common.{◌≡◌, refl, sym, subst}
 use Rattle.undo_stack.specs.Stacks.{history}
 use Rattle.undo_group.specs.Stacks.{group_of}
-use Rattle.editor.specs.DocumentSteps.{SavesDocument}
 use Rattle.editor.specs.Editors.{machine_of}
-use Rattle.editor.specs.Machine.{Machine, SaveStep}
+use Rattle.editor.specs.Machine.{Machine}
 use Rattle.editor.specs.Planning.{KeepsReply}
 use Rattle.editor.proofs.Unlimited.{active-unlimited, left-IsSound, left-machine}
 use Rattle.editor.proofs.Lifting.{on-KeepsReply, saves}

@@ -1,4 +1,4 @@
-use Rattle.std.proofs.Common.{rules, refl, sym, ◌∙◌}
+use Rattle.std.proofs.Common.{rules, refl}
 use Rattle.undo_group.specs.Stacks.{group_of}
 use Rattle.editor.proofs.Listing.{all-IsListed, more-IsListed, none-IsListed}
 use Rattle.editor.proofs.editor.documents.documents_text.Goals as goal
