@@ -62,13 +62,15 @@ fn is_blank(byte: u8) -> bool
     byte == b' ' || byte == b'\t' || byte == b'\r' || byte == b'\n'
 }
 
+// The bytes but the blanks. They are pushed, and not collected, since `collect` asks again where it is refused memory.
 fn packed(alloc: Global, text: &[u8]) -> Result<Vec<u8>, AllocError>
     ensures { IfOk result (λ bytes. bytes.items ≡ packed text.now) }
 {
-    text.iter()
-        .copied()
-        .filter(|byte| !is_blank(*byte))
-        .collect(alloc)
+    let mut packed = Vec::with_capacity(alloc, text.len())?;
+    for byte in text.iter().copied().filter(|byte| !is_blank(*byte)) {
+        packed.push(byte)?;
+    }
+    Ok(packed)
 }
 
 fn words(alloc: Global, bytes: &[u8], count: usize) -> Result<Vec<Gid>, AllocError>
