@@ -5,6 +5,8 @@
 #[cfg(test)]
 mod chains;
 #[cfg(test)]
+mod closing;
+#[cfg(test)]
 mod fills;
 #[cfg(test)]
 mod line_reading;
