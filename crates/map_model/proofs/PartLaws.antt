@@ -1,11 +1,18 @@
 -- The laws of parts.
-use Rattle.std.proofs.Common.{◌≡◌, ℕ, nat_eq, Bool, Option, Some, None, option_map, option_and_then, find, refl, sym, ap, ◌∙◌, subst}
+use Rattle.std.proofs.Common.{◌≡◌, ℕ, zero, suc, List, [], ◌∷◌, nat_eq, Bool, Option, Some, None, option_map, option_and_then, find, refl, sym, ap, ◌∙◌, subst}
+use Rattle.std.specs.List.{slice_get}
+use Rattle.map_model.specs.declared.parts.Body.{Body}
+use Rattle.map_model.specs.declared.parts.Body.TheVariants.{Tiles, Objects, Other}
 use Rattle.map_model.specs.declared.parts.Layer.{Layer}
+use Rattle.map_model.specs.declared.parts.Object.{Object}
+use Rattle.map_model.specs.declared.place.ObjectPlace.{ObjectPlace}
 use Rattle.map_model.specs.Document.{with_selection}
 use Rattle.map_model.specs.Layers.{layer_name, layer_with_name, layer_visible, layer_with_visible}
+use Rattle.map_model.specs.Lists.{change_at}
+use Rattle.map_model.specs.Objects.{objects_in, objects_of, body_with_objects, layer_with_objects}
 use Rattle.map_model.specs.Parts.{has_id}
 use Rattle.map_model.proofs.Turns.{change_first-change_first, find-change_first, change_first-along, change_first-same}
-use Rattle.map_model.specs.Part.{Part, IsLawfulPart, AreApart, whole, inner, of_first, layers, of_layer, next_layer_id, next_object_id, name, visible, selection}
+use Rattle.map_model.specs.Part.{Part, IsLawfulPart, AreApart, whole, inner, of_first, of_place, layers, of_layer, objects, layer_objects, of_object, next_layer_id, next_object_id, name, visible, selection}
 
 some-eq : {V : Type 0} (v w : V) → Some v ≡ Some w → v ≡ w
 some-eq v w e = cc
@@ -42,6 +49,42 @@ of_first-laws test p stays ps = record {
       ∙ change_first-along test (λ k. p.update f (p.update g k)) (p.update (λ v. f (g v))) xs (λ k q. ps.update-update f g k);
 }
 
+slice_get-change_at : {A : Type 0} (g : A → A) (xs : List A) (k : ℕ) → slice_get (change_at k g xs) k ≡ option_map g (slice_get xs k)
+slice_get-change_at g [] zero = refl
+slice_get-change_at g [] (suc k) = refl
+slice_get-change_at g (x ∷ xs) zero = refl
+slice_get-change_at g (x ∷ xs) (suc k) = slice_get-change_at g xs k
+
+change_at-change_at : {A : Type 0} (f g : A → A) (xs : List A) (k : ℕ) → change_at k f (change_at k g xs) ≡ change_at k (λ a. f (g a)) xs
+change_at-change_at f g [] zero = refl
+change_at-change_at f g [] (suc k) = refl
+change_at-change_at f g (x ∷ xs) zero = refl
+change_at-change_at f g (x ∷ xs) (suc k) = ap (λ ys. x ∷ ys) (change_at-change_at f g xs k)
+
+change_at-along : {A : Type 0} (f g : A → A) (xs : List A) (k : ℕ) → ((a : A) → slice_get xs k ≡ Some a → f a ≡ g a) → change_at k f xs ≡ change_at k g xs
+change_at-along f g [] zero e = refl
+change_at-along f g [] (suc k) e = refl
+change_at-along f g (x ∷ xs) zero e = ap (λ y. y ∷ xs) (e x refl)
+change_at-along f g (x ∷ xs) (suc k) e = ap (λ ys. x ∷ ys) (change_at-along f g xs k e)
+
+change_at-same : {A : Type 0} (xs : List A) (k : ℕ) → change_at k (λ a. a) xs ≡ xs
+change_at-same [] zero = refl
+change_at-same [] (suc k) = refl
+change_at-same (x ∷ xs) zero = refl
+change_at-same (x ∷ xs) (suc k) = ap (λ ys. x ∷ ys) (change_at-same xs k)
+
+pub of_place-laws : {A V : Type 0} (k : ℕ) (p : Part A V) → IsLawfulPart p → IsLawfulPart (of_place k p)
+of_place-laws k p ps = record {
+  get-update = λ f v xs e. let s = within p.get v (slice_get xs k) e in
+      ap (option_and_then p.get) (slice_get-change_at (p.update f) xs k ∙ ap (option_map (p.update f)) s.1.0) ∙ ps.get-update f v s.0 s.1.1;
+  update-same = λ f v xs e same. let s = within p.get v (slice_get xs k) e in
+      change_at-along (p.update f) (λ a. a) xs k
+      (λ a q. let found : s.0 ≡ a = cc in subst (λ b. p.update f b ≡ b) found (ps.update-same f v s.0 s.1.1 same))
+      ∙ change_at-same xs k;
+  update-update = λ f g xs. change_at-change_at (p.update f) (p.update g) xs k
+      ∙ change_at-along (λ a. p.update f (p.update g a)) (p.update (λ v. f (g v))) xs k (λ a q. ps.update-update f g a);
+}
+
 -- ---- parts of a document
 pub layers-laws : IsLawfulPart layers
 layers-laws = whole-laws (λ d. d.map.layers) (λ ls d. record d { map = record d.map { layers = ls } }) (λ v d. refl) (λ d. refl) (λ v w d. refl)
@@ -71,3 +114,33 @@ visible-laws id = of_layer-laws id visible (λ f l. refl) (whole-laws layer_visi
 pub mapped : {A V : Type 0} (f : A → V) (o : Option A) (v : V) → option_map f o ≡ Some v → option_and_then (λ a. Some (f a)) o ≡ Some v
 mapped f None v e = cc
 mapped f (Some a) v e = e
+
+-- ---- objects
+pub objects-laws : IsLawfulPart objects
+objects-laws = record {
+  get-update = λ f os l e. got f os l.body e;
+  update-same = λ f os l e q. ap (λ b. record l { body = b }) (same f os l.body e q);
+  update-update = λ f g l. ap (λ b. record l { body = b }) (twice f g l.body);
+}
+  where
+    got : (f : List Object → List Object) (os : List Object) (b : Body) → objects_in b ≡ Some os → objects_in (body_with_objects f b) ≡ Some (f os)
+    got f os (Tiles e cells) h = cc
+    got f os (Objects own) h = let is : own ≡ os = cc in ap (λ ps. Some (f ps)) is
+    got f os Other h = cc
+
+    same : (f : List Object → List Object) (os : List Object) (b : Body) → objects_in b ≡ Some os → f os ≡ os → body_with_objects f b ≡ b
+    same f os (Tiles e cells) h q = refl
+    same f os (Objects own) h q = let is : os ≡ own = cc in ap Objects (rw is at q)
+    same f os Other h q = refl
+
+    twice : (f g : List Object → List Object) (b : Body) → body_with_objects f (body_with_objects g b) ≡ body_with_objects (λ os. f (g os)) b
+    twice f g (Tiles e cells) = refl
+    twice f g (Objects own) = refl
+    twice f g Other = refl
+
+pub layer_objects-laws : (id : ℕ) → IsLawfulPart (layer_objects id)
+layer_objects-laws id = of_layer-laws id objects (λ f l. refl) objects-laws
+
+pub of_object-laws : {V : Type 0} (place : ObjectPlace) (p : Part Object V) → IsLawfulPart p → IsLawfulPart (of_object place p)
+of_object-laws place p ps =
+    of_layer-laws place.layer (inner objects (of_place place.at p)) (λ f l. refl) (inner-laws objects (of_place place.at p) objects-laws (of_place-laws place.at p ps))

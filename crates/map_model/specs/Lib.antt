@@ -5,6 +5,7 @@ pub mod Document
 pub mod Keeping
 pub mod Layers
 pub mod Lists
+pub mod Objects
 pub mod NewMap
 pub mod Part
 pub mod Parts

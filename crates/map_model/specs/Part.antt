@@ -1,11 +1,14 @@
 -- Parts: what can be read of a value, and changed there.
-use Rattle.std.specs.Prelude.{◌≡◌, ℕ, List, Bool, Option, Some, option_and_then, find}
+use Rattle.std.specs.Prelude.{◌≡◌, ℕ, List, Bool, Option, Some, option_and_then, find, slice_get}
 use Rattle.std.specs.FinSet as set
 use Rattle.region.specs.Cells.{cell_cmp}
 use Rattle.map_model.specs.declared.parts.Layer.{Layer}
+use Rattle.map_model.specs.declared.parts.Object.{Object}
+use Rattle.map_model.specs.declared.place.ObjectPlace.{ObjectPlace}
 use Rattle.map_model.specs.Document.{DocumentParts, with_selection}
 use Rattle.map_model.specs.Layers.{layer_name, layer_with_name, layer_visible, layer_with_visible}
-use Rattle.map_model.specs.Lists.{change_first}
+use Rattle.map_model.specs.Lists.{change_at, change_first}
+use Rattle.map_model.specs.Objects.{objects_of, layer_with_objects}
 use Rattle.map_model.specs.Parts.{has_id}
 
 -- a part of A: its value, where there is one, and A with a function of that value in its place
@@ -41,12 +44,20 @@ inner p q = record { get = λ a. option_and_then q.get (p.get a); update = λ f.
 abbrev pub of_first : {A V : Type 0} → (A → Bool) → Part A V → Part (List A) V
 of_first test p = record { get = λ xs. option_and_then p.get (find test xs); update = λ f. change_first test (p.update f) }
 
+-- a part of the element at a place
+abbrev pub of_place : {A V : Type 0} → ℕ → Part A V → Part (List A) V
+of_place k p = record { get = λ xs. option_and_then p.get (slice_get xs k); update = λ f. change_at k (p.update f) }
+
 -- ---- parts of a layer
 abbrev pub name : Part Layer (List ℕ)
 name = whole layer_name layer_with_name
 
 abbrev pub visible : Part Layer Bool
 visible = whole layer_visible layer_with_visible
+
+-- the objects, where it is an object layer
+abbrev pub objects : Part Layer (List Object)
+objects = record { get = objects_of; update = layer_with_objects }
 
 -- ---- parts of a document
 -- the layers
@@ -56,6 +67,14 @@ layers = whole (λ d. d.map.layers) (λ ls d. record d { map = record d.map { la
 -- a part of the layer with an id
 abbrev pub of_layer : {V : Type 0} → ℕ → Part Layer V → Part DocumentParts V
 of_layer id p = inner layers (of_first (has_id id) p)
+
+-- the objects of the object layer with an id
+abbrev pub layer_objects : ℕ → Part DocumentParts (List Object)
+layer_objects id = of_layer id objects
+
+-- a part of the object at a place
+abbrev pub of_object : {V : Type 0} → ObjectPlace → Part Object V → Part DocumentParts V
+of_object place p = of_layer place.layer (inner objects (of_place place.at p))
 
 -- the next layer id
 abbrev pub next_layer_id : Part DocumentParts ℕ

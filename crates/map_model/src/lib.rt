@@ -24,5 +24,5 @@ pub use owner::Owner;
 pub use parts::{
     Body, Encoding, Layer, LayerKind, MapParts, Object, Placing, PropValue, Property, Tileset,
 };
-pub use place::LayerPlace;
+pub use place::{LayerPlace, ObjectPlace};
 pub use selection::SelectionMode;

@@ -15,3 +15,10 @@ impl LayerPlace {
         LayerPlace { at }
     }
 }
+
+/// Where an object stands: the id of its layer, and how many objects of that layer stand before it.
+#[derive(Clone, Copy, PartialEq, Eq, Debug)]
+pub struct ObjectPlace {
+    pub layer: u32,
+    pub at: usize,
+}

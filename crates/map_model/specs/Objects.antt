@@ -1,0 +1,77 @@
+-- Objects: where they stand, and layers with others.
+use Rattle.std.specs.Prelude.{ℕ, ◌≤◌, List, Bool, nat_eq, length, Option, Some, None, IsSomeAnd, option_and_then, slice_get, position}
+use Rattle.std.specs.Option.{option_map}
+use Rattle.std.specs.List.{insert, remove}
+use Rattle.map_model.specs.declared.parts.Body.{Body}
+use Rattle.map_model.specs.declared.parts.Body.TheVariants.{Tiles, Objects, Other}
+use Rattle.map_model.specs.declared.parts.Layer.{Layer}
+use Rattle.map_model.specs.declared.parts.MapParts.{MapParts}
+use Rattle.map_model.specs.declared.parts.Object.{Object}
+use Rattle.map_model.specs.declared.place.ObjectPlace.{ObjectPlace}
+use Rattle.map_model.specs.Lists.{change_at, first_some}
+use Rattle.map_model.specs.Parts.{layer_of, with_layer}
+
+-- ---- the objects of a layer
+-- the objects of an object layer; another layer has no list of them
+abbrev pub objects_in : Body → Option (List Object)
+objects_in (Tiles e cells) = None
+objects_in (Objects os) = Some os
+objects_in Other = None
+
+abbrev pub objects_of : Layer → Option (List Object)
+objects_of l = objects_in l.body
+
+-- an object layer with f of its objects; another layer as it is
+abbrev pub body_with_objects : (List Object → List Object) → Body → Body
+body_with_objects f (Tiles e cells) = Tiles e cells
+body_with_objects f (Objects os) = Objects (f os)
+body_with_objects f Other = Other
+
+abbrev pub layer_with_objects : (List Object → List Object) → Layer → Layer
+layer_with_objects f l = record l { body = body_with_objects f l.body }
+
+-- ---- where an object stands
+-- whether an object has the id
+abbrev pub has_object_id : ℕ → Object → Bool
+has_object_id id o = nat_eq o.id id
+
+-- the place so far from the first object of a layer
+abbrev pub place_of_layer : Layer → ℕ → ObjectPlace
+place_of_layer l at = record { layer = l.id; at = at }
+
+-- the place of the object with the id in a layer
+abbrev pub place_in_layer : ℕ → Layer → Option ObjectPlace
+place_in_layer id l = option_map (place_of_layer l) (option_and_then (position (has_object_id id)) (objects_of l))
+
+-- the place of the object with the id, in the first layer that has one
+abbrev pub object_place : MapParts → ℕ → Option ObjectPlace
+object_place m id = first_some (place_in_layer id) m.layers
+
+-- the objects of the object layer with the id
+abbrev pub objects_of_layer : MapParts → ℕ → Option (List Object)
+objects_of_layer m layer = option_and_then objects_of (layer_of m layer)
+
+-- the object at a place
+abbrev pub object_at : MapParts → ObjectPlace → Option Object
+object_at m place = option_and_then (λ os. slice_get os place.at) (objects_of_layer m place.layer)
+
+-- an object put in at the place would stand in its layer, or behind its last object
+abbrev pub IsObjectPlaceIn : MapParts → ObjectPlace → Type 0
+IsObjectPlaceIn m place = IsSomeAnd (objects_of_layer m place.layer) (λ os. place.at ≤ length os)
+
+-- ---- maps with other objects
+-- the map with f of the objects of the layer with the id
+abbrev pub with_objects : ℕ → (List Object → List Object) → MapParts → MapParts
+with_objects layer f m = with_layer layer (layer_with_objects f) m
+
+-- the map with an object put in at a place: those from there on stand one place higher
+abbrev pub with_object_at : ObjectPlace → Object → MapParts → MapParts
+with_object_at place o m = with_objects place.layer (λ os. insert os place.at o) m
+
+-- the map without the object at a place
+abbrev pub without_object_at : ObjectPlace → MapParts → MapParts
+without_object_at place m = with_objects place.layer (λ os. remove os place.at) m
+
+-- the map with f of the object at a place in its place
+abbrev pub with_object : ObjectPlace → (Object → Object) → MapParts → MapParts
+with_object place f m = with_objects place.layer (change_at place.at f) m

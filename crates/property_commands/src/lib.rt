@@ -1,0 +1,2 @@
+//! The commands of properties and tilesets: one is set, added or removed.
+#![tactic(auto)]
