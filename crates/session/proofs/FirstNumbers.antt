@@ -3,7 +3,7 @@ use Rattle.std.proofs.Common.{◌≡◌, ◌≢◌, ℕ, zero, suc, ◌+◌, ◌
 use Rattle.std.specs.List.{AllByRecursion, list_all, slice_split, onto_first}
 use Rattle.std.specs.Char.{is_ascii_digit}
 use Rattle.std.specs.Str.Parse.{digits_value}
-use Rattle.std.proofs.lemmas.Bool.{lt-ltb, ne_eqb, eq-eqb, eqb-false, and_cases, and_from, and_right, or_parts, cond_both, true≢false}
+use Rattle.std.proofs.lemmas.Bool.{lt-ltb, ne_eqb, eq-eqb, eqb-false, and_cases, and_from, and_parts, and_right, or_parts, cond_both, true≢false}
 use Rattle.std.proofs.lemmas.List.{take-append-drop, length-append, length-take, get_or_append_left, drop_more, take_all}
 use Rattle.std.proofs.lemmas.List.Elements.{All-from_recursion}
 use Rattle.std.proofs.lemmas.List.Folds.{list_all_at, list_all_more}
@@ -48,9 +48,9 @@ front_behind p w l h =
     and_right _ _ (ap (λ t. t || not (eqb (get_or (p ++ w) 0 0) 48)) long ∙ zeros)
 
 -- ---- the first piece
-no_separator : (c : ℕ) (p : List ℕ) → c < 48 → list_all is_ascii_digit p ≡ true → AllByRecursion (λ b. eqb b c ≡ false) p
+pub no_separator : (c : ℕ) (p : List ℕ) → is_ascii_digit c ≡ false → list_all is_ascii_digit p ≡ true → AllByRecursion (λ b. eqb b c ≡ false) p
 no_separator c [] l h = tt
-no_separator c (b ∷ p) l h = let parts = digits_test.parts b p h in (ne_eqb b c (λ e. omega (arith, parts.0.0, e, l)), no_separator c p l parts.1)
+no_separator c (b ∷ p) l h = let parts = and_parts _ _ h in (ne_eqb b c (λ e. true≢false (sym parts.0 ∙ ap is_ascii_digit e ∙ l)), no_separator c p l parts.1)
 
 pieces_behind : (c : ℕ) (p rest w : List ℕ) (ws : List (List ℕ)) → AllByRecursion (λ b. eqb b c ≡ false) p → slice_split (λ b. eqb b c) rest ≡ w ∷ ws → slice_split (λ b. eqb b c) (p ++ rest) ≡ (p ++ w) ∷ ws
 pieces_behind c [] rest w ws h e = e
@@ -75,10 +75,10 @@ some_by : (c n : ℕ) (rest : Option (Bor (List ℕ))) (ps : List (List ℕ)) (w
 some_by c n rest ps w ws e h k = let P : List (List ℕ) → Type 0 = λ qs. IsFirst number_of qs c (Some (n, rest)) in subst P (sym e) (h, k)
 
 -- the digits in front, and what follows them
-in_two : (c len : ℕ) (bs w : List ℕ) (ws : List (List ℕ)) → c < 48 → list_all is_ascii_digit (take len bs) ≡ true → slice_split (λ b. eqb b c) (drop len bs) ≡ w ∷ ws → slice_split (λ b. eqb b c) bs ≡ (take len bs ++ w) ∷ ws
+in_two : (c len : ℕ) (bs w : List ℕ) (ws : List (List ℕ)) → is_ascii_digit c ≡ false → list_all is_ascii_digit (take len bs) ≡ true → slice_split (λ b. eqb b c) (drop len bs) ≡ w ∷ ws → slice_split (λ b. eqb b c) bs ≡ (take len bs ++ w) ∷ ws
 in_two c len bs w ws l h e = ap (slice_split (λ b. eqb b c)) (sym (take-append-drop len bs)) ∙ pieces_behind c (take len bs) (drop len bs) w ws (no_separator c (take len bs) l h) e
 
-pub first_large : (c : ℕ) (bs : List ℕ) → c < 48 → HasLargeFront bs → IsFirst number_of (slice_split (λ b. eqb b c) bs) c None
+pub first_large : (c : ℕ) (bs : List ℕ) → is_ascii_digit c ≡ false → HasLargeFront bs → IsFirst number_of (slice_split (λ b. eqb b c) bs) c None
 first_large c bs l h =
     let p = take h.len bs in
     let piece = any_pieces c (drop h.len bs) in
@@ -91,14 +91,14 @@ no_digits c (b ∷ bs) h = cond_both (eqb b c) ([] ∷ slice_split (λ b. eqb b 
     (λ _. number_no_front [] refl)
     (λ _. let more = any_pieces c bs in none_by c _ _ _ (ap (onto_first b) more.are) (number_none (b ∷ more.first) (digits_none_at [] b more.first (h (omega arith)))))
 
-pub first_no_front : (c : ℕ) (bs : List ℕ) (len n : ℕ) → c < 48 → AreLeadingDigits bs len n → is_numeral_front (take len bs) ≡ false → IsFirst number_of (slice_split (λ b. eqb b c) bs) c None
+pub first_no_front : (c : ℕ) (bs : List ℕ) (len n : ℕ) → is_ascii_digit c ≡ false → AreLeadingDigits bs len n → is_numeral_front (take len bs) ≡ false → IsFirst number_of (slice_split (λ b. eqb b c) bs) c None
 first_no_front c bs zero n l a h = no_digits c bs a.end
 first_no_front c bs (suc m) n l a h =
     let piece = any_pieces c (drop (suc m) bs) in
     let some : 0 < length (take (suc m) bs) = omega (arith, length-take (suc m) bs, a.within) in
     none_by c _ _ _ (in_two c (suc m) bs piece.first piece.others l a.digits piece.are) (number_no_front _ (front_behind (take (suc m) bs) piece.first some h))
 
-pub first_stops : (c : ℕ) (bs : List ℕ) (len n : ℕ) → c < 48 → AreLeadingDigits bs len n → len < length bs → get_or bs len 0 ≢ c → IsFirst number_of (slice_split (λ b. eqb b c) bs) c None
+pub first_stops : (c : ℕ) (bs : List ℕ) (len n : ℕ) → is_ascii_digit c ≡ false → AreLeadingDigits bs len n → len < length bs → get_or bs len 0 ≢ c → IsFirst number_of (slice_split (λ b. eqb b c) bs) c None
 first_stops c bs len n l a inside other =
     let b = get_or bs len 0 in
     let rest = slice_split (λ b. eqb b c) (drop (len + 1) bs) in
@@ -106,13 +106,13 @@ first_stops c bs len n l a inside other =
     let e : slice_split (λ b. eqb b c) (drop len bs) ≡ (b ∷ more.first) ∷ more.others = ap (slice_split (λ b. eqb b c)) (drop_more bs len 0 inside) ∙ ap (λ t. cond t ([] ∷ rest) (onto_first b rest)) (ne_eqb b c other) ∙ ap (onto_first b) more.are in
     none_by c _ _ _ (in_two c len bs (b ∷ more.first) more.others l a.digits e) (number_none _ (digits_none_at (take len bs) b more.first (a.end inside)))
 
-pub first_all : (c : ℕ) (bs : List ℕ) (len n : ℕ) → c < 48 → AreLeadingDigits bs len n → is_numeral_front (take len bs) ≡ true → length bs ≤ len → IsFirst number_of (slice_split (λ b. eqb b c) bs) c (Some (n, None))
+pub first_all : (c : ℕ) (bs : List ℕ) (len n : ℕ) → is_ascii_digit c ≡ false → AreLeadingDigits bs len n → is_numeral_front (take len bs) ≡ true → length bs ≤ len → IsFirst number_of (slice_split (λ b. eqb b c) bs) c (Some (n, None))
 first_all c bs len n l a h whole =
     let all : take len bs ≡ bs = take_all len bs whole in
     let e = ap (slice_split (λ b. eqb b c)) (sym all) ∙ slice_split_none (λ b. eqb b c) (take len bs) (All-from_recursion _ (take len bs) (no_separator c (take len bs) l a.digits)) in
     some_by c n None _ (take len bs) [] e (number_is (take len bs) n h a.digits a.value_is a.small) refl
 
-pub first_cut : (c : ℕ) (bs : List ℕ) (len n : ℕ) (rest : Bor (List ℕ)) → c < 48 → AreLeadingDigits bs len n → is_numeral_front (take len bs) ≡ true → len < length bs → get_or bs len 0 ≡ c → rest.now ≡ drop (len + 1) bs → IsFirst number_of (slice_split (λ b. eqb b c) bs) c (Some (n, Some rest))
+pub first_cut : (c : ℕ) (bs : List ℕ) (len n : ℕ) (rest : Bor (List ℕ)) → is_ascii_digit c ≡ false → AreLeadingDigits bs len n → is_numeral_front (take len bs) ≡ true → len < length bs → get_or bs len 0 ≡ c → rest.now ≡ drop (len + 1) bs → IsFirst number_of (slice_split (λ b. eqb b c) bs) c (Some (n, Some rest))
 first_cut c bs len n rest l a h inside at behind =
     let p = take len bs in
     let parts : bs ≡ p ++ c ∷ drop (len + 1) bs = sym (take-append-drop len bs) ∙ ap (λ ys. p ++ ys) (drop_more bs len 0 inside) ∙ ap (λ b. p ++ b ∷ drop (len + 1) bs) at in

@@ -8,7 +8,7 @@ use Rattle.std.proofs.lemmas.Bool.{cond_both}
 use Rattle.std.proofs.lemmas.Slice.Eq.{bytes_eq-Decides}
 use Rattle.session.specs.declared.line.Line.{Line}
 use Rattle.session.specs.declared.line.LineFault.{LineFault}
-use Rattle.session.specs.Grammar.{FieldKind, Number, Coordinate, Block, Name, File, Choice, LayerSort, YesNo, FieldValue, LineForm, Ends, Text, Field, Word, Fails, choose, read, field_at, ends_at, last_text_at, ◌>>=◌}
+use Rattle.session.specs.Grammar.{FieldKind, Number, Coordinate, Block, Name, File, Choice, LayerSort, YesNo, Truth, Key, Color, OwnerName, FieldValue, LineForm, Ends, Text, Field, Word, Fails, choose, read, field_at, ends_at, last_text_at, ◌>>=◌}
 use Rattle.session.specs.Spelling.{Token, Fixed, Given, Rest, tokens, token_words, field_words, IsToken}
 use Rattle.session.proofs.Coordinates.{and_then_from}
 use Rattle.session.proofs.SpelledFields.{field_at-words, last_text_at-words}
@@ -24,6 +24,10 @@ value_of File (Given File name) = Some name
 value_of Choice (Given Choice choice) = Some choice
 value_of LayerSort (Given LayerSort kind) = Some kind
 value_of YesNo (Given YesNo answer) = Some answer
+value_of Truth (Given Truth truth) = Some truth
+value_of Key (Given Key name) = Some name
+value_of Color (Given Color color) = Some color
+value_of OwnerName (Given OwnerName owner) = Some owner
 value_of kind token = None
 
 -- the line that parts are by a form
@@ -43,6 +47,10 @@ given File (Given File name) v e = ap (Given File) cc
 given Choice (Given Choice choice) v e = ap (Given Choice) cc
 given LayerSort (Given LayerSort kind) v e = ap (Given LayerSort) cc
 given YesNo (Given YesNo answer) v e = ap (Given YesNo) cc
+given Truth (Given Truth truth) v e = ap (Given Truth) cc
+given Key (Given Key name) v e = ap (Given Key) cc
+given Color (Given Color color) v e = ap (Given Color) cc
+given OwnerName (Given OwnerName owner) v e = ap (Given OwnerName) cc
 given kind token v e = absurd cc
 
 -- the words of parts that a form follows are read by it
@@ -87,7 +95,7 @@ pub read_is_spelled : (form : LineForm) (front : List Token → List Token) (ws 
 read_is_spelled (Ends line) front ws a h = if_bind (ends_at ws) _ (λ _. ws ≡ []) (Spells front ws) (end_is_read ws) (λ end e. record { ts = []; are = a; words = e; fit = tt })
 read_is_spelled (Text line) front ws a h = if_bind (last_text_at ws) _ (ReadText ws) (Spells front ws) (text_is_read ws h) (λ t s. record { ts = Rest t ∷ []; are = a t; words = s.words ∙ sym (append-nil _); fit = (s.fits, tt) })
 read_is_spelled (Field kind form) front ws a h =
-    if_bind (field_at kind ws) _ (ReadField kind ws) (Spells front ws) (field_is_read kind ws) (λ x t.
+    if_bind (field_at kind ws) _ (ReadField kind ws) (Spells front ws) (field_is_read kind ws h) (λ x t.
     if_then (read (form x.0) x.1) (Spells (λ ts. front (Given kind x.0 ∷ ts)) x.1) (Spells front ws)
     (read_is_spelled (form x.0) (λ ts. front (Given kind x.0 ∷ ts)) x.1 (a x.0) (clean_rest (field_words kind x.0) x.1 (subst (AllByRecursion Clean) t.words h)))
     (λ line s. record { ts = Given kind x.0 ∷ s.ts; are = s.are; words = t.words ∙ ap (λ vs. field_words kind x.0 ++ vs) s.words; fit = (t.fits, s.fit) }))

@@ -7,7 +7,8 @@ use Rattle.std.proofs.lemmas.Str.{IsUtf8-nil, IsUtf8-from_is_utf8}
 use Rattle.std.proofs.lemmas.List.Splits.{join_with_byte-slice_split}
 use Rattle.std.proofs.lemmas.Bool.{le-leb, leb-false, not-true, not-false, cond_both, and_parts}
 use Rattle.session.specs.declared.line.Line.{Line}
-use Rattle.session.specs.declared.line.Line.TheVariants.{Quiet, Stamp, Erase, Select}
+use Rattle.session.specs.declared.line.Line.TheVariants.{Quiet, Stamp, Erase, Select, MoveObject, SetProperty}
+use Rattle.session.specs.declared.typed_value.TypedValue.TheVariants as typed
 use Rattle.map_model.specs.declared.selection.SelectionMode.TheVariants.{Replace}
 use Rattle.session.specs.declared.line.LineFault.{LineFault}
 use Rattle.session.specs.Words.{words}
@@ -68,13 +69,18 @@ abbrev RowOf : Line → Type 0
 RowOf Quiet = Unit {0}
 RowOf (Stamp layer x y width values true) = Unit {0}
 RowOf (Erase layer x y width height true) = Unit {0}
+RowOf (MoveObject object x y true) = Unit {0}
+RowOf (SetProperty owner name value true) = Unit {0}
 RowOf line = Row line
 
 row : (line : Line) → RowOf line
 row Quiet = tt
 row (Stamp layer x y width values true) = tt
 row (Erase layer x y width height true) = tt
+row (MoveObject object x y true) = tt
+row (SetProperty owner name value true) = tt
 row (Select Replace x y width height) = record { follows = refl; plain = refl; loud = refl; few = refl; first = _; more = _; words = refl }
+row (SetProperty owner name (typed.String text) false) = record { follows = refl; plain = refl; loud = refl; few = refl; first = _; more = _; words = refl }
 row line = record { follows = refl; plain = refl; loud = refl; few = refl; first = _; more = _; words = refl }
 
 row_is_read : (line : Line) → Row line → CanBeSpelled line → line_of (spelling line) ≡ Ok line
@@ -91,6 +97,8 @@ pub spelled_is_read : SpelledIsRead
 spelled_is_read Quiet h = checked [] (lit< tt) IsUtf8-nil
 spelled_is_read (Stamp layer x y width values true) h = absurd h.0.0
 spelled_is_read (Erase layer x y width height true) h = absurd h.0.0
+spelled_is_read (MoveObject object x y true) h = absurd h.0.1.0
+spelled_is_read (SetProperty owner name value true) h = absurd h.0.1.0
 spelled_is_read line h = row_is_read line (row line) h
 
 agrees : Agrees line_form (λ ts. ts)

@@ -1,17 +1,19 @@
 -- How long the parts of a line are.
-use Rattle.std.proofs.Common.{◌≡◌, ℕ, suc, ◌+◌, ◌^◌, ◌<◌, ◌≤◌, Bool, true, false, ltb, eqb, List, [], ◌∷◌, ◌++◌, length, None, Some, ℤ, pos, negsuc, ap, arith, inl, inr, IsTrue, ◌||◌}
-use Rattle.std.specs.List.{AllByRecursion, flat_map}
+use Rattle.std.proofs.Common.{◌≡◌, ℕ, suc, ◌+◌, ◌^◌, ◌<◌, ◌≤◌, Bool, true, false, ltb, eqb, List, [], ◌∷◌, ◌++◌, length, None, Some, ℤ, pos, negsuc, ap, arith, inl, inr, IsTrue, ◌||◌, ◌&&◌}
+use Rattle.std.specs.List.{AllByRecursion, flat_map, list_all}
 use Rattle.std.specs.Fmt.{decimal, signed_decimal}
 use Rattle.std.proofs.lemmas.Int.{ints}
 use Rattle.std.proofs.lemmas.Fmt.{length-decimal-le}
 use Rattle.std.proofs.lemmas.List.{length-append}
 use Rattle.std.proofs.lemmas.List.Splits.{length-slice_split, join_with_byte-slice_split}
-use Rattle.std.proofs.lemmas.Bool.{ltb-true, or_cases}
+use Rattle.std.proofs.lemmas.Bool.{ltb-true, eqb-true, and_parts, or_cases}
 use Rattle.map_model.specs.declared.parts.LayerKind.{LayerKind}
 use Rattle.map_model.specs.declared.parts.LayerKind.TheVariants as kinds
-use Rattle.session.specs.Words.{words}
-use Rattle.session.specs.Grammar.{FieldKind, Number, Coordinate, Block, Name, File, Choice, LayerSort, YesNo, FieldValue}
-use Rattle.session.specs.Spelling.{Token, Fixed, Given, Rest, Unspelled, token_words, field_words, has_block, layer_kind_word, yes_no_word, spaced, IsNumber, IsCoordinate, IsField, IsToken}
+use Rattle.map_model.specs.declared.owner.Owner.{Owner}
+use Rattle.map_model.specs.declared.owner.Owner.TheVariants as owners
+use Rattle.session.specs.Words.{words, is_color, is_color_digit}
+use Rattle.session.specs.Grammar.{FieldKind, Number, Coordinate, Block, Name, File, Choice, LayerSort, YesNo, Truth, Key, Color, OwnerName, FieldValue}
+use Rattle.session.specs.Spelling.{Token, Fixed, Given, Rest, Unspelled, token_words, field_words, has_block, layer_kind_word, yes_no_word, truth_word, owner_word, spaced, IsNumber, IsOwner, IsCoordinate, IsField, IsToken}
 
 -- no fewer than the bytes of a field's words
 abbrev field_room : FieldKind → ℕ
@@ -23,6 +25,10 @@ field_room File = 100
 field_room Choice = 64
 field_room LayerSort = 6
 field_room YesNo = 3
+field_room Truth = 5
+field_room Key = 200
+field_room Color = 9
+field_room OwnerName = 17
 
 -- no fewer than the bytes of parts, each with a space behind it
 abbrev pub room : List Token → ℕ
@@ -74,6 +80,25 @@ yes_no_within : (answer : Bool) → length (yes_no_word answer) ≤ 3
 yes_no_within true = omega arith
 yes_no_within false = omega arith
 
+truth_within : (truth : Bool) → length (truth_word truth) ≤ 5
+truth_within true = omega arith
+truth_within false = omega arith
+
+color_within : (color : List ℕ) → is_color color ≡ true → length color ≤ 9
+color_within [] h = omega arith
+color_within (b ∷ digits) h =
+    let parts = and_parts (eqb b 35 && (eqb (length digits) 6 || eqb (length digits) 8)) (list_all is_color_digit digits) h in
+    let front = and_parts (eqb b 35) (eqb (length digits) 6 || eqb (length digits) 8) parts.0 in
+    elim (or_cases (eqb (length digits) 6) (eqb (length digits) 8) front.1) [
+      | inl six ↦ omega (arith, eqb-true (length digits) 6 six)
+      | inr eight ↦ omega (arith, eqb-true (length digits) 8 eight)
+    ]
+
+owner_within : (owner : Owner) → IsOwner owner → length (owner_word owner) ≤ 17
+owner_within owners.Map h = omega arith
+owner_within (owners.Layer id) h = omega (arith, number_within id h)
+owner_within (owners.Object id) h = omega (arith, number_within id h)
+
 field_within : (kind : FieldKind) (value : FieldValue kind) → IsField kind value → field_room kind < 2 ^ 16 → total (field_words kind value) ≤ field_room kind + 1
 unfolding total
 field_within Number n h r = omega (arith, number_within n h)
@@ -85,6 +110,10 @@ field_within Choice None h r = omega arith
 field_within Choice (Some name) h r = omega (arith, h.short)
 field_within LayerSort kind h r = omega (arith, kind_within kind)
 field_within YesNo answer h r = omega (arith, yes_no_within answer)
+field_within Truth truth h r = omega (arith, truth_within truth)
+field_within Key name h r = omega (arith, h.short)
+field_within Color color h r = omega (arith, color_within color h)
+field_within OwnerName owner h r = omega (arith, owner_within owner h)
 
 tokens_within : (ts : List Token) → AllByRecursion IsToken ts → room ts < 2 ^ 16 → total (flat_map token_words ts) ≤ room ts
 unfolding total

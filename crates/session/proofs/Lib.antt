@@ -9,6 +9,7 @@ pub mod Cutting
 pub mod Counting
 pub mod FirstChecks
 pub mod SpelledFields
+pub mod Owners
 pub mod ReadFields
 pub mod Lengths
 pub mod Forms

@@ -9,12 +9,13 @@ use Rattle.std.proofs.lemmas.Bool.{leb-true, eqb-true, eq-eqb, and_parts, not-tr
 use Rattle.map_model.specs.declared.parts.LayerKind.TheVariants as kinds
 use Rattle.session.specs.declared.line.LineFault.{LineFault}
 use Rattle.session.specs.declared.line.LineFault.TheVariants.{BadWord}
-use Rattle.session.specs.Words.{words, number_of, coordinate_of, numbers_of, document_name_limit, file_name_limit, is_name, is_name_byte, is_text, is_text_byte, are_rows, layer_kind_of, yes_no_of}
-use Rattle.session.specs.Grammar.{FieldKind, Number, Coordinate, Block, Name, File, Choice, LayerSort, YesNo, FieldValue, field_at, number_at, coordinate_at, rows_at, block_at, name_at, choice_at, last_text_at, layer_kind_at, yes_no_at, ends_at, ◌>>=◌, word_is}
-use Rattle.session.specs.Spelling.{spaced, commas, choice_word, layer_kind_word, yes_no_word, field_words, IsField, IsName, IsChoice, IsText, AreRows}
+use Rattle.session.specs.Words.{words, number_of, coordinate_of, numbers_of, document_name_limit, file_name_limit, is_name, is_name_byte, is_text, is_text_byte, are_rows, layer_kind_of, yes_no_of, truth_of, is_key, is_key_byte, is_color, owner_of}
+use Rattle.session.specs.Grammar.{FieldKind, Number, Coordinate, Block, Name, File, Choice, LayerSort, YesNo, Truth, Key, Color, OwnerName, FieldValue, field_at, number_at, coordinate_at, rows_at, block_at, name_at, choice_at, last_text_at, layer_kind_at, yes_no_at, truth_at, key_at, color_at, owner_at, ends_at, ◌>>=◌, word_is}
+use Rattle.session.specs.Spelling.{spaced, commas, choice_word, layer_kind_word, yes_no_word, truth_word, owner_word, field_words, IsField, IsName, IsChoice, IsText, IsKey, AreRows}
 use Rattle.session.proofs.Decimals.{decimal_from}
 use Rattle.session.proofs.Coordinates.{signed_from}
 use Rattle.session.proofs.Commas.{commas_from}
+use Rattle.session.proofs.Owners.{owner_from}
 use Rattle.session.proofs.SpacedWords.{Clean, words-spaced, utf8-spaced}
 use Rattle.std.specs.List.{AllByRecursion}
 
@@ -126,15 +127,52 @@ unfolding yes_no_at
 yes_no_is_read [] = tt
 yes_no_is_read (w ∷ ws) = if_word (yes_no_of w) (λ a. Ok (a, ws)) (ReadField YesNo (w ∷ ws)) (λ a e. record { fits = tt; words = ap (λ v. v ∷ ws) (sym (by_two w (codes "yes") (codes "no") true false yes_no_word refl refl a e)) })
 
-pub field_is_read : (kind : FieldKind) (ws : List (List ℕ)) → IfOk (field_at kind ws) (ReadField kind ws)
-field_is_read Number ws = number_is_read ws
-field_is_read Coordinate ws = coordinate_is_read ws
-field_is_read Block ws = block_is_read ws
-field_is_read Name ws = if_then (name_at document_name_limit ws) (ReadName document_name_limit ws) (ReadField Name ws) (name_is_read document_name_limit ws) (λ x r. record { fits = r.fits; words = r.words })
-field_is_read File ws = if_then (name_at file_name_limit ws) (ReadName file_name_limit ws) (ReadField File ws) (name_is_read file_name_limit ws) (λ x r. record { fits = r.fits; words = r.words })
-field_is_read Choice ws = choice_is_read ws
-field_is_read LayerSort ws = layer_kind_is_read ws
-field_is_read YesNo ws = yes_no_is_read ws
+truth_is_read : (ws : List (List ℕ)) → IfOk (truth_at ws) (ReadField Truth ws)
+unfolding truth_at
+truth_is_read [] = tt
+truth_is_read (w ∷ ws) = if_word (truth_of w) (λ a. Ok (a, ws)) (ReadField Truth (w ∷ ws)) (λ a e. record { fits = tt; words = ap (λ v. v ∷ ws) (sym (by_two w (codes "true") (codes "false") true false truth_word refl refl a e)) })
+
+is_key_from : (bytes : List ℕ) → is_key bytes ≡ true → IsUtf8 bytes → IsKey bytes
+is_key_from bytes h u =
+    let parts = and_parts _ _ h in
+    let size = and_parts _ _ parts.0 in
+    record {
+      some = leb-true _ _ size.0;
+      short = leb-true _ _ size.1;
+      bytes = λ k d l. let at = and_parts _ _ (AllPass-from_list_all is_key_byte bytes parts.1 k d l) in (leb-true _ _ at.0, ne_from_not _ _ at.1);
+      utf8 = u;
+    }
+
+key_is_read : (ws : List (List ℕ)) → AllByRecursion Clean ws → IfOk (key_at ws) (ReadField Key ws)
+unfolding key_at
+key_is_read [] h = tt
+key_is_read (w ∷ ws) h =
+    cond_both (is_key w) (Ok (w, ws)) (Err BadWord) (λ r. IfOk r (ReadField Key (w ∷ ws))) (λ is. record { fits = is_key_from w is h.0.utf8; words = refl }) (λ is. tt)
+
+color_is_read : (ws : List (List ℕ)) → IfOk (color_at ws) (ReadField Color ws)
+unfolding color_at
+color_is_read [] = tt
+color_is_read (w ∷ ws) =
+    cond_both (is_color w) (Ok (w, ws)) (Err BadWord) (λ r. IfOk r (ReadField Color (w ∷ ws))) (λ is. record { fits = is; words = refl }) (λ is. tt)
+
+owner_is_read : (ws : List (List ℕ)) → IfOk (owner_at ws) (ReadField OwnerName ws)
+unfolding owner_at
+owner_is_read [] = tt
+owner_is_read (w ∷ ws) = if_word (owner_of w) (λ o. Ok (o, ws)) (ReadField OwnerName (w ∷ ws)) (λ o e. let at = owner_from w o e in record { fits = at.1; words = ap (λ v. v ∷ ws) (sym at.0) })
+
+pub field_is_read : (kind : FieldKind) (ws : List (List ℕ)) → AllByRecursion Clean ws → IfOk (field_at kind ws) (ReadField kind ws)
+field_is_read Number ws h = number_is_read ws
+field_is_read Coordinate ws h = coordinate_is_read ws
+field_is_read Block ws h = block_is_read ws
+field_is_read Truth ws h = truth_is_read ws
+field_is_read Key ws h = key_is_read ws h
+field_is_read Color ws h = color_is_read ws
+field_is_read OwnerName ws h = owner_is_read ws
+field_is_read Name ws h = if_then (name_at document_name_limit ws) (ReadName document_name_limit ws) (ReadField Name ws) (name_is_read document_name_limit ws) (λ x r. record { fits = r.fits; words = r.words })
+field_is_read File ws h = if_then (name_at file_name_limit ws) (ReadName file_name_limit ws) (ReadField File ws) (name_is_read file_name_limit ws) (λ x r. record { fits = r.fits; words = r.words })
+field_is_read Choice ws h = choice_is_read ws
+field_is_read LayerSort ws h = layer_kind_is_read ws
+field_is_read YesNo ws h = yes_no_is_read ws
 
 pub is_text_from : (bytes : List ℕ) → is_text bytes ≡ true → IsUtf8 bytes → IsText bytes
 is_text_from bytes h u =

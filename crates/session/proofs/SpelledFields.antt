@@ -5,17 +5,22 @@ use Rattle.std.specs.List.{AllByRecursion}
 use Rattle.std.specs.Fmt.{decimal, signed_decimal}
 use Rattle.std.specs.Str.{bytes_eq}
 use Rattle.std.proofs.lemmas.List.Sums.{list_all-from_AllPass}
-use Rattle.std.proofs.lemmas.Bool.{le-leb, ne_eqb, eq-eqb, and_from}
+use Rattle.std.proofs.lemmas.Bool.{le-leb, ne_eqb, eq-eqb, eqb-true, and_from, and_parts}
+use Rattle.std.proofs.lemmas.Bool.Decides.{nat_tests}
+use Rattle.std.proofs.lemmas.List.Elements.{recursion_from_All}
+use Rattle.std.specs.List.{list_all}
 use Rattle.map_model.specs.declared.parts.LayerKind.{LayerKind}
 use Rattle.map_model.specs.declared.parts.LayerKind.TheVariants as kinds
-use Rattle.session.specs.Words.{words, document_name_limit, file_name_limit, is_name, is_name_byte, is_text, is_text_byte, are_rows, layer_kind_of, yes_no_of}
-use Rattle.session.specs.Grammar.{number_at, coordinate_at, rows_at, block_at, name_at, choice_at, last_text_at, layer_kind_at, yes_no_at, field_at, FieldKind, Number, Coordinate, Block, Name, File, Choice, LayerSort, YesNo, FieldValue}
-use Rattle.session.specs.Spelling.{commas, choice_word, layer_kind_word, yes_no_word, field_words, IsField, IsNumber, IsCoordinate, IsName, IsChoice, IsText, AreRows}
+use Rattle.session.specs.Words.{words, document_name_limit, file_name_limit, is_name, is_name_byte, is_text, is_text_byte, are_rows, layer_kind_of, yes_no_of, truth_of, is_key, is_key_byte, is_color, is_color_digit, owner_of}
+use Rattle.session.specs.Grammar.{number_at, coordinate_at, rows_at, block_at, name_at, choice_at, last_text_at, layer_kind_at, yes_no_at, truth_at, key_at, color_at, owner_at, field_at, FieldKind, Number, Coordinate, Block, Name, File, Choice, LayerSort, YesNo, Truth, Key, Color, OwnerName, FieldValue}
+use Rattle.session.specs.Spelling.{commas, choice_word, layer_kind_word, yes_no_word, truth_word, owner_word, field_words, IsField, IsNumber, IsCoordinate, IsName, IsChoice, IsText, IsKey, IsOwner, AreRows}
 use Rattle.session.proofs.Decimals.{number_of-decimal}
 use Rattle.session.proofs.Coordinates.{coordinate_of-signed}
 use Rattle.session.proofs.Commas.{numbers_of-commas, plain_commas}
-use Rattle.session.proofs.SpacedWords.{Plain, Clean, clean, plain_literal, plain_number, plain_coordinate, plain_name}
+use Rattle.session.proofs.SpacedWords.{IsPlain, Plain, Clean, clean, plain_literal, plain_number, plain_coordinate, plain_name}
 use Rattle.session.proofs.Cutting.{text_of_words}
+use Rattle.session.proofs.Owners.{owner_of-word, plain_owner}
+use Rattle.map_model.specs.declared.owner.Owner.{Owner}
 
 pub number_at-decimal : (n : ℕ) (ws : List (List ℕ)) → IsNumber n → number_at (decimal n ∷ ws) ≡ Ok (n, ws)
 unfolding number_at
@@ -79,6 +84,53 @@ pub yes_no_at-word : (answer : Bool) (ws : List (List ℕ)) → yes_no_at (yes_n
 unfolding yes_no_at
 yes_no_at-word answer ws = rw (yes_no_of-word answer) refl
 
+truth_of-word : (truth : Bool) → truth_of (truth_word truth) ≡ Some truth
+truth_of-word true = refl
+truth_of-word false = refl
+
+truth_at-word : (truth : Bool) (ws : List (List ℕ)) → truth_at (truth_word truth ∷ ws) ≡ Ok (truth, ws)
+unfolding truth_at
+truth_at-word truth ws = rw (truth_of-word truth) refl
+
+key : (bytes : List ℕ) → IsKey bytes → is_key bytes ≡ true
+key bytes h =
+    and_from _ _ (and_from _ _ (le-leb 1 (length bytes) h.some) (le-leb (length bytes) 200 h.short))
+    (list_all-from_AllPass is_key_byte bytes (λ k d l. let at = h.bytes k d l in and_from _ _ (le-leb 33 _ at.0) (ap not (ne_eqb _ 127 at.1))))
+
+key_at-key : (bytes : List ℕ) (ws : List (List ℕ)) → IsKey bytes → key_at (bytes ∷ ws) ≡ Ok (bytes, ws)
+unfolding key_at
+key_at-key bytes ws h = rw (key bytes h) refl
+
+color_at-color : (bytes : List ℕ) (ws : List (List ℕ)) → is_color bytes ≡ true → color_at (bytes ∷ ws) ≡ Ok (bytes, ws)
+unfolding color_at
+color_at-color bytes ws h = rw h refl
+
+owner_at-word : (owner : Owner) (ws : List (List ℕ)) → IsOwner owner → owner_at (owner_word owner ∷ ws) ≡ Ok (owner, ws)
+unfolding owner_at
+owner_at-word owner ws h = rw (owner_of-word owner h) refl
+
+plain_truth : (truth : Bool) → Plain (truth_word truth)
+plain_truth true = plain_literal (codes "true") refl
+plain_truth false = plain_literal (codes "false") refl
+
+color_digit : (b : ℕ) → is_color_digit b ≡ true → IsPlain b
+color_digit b h = (grind (arith, nat_tests), grind (arith, nat_tests))
+
+color_digits : (digits : List ℕ) → list_all is_color_digit digits ≡ true → AllByRecursion IsPlain digits
+color_digits [] h = tt
+color_digits (b ∷ digits) h = let parts = and_parts _ _ h in (color_digit b parts.0, color_digits digits parts.1)
+
+plain_color : (color : List ℕ) → is_color color ≡ true → Plain color
+plain_color [] h = absurd cc
+plain_color (b ∷ digits) h =
+    let parts = and_parts _ _ h in
+    let front = and_parts _ _ parts.0 in
+    let hash : b ≡ 35 = eqb-true b 35 front.0 in
+    record { bytes = ((omega (arith, hash), omega (arith, hash)), color_digits digits parts.1) }
+
+clean_key : (name : List ℕ) → IsKey name → Clean name
+clean_key name h = record { no_space = recursion_from_All _ name (λ k d l. ne_eqb _ 32 (λ e. omega (arith, (h.bytes k d l).0, e))); utf8 = h.utf8 }
+
 pub plain_kind : (kind : LayerKind) → Plain (layer_kind_word kind)
 plain_kind kinds.Tile = plain_literal (codes "tile") refl
 plain_kind kinds.Object = plain_literal (codes "object") refl
@@ -101,6 +153,10 @@ field_at-words File bytes ws h = name_at-name file_name_limit bytes ws h
 field_at-words Choice choice ws h = choice_at-word choice ws h
 field_at-words LayerSort kind ws h = layer_kind_at-word kind ws
 field_at-words YesNo answer ws h = yes_no_at-word answer ws
+field_at-words Truth truth ws h = truth_at-word truth ws
+field_at-words Key bytes ws h = key_at-key bytes ws h
+field_at-words Color bytes ws h = color_at-color bytes ws h
+field_at-words OwnerName owner ws h = owner_at-word owner ws h
 
 pub clean_field : (kind : FieldKind) (value : FieldValue kind) → IsField kind value → AllByRecursion Clean (field_words kind value)
 clean_field Number n h = (clean _ (plain_number n h), tt)
@@ -111,3 +167,7 @@ clean_field File bytes h = (clean _ (plain_name file_name_limit bytes h), tt)
 clean_field Choice choice h = (clean _ (plain_choice choice h), tt)
 clean_field LayerSort kind h = (clean _ (plain_kind kind), tt)
 clean_field YesNo answer h = (clean _ (plain_yes_no answer), tt)
+clean_field Truth truth h = (clean _ (plain_truth truth), tt)
+clean_field Key bytes h = (clean_key bytes h, tt)
+clean_field Color bytes h = (clean _ (plain_color bytes h), tt)
+clean_field OwnerName owner h = (clean _ (plain_owner owner h), tt)

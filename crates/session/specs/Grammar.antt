@@ -3,13 +3,15 @@ use Rattle.std.specs.Prelude.{◌≡◌, ℕ, ◌^◌, ℤ, Bool, true, false, n
 use Rattle.std.specs.List.{join_with_byte, list_all}
 use Rattle.std.specs.Str.{bytes_eq, is_utf8}
 use Rattle.session.specs.declared.line.Line.{Line}
-use Rattle.session.specs.declared.line.Line.TheVariants.{Quiet, New, Open, Save, Close, Discard, Use, Documents, Stamp, Erase, Fill, Select, SelectNone, Tile, AddLayer, RemoveLayer, RenameLayer, ShowLayer, MoveLayer, Undo, Redo, Goto, Clean, Dirty, Clear, Show, Status, UndoText, RedoText, StepText}
+use Rattle.session.specs.declared.line.Line.TheVariants.{Quiet, New, Open, Save, Close, Discard, Use, Documents, Stamp, Erase, Fill, Select, SelectNone, Tile, AddLayer, RemoveLayer, RenameLayer, ShowLayer, MoveLayer, Resize, AddObject, MoveObject, ResizeObject, RemoveObject, SetProperty, RemoveProperty, AddTileset, RemoveTileset, Undo, Redo, Goto, Clean, Dirty, Clear, Show, Status, UndoText, RedoText, StepText}
 use Rattle.session.specs.declared.line.LineFault.{LineFault}
 use Rattle.session.specs.declared.line.LineFault.TheVariants.{TooLong, NotUtf8, UnknownCommand, BadWord}
 use Rattle.map_model.specs.declared.parts.LayerKind.{LayerKind}
 use Rattle.map_model.specs.declared.selection.SelectionMode.{SelectionMode}
 use Rattle.map_model.specs.declared.selection.SelectionMode.TheVariants.{Replace, Add, Subtract, Intersect}
-use Rattle.session.specs.Words.{words, number_of, coordinate_of, numbers_of, are_rows, document_name_limit, file_name_limit, is_name, is_text, layer_kind_of, yes_no_of}
+use Rattle.map_model.specs.declared.owner.Owner.{Owner}
+use Rattle.session.specs.declared.typed_value.TypedValue.TheVariants as typed
+use Rattle.session.specs.Words.{words, number_of, coordinate_of, numbers_of, are_rows, document_name_limit, file_name_limit, is_name, is_text, layer_kind_of, yes_no_of, truth_of, is_key, is_color, owner_of}
 
 infixl 10 ◌>>=◌
 abbrev pub ◌>>=◌ : {A B : Type 0} → Result A LineFault → (A → Result B LineFault) → Result B LineFault
@@ -70,6 +72,26 @@ unfoldable pub yes_no_at : List (List ℕ) → Result (Bool × List (List ℕ)) 
 yes_no_at [] = Err BadWord
 yes_no_at (w ∷ ws) = word_is (yes_no_of w) >>= λ answer. Ok (answer, ws)
 
+-- true or false, and the words after it
+unfoldable pub truth_at : List (List ℕ) → Result (Bool × List (List ℕ)) LineFault
+truth_at [] = Err BadWord
+truth_at (w ∷ ws) = word_is (truth_of w) >>= λ truth. Ok (truth, ws)
+
+-- a property's name, and the words after it
+unfoldable pub key_at : List (List ℕ) → Result (List ℕ × List (List ℕ)) LineFault
+key_at [] = Err BadWord
+key_at (w ∷ ws) = if is_key w then Ok (w, ws) else Err BadWord
+
+-- a colour, and the words after it
+unfoldable pub color_at : List (List ℕ) → Result (List ℕ × List (List ℕ)) LineFault
+color_at [] = Err BadWord
+color_at (w ∷ ws) = if is_color w then Ok (w, ws) else Err BadWord
+
+-- an owner of properties, and the words after it
+unfoldable pub owner_at : List (List ℕ) → Result (Owner × List (List ℕ)) LineFault
+owner_at [] = Err BadWord
+owner_at (w ∷ ws) = word_is (owner_of w) >>= λ owner. Ok (owner, ws)
+
 -- no further word
 unfoldable pub ends_at : List (List ℕ) → Result (Unit {0}) LineFault
 ends_at [] = Ok tt
@@ -90,6 +112,10 @@ pub data FieldKind : Type 0 where
   Choice : FieldKind
   LayerSort : FieldKind
   YesNo : FieldKind
+  Truth : FieldKind
+  Key : FieldKind
+  Color : FieldKind
+  OwnerName : FieldKind
 
 abbrev pub FieldValue : FieldKind → Type 0
 FieldValue Number = ℕ
@@ -100,6 +126,10 @@ FieldValue File = List ℕ
 FieldValue Choice = Option (List ℕ)
 FieldValue LayerSort = LayerKind
 FieldValue YesNo = Bool
+FieldValue Truth = Bool
+FieldValue Key = List ℕ
+FieldValue Color = List ℕ
+FieldValue OwnerName = Owner
 
 -- the field at the front of the words, and the words after it
 abbrev pub field_at : (kind : FieldKind) → List (List ℕ) → Result (FieldValue kind × List (List ℕ)) LineFault
@@ -111,6 +141,10 @@ field_at File ws = name_at file_name_limit ws
 field_at Choice ws = choice_at ws
 field_at LayerSort ws = layer_kind_at ws
 field_at YesNo ws = yes_no_at ws
+field_at Truth ws = truth_at ws
+field_at Key ws = key_at ws
+field_at Color ws = color_at ws
+field_at OwnerName ws = owner_at ws
 
 -- what may follow some words: no further word, a text that all further words make, a field and what its value leads
 -- to, that word and what it leads to or else the other form, or nothing
@@ -188,6 +222,64 @@ select_form mode =
 abbrev pub tile_form : LineForm
 tile_form = Field Number λ layer. Field Coordinate λ x. Field Coordinate λ y. Ends (Tile layer x y)
 
+abbrev pub resize_form : LineForm
+resize_form = Field Number λ width. Field Number λ height. Field Coordinate λ dx. Field Coordinate λ dy. Ends (Resize width height dx dy)
+
+abbrev pub add_object_form : LineForm
+add_object_form =
+    Field Number λ layer. Field Coordinate λ x. Field Coordinate λ y. Field Number λ width. Field Number λ height. Text (AddObject layer x y width height)
+
+abbrev pub move_object_form : LineForm
+move_object_form = Field Number λ object. Field Coordinate λ x. Field Coordinate λ y. Ends (MoveObject object x y false)
+
+abbrev pub resize_object_form : LineForm
+resize_object_form = Field Number λ object. Field Number λ width. Field Number λ height. Ends (ResizeObject object width height)
+
+abbrev pub remove_object_form : LineForm
+remove_object_form = Field Number λ object. Ends (RemoveObject object)
+
+-- a value of each type
+abbrev pub string_form : Owner → List ℕ → LineForm
+string_form owner name = Text λ text. SetProperty owner name (typed.String text) false
+
+abbrev pub file_form : Owner → List ℕ → LineForm
+file_form owner name = Text λ text. SetProperty owner name (typed.File text) false
+
+abbrev pub int_form : Owner → List ℕ → LineForm
+int_form owner name = Field Coordinate λ number. Ends (SetProperty owner name (typed.Int number) false)
+
+abbrev pub bool_form : Owner → List ℕ → LineForm
+bool_form owner name = Field Truth λ truth. Ends (SetProperty owner name (typed.Bool truth) false)
+
+abbrev pub color_form : Owner → List ℕ → LineForm
+color_form owner name = Field Color λ color. Ends (SetProperty owner name (typed.Color color) false)
+
+abbrev pub object_form : Owner → List ℕ → LineForm
+object_form owner name = Field Number λ id. Ends (SetProperty owner name (typed.Object id) false)
+
+-- the types of properties
+abbrev pub property_types : Owner → List ℕ → List (List ℕ × LineForm)
+property_types owner name =
+    (codes "string", string_form owner name)
+    ∷ (codes "int", int_form owner name)
+    ∷ (codes "bool", bool_form owner name)
+    ∷ (codes "color", color_form owner name)
+    ∷ (codes "file", file_form owner name)
+    ∷ (codes "object", object_form owner name)
+    ∷ []
+
+abbrev pub set_property_form : LineForm
+set_property_form = Field OwnerName λ owner. Field Key λ name. choose (property_types owner name) BadWord
+
+abbrev pub remove_property_form : LineForm
+remove_property_form = Field OwnerName λ owner. Field Key λ name. Ends (RemoveProperty owner name)
+
+abbrev pub add_tileset_form : LineForm
+add_tileset_form = Field Number λ first_id. Text (AddTileset first_id)
+
+abbrev pub remove_tileset_form : LineForm
+remove_tileset_form = Field Number λ first_id. Ends (RemoveTileset first_id)
+
 abbrev pub goto_form : LineForm
 goto_form = Field Number λ index. Ends (Goto index)
 
@@ -214,6 +306,23 @@ layer_lines =
     ∷ (codes "move", move_layer_form)
     ∷ []
 
+-- what is done with an object
+abbrev pub object_lines : List (List ℕ × LineForm)
+object_lines =
+    (codes "move", move_object_form)
+    ∷ (codes "add", add_object_form)
+    ∷ (codes "resize", resize_object_form)
+    ∷ (codes "remove", remove_object_form)
+    ∷ []
+
+-- what is done with a property
+abbrev pub property_lines : List (List ℕ × LineForm)
+property_lines = (codes "set", set_property_form) ∷ (codes "remove", remove_property_form) ∷ []
+
+-- what is done with a tileset
+abbrev pub tileset_lines : List (List ℕ × LineForm)
+tileset_lines = (codes "add", add_tileset_form) ∷ (codes "remove", remove_tileset_form) ∷ []
+
 -- the commands, those of most lines first
 abbrev pub commands : List (List ℕ × LineForm)
 commands =
@@ -230,6 +339,10 @@ commands =
     ∷ (codes "fill", fill_form)
     ∷ (codes "select", choose select_lines BadWord)
     ∷ (codes "layer", choose layer_lines BadWord)
+    ∷ (codes "object", choose object_lines BadWord)
+    ∷ (codes "prop", choose property_lines BadWord)
+    ∷ (codes "tileset", choose tileset_lines BadWord)
+    ∷ (codes "resize", resize_form)
     ∷ (codes "text", step_text_form)
     ∷ (codes "clean", Ends Clean)
     ∷ (codes "dirty", Ends Dirty)

@@ -1,4 +1,5 @@
 pub mod Words
 pub mod Grammar
 pub mod Spelling
+pub mod TypedValues
 pub mod Replies

@@ -4,14 +4,18 @@ use Rattle.std.specs.List.{join_with_byte, flat_map, AllByRecursion}
 use Rattle.std.specs.Fmt.{signed_decimal}
 use Rattle.std.specs.Str.{IsUtf8}
 use Rattle.session.specs.declared.line.Line.{Line}
-use Rattle.session.specs.declared.line.Line.TheVariants.{Quiet, New, Open, Save, Close, Discard, Use, Documents, Stamp, Erase, Fill, Select, SelectNone, Tile, AddLayer, RemoveLayer, RenameLayer, ShowLayer, MoveLayer, Undo, Redo, Goto, Clean, Dirty, Clear, Show, Status, UndoText, RedoText, StepText}
+use Rattle.session.specs.declared.line.Line.TheVariants.{Quiet, New, Open, Save, Close, Discard, Use, Documents, Stamp, Erase, Fill, Select, SelectNone, Tile, AddLayer, RemoveLayer, RenameLayer, ShowLayer, MoveLayer, Resize, AddObject, MoveObject, ResizeObject, RemoveObject, SetProperty, RemoveProperty, AddTileset, RemoveTileset, Undo, Redo, Goto, Clean, Dirty, Clear, Show, Status, UndoText, RedoText, StepText}
 use Rattle.session.specs.declared.line.LineFault.TheVariants.{TooLong}
 use Rattle.map_model.specs.declared.parts.LayerKind.{LayerKind}
 use Rattle.map_model.specs.declared.parts.LayerKind.TheVariants as kinds
 use Rattle.map_model.specs.declared.selection.SelectionMode.{SelectionMode}
 use Rattle.map_model.specs.declared.selection.SelectionMode.TheVariants.{Replace, Add, Subtract, Intersect}
-use Rattle.session.specs.Words.{words, reach, document_name_limit, file_name_limit, is_name_byte}
-use Rattle.session.specs.Grammar.{FieldKind, Number, Coordinate, Block, Name, File, Choice, LayerSort, YesNo, FieldValue, is_quiet, line_of}
+use Rattle.map_model.specs.declared.owner.Owner.{Owner}
+use Rattle.map_model.specs.declared.owner.Owner.TheVariants as owners
+use Rattle.session.specs.declared.typed_value.TypedValue.{TypedValue}
+use Rattle.session.specs.declared.typed_value.TypedValue.TheVariants as typed
+use Rattle.session.specs.Words.{words, reach, document_name_limit, file_name_limit, is_name_byte, is_color}
+use Rattle.session.specs.Grammar.{FieldKind, Number, Coordinate, Block, Name, File, Choice, LayerSort, YesNo, Truth, Key, Color, OwnerName, FieldValue, is_quiet, line_of}
 
 -- words with one space between each two
 abbrev pub spaced : List (List ℕ) → List ℕ
@@ -31,6 +35,21 @@ abbrev pub yes_no_word : Bool → List ℕ
 yes_no_word true = codes "yes"
 yes_no_word false = codes "no"
 
+-- true or false
+abbrev pub truth_word : Bool → List ℕ
+truth_word true = codes "true"
+truth_word false = codes "false"
+
+-- pieces with one colon between each two
+abbrev pub colons : List (List ℕ) → List ℕ
+colons pieces = join_with_byte 58 pieces
+
+-- the word of an owner
+abbrev pub owner_word : Owner → List ℕ
+owner_word owners.Map = codes "map"
+owner_word (owners.Layer id) = colons (codes "layer" ∷ decimal id ∷ [])
+owner_word (owners.Object id) = colons (codes "object" ∷ decimal id ∷ [])
+
 -- a part of a spelled line: a word that is written out, a field with its value, a text that goes to the end, or one
 -- that no spelling has
 pub data Token : Type 0 where
@@ -39,7 +58,7 @@ pub data Token : Type 0 where
   Rest : List ℕ → Token
   Unspelled : Token
 
--- the first word of a line that may follow; there is none yet for one that does
+-- the word of a line that may follow; there is none yet for one that does
 abbrev pub leading : List ℕ → Bool → Token
 leading word false = Fixed word
 leading word true = Unspelled
@@ -50,6 +69,15 @@ selection_mode_word Replace = codes "replace"
 selection_mode_word Add = codes "add"
 selection_mode_word Subtract = codes "subtract"
 selection_mode_word Intersect = codes "intersect"
+
+-- the parts of a property's type and value
+abbrev pub value_tokens : TypedValue → List Token
+value_tokens (typed.String text) = Fixed (codes "string") ∷ Rest text ∷ []
+value_tokens (typed.File text) = Fixed (codes "file") ∷ Rest text ∷ []
+value_tokens (typed.Int number) = Fixed (codes "int") ∷ Given Coordinate number ∷ []
+value_tokens (typed.Bool truth) = Fixed (codes "bool") ∷ Given Truth truth ∷ []
+value_tokens (typed.Color color) = Fixed (codes "color") ∷ Given Color color ∷ []
+value_tokens (typed.Object id) = Fixed (codes "object") ∷ Given Number id ∷ []
 
 -- the parts of each line; a quiet one has none
 abbrev pub tokens : Line → List Token
@@ -83,6 +111,23 @@ tokens (ShowLayer layer visible) =
     Fixed (codes "layer") ∷ Fixed (codes "show") ∷ Given Number layer ∷ Given YesNo visible ∷ []
 tokens (MoveLayer layer place) =
     Fixed (codes "layer") ∷ Fixed (codes "move") ∷ Given Number layer ∷ Given Number place ∷ []
+tokens (Resize width height dx dy) =
+    Fixed (codes "resize") ∷ Given Number width ∷ Given Number height ∷ Given Coordinate dx ∷ Given Coordinate dy ∷ []
+tokens (AddObject layer x y width height name) =
+    Fixed (codes "object") ∷ Fixed (codes "add") ∷ Given Number layer ∷ Given Coordinate x ∷ Given Coordinate y
+    ∷ Given Number width ∷ Given Number height ∷ Rest name ∷ []
+tokens (MoveObject object x y follows) =
+    Fixed (codes "object") ∷ leading (codes "move") follows ∷ Given Number object ∷ Given Coordinate x ∷ Given Coordinate y ∷ []
+tokens (ResizeObject object width height) =
+    Fixed (codes "object") ∷ Fixed (codes "resize") ∷ Given Number object ∷ Given Number width ∷ Given Number height ∷ []
+tokens (RemoveObject object) = Fixed (codes "object") ∷ Fixed (codes "remove") ∷ Given Number object ∷ []
+tokens (SetProperty owner name value follows) =
+    Fixed (codes "prop") ∷ leading (codes "set") follows ∷ Given OwnerName owner ∷ Given Key name ∷ value_tokens value
+tokens (RemoveProperty owner name) =
+    Fixed (codes "prop") ∷ Fixed (codes "remove") ∷ Given OwnerName owner ∷ Given Key name ∷ []
+tokens (AddTileset first_id source) =
+    Fixed (codes "tileset") ∷ Fixed (codes "add") ∷ Given Number first_id ∷ Rest source ∷ []
+tokens (RemoveTileset first_id) = Fixed (codes "tileset") ∷ Fixed (codes "remove") ∷ Given Number first_id ∷ []
 tokens Undo = Fixed (codes "undo") ∷ []
 tokens Redo = Fixed (codes "redo") ∷ []
 tokens (Goto index) = Fixed (codes "goto") ∷ Given Number index ∷ []
@@ -110,6 +155,10 @@ field_words File name = name ∷ []
 field_words Choice choice = choice_word choice ∷ []
 field_words LayerSort kind = layer_kind_word kind ∷ []
 field_words YesNo answer = yes_no_word answer ∷ []
+field_words Truth truth = truth_word truth ∷ []
+field_words Key name = name ∷ []
+field_words Color color = color ∷ []
+field_words OwnerName owner = owner_word owner ∷ []
 
 -- the words of a part
 abbrev pub token_words : Token → List (List ℕ)
@@ -158,6 +207,19 @@ pub record AreRows (width : ℕ) (values : List ℕ) : Type 0 where
 abbrev pub IsChoice : Option (List ℕ) → Type 0
 IsChoice choice = IfSome choice (IsName document_name_limit)
 
+-- a property's name that a line can give
+pub record IsKey (name : List ℕ) : Type 0 where
+  pub some : 1 ≤ length name
+  pub short : length name ≤ 200
+  pub bytes : All (λ b. (33 ≤ b) × (b ≢ 127)) name
+  pub utf8 : IsUtf8 name
+
+-- an owner whose id a word can be
+abbrev pub IsOwner : Owner → Type 0
+IsOwner owners.Map = ⊤
+IsOwner (owners.Layer id) = IsNumber id
+IsOwner (owners.Object id) = IsNumber id
+
 -- a value that a field can be
 abbrev pub IsField : (kind : FieldKind) → FieldValue kind → Type 0
 IsField Number n = IsNumber n
@@ -168,6 +230,10 @@ IsField File name = IsName file_name_limit name
 IsField Choice choice = IsChoice choice
 IsField LayerSort kind = ⊤
 IsField YesNo answer = ⊤
+IsField Truth truth = ⊤
+IsField Key name = IsKey name
+IsField Color color = IsTrue (is_color color)
+IsField OwnerName owner = IsOwner owner
 
 -- a part that can be spelled
 abbrev pub IsToken : Token → Type 0

@@ -8,6 +8,8 @@ use Rattle.std.specs.Str.{bytes_eq}
 use Rattle.std.specs.Str.Parse.{digits_value}
 use Rattle.map_model.specs.declared.parts.LayerKind.{LayerKind}
 use Rattle.map_model.specs.declared.parts.LayerKind.TheVariants as kinds
+use Rattle.map_model.specs.declared.owner.Owner.{Owner}
+use Rattle.map_model.specs.declared.owner.Owner.TheVariants as owners
 
 -- the words of a text stand between its spaces
 abbrev pub words : List ℕ → List (List ℕ)
@@ -121,6 +123,48 @@ yes_no_of word =
     if bytes_eq word (codes "yes") then Some true
     else if bytes_eq word (codes "no") then Some false
     else None
+
+-- true or false
+abbrev pub truth_of : List ℕ → Option Bool
+truth_of word =
+    if bytes_eq word (codes "true") then Some true
+    else if bytes_eq word (codes "false") then Some false
+    else None
+
+-- a byte of a key: neither a control nor a space
+abbrev pub is_key_byte : ℕ → Bool
+is_key_byte b = nat_le 33 b && not (b == 127)
+
+-- a property's name that a line can give: 1 to 200 such bytes
+abbrev pub is_key : List ℕ → Bool
+is_key word = nat_le 1 (length word) && nat_le (length word) 200 && list_all is_key_byte word
+
+-- a digit of a colour: `0` to `9` or `a` to `f`
+abbrev pub is_color_digit : ℕ → Bool
+is_color_digit b = is_ascii_digit b || (nat_le 97 b && nat_le b 102)
+
+-- a colour: `#` and 6 or 8 digits
+abbrev pub is_color : List ℕ → Bool
+is_color [] = false
+is_color (b ∷ digits) = b == 35 && (length digits == 6 || length digits == 8) && list_all is_color_digit digits
+
+-- the owner of this kind with an id
+abbrev pub owner_with : List ℕ → ℕ → Option Owner
+owner_with kind id =
+    if bytes_eq kind (codes "layer") then Some (owners.Layer id)
+    else if bytes_eq kind (codes "object") then Some (owners.Object id)
+    else None
+
+-- the owner that pieces name: the map, or a kind and an id
+abbrev pub owner_of_pieces : List (List ℕ) → Option Owner
+owner_of_pieces [] = None
+owner_of_pieces (kind ∷ []) = if bytes_eq kind (codes "map") then Some owners.Map else None
+owner_of_pieces (kind ∷ id ∷ []) = option_and_then (owner_with kind) (number_of id)
+owner_of_pieces (kind ∷ id ∷ piece ∷ pieces) = None
+
+-- the owner that a word is: `map`, or `layer` or `object`, a colon and an id
+abbrev pub owner_of : List ℕ → Option Owner
+owner_of word = owner_of_pieces (slice_split (λ b. b == 58) word)
 
 -- the words of what is left of a line
 abbrev pub words_left : Option (Bor (List ℕ)) → List (List ℕ)

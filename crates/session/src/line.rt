@@ -1,6 +1,7 @@
 use crate::gids::Gids;
 use crate::text::Text;
-use map_model::{LayerKind, SelectionMode};
+use crate::typed_value::TypedValue;
+use map_model::{LayerKind, Owner, SelectionMode};
 use tile_id::Gid;
 
 /// What a line asks for. Its texts and values are borrowed from the line.
@@ -106,6 +107,62 @@ pub enum Line<'a> {
     MoveLayer {
         layer: u32,
         place: u32,
+    },
+    /// The map gets that size in cells, and what it holds goes so many cells to the right and down.
+    Resize {
+        width: u32,
+        height: u32,
+        dx: i32,
+        dy: i32,
+    },
+    /// A new object of the layer, with its place and size in pixels and its name.
+    AddObject {
+        layer: u32,
+        x: i32,
+        y: i32,
+        width: u32,
+        height: u32,
+        name: Text<'a>,
+    },
+    /// The object goes to that place, in pixels. Where it follows, it joins the step before it, if that moves the same
+    /// object; there is no command for this yet.
+    MoveObject {
+        object: u32,
+        x: i32,
+        y: i32,
+        follows: bool,
+    },
+    /// The object gets that size, in pixels.
+    ResizeObject {
+        object: u32,
+        width: u32,
+        height: u32,
+    },
+    /// The object is taken out of the map.
+    RemoveObject {
+        object: u32,
+    },
+    /// The property of that name gets a type and a value, or is put in with them. Where it follows, it joins the step
+    /// before it, if that sets the same property; there is no command for this yet.
+    SetProperty {
+        owner: Owner,
+        name: Text<'a>,
+        value: TypedValue<'a>,
+        follows: bool,
+    },
+    /// The property of that name is taken out.
+    RemoveProperty {
+        owner: Owner,
+        name: Text<'a>,
+    },
+    /// A new external tileset, from that first id on, with its source.
+    AddTileset {
+        first_id: u32,
+        source: Text<'a>,
+    },
+    /// The tileset with that first id is taken out.
+    RemoveTileset {
+        first_id: u32,
     },
     Undo,
     Redo,

@@ -1,4 +1,4 @@
-ghost use Rattle.session.specs.Grammar.{Gives, read, Ends, line_form, is_quiet, line_of, erase_form, fill_form, close_form, discard_form, goto_form, new_form, open_form, save_form, stamp_form, step_text_form, tile_form, use_form};
+ghost use Rattle.session.specs.Grammar.{Gives, read, Ends, line_form, is_quiet, line_of, erase_form, fill_form, close_form, discard_form, goto_form, new_form, open_form, resize_form, save_form, stamp_form, step_text_form, tile_form, use_form};
 ghost use Rattle.session.specs.Spelling.{Says, CanBeSpelled};
 ghost use Rattle.std.specs.Prelude.{◌≡◌, ◌==◌, ◌∷◌, IfOk};
 ghost use Rattle.std.specs.List.{list_all};
@@ -10,7 +10,10 @@ use crate::fields::{
 };
 use crate::layer_lines::layer;
 use crate::line::{Line, LineFault};
+use crate::object_lines::object;
+use crate::property_lines::property;
 use crate::select_lines::select;
+use crate::tileset_lines::tileset;
 use crate::words::cut;
 use tile_id::Gid;
 
@@ -140,6 +143,22 @@ fn tile<'a>(rest: Option<&'a str>) -> Result<Line<'a>, LineFault>
     Ok(Line::Tile { layer, x, y })
 }
 
+fn resize<'a>(rest: Option<&'a str>) -> Result<Line<'a>, LineFault>
+    ensures { Gives (λ x. x) result (read resize_form (words_left rest.entry)) }
+{
+    let (width, rest) = number_field(rest)?;
+    let (height, rest) = number_field(rest)?;
+    let (dx, rest) = coordinate_field(rest)?;
+    let (dy, rest) = coordinate_field(rest)?;
+    end_field(rest)?;
+    Ok(Line::Resize {
+        width,
+        height,
+        dx,
+        dy,
+    })
+}
+
 // A line of one word.
 fn bare<'a>(line: Line<'a>, rest: Option<&'a str>) -> Result<Line<'a>, LineFault>
     ensures { Gives (λ x. x) result (read (Ends line.entry) (words_left rest.entry)) }
@@ -182,6 +201,10 @@ fn command<'a>(name: &str, rest: Option<&'a str>) -> Result<Line<'a>, LineFault>
         "fill" => fill(rest),
         "select" => select(rest),
         "layer" => layer(rest),
+        "object" => object(rest),
+        "prop" => property(rest),
+        "tileset" => tileset(rest),
+        "resize" => resize(rest),
         "text" => step_text(rest),
         "clean" => bare(Line::Clean, rest),
         "dirty" => bare(Line::Dirty, rest),

@@ -1,4 +1,5 @@
-ghost use Rattle.std.specs.Prelude.{◌≡◌, ◌<◌, ◌∷◌, ◌==◌, ◌≤◌, ◌≢◌, ◌+◌, ◌++◌, All, take, drop, length, Some, IfSome, IfNone};
+ghost use Rattle.std.specs.Char.{is_ascii_digit};
+ghost use Rattle.std.specs.Prelude.{◌≡◌, false, ◌<◌, ◌∷◌, ◌==◌, ◌≤◌, ◌≢◌, ◌+◌, ◌++◌, All, take, drop, length, Some, IfSome, IfNone};
 ghost use Rattle.std.specs.List.{list_all, slice_split};
 ghost use Rattle.session.specs.Words.{number_of, is_numeral_front, AreLeadingDigits, HasLargeFront, IsFirst, words, distance_of, below_zero, reach, coordinate_of, is_name, is_name_byte, is_text, is_text_byte, pieces_left, size_left};
 
@@ -66,7 +67,8 @@ fn has_numeral_front(word: &[u8]) -> bool
 
 /// The number that the first piece is, and what is left behind the separator.
 pub fn number_before(text: &str, separator: u8) -> Option<(u32, Option<&str>)>
-    requires { separator < 48 }
+    requires ascii { separator < 128 }
+    requires other { is_ascii_digit separator ≡ false }
     ensures number { IsFirst number_of (slice_split (λ b. b == separator) text.now) separator result }
     ensures shorter { IfSome result (λ x. size_left x.1 ≤ length text.now) }
 {

@@ -1,0 +1,260 @@
+ghost use Rattle.std.specs.Prelude.{◌≡◌, false};
+ghost use Rattle.std.specs.List.{list_all};
+ghost use Rattle.session.specs.declared.line.Line.TheVariants.{SetProperty};
+ghost use Rattle.session.specs.declared.line.LineFault.TheVariants.{BadWord};
+ghost use Rattle.session.specs.Grammar.{choose, property_lines, property_types, Gives, read, bool_form, color_form, file_form, int_form, key_at, color_at, object_form, owner_at, remove_property_form, set_property_form, string_form, truth_at};
+ghost use Rattle.session.specs.Words.{is_color, is_color_digit, is_key, is_key_byte, owner_of, owner_with, truth_of, words_left};
+
+use crate::fields::{coordinate_field, end_field, number_field, text_field};
+use crate::line::{Line, LineFault};
+use crate::text::Text;
+use crate::typed_value::TypedValue;
+use crate::words::{cut, number_before};
+use map_model::Owner;
+
+/// The bytes of the longest name of a property that a line can give.
+const KEY_LIMIT: usize = 200;
+
+fn has_only_key_bytes(bytes: &[u8]) -> bool
+    ensures { result ≡ list_all is_key_byte bytes.now }
+{
+    bytes.iter().all(|b| *b >= 33 && *b != 127)
+}
+
+// Whether a word can be the name of a property.
+fn is_key_word(word: &[u8]) -> bool
+    ensures { result ≡ is_key word.now }
+{
+    if word.is_empty() || word.len() > KEY_LIMIT {
+        return false;
+    }
+    has_only_key_bytes(word)
+}
+
+#[tactic(auto, unfolding(crate::specs::Grammar::key_at))]
+fn key_field<'a>(rest: Option<&'a str>) -> Result<(Text<'a>, Option<&'a str>), LineFault>
+    ensures { Gives (λ x. (x.0, words_left x.1)) result (key_at (words_left rest.entry)) }
+{
+    let Some(rest) = rest else {
+        return Err(LineFault::BadWord);
+    };
+    let (word, rest) = cut(rest, b' ');
+    if !is_key_word(word.as_bytes()) {
+        return Err(LineFault::BadWord);
+    }
+    Ok((Text::new(word), rest))
+}
+
+fn has_only_color_digits(bytes: &[u8]) -> bool
+    ensures { result ≡ list_all is_color_digit bytes.now }
+{
+    bytes.iter().all(|b| b.is_ascii_digit() || (*b >= b'a' && *b <= b'f'))
+}
+
+// Whether a word is a colour: `#` and 6 or 8 digits.
+fn is_color_word(word: &[u8]) -> bool
+    ensures { result ≡ is_color word.now }
+{
+    match word {
+        [b'#', digits @ ..] => {
+            (digits.len() == 6 || digits.len() == 8) && has_only_color_digits(digits)
+        }
+        _ => false,
+    }
+}
+
+#[tactic(auto, unfolding(crate::specs::Grammar::color_at))]
+fn color_field<'a>(rest: Option<&'a str>) -> Result<(Text<'a>, Option<&'a str>), LineFault>
+    ensures { Gives (λ x. (x.0, words_left x.1)) result (color_at (words_left rest.entry)) }
+{
+    let Some(rest) = rest else {
+        return Err(LineFault::BadWord);
+    };
+    let (word, rest) = cut(rest, b' ');
+    if !is_color_word(word.as_bytes()) {
+        return Err(LineFault::BadWord);
+    }
+    Ok((Text::new(word), rest))
+}
+
+// True or false.
+fn truth(word: &str) -> Option<bool>
+    ensures { result ≡ truth_of word.now }
+{
+    match word {
+        "true" => Some(true),
+        "false" => Some(false),
+        _ => None,
+    }
+}
+
+#[tactic(auto, unfolding(crate::specs::Grammar::truth_at))]
+fn truth_field<'a>(rest: Option<&'a str>) -> Result<(bool, Option<&'a str>), LineFault>
+    ensures { Gives (λ x. (x.0, words_left x.1)) result (truth_at (words_left rest.entry)) }
+{
+    let Some(rest) = rest else {
+        return Err(LineFault::BadWord);
+    };
+    let (word, rest) = cut(rest, b' ');
+    match truth(word) {
+        Some(truth) => Ok((truth, rest)),
+        None => Err(LineFault::BadWord),
+    }
+}
+
+// The owner of this kind with an id.
+fn owner_of_kind(kind: &str, id: u32) -> Option<Owner>
+    ensures { result ≡ owner_with kind.now id }
+{
+    match kind {
+        "layer" => Some(Owner::Layer(id)),
+        "object" => Some(Owner::Object(id)),
+        _ => None,
+    }
+}
+
+// The owner that a word is.
+fn owner(word: &str) -> Option<Owner>
+    ensures { result ≡ owner_of word.now }
+{
+    let (kind, id) = cut(word, b':');
+    let Some(id) = id else {
+        return if kind == "map" { Some(Owner::Map) } else { None };
+    };
+    match number_before(id, b':') {
+        Some((id, None)) => owner_of_kind(kind, id),
+        Some((_, Some(_))) => None,
+        None => None,
+    }
+}
+
+#[tactic(auto, unfolding(crate::specs::Grammar::owner_at))]
+fn owner_field<'a>(rest: Option<&'a str>) -> Result<(Owner, Option<&'a str>), LineFault>
+    ensures { Gives (λ x. (x.0, words_left x.1)) result (owner_at (words_left rest.entry)) }
+{
+    let Some(rest) = rest else {
+        return Err(LineFault::BadWord);
+    };
+    let (word, rest) = cut(rest, b' ');
+    match owner(word) {
+        Some(owner) => Ok((owner, rest)),
+        None => Err(LineFault::BadWord),
+    }
+}
+
+// The line that sets a property to this value.
+fn set_to<'a>(owner: Owner, name: Text<'a>, value: TypedValue<'a>) -> Line<'a>
+    ensures { result ≡ SetProperty owner name.entry value.entry false }
+{
+    Line::SetProperty {
+        owner,
+        name,
+        value,
+        follows: false,
+    }
+}
+
+fn set_string<'a>(
+    owner: Owner,
+    name: Text<'a>,
+    rest: Option<&'a str>,
+) -> Result<Line<'a>, LineFault>
+    ensures { Gives (λ x. x) result (read (string_form owner name.entry) (words_left rest.entry)) }
+{
+    let text = text_field(rest)?;
+    Ok(set_to(owner, name, TypedValue::String(text)))
+}
+
+fn set_file<'a>(owner: Owner, name: Text<'a>, rest: Option<&'a str>) -> Result<Line<'a>, LineFault>
+    ensures { Gives (λ x. x) result (read (file_form owner name.entry) (words_left rest.entry)) }
+{
+    let text = text_field(rest)?;
+    Ok(set_to(owner, name, TypedValue::File(text)))
+}
+
+fn set_int<'a>(owner: Owner, name: Text<'a>, rest: Option<&'a str>) -> Result<Line<'a>, LineFault>
+    ensures { Gives (λ x. x) result (read (int_form owner name.entry) (words_left rest.entry)) }
+{
+    let (number, rest) = coordinate_field(rest)?;
+    end_field(rest)?;
+    Ok(set_to(owner, name, TypedValue::Int(number)))
+}
+
+fn set_bool<'a>(owner: Owner, name: Text<'a>, rest: Option<&'a str>) -> Result<Line<'a>, LineFault>
+    ensures { Gives (λ x. x) result (read (bool_form owner name.entry) (words_left rest.entry)) }
+{
+    let (truth, rest) = truth_field(rest)?;
+    end_field(rest)?;
+    Ok(set_to(owner, name, TypedValue::Bool(truth)))
+}
+
+fn set_color<'a>(owner: Owner, name: Text<'a>, rest: Option<&'a str>) -> Result<Line<'a>, LineFault>
+    ensures { Gives (λ x. x) result (read (color_form owner name.entry) (words_left rest.entry)) }
+{
+    let (color, rest) = color_field(rest)?;
+    end_field(rest)?;
+    Ok(set_to(owner, name, TypedValue::Color(color)))
+}
+
+fn set_object<'a>(
+    owner: Owner,
+    name: Text<'a>,
+    rest: Option<&'a str>,
+) -> Result<Line<'a>, LineFault>
+    ensures { Gives (λ x. x) result (read (object_form owner name.entry) (words_left rest.entry)) }
+{
+    let (id, rest) = number_field(rest)?;
+    end_field(rest)?;
+    Ok(set_to(owner, name, TypedValue::Object(id)))
+}
+
+// The line that sets a property, from its type on.
+fn set_typed<'a>(owner: Owner, name: Text<'a>, rest: Option<&'a str>) -> Result<Line<'a>, LineFault>
+    ensures { Gives (λ x. x) result (read (choose (property_types owner name.entry) BadWord) (words_left rest.entry)) }
+{
+    let Some(rest) = rest else {
+        return Err(LineFault::BadWord);
+    };
+    let (type_name, rest) = cut(rest, b' ');
+    match type_name {
+        "string" => set_string(owner, name, rest),
+        "int" => set_int(owner, name, rest),
+        "bool" => set_bool(owner, name, rest),
+        "color" => set_color(owner, name, rest),
+        "file" => set_file(owner, name, rest),
+        "object" => set_object(owner, name, rest),
+        _ => Err(LineFault::BadWord),
+    }
+}
+
+fn set_property<'a>(rest: Option<&'a str>) -> Result<Line<'a>, LineFault>
+    ensures { Gives (λ x. x) result (read set_property_form (words_left rest.entry)) }
+{
+    let (owner, rest) = owner_field(rest)?;
+    let (name, rest) = key_field(rest)?;
+    set_typed(owner, name, rest)
+}
+
+fn remove_property<'a>(rest: Option<&'a str>) -> Result<Line<'a>, LineFault>
+    ensures { Gives (λ x. x) result (read remove_property_form (words_left rest.entry)) }
+{
+    let (owner, rest) = owner_field(rest)?;
+    let (name, rest) = key_field(rest)?;
+    end_field(rest)?;
+    Ok(Line::RemoveProperty { owner, name })
+}
+
+/// The line of properties that the words behind `prop` are.
+pub fn property<'a>(rest: Option<&'a str>) -> Result<Line<'a>, LineFault>
+    ensures { Gives (λ x. x) result (read (choose property_lines BadWord) (words_left rest.entry)) }
+{
+    let Some(rest) = rest else {
+        return Err(LineFault::BadWord);
+    };
+    let (action, rest) = cut(rest, b' ');
+    match action {
+        "set" => set_property(rest),
+        "remove" => remove_property(rest),
+        _ => Err(LineFault::BadWord),
+    }
+}
