@@ -7,5 +7,6 @@ pub mod PartLaws
 pub mod Places
 pub mod Selections
 pub mod SlotLaws
+pub mod TilesetChanges
 pub mod TilesetLemmas
 pub mod Turns

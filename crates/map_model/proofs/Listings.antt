@@ -108,6 +108,25 @@ module _ {X A : Type 0} (g : X → List A) where
       elim (p x) as (λ b. flat_map g (cond b (f x ∷ xs) (x ∷ change_first p f xs)) ≡ g x ++ flat_map g xs)
       [ true ↦ ap (λ ys. ys ++ flat_map g xs) (same x) | false ↦ ap (λ ys. g x ++ ys) (flat-change_first p f same xs) ]
 
+-- a list stays distinct with a new piece that stands in none of the others
+pub Distinct-replaced : {X : Type 0} {front piece new rest xs ys : List X} → IsReplaced front piece new rest xs ys → Distinct xs → Distinct new → Apart new (front ++ rest) → Distinct ys
+Distinct-replaced {front = front} {piece = piece} {new = new} {rest = rest} r h n apart =
+    let distinct : Distinct (front ++ (piece ++ rest)) = rw (← r.was) h in
+    let behind = Distinct-rest front (piece ++ rest) distinct in
+    rw r.now (Distinct-append front (new ++ rest)
+    (Apart-append front new rest (Apart-turned new front (Apart-front new front rest apart)) (Apart-rest front piece rest (Apart-pieces front (piece ++ rest) distinct)))
+    (Distinct-front front (piece ++ rest) distinct)
+    (Distinct-append new rest (Apart-rest new front rest apart) n (Distinct-rest piece rest behind)))
+
+module _ {X A : Type 0} (g : X → List A) where
+  pub Distinct-insert : (xs : List X) (k : ℕ) (x : X) → Distinct (g x) → Apart (g x) (flat_map g xs) → Distinct (flat_map g xs) → Distinct (flat_map g (insert xs k x))
+  Distinct-insert xs k x n apart h =
+      let all : flat_map g xs ≡ flat_map g (take k xs) ++ flat_map g (drop k xs) = ap (flat_map g) (sym (take-append-drop k xs)) ∙ flat_map-append g (take k xs) (drop k xs) in
+      Distinct-replaced (flat-IsReplaced g (insert-IsReplaced xs k x)) h (rw (flat-one g x) n) (rw (flat-one g x, ← all) apart)
+
+  pub Distinct-remove : (xs : List X) (k : ℕ) → Distinct (flat_map g xs) → Distinct (flat_map g (remove xs k))
+  Distinct-remove xs k h = Distinct-replaced (flat-IsReplaced g (remove-IsReplaced xs k)) h tt tt
+
 -- ---- ids
 -- what is asked of the ids of a new piece, beside those that are there
 pub record AreNewIds (next : ℕ) (new ids : List ℕ) : Type 0 where
@@ -123,17 +142,13 @@ module _ {next : ℕ} {front piece new rest xs ys : List ℕ} (r : IsReplaced fr
   pub AreIds-replaced : AreNewIds next new (front ++ rest) → AreIds next ys
   AreIds-replaced n =
       let each : Each (IsId next) (front ++ (piece ++ rest)) = rw (← r.was) h.each in
-      let distinct : Distinct (front ++ (piece ++ rest)) = rw (← r.was) h.distinct in
-      let behind = Distinct-rest front (piece ++ rest) distinct in
+      let all = Distinct-replaced r h.distinct n.distinct n.apart in
       rw r.now (record {
         next_low = h.next_low;
         next_high = h.next_high;
         each = Each-append (IsId next) front (new ++ rest) (Each-front (IsId next) front (piece ++ rest) each)
             (Each-append (IsId next) new rest n.each (Each-rest (IsId next) piece rest (Each-rest (IsId next) front (piece ++ rest) each)));
-        distinct = Distinct-append front (new ++ rest)
-            (Apart-append front new rest (Apart-turned new front (Apart-front new front rest n.apart)) (Apart-rest front piece rest (Apart-pieces front (piece ++ rest) distinct)))
-            (Distinct-front front (piece ++ rest) distinct)
-            (Distinct-append new rest (Apart-rest new front rest n.apart) n.distinct (Distinct-rest piece rest behind));
+        distinct = rw r.now at all;
       })
 
   -- the ids of the piece that is taken out are new beside the others

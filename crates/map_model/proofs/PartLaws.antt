@@ -9,10 +9,10 @@ use Rattle.map_model.specs.declared.place.ObjectPlace.{ObjectPlace}
 use Rattle.map_model.specs.Document.{with_selection}
 use Rattle.map_model.specs.Layers.{layer_name, layer_with_name, layer_visible, layer_with_visible}
 use Rattle.map_model.specs.Lists.{change_at}
-use Rattle.map_model.specs.Objects.{objects_in, objects_of, body_with_objects, layer_with_objects}
+use Rattle.map_model.specs.Objects.{objects_in, body_with_objects}
 use Rattle.map_model.specs.Parts.{has_id}
 use Rattle.map_model.proofs.Turns.{change_first-change_first, find-change_first, change_first-along, change_first-same}
-use Rattle.map_model.specs.Part.{Part, IsLawfulPart, AreApart, whole, inner, of_first, of_place, layers, of_layer, objects, layer_objects, of_object, next_layer_id, next_object_id, name, visible, selection}
+use Rattle.map_model.specs.Part.{Part, IsLawfulPart, AreApart, whole, inner, of_first, of_place, layers, of_layer, objects, layer_objects, of_object, next_layer_id, next_object_id, name, visible, selection, tilesets}
 
 some-eq : {V : Type 0} (v w : V) → Some v ≡ Some w → v ≡ w
 some-eq v w e = cc
@@ -94,6 +94,9 @@ next_layer_id-laws = whole-laws (λ d. d.map.next_layer_id) (λ n d. record d { 
 
 pub next_object_id-laws : IsLawfulPart next_object_id
 next_object_id-laws = whole-laws (λ d. d.map.next_object_id) (λ n d. record d { map = record d.map { next_object_id = n } }) (λ v d. refl) (λ d. refl) (λ v w d. refl)
+
+pub tilesets-laws : IsLawfulPart tilesets
+tilesets-laws = whole-laws (λ d. d.map.tilesets) (λ ts d. record d { map = record d.map { tilesets = ts } }) (λ v d. refl) (λ d. refl) (λ v w d. refl)
 
 pub selection-laws : IsLawfulPart selection
 selection-laws = whole-laws (λ d. d.selection) with_selection (λ v d. refl) (λ d. refl) (λ v w d. refl)

@@ -4,9 +4,9 @@ use Rattle.std.specs.List.{slice_get, insert, remove}
 use Rattle.std.proofs.lemmas.List.Edits.{length-remove}
 use Rattle.map_model.specs.declared.place.LayerPlace.{LayerPlace}
 use Rattle.map_model.specs.Document.{DocumentParts}
-use Rattle.map_model.specs.Part.{Part, IsLawfulPart, AreApart, layers, next_layer_id}
-use Rattle.map_model.specs.Slot.{IsLawfulSlot, place_in, next_in, layer_slot, next_layer_slot}
-use Rattle.map_model.proofs.PartLaws.{layers-laws, next_layer_id-laws, layers-next_layer_id}
+use Rattle.map_model.specs.Part.{Part, IsLawfulPart, AreApart, layers, next_layer_id, tilesets}
+use Rattle.map_model.specs.Slot.{IsLawfulSlot, place_in, next_in, layer_slot, next_layer_slot, tileset_slot}
+use Rattle.map_model.proofs.PartLaws.{layers-laws, next_layer_id-laws, layers-next_layer_id, tilesets-laws}
 use Rattle.map_model.proofs.Changes.{remove-insert, insert-remove, slice_get-insert, length-insert, slice_get-within, slice_get-Some, within-removed}
 
 -- ---- places in a list
@@ -94,3 +94,7 @@ layer_slot-laws place = place_in-laws layers layers-laws place.at
 
 pub next_layer_slot-laws : (id : ℕ) → IsLawfulSlot (next_layer_slot id)
 next_layer_slot-laws = next_in-laws layers next_layer_id layers-laws next_layer_id-laws layers-next_layer_id
+
+-- ---- the place of a tileset
+pub tileset_slot-laws : (at : ℕ) → IsLawfulSlot (tileset_slot at)
+tileset_slot-laws = place_in-laws tilesets tilesets-laws

@@ -11,4 +11,5 @@ pub mod Part
 pub mod Parts
 pub mod Slot
 pub mod Tilesets
+pub mod Uses
 pub mod WellFormed

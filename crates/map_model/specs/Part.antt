@@ -4,6 +4,7 @@ use Rattle.std.specs.FinSet as set
 use Rattle.region.specs.Cells.{cell_cmp}
 use Rattle.map_model.specs.declared.parts.Layer.{Layer}
 use Rattle.map_model.specs.declared.parts.Object.{Object}
+use Rattle.map_model.specs.declared.parts.Tileset.{Tileset}
 use Rattle.map_model.specs.declared.place.ObjectPlace.{ObjectPlace}
 use Rattle.map_model.specs.Document.{DocumentParts, with_selection}
 use Rattle.map_model.specs.Layers.{layer_name, layer_with_name, layer_visible, layer_with_visible}
@@ -75,6 +76,10 @@ layer_objects id = of_layer id objects
 -- a part of the object at a place
 abbrev pub of_object : {V : Type 0} → ObjectPlace → Part Object V → Part DocumentParts V
 of_object place p = of_layer place.layer (inner objects (of_place place.at p))
+
+-- the tilesets
+abbrev pub tilesets : Part DocumentParts (List Tileset)
+tilesets = whole (λ d. d.map.tilesets) (λ ts d. record d { map = record d.map { tilesets = ts } })
 
 -- the next layer id
 abbrev pub next_layer_id : Part DocumentParts ℕ

@@ -2,9 +2,10 @@
 use Rattle.std.specs.Prelude.{◌≡◌, ℕ, ◌+◌, ◌-◌, ◌<◌, ◌≤◌, List, length, slice_get, Option, Some, IsSome, IsSomeAnd, option_and_then}
 use Rattle.std.specs.List.{insert, remove}
 use Rattle.map_model.specs.declared.parts.Layer.{Layer}
+use Rattle.map_model.specs.declared.parts.Tileset.{Tileset}
 use Rattle.map_model.specs.declared.place.LayerPlace.{LayerPlace}
 use Rattle.map_model.specs.Document.{DocumentParts}
-use Rattle.map_model.specs.Part.{Part, layers, next_layer_id}
+use Rattle.map_model.specs.Part.{Part, layers, next_layer_id, tilesets}
 
 -- a place at which a thing can stand: the document with one there and without it, and when it is free and filled
 pub record Slot (X : Type 0) : Type 1 where
@@ -50,3 +51,7 @@ layer_slot place = place_in layers place.at
 -- the place behind the last layer
 abbrev pub next_layer_slot : ℕ → Slot Layer
 next_layer_slot id = next_in layers next_layer_id id
+
+-- ---- the place of a tileset
+abbrev pub tileset_slot : ℕ → Slot Tileset
+tileset_slot at = place_in tilesets at

@@ -1,5 +1,10 @@
 -- The tileset of a value.
-use Rattle.std.specs.Prelude.{ℕ, ◌<◌, ◌≤◌, List, [], ◌∷◌, nat_lt, nat_eq, if◌then◌else◌, Option, Some, None, Contains}
+use Rattle.std.specs.Prelude.{ℕ, ◌<◌, ◌≤◌, List, [], ◌∷◌, Bool, false, nat_lt, nat_eq, if◌then◌else◌, Option, Some, None, is_some, Contains, slice_get, position}
+use Rattle.std.specs.List.{flat_map, list_any, insert, remove}
+use Rattle.map_model.specs.declared.parts.Body.{Body}
+use Rattle.map_model.specs.declared.parts.Body.TheVariants.{Tiles, Objects, Other}
+use Rattle.map_model.specs.declared.parts.Layer.{Layer}
+use Rattle.map_model.specs.declared.parts.Object.{Object}
 use Rattle.tile_id.specs.Gid.{base_of}
 use Rattle.map_model.specs.declared.parts.Tileset.{Tileset}
 use Rattle.map_model.specs.declared.parts.MapParts.{MapParts}
@@ -28,3 +33,58 @@ pub record IsTilesetOf (m : MapParts) (gid : ℕ) (t : Tileset) : Type 0 where
 -- no first id of the map's tilesets is as low as the value's base, where that is not 0
 abbrev pub HasNoTileset : MapParts → ℕ → Type 0
 HasNoTileset m gid = 0 < base_of gid → Each (λ s. base_of gid < s.first_id) m.tilesets
+
+-- ---- tilesets put in and taken out
+abbrev pub has_first_id : ℕ → Tileset → Bool
+has_first_id first_id t = nat_eq t.first_id first_id
+
+-- the place of the tileset with the first id
+abbrev pub tileset_place : MapParts → ℕ → Option ℕ
+tileset_place m first_id = position (has_first_id first_id) m.tilesets
+
+-- the tileset at a place
+abbrev pub tileset_at : MapParts → ℕ → Option Tileset
+tileset_at m at = slice_get m.tilesets at
+
+-- the map with a tileset put in at a place: those from there on stand one place higher
+abbrev pub with_tileset_at : ℕ → Tileset → MapParts → MapParts
+with_tileset_at at t m = record m { tilesets = insert m.tilesets at t }
+
+-- the map without the tileset at a place
+abbrev pub without_tileset_at : ℕ → MapParts → MapParts
+without_tileset_at at m = record m { tilesets = remove m.tilesets at }
+
+-- ---- tilesets in use
+-- the value of an object, where it has one
+abbrev pub gids_by : Option ℕ → List ℕ
+gids_by None = []
+gids_by (Some gid) = gid ∷ []
+
+abbrev pub gids_of : Object → List ℕ
+gids_of o = gids_by o.gid
+
+-- the values of a layer: its cells, or those of its objects
+abbrev pub values_in : Body → List ℕ
+values_in (Tiles e cells) = cells
+values_in (Objects os) = flat_map gids_of os
+values_in Other = []
+
+abbrev pub values_of : Layer → List ℕ
+values_of l = values_in l.body
+
+-- whether it is the tileset with the first id
+abbrev pub is_first : ℕ → Option Tileset → Bool
+is_first first_id None = false
+is_first first_id (Some t) = has_first_id first_id t
+
+-- whether the tileset of a value is the one with the first id
+abbrev pub is_value_of : MapParts → ℕ → ℕ → Bool
+is_value_of m first_id value = is_first first_id (tileset_of m value)
+
+-- whether a cell or an object has a value of the tileset with the first id
+abbrev pub has_uses : MapParts → ℕ → Bool
+has_uses m first_id = list_any (is_value_of m first_id) (flat_map values_of m.layers)
+
+-- whether the tileset with the first id is in use; none where there is no such tileset
+abbrev pub in_use : MapParts → ℕ → Option Bool
+in_use m first_id = if is_some (tileset_place m first_id) then Some (has_uses m first_id) else None

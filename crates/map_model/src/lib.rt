@@ -15,6 +15,7 @@ mod owner;
 mod parts;
 mod place;
 mod selection;
+mod tilesets;
 
 pub use document::Document;
 pub use edit::{CellEdit, Side};

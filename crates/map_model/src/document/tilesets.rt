@@ -1,0 +1,31 @@
+// Changes of a document's tilesets.
+ghost use Rattle.std.specs.Prelude.{◌≡◌, ◌≤◌, length, IsSome, IsSomeAnd};
+ghost use Rattle.map_model.specs.Document.{with_map, IsDocument};
+ghost use Rattle.map_model.specs.Tilesets.{tileset_at, with_tileset_at, without_tileset_at};
+ghost use Rattle.map_model.specs.WellFormed.{IsWellFormed};
+
+use crate::document::Document;
+use crate::parts::Tileset;
+use link_chain::Loose;
+
+impl Document {
+    /// Puts a tileset in at a place; those from there on stand one place higher. The map is well formed with it.
+    pub fn insert_tileset(&mut self, at: usize, tileset: Loose<Tileset>)
+        requires place { at ≤ length self.old.map.tilesets }
+        requires well_formed { IsSomeAnd tileset (λ t. IsWellFormed (with_tileset_at at t self.old.map)) }
+        ensures document { IsSomeAnd tileset (λ t. self.new ≡ with_map (with_tileset_at at t) self.old) }
+        ensures well_formed { IsDocument self.new }
+    {
+        self.map.parts.tilesets.insert(at, tileset);
+    }
+
+    /// Takes the tileset at a place out; those behind it stand one place lower.
+    pub fn take_tileset(&mut self, at: usize) -> Loose<Tileset>
+        requires { IsSome (tileset_at self.old.map at) }
+        ensures tileset { result ≡ tileset_at self.old.map at }
+        ensures document { self.new ≡ with_map (without_tileset_at at) self.old }
+        ensures well_formed { IsDocument self.new }
+    {
+        self.map.parts.tilesets.take(at)
+    }
+}

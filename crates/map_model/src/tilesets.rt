@@ -1,0 +1,102 @@
+// Tilesets: where they stand, and whether they are in use.
+ghost use Rattle.std.specs.Prelude.{◌≡◌, Some, IfSome};
+ghost use Rattle.std.specs.List.{flat_map, list_any};
+ghost use Rattle.map_model.specs.Tilesets.{in_use, tileset_place, values_in, values_of, gids_of};
+ghost use Rattle.map_model.specs.Uses.{base_limit, end_of, is_between, nearer};
+ghost use Rattle.map_model.specs.WellFormed.{IsWellFormed};
+
+use crate::map::Map;
+use crate::parts::{Body, Layer, Object, Tileset};
+use link_chain::Chain;
+use tile_id::Gid;
+
+/// No base of a value is as great.
+const BASE_LIMIT: u32 = 0x1000_0000;
+
+impl Map {
+    /// The place of the tileset with a first id.
+    pub fn tileset_place(&self, first_id: u32) -> Option<usize>
+        ensures place { result ≡ tileset_place self.now first_id }
+        ensures well_formed { IsWellFormed self.now }
+    {
+        self.parts
+            .tilesets
+            .iter()
+            .position(|tileset| tileset.first_id == first_id)
+    }
+
+    /// Whether a cell or an object has a value of the tileset with a first id; `None` where there is no such tileset.
+    pub fn in_use(&self, first_id: u32) -> Option<bool>
+        ensures { result ≡ in_use self.now first_id }
+    {
+        self.tileset_place(first_id)?;
+        let end = end_of_tileset(&self.parts.tilesets, first_id);
+        Some(is_in_layers(&self.parts.layers, first_id, end))
+    }
+}
+
+// Of a first id above this one, where the end so far is one, and another, the lower one.
+fn nearer_end(first_id: u32, end: u32, tileset: &Tileset) -> u32
+    ensures { result ≡ nearer first_id end tileset.now }
+{
+    if first_id < tileset.first_id && tileset.first_id < end {
+        tileset.first_id
+    } else {
+        end
+    }
+}
+
+// The lowest first id above this one, or 2^28, where there is none.
+fn end_of_tileset(tilesets: &Chain<Tileset>, first_id: u32) -> u32
+    ensures { result ≡ end_of first_id base_limit tilesets.now }
+{
+    let mut end = BASE_LIMIT;
+    for tileset in tilesets.iter() {
+        end = nearer_end(first_id, end, tileset);
+    }
+    end
+}
+
+// Whether the base of a value is not below one number, and below another.
+fn is_base_between(value: Gid, low: u32, end: u32) -> bool
+    ensures { result ≡ is_between low end value }
+{
+    low <= value.base() && value.base() < end
+}
+
+fn is_in_cells(cells: &[Gid], low: u32, end: u32) -> bool
+    ensures { result ≡ list_any (is_between low end) cells.now }
+{
+    cells.iter().any(|value| is_base_between(*value, low, end))
+}
+
+fn is_of_object(object: &Object, low: u32, end: u32) -> bool
+    ensures { result ≡ list_any (is_between low end) (gids_of object.now) }
+{
+    match object.gid {
+        Some(value) => is_base_between(value, low, end),
+        None => false,
+    }
+}
+
+fn is_in_objects(objects: &Chain<Object>, low: u32, end: u32) -> bool
+    ensures { result ≡ list_any (λ o. list_any (is_between low end) (gids_of o)) objects.now }
+{
+    objects.iter().any(|object| is_of_object(object, low, end))
+}
+
+fn is_in_body(body: &Body, low: u32, end: u32) -> bool
+    ensures { result ≡ list_any (is_between low end) (values_in body.now) }
+{
+    match body {
+        Body::Tiles(_, cells) => is_in_cells(cells.as_slice(), low, end),
+        Body::Objects(objects) => is_in_objects(objects, low, end),
+        Body::Other => false,
+    }
+}
+
+fn is_in_layers(layers: &Chain<Layer>, low: u32, end: u32) -> bool
+    ensures { result ≡ list_any (λ l. list_any (is_between low end) (values_of l)) layers.now }
+{
+    layers.iter().any(|layer| is_in_body(&layer.body, low, end))
+}
