@@ -11,3 +11,4 @@ pub mod Painting
 pub mod Refusals
 pub mod Selecting
 pub mod Stamping
+pub mod TilesetEdits

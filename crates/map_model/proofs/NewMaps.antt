@@ -1,18 +1,19 @@
 -- New layers and new maps are well formed.
-use Rattle.std.proofs.Common.{◌≡◌, ℕ, zero, suc, ◌*◌, List, [], ◌∷◌, true, not, ◌&&◌, Option, Some, None, is_some, refl, arith}
+use Rattle.std.proofs.Common.{◌≡◌, ℕ, zero, suc, ◌≤◌, ◌*◌, List, [], ◌∷◌, true, not, ◌&&◌, Option, Some, None, is_some, refl, arith}
 use Rattle.std.specs.Prelude.{replicate, codes}
 use Rattle.std.specs.List.{list_all}
 use Rattle.std.proofs.lemmas.List.{length-replicate}
 use Rattle.serde_json.specs.Data.{Data, Members, no_members}
 use Rattle.serde_json.specs.Find.{get_member}
+use Rattle.map_model.specs.declared.limits.TheConstants.{MAX_FIRST_ID}
 use Rattle.map_model.specs.declared.parts.Encoding.TheVariants.{Array}
 use Rattle.map_model.specs.declared.parts.Body.TheVariants.{Tiles, Objects}
 use Rattle.map_model.specs.declared.parts.LayerKind.{LayerKind}
 use Rattle.map_model.specs.declared.parts.LayerKind.TheVariants as kinds
 use Rattle.map_model.specs.Keeping.{layer_level, map_level, map_names, layer_names, tileset_names}
 use Rattle.map_model.specs.Lists.{Each}
-use Rattle.map_model.specs.NewMap.{new_layer, new_map, tile_layer_members, object_layer_members, map_members}
-use Rattle.map_model.specs.WellFormed.{IsTileValue, IsLayer, IsSize, IsTileSize, IsWellFormed, AreProperties}
+use Rattle.map_model.specs.NewMap.{external_tileset, new_layer, new_map, tile_layer_members, object_layer_members, map_members}
+use Rattle.map_model.specs.WellFormed.{IsTileset, IsTileValue, IsLayer, IsSize, IsTileSize, IsWellFormed, AreProperties}
 
 Each-replicate : {X : Type 0} (P : X → Type 0) (n : ℕ) (x : X) → P x → Each P (replicate n x)
 Each-replicate P zero x p = tt
@@ -44,6 +45,9 @@ new_layer-IsLayer kinds.Object id name size = record {
   body = (omega arith, tt);
 }
 
+pub external_tileset-IsTileset : (first_id : ℕ) (source : List ℕ) → 1 ≤ first_id → first_id ≤ MAX_FIRST_ID → IsTileset (external_tileset first_id source)
+external_tileset-IsTileset first_id source low high = record { low = low; high = high; kept = record { unread = unread-test no_members tileset_names refl; whole = refl; shallow = omega arith } }
+
 -- the map of the line `new`
 pub new_map-IsWellFormed : (width height tile_width tile_height : ℕ) (source : List ℕ) → IsSize width height → IsTileSize tile_width tile_height
     → IsWellFormed (new_map width height tile_width tile_height source)
@@ -58,7 +62,7 @@ new_map-IsWellFormed width height tile_width tile_height source size tile_size =
   };
   tilesets = record {
     few = omega arith;
-    each = (record { low = omega arith; high = omega arith; kept = record { unread = unread-test no_members tileset_names refl; whole = refl; shallow = omega arith } }, tt);
+    each = (external_tileset-IsTileset 1 source (omega arith) (omega arith), tt);
     distinct = (tt, tt);
   };
   properties = no_properties map_level;

@@ -7,6 +7,7 @@ use Rattle.map_model.specs.declared.parts.LayerKind.{LayerKind}
 use Rattle.map_model.specs.declared.parts.LayerKind.TheVariants as kinds
 use Rattle.map_model.specs.declared.parts.Layer.{Layer}
 use Rattle.map_model.specs.declared.parts.MapParts.{MapParts}
+use Rattle.map_model.specs.declared.parts.Tileset.{Tileset}
 
 -- the members that a new tile layer keeps
 abbrev pub tile_layer_members : Members
@@ -47,6 +48,10 @@ abbrev pub new_layer : LayerKind → ℕ → List ℕ → ℕ → Layer
 new_layer kinds.Tile id name size = empty_layer id name size
 new_layer kinds.Object id name size = empty_object_layer id name
 
+-- a tileset whose tiles stand in a file of their own
+abbrev pub external_tileset : ℕ → List ℕ → Tileset
+external_tileset first_id source = record { first_id = first_id; source = Some source; kept = no_members }
+
 -- a map of one empty tile layer and one external tileset, from 1 on
 abbrev pub new_map : ℕ → ℕ → ℕ → ℕ → List ℕ → MapParts
 new_map width height tile_width tile_height source = record {
@@ -55,7 +60,7 @@ new_map width height tile_width tile_height source = record {
   tile_width = tile_width;
   tile_height = tile_height;
   layers = empty_layer 1 (codes "Tile Layer 1") (width * height) ∷ [];
-  tilesets = record { first_id = 1; source = Some source; kept = no_members } ∷ [];
+  tilesets = external_tileset 1 source ∷ [];
   properties = [];
   next_layer_id = 2;
   next_object_id = 1;

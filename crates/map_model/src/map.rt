@@ -7,7 +7,7 @@ ghost use Rattle.map_model.specs.Tilesets.{tileset_of, better, best_of, IsTilese
 ghost use Rattle.map_model.specs.WellFormed.{IsWellFormed, IsSize, IsTileSize};
 
 use crate::create::{first_layer, kept_by_map, one};
-use crate::held::{Kept, MapText};
+use crate::held::MapText;
 use crate::layers::place_in;
 use crate::parts::{Layer, MapParts, Tileset};
 use crate::place::LayerPlace;
@@ -126,11 +126,7 @@ impl Map {
         ensures { IfOk result (λ m. m ≡ new_map width height tile_width tile_height source) }
     {
         let layer = first_layer(alloc, width as usize * height as usize)?;
-        let tileset = Tileset {
-            first_id: 1,
-            source: Some(source),
-            kept: Kept::new(serde_json::Map::new(alloc)),
-        };
+        let tileset = Tileset::external(alloc, 1, source);
         Ok(Map {
             parts: MapParts {
                 width,

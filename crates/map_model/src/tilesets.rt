@@ -1,17 +1,33 @@
 // Tilesets: where they stand, and whether they are in use.
 ghost use Rattle.std.specs.Prelude.{◌≡◌, Some, IfSome};
 ghost use Rattle.std.specs.List.{flat_map, list_any};
+ghost use Rattle.map_model.specs.NewMap.{external_tileset};
 ghost use Rattle.map_model.specs.Tilesets.{in_use, tileset_place, values_in, values_of, gids_of};
 ghost use Rattle.map_model.specs.Uses.{base_limit, end_of, is_between, nearer};
 ghost use Rattle.map_model.specs.WellFormed.{IsWellFormed};
 
+use crate::held::{Kept, MapText};
 use crate::map::Map;
 use crate::parts::{Body, Layer, Object, Tileset};
 use link_chain::Chain;
+use std::alloc::Global;
 use tile_id::Gid;
 
 /// No base of a value is as great.
 const BASE_LIMIT: u32 = 0x1000_0000;
+
+impl Tileset {
+    /// A tileset whose tiles stand in a file of their own, the source. It takes no memory.
+    pub fn external(alloc: Global, first_id: u32, source: MapText) -> Tileset
+        ensures { result ≡ external_tileset first_id source }
+    {
+        Tileset {
+            first_id,
+            source: Some(source),
+            kept: Kept::new(serde_json::Map::new(alloc)),
+        }
+    }
+}
 
 impl Map {
     /// The place of the tileset with a first id.

@@ -1,0 +1,40 @@
+-- The document after an edit of its tilesets, or the edit's refusal.
+use Rattle.std.specs.Prelude.{ℕ, List, Bool, ◌&&◌, nat_lt, nat_le, Option, Some, None, Result, Ok, Err, length, if◌then◌else◌}
+use Rattle.std.specs.List.{list_all}
+use Rattle.map_model.specs.declared.limits.TheConstants.{MAX_FIRST_ID, MAX_TILESETS}
+use Rattle.map_model.specs.declared.parts.MapParts.{MapParts}
+use Rattle.map_model.specs.declared.parts.Tileset.{Tileset}
+use Rattle.map_model.specs.Document.{DocumentParts, with_map}
+use Rattle.map_model.specs.NewMap.{external_tileset}
+use Rattle.map_model.specs.Tilesets.{tileset_place, has_uses, with_tileset_at, without_tileset_at}
+use Rattle.command_api.specs.declared.fault.EditFault.{EditFault}
+use Rattle.command_api.specs.declared.fault.EditFault.TheVariants.{NoSuchTileset, TilesetInUse, FirstIdNotAbove, OutOfRange, TooMany}
+
+-- ---- a tileset more
+-- whether the first ids of all tilesets are below this one
+abbrev pub is_above : ℕ → List Tileset → Bool
+is_above first_id ts = list_all (λ t. nat_lt t.first_id first_id) ts
+
+-- whether it is a first id that a tileset can have
+abbrev pub is_first_id : ℕ → Bool
+is_first_id first_id = nat_le 1 first_id && nat_le first_id MAX_FIRST_ID
+
+-- the tileset goes last
+abbrev pub with_last_tileset : Tileset → MapParts → MapParts
+with_last_tileset t m = with_tileset_at (length m.tilesets) t m
+
+abbrev pub after_add_tileset : DocumentParts → ℕ → List ℕ → Result DocumentParts EditFault
+after_add_tileset d first_id source =
+    if is_above first_id d.map.tilesets then
+    (if is_first_id first_id then
+    (if nat_lt (length d.map.tilesets) MAX_TILESETS then Ok (with_map (with_last_tileset (external_tileset first_id source)) d) else Err TooMany)
+    else Err OutOfRange)
+    else Err FirstIdNotAbove
+
+-- ---- a tileset less
+abbrev pub after_remove_tileset_at : DocumentParts → ℕ → Option ℕ → Result DocumentParts EditFault
+after_remove_tileset_at d first_id None = Err NoSuchTileset
+after_remove_tileset_at d first_id (Some at) = if has_uses d.map first_id then Err TilesetInUse else Ok (with_map (without_tileset_at at) d)
+
+abbrev pub after_remove_tileset : DocumentParts → ℕ → Result DocumentParts EditFault
+after_remove_tileset d first_id = after_remove_tileset_at d first_id (tileset_place d.map first_id)
