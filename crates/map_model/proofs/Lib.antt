@@ -3,6 +3,8 @@ pub mod Changes
 pub mod Keeps
 pub mod Listings
 pub mod NewMaps
+pub mod ObjectKeeps
+pub mod ObjectPlaces
 pub mod PartLaws
 pub mod Places
 pub mod Selections

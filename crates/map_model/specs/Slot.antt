@@ -3,9 +3,11 @@ use Rattle.std.specs.Prelude.{◌≡◌, ℕ, ◌+◌, ◌-◌, ◌<◌, ◌≤�
 use Rattle.std.specs.List.{insert, remove}
 use Rattle.map_model.specs.declared.parts.Layer.{Layer}
 use Rattle.map_model.specs.declared.parts.Tileset.{Tileset}
+use Rattle.map_model.specs.declared.parts.Object.{Object}
 use Rattle.map_model.specs.declared.place.LayerPlace.{LayerPlace}
+use Rattle.map_model.specs.declared.place.ObjectPlace.{ObjectPlace}
 use Rattle.map_model.specs.Document.{DocumentParts}
-use Rattle.map_model.specs.Part.{Part, layers, next_layer_id, tilesets}
+use Rattle.map_model.specs.Part.{Part, layers, next_layer_id, tilesets, layer_objects, next_object_id}
 
 -- a place at which a thing can stand: the document with one there and without it, and when it is free and filled
 pub record Slot (X : Type 0) : Type 1 where
@@ -55,3 +57,12 @@ next_layer_slot id = next_in layers next_layer_id id
 -- ---- the place of a tileset
 abbrev pub tileset_slot : ℕ → Slot Tileset
 tileset_slot at = place_in tilesets at
+
+-- ---- slots of objects
+-- the place of an object in its layer
+abbrev pub object_slot : ObjectPlace → Slot Object
+object_slot place = place_in (layer_objects place.layer) place.at
+
+-- the place behind the last object of a layer
+abbrev pub next_object_slot : ℕ → ℕ → Slot Object
+next_object_slot layer id = next_in (layer_objects layer) next_object_id id

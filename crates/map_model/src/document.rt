@@ -7,6 +7,8 @@ ghost use Rattle.map_model.specs.WellFormed.{IsWellFormed};
 
 mod tilesets;
 
+mod objects;
+
 use crate::edit::{CellEdit, Side};
 use crate::held::MapText;
 use crate::layers::{put_in, rename_in, set_in, show_in};
