@@ -4,6 +4,7 @@
 #![tactic(auto)]
 
 mod body;
+mod canvas;
 mod create;
 mod document;
 mod edit;
@@ -16,6 +17,7 @@ mod parts;
 mod place;
 mod selection;
 
+pub use canvas::{Canvas, LayerCells};
 pub use document::Document;
 pub use edit::{CellEdit, Side};
 pub use held::{Cells, JsonValue, Kept, MapText};
