@@ -1,3 +1,5 @@
+pub mod CanvasLaws
+pub mod CanvasSteps
 pub mod CellEdits
 pub mod Changes
 pub mod Keeps

@@ -1,4 +1,5 @@
 pub mod Bodies
+pub mod Canvas
 pub mod CellEdits
 pub mod DataCode
 pub mod Document

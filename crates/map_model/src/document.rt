@@ -5,9 +5,9 @@ ghost use Rattle.map_model.specs.Lists.{Each};
 ghost use Rattle.map_model.specs.Parts.{HasTiles, IsWithin, layer_of, with_cell, with_layer};
 ghost use Rattle.map_model.specs.WellFormed.{IsWellFormed};
 
-mod tilesets;
-
+mod canvas;
 mod objects;
+mod tilesets;
 
 use crate::edit::{CellEdit, Side};
 use crate::held::MapText;

@@ -4,6 +4,7 @@
 #![tactic(auto)]
 
 mod body;
+mod canvas;
 mod create;
 mod document;
 mod edit;
@@ -18,6 +19,7 @@ mod place;
 mod selection;
 mod tilesets;
 
+pub use canvas::{Canvas, LayerCells};
 pub use document::Document;
 pub use edit::{CellEdit, Side};
 pub use held::{Cells, JsonValue, Kept, MapText};

@@ -30,5 +30,8 @@ pub const MAX_FIRST_ID: u32 = 268_435_455;
 /// The greatest number of an object, in pixels; the least is its negative.
 pub const MAX_PIXELS: i32 = 1_000_000_000;
 
+/// The most pixels by which objects are moved, either way: as many tiles as there may be pixels, each as large as may be.
+pub const MAX_SHIFT: i64 = 65_535_000_000_000;
+
 /// The most levels that the tree of a map nests.
 pub const MAX_DEPTH: usize = 127;

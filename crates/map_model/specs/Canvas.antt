@@ -1,0 +1,113 @@
+-- Canvases: what a map is drawn on. A map changes places with one when it is resized.
+use Rattle.std.specs.Prelude.{◌≡◌, ℕ, ◌+◌, ◌*◌, ℤ, ◌+ℤ◌, neg_ℤ, ◌≤ℤ◌, List, [], ◌∷◌, length, map, slice_set, slice_index_or, IfSome}
+use Rattle.std.specs.List.{flat_map}
+use Rattle.std.specs.Option.{option_map}
+use Rattle.map_model.specs.declared.canvas.Canvas.{Canvas}
+use Rattle.map_model.specs.declared.limits.TheConstants.{MAX_SHIFT}
+use Rattle.map_model.specs.declared.parts.Body.{Body}
+use Rattle.map_model.specs.declared.parts.Body.TheVariants.{Tiles, Objects, Other}
+use Rattle.map_model.specs.declared.parts.Layer.{Layer}
+use Rattle.map_model.specs.declared.parts.MapParts.{MapParts}
+use Rattle.map_model.specs.declared.parts.Object.{Object}
+use Rattle.map_model.specs.declared.parts.Placing.{Placing}
+use Rattle.map_model.specs.Document.{DocumentParts, LiesIn}
+use Rattle.map_model.specs.Lists.{Each}
+use Rattle.map_model.specs.Objects.{objects_in}
+use Rattle.map_model.specs.WellFormed.{IsSize, IsTileValue, IsPlacing}
+
+-- ---- the cells of tile layers
+-- the cells of a tile layer, as the one list of a list; another layer has none
+abbrev pub lists_in : Body → List (List ℕ)
+lists_in (Tiles e cells) = cells ∷ []
+lists_in (Objects os) = []
+lists_in Other = []
+
+abbrev pub lists_of : Layer → List (List ℕ)
+lists_of l = lists_in l.body
+
+-- the cells of each tile layer, in drawing order
+abbrev pub tile_layers : MapParts → List (List ℕ)
+tile_layers m = flat_map lists_of m.layers
+
+-- ---- objects that are moved
+-- an object's numbers, moved by so many pixels to the right and down; a number that is absent stays so
+abbrev pub placing_moved : ℤ → ℤ → Placing → Placing
+placing_moved right down p = record p { x = option_map (λ x. x +ℤ right) p.x; y = option_map (λ y. y +ℤ down) p.y }
+
+abbrev pub object_moved : ℤ → ℤ → Object → Object
+object_moved right down o = record o { placing = placing_moved right down o.placing }
+
+-- ---- a document on a canvas
+-- a body behind so many tile layers: a tile layer has the canvas's cells at that place, and objects are moved by its pixels
+abbrev pub body_on : Canvas → ℕ → Body → Body
+body_on c place (Tiles e own) = Tiles e (slice_index_or c.layers place own)
+body_on c place (Objects os) = Objects (map (object_moved c.right c.down) os)
+body_on c place Other = Other
+
+abbrev pub layer_on : Canvas → ℕ → Layer → Layer
+layer_on c place l = record l { body = body_on c place l.body }
+
+-- layers behind so many tile layers
+abbrev pub layers_on : Canvas → ℕ → List Layer → List Layer
+layers_on c place [] = []
+layers_on c place (l ∷ ls) = layer_on c place l ∷ layers_on c (place + length (lists_of l)) ls
+
+abbrev pub map_on : Canvas → MapParts → MapParts
+map_on c m = record m { width = c.width; height = c.height; layers = layers_on c 0 m.layers }
+
+-- the document with the size, the cells and the selection of a canvas, and its objects moved by the canvas's pixels
+abbrev pub with_canvas : Canvas → DocumentParts → DocumentParts
+with_canvas c d = record { map = map_on c d.map; selection = c.selection }
+
+-- the document's own canvas, with these pixels
+abbrev pub canvas_of : DocumentParts → ℤ → ℤ → Canvas
+canvas_of d right down = record {
+  width = d.map.width;
+  height = d.map.height;
+  layers = tile_layers d.map;
+  selection = d.selection;
+  right = right;
+  down = down;
+}
+
+-- the canvas that turns a document back which was put on this one
+abbrev pub canvas_back : Canvas → DocumentParts → Canvas
+canvas_back c d = canvas_of d (neg_ℤ c.right) (neg_ℤ c.down)
+
+-- ---- what fits
+-- a number of pixels by which objects are moved
+pub record IsShift (z : ℤ) : Type 0 where
+  pub low : neg_ℤ MAX_SHIFT ≤ℤ z
+  pub high : z ≤ℤ MAX_SHIFT
+
+-- the values of a tile layer of so many cells
+abbrev pub AreCells : ℕ → List ℕ → Type 0
+AreCells size cells = (length cells ≡ size) × Each IsTileValue cells
+
+-- an object that is moved stays within its limits
+abbrev pub MayBeMoved : ℤ → ℤ → Object → Type 0
+MayBeMoved right down o = IsPlacing (placing_moved right down o.placing)
+
+-- each object of a body may be moved
+abbrev pub BodyMayBeMoved : ℤ → ℤ → Body → Type 0
+BodyMayBeMoved right down body = IfSome (objects_in body) (Each (MayBeMoved right down))
+
+-- the document fits on the canvas, which has cells for each of its tile layers
+pub record IsCanvasOf (d : DocumentParts) (c : Canvas) : Type 0 where
+  pub size : IsSize c.width c.height
+  pub count : length c.layers ≡ length (tile_layers d.map)
+  pub cells : Each (AreCells (c.width * c.height)) c.layers
+  pub selection : LiesIn c.width c.height c.selection
+  pub right : IsShift c.right
+  pub down : IsShift c.down
+  pub objects : Each (λ l. BodyMayBeMoved c.right c.down l.body) d.map.layers
+
+-- ---- one body at a time
+-- the lists of cells when a body behind so many tile layers has taken its cells and left its own
+abbrev pub lists_after : ℕ → Body → List (List ℕ) → List (List ℕ)
+lists_after place (Tiles e own) lists = slice_set lists place own
+lists_after place (Objects os) lists = lists
+lists_after place Other lists = lists
+
+abbrev pub with_lists : List (List ℕ) → Canvas → Canvas
+with_lists lists c = record c { layers = lists }

@@ -1,0 +1,139 @@
+// What a map is drawn on, and how its layers change places with it.
+ghost use Rattle.std.specs.Prelude.{◌≡◌, ◌+◌, ◌+ℤ◌, ◌^◌, ◌<◌, ◌≤◌, Some, IfSome, length, map, slice_get, slice_set};
+ghost use Rattle.std.specs.List.{flat_map};
+ghost use Rattle.std.specs.Option.{option_map};
+ghost use Rattle.map_model.specs.Canvas.{body_on, layers_on, lists_after, lists_in, lists_of, object_moved, placing_moved, with_lists, BodyMayBeMoved, MayBeMoved};
+ghost use Rattle.map_model.specs.Lists.{Each};
+ghost use Rattle.map_model.specs.WellFormed.{IsPixels, IsPlacing};
+
+use crate::held::Cells;
+use crate::parts::{Body, Layer, Object, Placing};
+use link_chain::Chain;
+use region::Region;
+use std::marker::Model;
+use std::mem;
+
+/// The cells of the tile layers of a map, in drawing order, seen as a list of lists.
+#[derive(Drop)]
+pub struct LayerCells {
+    lists: Vec<Cells>,
+}
+
+impl Model for LayerCells {
+    ghost use Rattle.std.specs.Prelude.{List, ℕ};
+
+    ghost Value = { List (List ℕ) };
+
+    ghost view = { λ a. a.lists.items };
+}
+
+impl LayerCells {
+    /// The cells of a vector, one item for each tile layer.
+    pub fn new(lists: Vec<Cells>) -> LayerCells
+        ensures { result ≡ lists.items }
+    {
+        LayerCells { lists }
+    }
+
+    /// The cells, one item for each tile layer.
+    pub fn as_slice(&self) -> &[Cells]
+        ensures { result.now ≡ self.now }
+    {
+        self.lists.as_slice()
+    }
+
+    // Exchanges the cells at a place and others.
+    fn swap(&mut self, place: usize, cells: &mut Cells)
+        requires { place < length self.old }
+        ensures given { slice_get self.old place ≡ Some cells.new }
+        ensures held { self.new ≡ slice_set self.old place cells.old }
+        ensures fits { length self.old < 2 ^ 64 }
+    {
+        mem::swap(&mut self.lists[place], cells);
+    }
+}
+
+/// What a map is drawn on: its size in cells, the cells of its tile layers and its selection, and by how many pixels
+/// its objects are moved to the right and down when it is put on this canvas.
+#[derive(Drop)]
+pub struct Canvas {
+    pub width: u32,
+    pub height: u32,
+    pub layers: LayerCells,
+    pub selection: Region,
+    pub right: i64,
+    pub down: i64,
+}
+
+// A number of pixels, where there is one, moved by others.
+fn pixels_moved(pixels: Option<i32>, by: i64) -> Option<i32>
+    requires { IfSome (option_map (λ z. z +ℤ by) pixels) IsPixels }
+    ensures { result ≡ option_map (λ z. z +ℤ by) pixels }
+{
+    match pixels {
+        Some(pixels) => Some((i64::from(pixels) + by) as i32),
+        None => None,
+    }
+}
+
+impl Placing {
+    // The numbers of an object that is moved.
+    fn moved(self, right: i64, down: i64) -> Placing
+        requires { IsPlacing (placing_moved right down self) }
+        ensures { result ≡ placing_moved right down self }
+    {
+        Placing {
+            x: pixels_moved(self.x, right),
+            y: pixels_moved(self.y, down),
+            ..self
+        }
+    }
+}
+
+// Moves objects by so many pixels.
+fn move_objects(objects: &mut Chain<Object>, right: i64, down: i64)
+    requires { Each (MayBeMoved right down) objects.old }
+    ensures { objects.new ≡ map (object_moved right down) objects.old }
+{
+    for at in 0..objects.len() {
+        let placing = &mut objects.get_mut(at).placing;
+        *placing = placing.moved(right, down);
+    }
+}
+
+impl Body {
+    // Puts a body behind so many tile layers on a canvas, which gets its cells. The answer is behind how many tile layers
+    // the next body stands.
+    fn exchange(&mut self, canvas: &mut Canvas, place: usize) -> usize
+        requires room { place + length (lists_in self.old) ≤ length canvas.old.layers }
+        requires objects { BodyMayBeMoved canvas.old.right canvas.old.down self.old }
+        ensures body { self.new ≡ body_on canvas.old place self.old }
+        ensures canvas { canvas.new ≡ with_lists (lists_after place self.old canvas.old.layers) canvas.old }
+        ensures next { result ≡ place + length (lists_in self.old) }
+    {
+        match self {
+            Body::Tiles(_, cells) => {
+                canvas.layers.swap(place, cells);
+                place + 1
+            }
+            Body::Objects(objects) => {
+                move_objects(objects, canvas.right, canvas.down);
+                place
+            }
+            Body::Other => place,
+        }
+    }
+}
+
+/// Puts layers on a canvas, which gets their cells.
+pub fn exchange_layers(layers: &mut Chain<Layer>, canvas: &mut Canvas)
+    requires count { length canvas.old.layers ≡ length (flat_map lists_of layers.old) }
+    requires objects { Each (λ l. BodyMayBeMoved canvas.old.right canvas.old.down l.body) layers.old }
+    ensures layers { layers.new ≡ layers_on canvas.old 0 layers.old }
+    ensures canvas { canvas.new ≡ with_lists (flat_map lists_of layers.old) canvas.old }
+{
+    let mut place = 0;
+    for at in 0..layers.len() {
+        place = layers.get_mut(at).body.exchange(canvas, place);
+    }
+}
