@@ -9,3 +9,5 @@ pub mod Selections
 pub mod SlotLaws
 pub mod TilesetLemmas
 pub mod Turns
+pub mod Lent
+pub mod PropertyLaws

@@ -12,3 +12,6 @@ pub mod Parts
 pub mod Slot
 pub mod Tilesets
 pub mod WellFormed
+pub mod Properties
+pub mod PropertyParts
+pub mod Lending

@@ -5,6 +5,8 @@ ghost use Rattle.map_model.specs.Lists.{Each};
 ghost use Rattle.map_model.specs.Parts.{HasTiles, IsWithin, layer_of, with_cell, with_layer};
 ghost use Rattle.map_model.specs.WellFormed.{IsWellFormed};
 
+mod properties;
+
 use crate::edit::{CellEdit, Side};
 use crate::held::MapText;
 use crate::layers::{put_in, rename_in, set_in, show_in};

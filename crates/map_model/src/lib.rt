@@ -14,7 +14,9 @@ mod map;
 mod owner;
 mod parts;
 mod place;
+mod properties;
 mod selection;
+mod setting;
 
 pub use document::Document;
 pub use edit::{CellEdit, Side};
@@ -24,5 +26,6 @@ pub use owner::Owner;
 pub use parts::{
     Body, Encoding, Layer, LayerKind, MapParts, Object, Placing, PropValue, Property, Tileset,
 };
-pub use place::{LayerPlace, ObjectPlace};
+pub use place::{LayerPlace, ObjectPlace, OwnerPlace};
 pub use selection::SelectionMode;
+pub use setting::{Scalar, Setting};

@@ -22,3 +22,13 @@ pub struct ObjectPlace {
     pub layer: u32,
     pub at: usize,
 }
+
+/// Where the owner of properties stands.
+#[derive(Clone, Copy, PartialEq, Eq, Debug)]
+pub enum OwnerPlace {
+    Map,
+    /// The layer with this id.
+    Layer(u32),
+    /// The object at this place.
+    Object(ObjectPlace),
+}
