@@ -97,7 +97,7 @@ pub with_tiles-keeps : (id : ℕ) (f : List ℕ → List ℕ) (m : MapParts) (la
     → KeepsTiles f → IsWellFormed m → IsWellFormed (record m { layers = layers })
 with_tiles-keeps id f m layers is k h = with_layer-keeps id (layer_with_tiles f) m layers is (layer_with_tiles-keeps f k) h
 
-Each-found : {X : Type 0} (p : X → Bool) (P : X → Type 0) (xs : List X) (x : X) → find p xs ≡ Some x → Each P xs → P x
+pub Each-found : {X : Type 0} (p : X → Bool) (P : X → Type 0) (xs : List X) (x : X) → find p xs ≡ Some x → Each P xs → P x
 Each-found p P [] x e h = cc
 Each-found p P (y ∷ ys) x e h = by_test (p y) e (λ q. Each-found p P ys x q h.1)
   where
@@ -173,11 +173,11 @@ moved-keeps m from to l e h =
     }) (remove-keeps m from (remove m.layers from) refl h)
 
 -- ---- the next ids
-Each-IsId-suc : (next : ℕ) (ids : List ℕ) → Each (IsId next) ids → Each (IsId (next + 1)) ids
+pub Each-IsId-suc : (next : ℕ) (ids : List ℕ) → Each (IsId next) ids → Each (IsId (next + 1)) ids
 Each-IsId-suc next [] h = tt
 Each-IsId-suc next (id ∷ ids) h = (record { low = h.0.low; high = omega (arith, h.0.high) }, Each-IsId-suc next ids h.1)
 
-Each-apart : (next : ℕ) (ids : List ℕ) → Each (IsId next) ids → Each (λ id. next ≢ id) ids
+pub Each-apart : (next : ℕ) (ids : List ℕ) → Each (IsId next) ids → Each (λ id. next ≢ id) ids
 Each-apart next [] h = tt
 Each-apart next (id ∷ ids) h = (λ e. omega (arith, h.0.high, e), Each-apart next ids h.1)
 

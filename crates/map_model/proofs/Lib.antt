@@ -3,6 +3,7 @@ pub mod Changes
 pub mod Keeps
 pub mod Listings
 pub mod NewMaps
+pub mod ObjectKeeps
 pub mod PartLaws
 pub mod Places
 pub mod Selections

@@ -1,4 +1,4 @@
--- New layers and new maps are well formed.
+-- New layers, objects and maps are well formed.
 use Rattle.std.proofs.Common.{◌≡◌, ℕ, zero, suc, ◌*◌, List, [], ◌∷◌, true, not, ◌&&◌, Option, Some, None, is_some, refl, arith}
 use Rattle.std.specs.Prelude.{replicate, codes}
 use Rattle.std.specs.List.{list_all}
@@ -9,10 +9,11 @@ use Rattle.map_model.specs.declared.parts.Encoding.TheVariants.{Array}
 use Rattle.map_model.specs.declared.parts.Body.TheVariants.{Tiles, Objects}
 use Rattle.map_model.specs.declared.parts.LayerKind.{LayerKind}
 use Rattle.map_model.specs.declared.parts.LayerKind.TheVariants as kinds
-use Rattle.map_model.specs.Keeping.{layer_level, map_level, map_names, layer_names, tileset_names}
+use Rattle.map_model.specs.declared.parts.Placing.{Placing}
+use Rattle.map_model.specs.Keeping.{layer_level, object_level, map_level, map_names, layer_names, object_names, tileset_names}
 use Rattle.map_model.specs.Lists.{Each}
-use Rattle.map_model.specs.NewMap.{new_layer, new_map, tile_layer_members, object_layer_members, map_members}
-use Rattle.map_model.specs.WellFormed.{IsTileValue, IsLayer, IsSize, IsTileSize, IsWellFormed, AreProperties}
+use Rattle.map_model.specs.NewMap.{new_layer, new_object, new_map, tile_layer_members, object_layer_members, object_members, map_members}
+use Rattle.map_model.specs.WellFormed.{IsTileValue, IsPlacing, IsObject, IsLayer, IsSize, IsTileSize, IsWellFormed, AreProperties}
 
 Each-replicate : {X : Type 0} (P : X → Type 0) (n : ℕ) (x : X) → P x → Each P (replicate n x)
 Each-replicate P zero x p = tt
@@ -42,6 +43,15 @@ new_layer-IsLayer kinds.Object id name size = record {
   properties = no_properties layer_level;
   kept = record { unread = unread-test object_layer_members (layer_names (Objects [])) refl; whole = refl; shallow = omega arith };
   body = (omega arith, tt);
+}
+
+-- a new object is one of a layer
+pub new_object-IsObject : (id : ℕ) (placing : Placing) (name : List ℕ) → IsPlacing placing → IsObject (object_level layer_level) (new_object id placing name)
+new_object-IsObject id placing name h = record {
+  placing = h;
+  gid = tt;
+  properties = no_properties (object_level layer_level);
+  kept = record { unread = unread-test object_members object_names refl; whole = refl; shallow = omega arith };
 }
 
 -- the map of the line `new`

@@ -9,10 +9,10 @@ use Rattle.map_model.specs.declared.place.ObjectPlace.{ObjectPlace}
 use Rattle.map_model.specs.Document.{with_selection}
 use Rattle.map_model.specs.Layers.{layer_name, layer_with_name, layer_visible, layer_with_visible}
 use Rattle.map_model.specs.Lists.{change_at}
-use Rattle.map_model.specs.Objects.{objects_in, objects_of, body_with_objects, layer_with_objects}
+use Rattle.map_model.specs.Objects.{objects_in, objects_of, body_with_objects, layer_with_objects, object_placing, object_with_placing}
 use Rattle.map_model.specs.Parts.{has_id}
 use Rattle.map_model.proofs.Turns.{change_first-change_first, find-change_first, change_first-along, change_first-same}
-use Rattle.map_model.specs.Part.{Part, IsLawfulPart, AreApart, whole, inner, of_first, of_place, layers, of_layer, objects, layer_objects, of_object, next_layer_id, next_object_id, name, visible, selection}
+use Rattle.map_model.specs.Part.{Part, IsLawfulPart, AreApart, whole, inner, of_first, of_place, layers, of_layer, objects, placing, layer_objects, of_object, next_layer_id, next_object_id, name, visible, selection}
 
 some-eq : {V : Type 0} (v w : V) → Some v ≡ Some w → v ≡ w
 some-eq v w e = cc
@@ -144,3 +144,9 @@ layer_objects-laws id = of_layer-laws id objects (λ f l. refl) objects-laws
 pub of_object-laws : {V : Type 0} (place : ObjectPlace) (p : Part Object V) → IsLawfulPart p → IsLawfulPart (of_object place p)
 of_object-laws place p ps =
     of_layer-laws place.layer (inner objects (of_place place.at p)) (λ f l. refl) (inner-laws objects (of_place place.at p) objects-laws (of_place-laws place.at p ps))
+
+pub placing-laws : (place : ObjectPlace) → IsLawfulPart (of_object place placing)
+placing-laws place = of_object-laws place placing (whole-laws object_placing object_with_placing (λ v o. refl) (λ o. refl) (λ v w o. refl))
+
+pub layer_objects-next_object_id : (id : ℕ) → AreApart (layer_objects id) next_object_id
+layer_objects-next_object_id id = record { get-left = λ g d. refl; get-right = λ f d. refl; swapped = λ f g d. refl }

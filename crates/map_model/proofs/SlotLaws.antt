@@ -3,10 +3,11 @@ use Rattle.std.proofs.Common.{◌≡◌, ℕ, ◌+◌, ◌-◌, ◌<◌, ◌≤�
 use Rattle.std.specs.List.{slice_get, insert, remove}
 use Rattle.std.proofs.lemmas.List.Edits.{length-remove}
 use Rattle.map_model.specs.declared.place.LayerPlace.{LayerPlace}
+use Rattle.map_model.specs.declared.place.ObjectPlace.{ObjectPlace}
 use Rattle.map_model.specs.Document.{DocumentParts}
-use Rattle.map_model.specs.Part.{Part, IsLawfulPart, AreApart, layers, next_layer_id}
-use Rattle.map_model.specs.Slot.{IsLawfulSlot, place_in, next_in, layer_slot, next_layer_slot}
-use Rattle.map_model.proofs.PartLaws.{layers-laws, next_layer_id-laws, layers-next_layer_id}
+use Rattle.map_model.specs.Part.{Part, IsLawfulPart, AreApart, layers, layer_objects, next_layer_id, next_object_id}
+use Rattle.map_model.specs.Slot.{IsLawfulSlot, place_in, next_in, layer_slot, next_layer_slot, object_slot, next_object_slot}
+use Rattle.map_model.proofs.PartLaws.{layers-laws, layer_objects-laws, next_layer_id-laws, next_object_id-laws, layers-next_layer_id, layer_objects-next_object_id}
 use Rattle.map_model.proofs.Changes.{remove-insert, insert-remove, slice_get-insert, length-insert, slice_get-within, slice_get-Some, within-removed}
 
 -- ---- places in a list
@@ -94,3 +95,10 @@ layer_slot-laws place = place_in-laws layers layers-laws place.at
 
 pub next_layer_slot-laws : (id : ℕ) → IsLawfulSlot (next_layer_slot id)
 next_layer_slot-laws = next_in-laws layers next_layer_id layers-laws next_layer_id-laws layers-next_layer_id
+
+-- ---- slots of objects
+pub object_slot-laws : (place : ObjectPlace) → IsLawfulSlot (object_slot place)
+object_slot-laws place = place_in-laws (layer_objects place.layer) (layer_objects-laws place.layer) place.at
+
+pub next_object_slot-laws : (layer id : ℕ) → IsLawfulSlot (next_object_slot layer id)
+next_object_slot-laws layer = next_in-laws (layer_objects layer) next_object_id (layer_objects-laws layer) next_object_id-laws (layer_objects-next_object_id layer)

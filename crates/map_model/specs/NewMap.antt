@@ -1,5 +1,5 @@
--- New layers, and a new map as the session line `new` makes it.
-use Rattle.std.specs.Prelude.{ℕ, ◌*◌, List, [], ◌∷◌, true, Some, replicate, codes}
+-- New layers and objects, and a new map as the session line `new` makes it.
+use Rattle.std.specs.Prelude.{ℕ, ◌*◌, List, [], ◌∷◌, true, Some, None, replicate, codes}
 use Rattle.serde_json.specs.Data.{number, unsigned, string, Members, no_members, member}
 use Rattle.map_model.specs.declared.parts.Encoding.TheVariants.{Array}
 use Rattle.map_model.specs.declared.parts.Body.TheVariants.{Tiles, Objects}
@@ -7,6 +7,8 @@ use Rattle.map_model.specs.declared.parts.LayerKind.{LayerKind}
 use Rattle.map_model.specs.declared.parts.LayerKind.TheVariants as kinds
 use Rattle.map_model.specs.declared.parts.Layer.{Layer}
 use Rattle.map_model.specs.declared.parts.MapParts.{MapParts}
+use Rattle.map_model.specs.declared.parts.Object.{Object}
+use Rattle.map_model.specs.declared.parts.Placing.{Placing}
 
 -- the members that a new tile layer keeps
 abbrev pub tile_layer_members : Members
@@ -46,6 +48,22 @@ empty_object_layer id name = record {
 abbrev pub new_layer : LayerKind → ℕ → List ℕ → ℕ → Layer
 new_layer kinds.Tile id name size = empty_layer id name size
 new_layer kinds.Object id name size = empty_object_layer id name
+
+-- the members that a new object keeps
+abbrev pub object_members : Members
+object_members = member (codes "rotation") (number (unsigned 0)) (member (codes "type") (string []) no_members)
+
+-- a visible object that shows no tile
+abbrev pub new_object : ℕ → Placing → List ℕ → Object
+new_object id placing name = record {
+  id = id;
+  placing = placing;
+  name = Some name;
+  visible = Some true;
+  gid = None;
+  properties = [];
+  kept = object_members;
+}
 
 -- a map of one empty tile layer and one external tileset, from 1 on
 abbrev pub new_map : ℕ → ℕ → ℕ → ℕ → List ℕ → MapParts

@@ -7,6 +7,7 @@ use Rattle.map_model.specs.declared.parts.Body.TheVariants.{Tiles, Objects, Othe
 use Rattle.map_model.specs.declared.parts.Layer.{Layer}
 use Rattle.map_model.specs.declared.parts.MapParts.{MapParts}
 use Rattle.map_model.specs.declared.parts.Object.{Object}
+use Rattle.map_model.specs.declared.parts.Placing.{Placing}
 use Rattle.map_model.specs.declared.place.ObjectPlace.{ObjectPlace}
 use Rattle.map_model.specs.Lists.{change_at, first_some}
 use Rattle.map_model.specs.Parts.{layer_of, with_layer}
@@ -47,6 +48,13 @@ place_in_layer id l = option_map (place_of_layer l) (option_and_then (position (
 abbrev pub object_place : MapParts → ℕ → Option ObjectPlace
 object_place m id = first_some (place_in_layer id) m.layers
 
+-- the object with the id in a layer, behind its place
+abbrev pub found_at : Layer → List Object → ℕ → Option (ObjectPlace × Object)
+found_at l os at = option_map (λ o. (place_of_layer l at, o)) (slice_get os at)
+
+abbrev pub found_in_layer : ℕ → Layer → Option (ObjectPlace × Object)
+found_in_layer id l = option_and_then (λ os. option_and_then (found_at l os) (position (has_object_id id) os)) (objects_of l)
+
 -- the objects of the object layer with the id
 abbrev pub objects_of_layer : MapParts → ℕ → Option (List Object)
 objects_of_layer m layer = option_and_then objects_of (layer_of m layer)
@@ -75,3 +83,9 @@ without_object_at place m = with_objects place.layer (λ os. remove os place.at)
 -- the map with f of the object at a place in its place
 abbrev pub with_object : ObjectPlace → (Object → Object) → MapParts → MapParts
 with_object place f m = with_objects place.layer (change_at place.at f) m
+
+abbrev pub object_placing : Object → Placing
+object_placing o = o.placing
+
+abbrev pub object_with_placing : Placing → Object → Object
+object_with_placing placing o = record o { placing = placing }

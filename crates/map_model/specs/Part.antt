@@ -4,11 +4,12 @@ use Rattle.std.specs.FinSet as set
 use Rattle.region.specs.Cells.{cell_cmp}
 use Rattle.map_model.specs.declared.parts.Layer.{Layer}
 use Rattle.map_model.specs.declared.parts.Object.{Object}
+use Rattle.map_model.specs.declared.parts.Placing.{Placing}
 use Rattle.map_model.specs.declared.place.ObjectPlace.{ObjectPlace}
 use Rattle.map_model.specs.Document.{DocumentParts, with_selection}
 use Rattle.map_model.specs.Layers.{layer_name, layer_with_name, layer_visible, layer_with_visible}
 use Rattle.map_model.specs.Lists.{change_at, change_first}
-use Rattle.map_model.specs.Objects.{objects_of, layer_with_objects}
+use Rattle.map_model.specs.Objects.{objects_of, layer_with_objects, object_placing, object_with_placing}
 use Rattle.map_model.specs.Parts.{has_id}
 
 -- a part of A: its value, where there is one, and A with a function of that value in its place
@@ -58,6 +59,10 @@ visible = whole layer_visible layer_with_visible
 -- the objects, where it is an object layer
 abbrev pub objects : Part Layer (List Object)
 objects = record { get = objects_of; update = layer_with_objects }
+
+-- ---- parts of an object
+abbrev pub placing : Part Object Placing
+placing = whole object_placing object_with_placing
 
 -- ---- parts of a document
 -- the layers

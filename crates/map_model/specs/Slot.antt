@@ -2,9 +2,11 @@
 use Rattle.std.specs.Prelude.{◌≡◌, ℕ, ◌+◌, ◌-◌, ◌<◌, ◌≤◌, List, length, slice_get, Option, Some, IsSome, IsSomeAnd, option_and_then}
 use Rattle.std.specs.List.{insert, remove}
 use Rattle.map_model.specs.declared.parts.Layer.{Layer}
+use Rattle.map_model.specs.declared.parts.Object.{Object}
 use Rattle.map_model.specs.declared.place.LayerPlace.{LayerPlace}
+use Rattle.map_model.specs.declared.place.ObjectPlace.{ObjectPlace}
 use Rattle.map_model.specs.Document.{DocumentParts}
-use Rattle.map_model.specs.Part.{Part, layers, next_layer_id}
+use Rattle.map_model.specs.Part.{Part, layers, layer_objects, next_layer_id, next_object_id}
 
 -- a place at which a thing can stand: the document with one there and without it, and when it is free and filled
 pub record Slot (X : Type 0) : Type 1 where
@@ -50,3 +52,12 @@ layer_slot place = place_in layers place.at
 -- the place behind the last layer
 abbrev pub next_layer_slot : ℕ → Slot Layer
 next_layer_slot id = next_in layers next_layer_id id
+
+-- ---- slots of objects
+-- the place of an object in its layer
+abbrev pub object_slot : ObjectPlace → Slot Object
+object_slot place = place_in (layer_objects place.layer) place.at
+
+-- the place behind the last object of a layer
+abbrev pub next_object_slot : ℕ → ℕ → Slot Object
+next_object_slot layer id = next_in (layer_objects layer) next_object_id id

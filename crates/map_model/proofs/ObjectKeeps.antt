@@ -1,0 +1,248 @@
+-- Changes of the objects of a layer that keep a map well formed.
+use Rattle.std.proofs.Common.{◌≡◌, ℕ, zero, suc, ◌+◌, ◌*◌, ◌<◌, ◌≤◌, List, [], ◌∷◌, ◌++◌, append_assoc, length, Bool, true, false, cond, Option, Some, None, IsSome, option_and_then, find, refl, sym, ap, ◌∙◌, subst, arith}
+use Rattle.std.specs.List.{slice_get, insert, remove, flat_map}
+use Rattle.map_model.specs.declared.limits.TheConstants.{MAX_OBJECTS, MAX_NEXT_ID}
+use Rattle.map_model.specs.declared.parts.Body.{Body}
+use Rattle.map_model.specs.declared.parts.Body.TheVariants.{Tiles, Objects, Other}
+use Rattle.map_model.specs.declared.parts.Layer.{Layer}
+use Rattle.map_model.specs.declared.parts.MapParts.{MapParts}
+use Rattle.map_model.specs.declared.parts.Object.{Object}
+use Rattle.map_model.specs.declared.parts.Placing.{Placing}
+use Rattle.map_model.specs.declared.place.ObjectPlace.{ObjectPlace}
+use Rattle.map_model.specs.Keeping.{body_names, layer_level, object_level}
+use Rattle.map_model.specs.Layers.{with_next_ids}
+use Rattle.map_model.specs.Lists.{Each, change_first, change_at}
+use Rattle.map_model.specs.Objects.{objects_in, objects_of, body_with_objects, layer_with_objects, objects_of_layer, object_at, with_objects, with_object_at, without_object_at, with_object, object_with_placing}
+use Rattle.map_model.specs.Parts.{has_id}
+use Rattle.map_model.specs.WellFormed.{IsId, AreIds, IsPlacing, IsObject, IsBody, IsLayer, AreLayers, IsWellFormed, ids_of, ids_of_object, object_ids_in, object_ids_of, layer_ids, object_ids}
+use Rattle.map_model.proofs.Changes.{length-change_first, Each-insert, Each-remove, length-insert, length-remove_le, slice_get-insert}
+use Rattle.map_model.proofs.Keeps.{KeepsLayers, layers-IsWellFormed, with_layer-keeps, Each-found, Each-IsId-suc, Each-apart}
+use Rattle.map_model.proofs.Listings.{IsReplaced, insert-IsReplaced, remove-IsReplaced, flat-IsReplaced, AreNewIds, AreNewIds-none, AreIds-replaced, AreIds-change_first}
+
+-- ---- the object at a place
+-- a change of an object that keeps its id and keeps it one of a layer's objects
+pub record KeepsObjects (f : Object → Object) : Type 0 where
+  pub ids : (o : Object) → (f o).id ≡ o.id
+  pub objects : (level : ℕ) (o : Object) → IsObject level o → IsObject level (f o)
+
+length-change_at : {X : Type 0} (k : ℕ) (f : X → X) (xs : List X) → length (change_at k f xs) ≡ length xs
+length-change_at zero f [] = refl
+length-change_at (suc k) f [] = refl
+length-change_at zero f (x ∷ xs) = refl
+length-change_at (suc k) f (x ∷ xs) = ap suc (length-change_at k f xs)
+
+Each-change_at : {X : Type 0} (P : X → Type 0) (k : ℕ) (f : X → X) (xs : List X) → ((x : X) → slice_get xs k ≡ Some x → P x → P (f x)) → Each P xs → Each P (change_at k f xs)
+Each-change_at P zero f [] keeps h = tt
+Each-change_at P (suc k) f [] keeps h = tt
+Each-change_at P zero f (x ∷ xs) keeps h = (keeps x refl h.0, h.1)
+Each-change_at P (suc k) f (x ∷ xs) keeps h = (h.0, Each-change_at P k f xs keeps h.1)
+
+ids-change_at : (k : ℕ) (f : Object → Object) → ((o : Object) → (f o).id ≡ o.id) → (os : List Object) → flat_map ids_of_object (change_at k f os) ≡ flat_map ids_of_object os
+ids-change_at zero f same [] = refl
+ids-change_at (suc k) f same [] = refl
+ids-change_at zero f same (o ∷ os) = ap (λ id. id ∷ flat_map ids_of_object os) (same o)
+ids-change_at (suc k) f same (o ∷ os) = ap (λ ids. o.id ∷ ids) (ids-change_at k f same os)
+
+object_ids-change_at : (k : ℕ) (f : Object → Object) → ((o : Object) → (f o).id ≡ o.id) → (b : Body) → object_ids_in (body_with_objects (change_at k f) b) ≡ object_ids_in b
+object_ids-change_at k f same (Tiles e cells) = refl
+object_ids-change_at k f same (Objects os) = ids-change_at k f same os
+object_ids-change_at k f same Other = refl
+
+body_names-objects : (g : List Object → List Object) (b : Body) → body_names (body_with_objects g b) ≡ body_names b
+body_names-objects g (Tiles e cells) = refl
+body_names-objects g (Objects os) = refl
+body_names-objects g Other = refl
+
+IsBody-change_at : (k : ℕ) (f : Object → Object) → KeepsObjects f → (level size : ℕ) (b : Body) → IsBody level size b → IsBody level size (body_with_objects (change_at k f) b)
+IsBody-change_at k f keeps level size (Tiles e cells) h = h
+IsBody-change_at k f keeps level size (Objects os) h =
+    (rw (length-change_at k f os) h.0, Each-change_at (IsObject (object_level level)) k f os (λ o e. keeps.objects (object_level level) o) h.1)
+IsBody-change_at k f keeps level size Other h = h
+
+layer_with_object-keeps : (k : ℕ) (f : Object → Object) → KeepsObjects f → KeepsLayers (layer_with_objects (change_at k f))
+layer_with_object-keeps k f keeps = record {
+  ids = λ l. refl;
+  object_ids = λ l. object_ids-change_at k f keeps.ids l.body;
+  layers = λ level size l h. record {
+    properties = h.properties;
+    kept = rw (body_names-objects (change_at k f) l.body) h.kept;
+    body = IsBody-change_at k f keeps level size l.body h.body;
+  };
+}
+
+pub with_object-keeps : (place : ObjectPlace) (f : Object → Object) (m : MapParts) → KeepsObjects f → IsWellFormed m → IsWellFormed (with_object place f m)
+with_object-keeps place f m keeps h =
+    with_layer-keeps place.layer (layer_with_objects (change_at place.at f)) m (with_object place f m).layers refl (layer_with_object-keeps place.at f keeps) h
+
+pub object_with_placing-keeps : (placing : Placing) → IsPlacing placing → KeepsObjects (object_with_placing placing)
+object_with_placing-keeps placing is = record {
+  ids = λ o. refl;
+  objects = λ level o h. record { placing = is; gid = h.gid; properties = h.properties; kept = h.kept };
+}
+
+-- ---- the objects of one layer
+IsLayer-objects : (g : List Object → List Object) (os : List Object) (level size : ℕ) (l : Layer) → objects_of l ≡ Some os → length (g os) ≤ MAX_OBJECTS → Each (IsObject (object_level level)) (g os)
+    → IsLayer level size l → IsLayer level size (layer_with_objects g l)
+IsLayer-objects g os level size l e few each h = record {
+  properties = h.properties;
+  kept = rw (body_names-objects g l.body) h.kept;
+  body = by_body l.body e h.body;
+}
+  where
+    by_body : (b : Body) → objects_in b ≡ Some os → IsBody level size b → IsBody level size (body_with_objects g b)
+    by_body (Tiles t cells) q k = k
+    by_body (Objects own) q k = let is : own ≡ os = cc in rw is (few, each)
+    by_body Other q k = k
+
+-- where the layer is found, it alone changes
+Each-change_first-found : {X : Type 0} (p : X → Bool) (f : X → X) (P : X → Type 0) (xs : List X) → ((x : X) → find p xs ≡ Some x → P x → P (f x)) → Each P xs → Each P (change_first p f xs)
+Each-change_first-found p f P [] keeps h = tt
+Each-change_first-found {X = X} p f P (x ∷ xs) keeps h = by_test (p x) keeps (λ k. Each-change_first-found p f P xs k h.1)
+  where
+    by_test : (b : Bool) → ((y : X) → cond b (Some x) (find p xs) ≡ Some y → P y → P (f y)) → (((y : X) → find p xs ≡ Some y → P y → P (f y)) → Each P (change_first p f xs))
+        → Each P (cond b (f x ∷ xs) (x ∷ change_first p f xs))
+    by_test true k later = (k x refl h.0, h.1)
+    by_test false k later = (h.0, later k)
+
+-- other objects in the place of those of the layer with the id
+with_objects-keeps : (layer : ℕ) (g : List Object → List Object) (os : List Object) (m : MapParts) → objects_of_layer m layer ≡ Some os → length (g os) ≤ MAX_OBJECTS
+    → Each (IsObject (object_level layer_level)) (g os) → AreIds m.next_object_id (object_ids (with_objects layer g m).layers) → IsWellFormed m → IsWellFormed (with_objects layer g m)
+with_objects-keeps layer g os m e few each ids h =
+    let size = m.width * m.height in
+    layers-IsWellFormed m (with_objects layer g m).layers (record {
+      few = rw length-change_first h.layers.few;
+      each = Each-change_first-found (has_id layer) (layer_with_objects g) (IsLayer layer_level size) m.layers
+          (λ l f. IsLayer-objects g os layer_level size l (ap (option_and_then objects_of) (sym f) ∙ e) few each) h.layers.each;
+      layer_ids = AreIds-change_first ids_of m.next_layer_id (has_id layer) (layer_with_objects g) (λ l. refl) m.layers h.layers.layer_ids;
+      object_ids = ids;
+    }) h
+
+-- ---- the ids of all objects
+-- for some lists before and behind it, a piece of the list xs is replaced, which gives ys
+abbrev HasReplaced : List ℕ → List ℕ → List ℕ → List ℕ → Type 0
+HasReplaced piece new xs ys = (front : List ℕ) × ((rest : List ℕ) × IsReplaced front piece new rest xs ys)
+
+longer : (front piece rest more : List ℕ) → (front ++ (piece ++ rest)) ++ more ≡ front ++ (piece ++ (rest ++ more))
+longer front piece rest more = append_assoc front (piece ++ rest) more ∙ ap (λ zs. front ++ zs) (append_assoc piece rest more)
+
+HasReplaced-before : {piece new xs ys : List ℕ} (more : List ℕ) → HasReplaced piece new xs ys → HasReplaced piece new (xs ++ more) (ys ++ more)
+HasReplaced-before {piece = piece} {new = new} more r = (r.0, (r.1.0 ++ more, record {
+  was = ap (λ zs. zs ++ more) r.1.1.was ∙ longer r.0 piece r.1.0 more;
+  now = ap (λ zs. zs ++ more) r.1.1.now ∙ longer r.0 new r.1.0 more;
+}))
+
+HasReplaced-behind : {piece new xs ys : List ℕ} (more : List ℕ) → HasReplaced piece new xs ys → HasReplaced piece new (more ++ xs) (more ++ ys)
+HasReplaced-behind {piece = piece} {new = new} more r = (more ++ r.0, (r.1.0, record {
+  was = ap (λ zs. more ++ zs) r.1.1.was ∙ sym (append_assoc more r.0 (piece ++ r.1.0));
+  now = ap (λ zs. more ++ zs) r.1.1.now ∙ sym (append_assoc more r.0 (new ++ r.1.0));
+}))
+
+-- what the first that passes gives is replaced in what all give
+HasReplaced-change_first : {X : Type 0} {piece new : List ℕ} (g : X → List ℕ) (p : X → Bool) (f : X → X) (xs : List X) (x : X) → find p xs ≡ Some x → HasReplaced piece new (g x) (g (f x))
+    → HasReplaced piece new (flat_map g xs) (flat_map g (change_first p f xs))
+HasReplaced-change_first g p f [] x e r = cc
+HasReplaced-change_first {piece = piece} {new = new} g p f (y ∷ ys) x e r = by_test (p y) e (λ q. HasReplaced-change_first g p f ys x q r)
+  where
+    by_test : (b : Bool) → cond b (Some y) (find p ys) ≡ Some x → (find p ys ≡ Some x → HasReplaced piece new (flat_map g ys) (flat_map g (change_first p f ys)))
+        → HasReplaced piece new (g y ++ flat_map g ys) (flat_map g (cond b (f y ∷ ys) (y ∷ change_first p f ys)))
+    by_test true q later = let is : x ≡ y = cc in HasReplaced-before (flat_map g ys) (subst (λ z. HasReplaced piece new (g z) (g (f z))) is r)
+    by_test false q later = HasReplaced-behind (g y) (later q)
+
+HasReplaced-layer : {piece new : List ℕ} (g : List Object → List Object) (os : List Object) (b : Body) → objects_in b ≡ Some os → HasReplaced piece new (flat_map ids_of_object os) (flat_map ids_of_object (g os))
+    → HasReplaced piece new (object_ids_in b) (object_ids_in (body_with_objects g b))
+HasReplaced-layer g os (Tiles t cells) e r = cc
+HasReplaced-layer {piece = piece} {new = new} g os (Objects own) e r =
+    let is : os ≡ own = cc in subst (λ ps. HasReplaced piece new (flat_map ids_of_object ps) (flat_map ids_of_object (g ps))) is r
+HasReplaced-layer g os Other e r = cc
+
+-- where there is an object layer, there is a layer
+found_layer : (os : List Object) (o : Option Layer) → option_and_then objects_of o ≡ Some os → (l : Layer) × ((o ≡ Some l) × (objects_of l ≡ Some os))
+found_layer os None e = cc
+found_layer os (Some l) e = (l, (refl, e))
+
+HasReplaced-objects : {piece new : List ℕ} (layer : ℕ) (g : List Object → List Object) (os : List Object) (m : MapParts) → objects_of_layer m layer ≡ Some os
+    → HasReplaced piece new (flat_map ids_of_object os) (flat_map ids_of_object (g os)) → HasReplaced piece new (object_ids m.layers) (object_ids (with_objects layer g m).layers)
+HasReplaced-objects layer g os m e r =
+    let found = found_layer os (find (has_id layer) m.layers) e in
+    HasReplaced-change_first object_ids_of (has_id layer) (layer_with_objects g) m.layers found.0 found.1.0 (HasReplaced-layer g os found.0.body found.1.1 r)
+
+-- ---- objects that come and go
+-- the objects of a layer of a well-formed map
+Each-layer : (m : MapParts) (layer : ℕ) (os : List Object) → objects_of_layer m layer ≡ Some os → IsWellFormed m → (length os ≤ MAX_OBJECTS) × Each (IsObject (object_level layer_level)) os
+Each-layer m layer os e h =
+    let found = found_layer os (find (has_id layer) m.layers) e in
+    by_body found.0.body found.1.1 (Each-found (has_id layer) (IsLayer layer_level (m.width * m.height)) m.layers found.0 found.1.0 h.layers.each).body
+  where
+    by_body : (b : Body) → objects_in b ≡ Some os → IsBody layer_level (m.width * m.height) b → (length os ≤ MAX_OBJECTS) × Each (IsObject (object_level layer_level)) os
+    by_body (Tiles t cells) q k = cc
+    by_body (Objects own) q k = let is : own ≡ os = cc in subst (λ ps. (length ps ≤ MAX_OBJECTS) × Each (IsObject (object_level layer_level)) ps) is k
+    by_body Other q k = cc
+
+-- an object changed at its place, where the change keeps that one alone
+pub with_object-keeps_there : (place : ObjectPlace) (f : Object → Object) (o : Object) (m : MapParts) → object_at m place ≡ Some o → ((p : Object) → (f p).id ≡ p.id)
+    → IsObject (object_level layer_level) (f o) → IsWellFormed m → IsWellFormed (with_object place f m)
+with_object-keeps_there place f o m e same is h =
+    let found = there (objects_of_layer m place.layer) e in
+    let os = found.0 in
+    let old = Each-layer m place.layer os found.1.0 h in
+    with_objects-keeps place.layer (change_at place.at f) os m found.1.0 (rw (length-change_at place.at f os) old.0)
+    (Each-change_at (IsObject (object_level layer_level)) place.at f os
+    (λ p q k. let own : o ≡ p = cc (found.1.1, q) in subst (λ z. IsObject (object_level layer_level) (f z)) own is) old.1)
+    (AreIds-change_first object_ids_of m.next_object_id (has_id place.layer) (layer_with_objects (change_at place.at f))
+    (λ l. object_ids-change_at place.at f same l.body) m.layers h.layers.object_ids) h
+  where
+    there : (option : Option (List Object)) → option_and_then (λ os. slice_get os place.at) option ≡ Some o → (os : List Object) × ((option ≡ Some os) × (slice_get os place.at ≡ Some o))
+    there None q = cc
+    there (Some os) q = (os, (refl, q))
+
+pub without_object_at-keeps : (place : ObjectPlace) (m : MapParts) → IsSome (object_at m place) → IsWellFormed m → IsWellFormed (without_object_at place m)
+without_object_at-keeps place m there h = by_objects (objects_of_layer m place.layer) refl there
+  where
+    by_objects : (option : Option (List Object)) → objects_of_layer m place.layer ≡ option → IsSome (option_and_then (λ os. slice_get os place.at) option) → IsWellFormed (without_object_at place m)
+    by_objects None e q = cc
+    by_objects (Some os) e q =
+        let old = Each-layer m place.layer os e h in
+        let less = length-remove_le os place.at in
+        let r = HasReplaced-objects place.layer (λ ps. remove ps place.at) os m e (_, (_, flat-IsReplaced ids_of_object (remove-IsReplaced os place.at))) in
+        with_objects-keeps place.layer (λ ps. remove ps place.at) os m e (omega (arith, old.0)) (Each-remove _ os place.at old.1)
+        (AreIds-replaced r.1.1 h.layers.object_ids (AreNewIds-none m.next_object_id (r.0 ++ r.1.0))) h
+
+-- the next object id one higher
+raised_object-keeps : (m : MapParts) → m.next_object_id < MAX_NEXT_ID → IsWellFormed m → IsWellFormed (with_next_ids m.next_layer_id (m.next_object_id + 1) m)
+raised_object-keeps m l h = record {
+  size = h.size;
+  tile_size = h.tile_size;
+  layers = record {
+    few = h.layers.few;
+    each = h.layers.each;
+    layer_ids = h.layers.layer_ids;
+    object_ids = record {
+      next_low = omega arith;
+      next_high = omega arith;
+      each = Each-IsId-suc m.next_object_id (object_ids m.layers) h.layers.object_ids.each;
+      distinct = h.layers.object_ids.distinct;
+    };
+  };
+  tilesets = h.tilesets;
+  properties = h.properties;
+  kept = h.kept;
+}
+
+-- the next id is new beside those below it
+next_id-AreNewIds : (next id : ℕ) (ids : List ℕ) → id ≡ next → 1 ≤ next → Each (IsId next) ids → AreNewIds (next + 1) (id ∷ []) ids
+next_id-AreNewIds next id ids is low h =
+    rw is (record { each = (record { low = low; high = omega arith }, tt); distinct = (tt, tt); apart = (Each-apart next ids h, tt) })
+
+-- an object with the next id, put in at a place
+pub numbered_object-keeps : (m : MapParts) (place : ObjectPlace) (os : List Object) (o : Object) → objects_of_layer m place.layer ≡ Some os → length os < MAX_OBJECTS → m.next_object_id < MAX_NEXT_ID
+    → IsObject (object_level layer_level) o → o.id ≡ m.next_object_id → IsWellFormed m
+    → IsWellFormed (with_next_ids m.next_layer_id (m.next_object_id + 1) (with_object_at place o m))
+numbered_object-keeps m place os o e few below object id h =
+    let raised = with_next_ids m.next_layer_id (m.next_object_id + 1) m in
+    let kept = raised_object-keeps m below h in
+    let old = Each-layer m place.layer os e h in
+    let put = λ (ps : List Object). insert ps place.at o in
+    let r = HasReplaced-objects {piece = []} {new = o.id ∷ []} place.layer put os m e (_, (_, flat-IsReplaced ids_of_object (insert-IsReplaced os place.at o))) in
+    with_objects-keeps place.layer put os raised e (let more = length-insert os place.at o in omega (arith, few)) (Each-insert _ os place.at o object old.1)
+    (AreIds-replaced r.1.1 kept.layers.object_ids
+    (next_id-AreNewIds m.next_object_id o.id (r.0 ++ r.1.0) id h.layers.object_ids.next_low (rw (← r.1.1.was) h.layers.object_ids.each))) kept
