@@ -10,5 +10,5 @@ pub mod Selections
 pub mod SlotLaws
 pub mod TilesetLemmas
 pub mod Turns
-pub mod Lent
+pub mod PropertyKeeps
 pub mod PropertyLaws

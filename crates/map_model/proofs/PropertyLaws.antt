@@ -1,5 +1,6 @@
 -- The laws of the parts and slots of properties.
 use Rattle.std.proofs.Common.{◌≡◌, ℕ, List, Option, Some, None, option_map, option_and_then, refl, sym, ap, ◌∙◌}
+use Rattle.std.specs.List.{slice_get}
 use Rattle.map_model.specs.declared.parts.Layer.{Layer}
 use Rattle.map_model.specs.declared.parts.Object.{Object}
 use Rattle.map_model.specs.declared.parts.Property.{Property}
@@ -7,7 +8,7 @@ use Rattle.map_model.specs.declared.place.OwnerPlace.{OwnerPlace}
 use Rattle.map_model.specs.declared.place.OwnerPlace.TheVariants as places
 use Rattle.map_model.specs.declared.setting.Setting.{Setting}
 use Rattle.map_model.specs.Document.{DocumentParts}
-use Rattle.map_model.specs.Objects.{object_at}
+use Rattle.map_model.specs.Objects.{objects_of}
 use Rattle.map_model.specs.Part.{Part, IsLawfulPart, whole, of_layer, of_object}
 use Rattle.map_model.specs.Parts.{layer_of}
 use Rattle.map_model.specs.Properties.{layer_properties, layer_with_properties, object_properties, object_with_properties, property_with_setting, setting_of}
@@ -36,10 +37,16 @@ map-then : {A B : Type 0} (f : A → B) (o : Option A) → option_map f o ≡ op
 map-then f None = refl
 map-then f (Some a) = refl
 
--- the same where the outer part is a part of a part
-map-then_within : {A B C : Type 0} (f : B → C) (g : A → Option B) (o : Option A) → option_map f (option_and_then g o) ≡ option_and_then (λ a. option_and_then (λ b. Some (f b)) (g a)) o
-map-then_within f g None = refl
-map-then_within f g (Some a) = map-then f (g a)
+-- the same of an object's place
+map-then_placed : {V : Type 0} (f : Object → V) (at : ℕ) (o : Option Layer)
+    → option_map f (option_and_then (λ os. slice_get os at) (option_and_then objects_of o))
+    ≡ option_and_then (λ l. option_and_then (λ os. option_and_then (λ b. Some (f b)) (slice_get os at)) (objects_of l)) o
+map-then_placed f at None = refl
+map-then_placed f at (Some l) = by_objects (objects_of l)
+  where
+    by_objects : (o : Option (List Object)) → option_map f (option_and_then (λ os. slice_get os at) o) ≡ option_and_then (λ os. option_and_then (λ b. Some (f b)) (slice_get os at)) o
+    by_objects None = refl
+    by_objects (Some os) = map-then f (slice_get os at)
 
 pub properties-laws : (owner : OwnerPlace) → IsLawfulPart (properties owner)
 properties-laws places.Map = whole-laws (λ d. d.map.properties) (λ ps d. record d { map = record d.map { properties = ps } }) (λ v d. refl) (λ d. refl) (λ v w d. refl)
@@ -49,7 +56,7 @@ properties-laws (places.Layer id) =
     (of_layer-laws id part (λ f l. refl) (whole-laws layer_properties (λ ps l. record l { properties = ps }) (λ v l. refl) (λ l. refl) (λ v w l. refl)))
 properties-laws (places.Object place) =
     let part : Part Object (List Property) = whole object_properties (λ ps o. record o { properties = ps }) in
-    read-laws (of_object place part) (properties (places.Object place)).get (λ d. ?)
+    read-laws (of_object place part) (properties (places.Object place)).get (λ d. map-then_placed object_properties place.at (layer_of d.map place.layer))
     (of_object-laws place part (whole-laws object_properties (λ ps o. record o { properties = ps }) (λ v o. refl) (λ o. refl) (λ v w o. refl)))
 
 setting-laws : IsLawfulPart setting

@@ -1,18 +1,20 @@
 // The properties of an owner.
-ghost use Rattle.std.specs.Prelude.{◌≡◌, ◌<◌, find, position, IfSome, IsSome, IsSomeAnd, Some, option_and_then, length, slice_get};
+ghost use Rattle.std.specs.Prelude.{◌≡◌, ◌<◌, ◌≤◌, find, position, IfSome, IsSome, IsSomeAnd, Some, option_and_then, length, slice_get};
 ghost use Rattle.std.specs.Option.{option_map};
 ghost use Rattle.std.specs.Borrow.{sem};
 ghost use Rattle.map_model.specs.Lending.{LendsOfLayer, LendsOfObject, LendsOfPlaced, LendsProperties};
 ghost use Rattle.map_model.specs.Lists.{Distinct};
 ghost use Rattle.map_model.specs.Objects.{object_at, objects_in, objects_of};
 ghost use Rattle.map_model.specs.Parts.{has_id};
-ghost use Rattle.map_model.specs.Properties.{has_name, layer_properties, object_properties, properties_of};
-ghost use Rattle.map_model.specs.WellFormed.{layer_ids};
+ghost use Rattle.map_model.specs.Properties.{has_name, layer_properties, object_properties, properties_of, property_at, property_with_setting, setting_of, with_property, with_property_at, without_property_at};
+ghost use Rattle.map_model.specs.WellFormed.{IsWellFormed, layer_ids};
 
 use crate::layers::place_in;
 use crate::parts::{Body, Layer, MapParts, Property};
 use crate::place::{ObjectPlace, OwnerPlace};
-use link_chain::Chain;
+use crate::setting::Setting;
+use link_chain::{Chain, Loose};
+use std::mem;
 
 // The properties of the layer with an id, to be changed where they stand.
 #[tactic(auto, using(crate::proofs::Changes::places))]
@@ -70,13 +72,46 @@ pub fn lend(parts: &mut MapParts, owner: OwnerPlace) -> &mut Chain<Property>
     }
 }
 
+/// Puts a property in at a place among its owner's.
+pub fn insert_in(parts: &mut MapParts, owner: OwnerPlace, at: usize, property: Loose<Property>)
+    requires well_formed { IsWellFormed parts.old }
+    requires place { IsSomeAnd (properties_of parts.old owner) (λ ps. at ≤ length ps) }
+    ensures { IsSomeAnd property (λ p. parts.new ≡ with_property_at owner at p parts.old) }
+{
+    lend(parts, owner).insert(at, property);
+}
+
+/// Takes the property at a place among its owner's out.
+pub fn take_in(parts: &mut MapParts, owner: OwnerPlace, at: usize) -> Loose<Property>
+    requires well_formed { IsWellFormed parts.old }
+    requires there { IsSome (property_at parts.old owner at) }
+    ensures property { result ≡ property_at parts.old owner at }
+    ensures parts { parts.new ≡ without_property_at owner at parts.old }
+{
+    lend(parts, owner).take(at)
+}
+
+/// Exchanges the type and the value of the property at a place among its owner's and others.
+pub fn swap_in(parts: &mut MapParts, owner: OwnerPlace, at: usize, setting: &mut Setting)
+    requires well_formed { IsWellFormed parts.old }
+    requires there { IsSome (property_at parts.old owner at) }
+    ensures given { option_map setting_of (property_at parts.old owner at) ≡ Some setting.new }
+    ensures parts { parts.new ≡ with_property owner at (property_with_setting setting.old) parts.old }
+{
+    let property = lend(parts, owner).get_mut(at);
+    mem::swap(&mut property.kind, &mut setting.kind);
+    mem::swap(&mut property.value, &mut setting.value);
+}
+
 /// The property with a name, behind its place: one walk.
 pub fn find_property<'a>(properties: &'a Chain<Property>, name: &str) -> Option<(usize, &'a Property)>
     ensures place { option_map (λ found. found.0) result ≡ position (has_name name.now) properties.now }
     ensures property { IfSome result (λ found. slice_get properties.now found.0 ≡ Some found.1.now) }
 {
-    properties
-        .iter()
-        .enumerate()
-        .find(|(_, property)| property.name.as_str() == name)
+    for (at, property) in properties.iter().enumerate() {
+        if property.name.as_str() == name {
+            return Some((at, property));
+        }
+    }
+    None
 }

@@ -8,10 +8,9 @@ ghost use Rattle.map_model.specs.WellFormed.{IsWellFormed};
 use crate::document::Document;
 use crate::parts::Property;
 use crate::place::OwnerPlace;
-use crate::properties::lend;
+use crate::properties::{insert_in, swap_in, take_in};
 use crate::setting::Setting;
 use link_chain::Loose;
-use std::mem;
 
 impl Document {
     /// Puts a property in at a place among its owner's; those from there on stand one place higher. The map is well
@@ -22,7 +21,7 @@ impl Document {
         ensures document { IsSomeAnd property (λ p. self.new ≡ with_map (with_property_at owner at p) self.old) }
         ensures well_formed { IsDocument self.new }
     {
-        lend(&mut self.map.parts, owner).insert(at, property);
+        insert_in(&mut self.map.parts, owner, at, property);
     }
 
     /// Takes the property at a place among its owner's out; those behind it stand one place lower.
@@ -32,7 +31,7 @@ impl Document {
         ensures document { self.new ≡ with_map (without_property_at owner at) self.old }
         ensures well_formed { IsDocument self.new }
     {
-        lend(&mut self.map.parts, owner).take(at)
+        take_in(&mut self.map.parts, owner, at)
     }
 
     /// Exchanges the type and the value of the property at a place among its owner's and others. It takes no memory.
@@ -44,8 +43,6 @@ impl Document {
         ensures document { self.new ≡ with_map (with_property owner at (property_with_setting setting.old)) self.old }
         ensures well_formed { IsDocument self.new }
     {
-        let property = lend(&mut self.map.parts, owner).get_mut(at);
-        mem::swap(&mut property.kind, &mut setting.kind);
-        mem::swap(&mut property.value, &mut setting.value);
+        swap_in(&mut self.map.parts, owner, at, setting);
     }
 }

@@ -2,7 +2,7 @@ use Rattle.std.proofs.Common.{◌≡◌, Some, List, refl, ap, option_map}
 use Rattle.map_model.specs.declared.parts.Body.TheVariants.{Objects}
 use Rattle.map_model.specs.declared.parts.Property.{Property}
 use Rattle.map_model.specs.Properties.{object_properties, object_with_properties}
-use Rattle.map_model.proofs.Lent.{set-at_place}
+use Rattle.map_model.proofs.PropertyKeeps.{set-at_place}
 use Rattle.map_model.proofs.properties.lend_of_object.Goals as goal
 
 pub returns : goal.returns
