@@ -4,6 +4,7 @@ pub mod Keeps
 pub mod Listings
 pub mod NewMaps
 pub mod ObjectKeeps
+pub mod ObjectPlaces
 pub mod PartLaws
 pub mod Places
 pub mod Selections

@@ -27,15 +27,15 @@ Distinct-append : {X : Type 0} (xs ys : List X) → Apart xs ys → Distinct xs 
 Distinct-append [] ys a h k = k
 Distinct-append (x ∷ xs) ys a h k = (Each-append (λ y. x ≢ y) xs ys h.0 a.0, Distinct-append xs ys a.1 h.1 k)
 
-Distinct-front : {X : Type 0} (xs ys : List X) → Distinct (xs ++ ys) → Distinct xs
+pub Distinct-front : {X : Type 0} (xs ys : List X) → Distinct (xs ++ ys) → Distinct xs
 Distinct-front [] ys h = tt
 Distinct-front (x ∷ xs) ys h = (Each-front (λ y. x ≢ y) xs ys h.0, Distinct-front xs ys h.1)
 
-Distinct-rest : {X : Type 0} (xs ys : List X) → Distinct (xs ++ ys) → Distinct ys
+pub Distinct-rest : {X : Type 0} (xs ys : List X) → Distinct (xs ++ ys) → Distinct ys
 Distinct-rest [] ys h = h
 Distinct-rest (x ∷ xs) ys h = Distinct-rest xs ys h.1
 
-Apart-pieces : {X : Type 0} (xs ys : List X) → Distinct (xs ++ ys) → Apart xs ys
+pub Apart-pieces : {X : Type 0} (xs ys : List X) → Distinct (xs ++ ys) → Apart xs ys
 Apart-pieces [] ys h = tt
 Apart-pieces (x ∷ xs) ys h = (Each-rest (λ y. x ≢ y) xs ys h.0, Apart-pieces xs ys h.1)
 

@@ -1,6 +1,6 @@
 -- Changes of the objects of a layer that keep a map well formed.
-use Rattle.std.proofs.Common.{◌≡◌, ℕ, zero, suc, ◌+◌, ◌*◌, ◌<◌, ◌≤◌, List, [], ◌∷◌, ◌++◌, append_assoc, length, Bool, true, false, cond, Option, Some, None, IsSome, option_and_then, find, refl, sym, ap, ◌∙◌, subst, arith}
-use Rattle.std.specs.List.{slice_get, insert, remove, flat_map}
+use Rattle.std.proofs.Common.{◌≡◌, ℕ, zero, suc, ◌+◌, ◌*◌, ◌<◌, ◌≤◌, List, [], ◌∷◌, ◌++◌, append_assoc, length, Bool, true, false, cond, Option, Some, None, IsSome, IsSomeAnd, option_map, option_and_then, find, refl, sym, ap, ◌∙◌, subst, arith}
+use Rattle.std.specs.List.{slice_get, slice_set, position, insert, remove, flat_map}
 use Rattle.map_model.specs.declared.limits.TheConstants.{MAX_OBJECTS, MAX_NEXT_ID}
 use Rattle.map_model.specs.declared.parts.Body.{Body}
 use Rattle.map_model.specs.declared.parts.Body.TheVariants.{Tiles, Objects, Other}
@@ -12,11 +12,12 @@ use Rattle.map_model.specs.declared.place.ObjectPlace.{ObjectPlace}
 use Rattle.map_model.specs.Keeping.{body_names, layer_level, object_level}
 use Rattle.map_model.specs.Layers.{with_next_ids}
 use Rattle.map_model.specs.Lists.{Each, change_first, change_at}
-use Rattle.map_model.specs.Objects.{objects_in, objects_of, body_with_objects, layer_with_objects, objects_of_layer, object_at, with_objects, with_object_at, without_object_at, with_object, object_with_placing}
+use Rattle.map_model.specs.Objects.{objects_in, objects_of, body_with_objects, layer_with_objects, objects_of_layer, object_at, with_objects, without_object_at, with_object, object_placing, object_with_placing}
 use Rattle.map_model.specs.Parts.{has_id}
-use Rattle.map_model.specs.WellFormed.{IsId, AreIds, IsPlacing, IsObject, IsBody, IsLayer, AreLayers, IsWellFormed, ids_of, ids_of_object, object_ids_in, object_ids_of, layer_ids, object_ids}
-use Rattle.map_model.proofs.Changes.{length-change_first, Each-insert, Each-remove, length-insert, length-remove_le, slice_get-insert}
+use Rattle.map_model.specs.WellFormed.{IsId, AreIds, IsPlacing, IsObject, IsBody, IsLayer, IsWellFormed, ids_of, ids_of_object, object_ids_in, object_ids_of, object_ids}
+use Rattle.map_model.proofs.Changes.{length-change_first, Each-insert, Each-remove, length-insert, length-remove_le, slice_get-within, set-at_position, Each-at}
 use Rattle.map_model.proofs.Keeps.{KeepsLayers, layers-IsWellFormed, with_layer-keeps, Each-found, Each-IsId-suc, Each-apart}
+use Rattle.map_model.proofs.Turns.{change_first-along}
 use Rattle.map_model.proofs.Listings.{IsReplaced, insert-IsReplaced, remove-IsReplaced, flat-IsReplaced, AreNewIds, AreNewIds-none, AreIds-replaced, AreIds-change_first}
 
 -- ---- the object at a place
@@ -126,16 +127,28 @@ longer : (front piece rest more : List ℕ) → (front ++ (piece ++ rest)) ++ mo
 longer front piece rest more = append_assoc front (piece ++ rest) more ∙ ap (λ zs. front ++ zs) (append_assoc piece rest more)
 
 HasReplaced-before : {piece new xs ys : List ℕ} (more : List ℕ) → HasReplaced piece new xs ys → HasReplaced piece new (xs ++ more) (ys ++ more)
-HasReplaced-before {piece = piece} {new = new} more r = (r.0, (r.1.0 ++ more, record {
-  was = ap (λ zs. zs ++ more) r.1.1.was ∙ longer r.0 piece r.1.0 more;
-  now = ap (λ zs. zs ++ more) r.1.1.now ∙ longer r.0 new r.1.0 more;
-}))
+HasReplaced-before {piece = piece} {new = new} more r = (
+  r.0,
+  (
+    r.1.0 ++ more,
+    record {
+      was = ap (λ zs. zs ++ more) r.1.1.was ∙ longer r.0 piece r.1.0 more;
+      now = ap (λ zs. zs ++ more) r.1.1.now ∙ longer r.0 new r.1.0 more;
+    },
+  ),
+)
 
 HasReplaced-behind : {piece new xs ys : List ℕ} (more : List ℕ) → HasReplaced piece new xs ys → HasReplaced piece new (more ++ xs) (more ++ ys)
-HasReplaced-behind {piece = piece} {new = new} more r = (more ++ r.0, (r.1.0, record {
-  was = ap (λ zs. more ++ zs) r.1.1.was ∙ sym (append_assoc more r.0 (piece ++ r.1.0));
-  now = ap (λ zs. more ++ zs) r.1.1.now ∙ sym (append_assoc more r.0 (new ++ r.1.0));
-}))
+HasReplaced-behind {piece = piece} {new = new} more r = (
+  more ++ r.0,
+  (
+    r.1.0,
+    record {
+      was = ap (λ zs. more ++ zs) r.1.1.was ∙ sym (append_assoc more r.0 (piece ++ r.1.0));
+      now = ap (λ zs. more ++ zs) r.1.1.now ∙ sym (append_assoc more r.0 (new ++ r.1.0));
+    },
+  ),
+)
 
 -- what the first that passes gives is replaced in what all give
 HasReplaced-change_first : {X : Type 0} {piece new : List ℕ} (g : X → List ℕ) (p : X → Bool) (f : X → X) (xs : List X) (x : X) → find p xs ≡ Some x → HasReplaced piece new (g x) (g (f x))
@@ -168,32 +181,64 @@ HasReplaced-objects layer g os m e r =
 
 -- ---- objects that come and go
 -- the objects of a layer of a well-formed map
-pub Each-layer : (m : MapParts) (layer : ℕ) (os : List Object) → objects_of_layer m layer ≡ Some os → IsWellFormed m → (length os ≤ MAX_OBJECTS) × Each (IsObject (object_level layer_level)) os
-Each-layer m layer os e h =
+pub objects_of_layer-IsBody : (m : MapParts) (layer : ℕ) (os : List Object) → objects_of_layer m layer ≡ Some os → IsWellFormed m → IsBody layer_level (m.width * m.height) (Objects os)
+objects_of_layer-IsBody m layer os e h =
     let found = found_layer os (find (has_id layer) m.layers) e in
     by_body found.0.body found.1.1 (Each-found (has_id layer) (IsLayer layer_level (m.width * m.height)) m.layers found.0 found.1.0 h.layers.each).body
   where
-    by_body : (b : Body) → objects_in b ≡ Some os → IsBody layer_level (m.width * m.height) b → (length os ≤ MAX_OBJECTS) × Each (IsObject (object_level layer_level)) os
+    by_body : (b : Body) → objects_in b ≡ Some os → IsBody layer_level (m.width * m.height) b → IsBody layer_level (m.width * m.height) (Objects os)
     by_body (Tiles t cells) q k = cc
-    by_body (Objects own) q k = let is : own ≡ os = cc in subst (λ ps. (length ps ≤ MAX_OBJECTS) × Each (IsObject (object_level layer_level)) ps) is k
+    by_body (Objects own) q k = let is : own ≡ os = cc in subst (λ ps. IsBody layer_level (m.width * m.height) (Objects ps)) is k
     by_body Other q k = cc
+
+pub objects_of_layer-few : (m : MapParts) (layer k : ℕ) → IsSomeAnd (objects_of_layer m layer) (λ os. k ≤ length os) → IsWellFormed m → IsSomeAnd (objects_of_layer m layer) (λ os. length os ≤ MAX_OBJECTS)
+objects_of_layer-few m layer k room h = by_objects (objects_of_layer m layer) refl room
+  where
+    by_objects : (option : Option (List Object)) → objects_of_layer m layer ≡ option → IsSomeAnd option (λ os. k ≤ length os) → IsSomeAnd option (λ os. length os ≤ MAX_OBJECTS)
+    by_objects None e q = q
+    by_objects (Some os) e q = (objects_of_layer-IsBody m layer os e h).0
+
+-- where there is an object, there is a layer with objects
+listed : (k : ℕ) (o : Object) (option : Option (List Object)) → option_and_then (λ os. slice_get os k) option ≡ Some o → (os : List Object) × ((option ≡ Some os) × (slice_get os k ≡ Some o))
+listed k o None e = cc
+listed k o (Some os) e = (os, (refl, e))
+
+pub object_at-IsObject : (m : MapParts) (place : ObjectPlace) (o : Object) → object_at m place ≡ Some o → IsWellFormed m → IsObject (object_level layer_level) o
+object_at-IsObject m place o e h =
+    let found = listed place.at o (objects_of_layer m place.layer) e in
+    Each-at (IsObject (object_level layer_level)) found.0 place.at o found.1.1 (objects_of_layer-IsBody m place.layer found.0 found.1.0 h).1
+
+-- the placing of an object is one
+pub object_at-IsPlacing : (m : MapParts) (place : ObjectPlace) (placing : Placing) → option_map object_placing (object_at m place) ≡ Some placing → IsWellFormed m → IsPlacing placing
+object_at-IsPlacing m place placing e h = by_object (object_at m place) refl e
+  where
+    by_object : (option : Option Object) → object_at m place ≡ option → option_map object_placing option ≡ Some placing → IsPlacing placing
+    by_object None f q = cc
+    by_object (Some o) f q = let is : o.placing ≡ placing = cc in subst IsPlacing is (object_at-IsObject m place o f h).placing
+
+pub object_at-within : (m : MapParts) (place : ObjectPlace) → IsSome (object_at m place) → IsSomeAnd (objects_of_layer m place.layer) (λ os. place.at < length os)
+object_at-within m place there = by_objects (objects_of_layer m place.layer) there
+  where
+    within : (os : List Object) (o : Option Object) → slice_get os place.at ≡ o → IsSome o → place.at < length os
+    within os None e q = cc
+    within os (Some o) e q = slice_get-within os place.at o e
+
+    by_objects : (option : Option (List Object)) → IsSome (option_and_then (λ os. slice_get os place.at) option) → IsSomeAnd option (λ os. place.at < length os)
+    by_objects None q = cc
+    by_objects (Some os) q = within os (slice_get os place.at) refl q
 
 -- an object changed at its place, where the change keeps that one alone
 pub with_object-keeps_there : (place : ObjectPlace) (f : Object → Object) (o : Object) (m : MapParts) → object_at m place ≡ Some o → ((p : Object) → (f p).id ≡ p.id)
     → IsObject (object_level layer_level) (f o) → IsWellFormed m → IsWellFormed (with_object place f m)
 with_object-keeps_there place f o m e same is h =
-    let found = there (objects_of_layer m place.layer) e in
+    let found = listed place.at o (objects_of_layer m place.layer) e in
     let os = found.0 in
-    let old = Each-layer m place.layer os found.1.0 h in
+    let old = objects_of_layer-IsBody m place.layer os found.1.0 h in
     with_objects-keeps place.layer (change_at place.at f) os m found.1.0 (rw (length-change_at place.at f os) old.0)
     (Each-change_at (IsObject (object_level layer_level)) place.at f os
     (λ p q k. let own : o ≡ p = cc (found.1.1, q) in subst (λ z. IsObject (object_level layer_level) (f z)) own is) old.1)
     (AreIds-change_first object_ids_of m.next_object_id (has_id place.layer) (layer_with_objects (change_at place.at f))
     (λ l. object_ids-change_at place.at f same l.body) m.layers h.layers.object_ids) h
-  where
-    there : (option : Option (List Object)) → option_and_then (λ os. slice_get os place.at) option ≡ Some o → (os : List Object) × ((option ≡ Some os) × (slice_get os place.at ≡ Some o))
-    there None q = cc
-    there (Some os) q = (os, (refl, q))
 
 pub without_object_at-keeps : (place : ObjectPlace) (m : MapParts) → IsSome (object_at m place) → IsWellFormed m → IsWellFormed (without_object_at place m)
 without_object_at-keeps place m there h = by_objects (objects_of_layer m place.layer) refl there
@@ -201,7 +246,7 @@ without_object_at-keeps place m there h = by_objects (objects_of_layer m place.l
     by_objects : (option : Option (List Object)) → objects_of_layer m place.layer ≡ option → IsSome (option_and_then (λ os. slice_get os place.at) option) → IsWellFormed (without_object_at place m)
     by_objects None e q = cc
     by_objects (Some os) e q =
-        let old = Each-layer m place.layer os e h in
+        let old = objects_of_layer-IsBody m place.layer os e h in
         let less = length-remove_le os place.at in
         let r = HasReplaced-objects place.layer (λ ps. remove ps place.at) os m e (_, (_, flat-IsReplaced ids_of_object (remove-IsReplaced os place.at))) in
         with_objects-keeps place.layer (λ ps. remove ps place.at) os m e (omega (arith, old.0)) (Each-remove _ os place.at old.1)
@@ -233,16 +278,45 @@ next_id-AreNewIds : (next id : ℕ) (ids : List ℕ) → id ≡ next → 1 ≤ n
 next_id-AreNewIds next id ids is low h =
     rw is (record { each = (record { low = low; high = omega arith }, tt); distinct = (tt, tt); apart = (Each-apart next ids h, tt) })
 
--- an object with the next id, put in at a place
-pub numbered_object-keeps : (m : MapParts) (place : ObjectPlace) (os : List Object) (o : Object) → objects_of_layer m place.layer ≡ Some os → length os < MAX_OBJECTS → m.next_object_id < MAX_NEXT_ID
-    → IsObject (object_level layer_level) o → o.id ≡ m.next_object_id → IsWellFormed m
-    → IsWellFormed (with_next_ids m.next_layer_id (m.next_object_id + 1) (with_object_at place o m))
-numbered_object-keeps m place os o e few below object id h =
-    let raised = with_next_ids m.next_layer_id (m.next_object_id + 1) m in
+-- an object with the next id, put in at a place of the objects that g gives for those of the layer
+pub numbered_object-keeps : (m : MapParts) (layer : ℕ) (g : List Object → List Object) (os : List Object) (k : ℕ) (o : Object) → objects_of_layer m layer ≡ Some os → g os ≡ insert os k o
+    → length os < MAX_OBJECTS → m.next_object_id < MAX_NEXT_ID → IsObject (object_level layer_level) o → o.id ≡ m.next_object_id → IsWellFormed m
+    → IsWellFormed (with_next_ids m.next_layer_id (m.next_object_id + 1) (with_objects layer g m))
+numbered_object-keeps m layer g os k o e is few below object id h =
     let kept = raised_object-keeps m below h in
-    let old = Each-layer m place.layer os e h in
-    let put = λ (ps : List Object). insert ps place.at o in
-    let r = HasReplaced-objects {piece = []} {new = o.id ∷ []} place.layer put os m e (_, (_, flat-IsReplaced ids_of_object (insert-IsReplaced os place.at o))) in
-    with_objects-keeps place.layer put os raised e (let more = length-insert os place.at o in omega (arith, few)) (Each-insert _ os place.at o object old.1)
+    let old = objects_of_layer-IsBody m layer os e h in
+    let put : HasReplaced [] (o.id ∷ []) (flat_map ids_of_object os) (flat_map ids_of_object (g os)) = rw is (_, (_, flat-IsReplaced ids_of_object (insert-IsReplaced os k o))) in
+    let r = HasReplaced-objects layer g os m e put in
+    with_objects-keeps layer g os (with_next_ids m.next_layer_id (m.next_object_id + 1) m) e (let more = length-insert os k o in rw is (omega (arith, few))) (rw is (Each-insert _ os k o object old.1))
     (AreIds-replaced r.1.1 kept.layers.object_ids
     (next_id-AreNewIds m.next_object_id o.id (r.0 ++ r.1.0) id h.layers.object_ids.next_low (rw (← r.1.1.was) h.layers.object_ids.each))) kept
+
+-- two changes that agree on the objects of the layer
+pub with_objects-along : (m : MapParts) (layer : ℕ) (f g : List Object → List Object) (os : List Object) → objects_of_layer m layer ≡ Some os → f os ≡ g os → with_objects layer f m ≡ with_objects layer g m
+with_objects-along m layer f g os e same =
+    ap (λ ls. record m { layers = ls })
+    (change_first-along (has_id layer) (layer_with_objects f) (layer_with_objects g) m.layers
+    (λ l found. ap (λ b. record l { body = b }) (by_body l.body (ap (option_and_then objects_of) (sym found) ∙ e))))
+  where
+    by_body : (b : Body) → objects_in b ≡ Some os → body_with_objects f b ≡ body_with_objects g b
+    by_body (Tiles t cells) q = refl
+    by_body (Objects own) q = let is : own ≡ os = cc in ap Objects (rw is same)
+    by_body Other q = refl
+
+-- ---- a change of the objects, where the layer stands
+-- a layer at its place, with another body
+pub set-objects : (p : Layer → Bool) (g : List Object → List Object) (layers : List Layer) (place : ℕ) (l : Layer) (body : Body) → position p layers ≡ Some place → slice_get layers place ≡ Some l
+    → body ≡ body_with_objects g l.body → slice_set layers place (record l { body = body }) ≡ change_first p (layer_with_objects g) layers
+set-objects p g layers place l body e f is = rw is (set-at_position p (layer_with_objects g) layers place l e f)
+
+pub set-objects_loose : (p : Layer → Bool) (g : Object → List Object → List Object) (loose : Option Object) (layers : List Layer) (place : ℕ) (l : Layer) (body : Body) → position p layers ≡ Some place
+    → slice_get layers place ≡ Some l → IsSomeAnd loose (λ o. body ≡ body_with_objects (g o) l.body)
+    → IsSomeAnd loose (λ o. slice_set layers place (record l { body = body }) ≡ change_first p (layer_with_objects (g o)) layers)
+set-objects_loose p g None layers place l body e f is = is
+set-objects_loose p g (Some o) layers place l body e f is = set-objects p (g o) layers place l body e f is
+
+pub slice_set-change_at : {X : Type 0} (f : X → X) (xs : List X) (k : ℕ) (x : X) → slice_get xs k ≡ Some x → slice_set xs k (f x) ≡ change_at k f xs
+slice_set-change_at f [] zero x e = cc
+slice_set-change_at f [] (suc k) x e = cc
+slice_set-change_at f (y ∷ ys) zero x e = let same : y ≡ x = cc in rw same refl
+slice_set-change_at f (y ∷ ys) (suc k) x e = ap (λ zs. y ∷ zs) (slice_set-change_at f ys k x e)

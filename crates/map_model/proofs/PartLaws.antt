@@ -9,7 +9,7 @@ use Rattle.map_model.specs.declared.place.ObjectPlace.{ObjectPlace}
 use Rattle.map_model.specs.Document.{with_selection}
 use Rattle.map_model.specs.Layers.{layer_name, layer_with_name, layer_visible, layer_with_visible}
 use Rattle.map_model.specs.Lists.{change_at}
-use Rattle.map_model.specs.Objects.{objects_in, objects_of, body_with_objects, layer_with_objects, object_placing, object_with_placing}
+use Rattle.map_model.specs.Objects.{objects_in, body_with_objects, object_placing, object_with_placing}
 use Rattle.map_model.specs.Parts.{has_id}
 use Rattle.map_model.proofs.Turns.{change_first-change_first, find-change_first, change_first-along, change_first-same}
 use Rattle.map_model.specs.Part.{Part, IsLawfulPart, AreApart, whole, inner, of_first, of_place, layers, of_layer, objects, placing, layer_objects, of_object, next_layer_id, next_object_id, name, visible, selection}

@@ -31,7 +31,7 @@ layer_place-there m id place e = by_position (position (has_id id) m.layers) ref
 
 -- ---- the one element with an id
 module _ {X : Type 0} (id_of : X → ℕ) where
-  Each-id_at : (P : ℕ → Type 0) (xs : List X) (k : ℕ) (x : X) → slice_get xs k ≡ Some x → Each P (flat_map (λ y. id_of y ∷ []) xs) → P (id_of x)
+  pub Each-id_at : (P : ℕ → Type 0) (xs : List X) (k : ℕ) (x : X) → slice_get xs k ≡ Some x → Each P (flat_map (λ y. id_of y ∷ []) xs) → P (id_of x)
   Each-id_at P [] zero x e h = cc
   Each-id_at P [] (suc k) x e h = cc
   Each-id_at P (y ∷ ys) zero x e h = let same : y ≡ x = cc in subst (λ z. P (id_of z)) same h.0

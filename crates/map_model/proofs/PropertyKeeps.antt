@@ -26,7 +26,7 @@ use Rattle.map_model.proofs.Changes.{length-change_first, length-insert, length-
 use Rattle.map_model.proofs.Keeps.{Each-found, layers-IsWellFormed}
 use Rattle.map_model.proofs.Listings.{AreIds-change_first}
 use Rattle.map_model.proofs.NewMaps.{unread-test}
-use Rattle.map_model.proofs.ObjectKeeps.{length-change_at, Each-change_at, Each-change_first-found, Each-layer, with_object-keeps_there}
+use Rattle.map_model.proofs.ObjectKeeps.{length-change_at, Each-change_at, Each-change_first-found, objects_of_layer-IsBody, with_object-keeps_there}
 use Rattle.map_model.proofs.PropertyLaws.{properties-laws, update-along}
 
 -- a write at a place is a change of the element there
@@ -53,7 +53,7 @@ placed f (Some x) y e = (x, (refl, e))
 IsObject-at : (m : MapParts) (place : ObjectPlace) (o : Object) → object_at m place ≡ Some o → IsWellFormed m → IsObject (object_level layer_level) o
 IsObject-at m place o e h =
     let found = placed (λ os. slice_get os place.at) (objects_of_layer m place.layer) o e in
-    Each-at (IsObject (object_level layer_level)) found.0 place.at o found.1.1 (Each-layer m place.layer found.0 found.1.0 h).1
+    Each-at (IsObject (object_level layer_level)) found.0 place.at o found.1.1 (objects_of_layer-IsBody m place.layer found.0 found.1.0 h).1
 
 pub AreProperties-of : (owner : OwnerPlace) (ps : List Property) (m : MapParts) → properties_of m owner ≡ Some ps → IsWellFormed m → AreProperties (owner_level owner) ps
 AreProperties-of places.Map ps m e h = let is : m.properties ≡ ps = cc in subst (AreProperties map_level) is h.properties

@@ -40,6 +40,10 @@ has_object_id id o = nat_eq o.id id
 abbrev pub place_of_layer : Layer → ℕ → ObjectPlace
 place_of_layer l at = record { layer = l.id; at = at }
 
+-- the place in the same layer, so far from its first object
+abbrev pub sibling_object_place : ObjectPlace → ℕ → ObjectPlace
+sibling_object_place place at = record place { at = at }
+
 -- the place of the object with the id in a layer
 abbrev pub place_in_layer : ℕ → Layer → Option ObjectPlace
 place_in_layer id l = option_map (place_of_layer l) (option_and_then (position (has_object_id id)) (objects_of l))
@@ -62,6 +66,10 @@ objects_of_layer m layer = option_and_then objects_of (layer_of m layer)
 -- the object at a place
 abbrev pub object_at : MapParts → ObjectPlace → Option Object
 object_at m place = option_and_then (λ os. slice_get os place.at) (objects_of_layer m place.layer)
+
+-- the place behind the last object of the object layer with the id
+abbrev pub last_object_place : MapParts → ℕ → Option ObjectPlace
+last_object_place m layer = option_map (λ os. record { layer = layer; at = length os }) (objects_of_layer m layer)
 
 -- an object put in at the place would stand in its layer, or behind its last object
 abbrev pub IsObjectPlaceIn : MapParts → ObjectPlace → Type 0

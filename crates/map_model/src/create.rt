@@ -1,11 +1,11 @@
-// What is made new: layers, and the first parts of a map.
+// What is made new: layers, objects, and the first parts of a map.
 ghost use Rattle.std.specs.Prelude.{◌≡◌, ◌∷◌, [], codes, IfOk};
 ghost use Rattle.serde_json.specs.Find.{as_object};
 ghost use Rattle.serde_json.specs.View.{view as data_of};
-ghost use Rattle.map_model.specs.NewMap.{new_layer, empty_layer, empty_object_layer, tile_layer_members, object_layer_members, map_members};
+ghost use Rattle.map_model.specs.NewMap.{new_layer, empty_layer, empty_object_layer, new_object, tile_layer_members, object_layer_members, object_members, map_members};
 
 use crate::held::{Cells, Kept, MapText};
-use crate::parts::{Body, Encoding, Layer, LayerKind};
+use crate::parts::{Body, Encoding, Layer, LayerKind, Object, Placing};
 use link_chain::{Chain, Loose};
 use serde_json::{Value, json};
 use std::alloc::{AllocError, Global};
@@ -102,6 +102,39 @@ impl Layer {
             LayerKind::Tile => tile_layer(alloc, id, name, size),
             LayerKind::Object => object_layer(alloc, id, name),
         }
+    }
+}
+
+// What a new object keeps.
+fn kept_by_object(alloc: Global) -> Result<Kept, AllocError>
+    ensures { IfOk result (λ kept. kept ≡ object_members) }
+{
+    let value = json!(in alloc; {"rotation": 0u32, "type": ""})?;
+    match members_of(value) {
+        Some(kept) => Ok(kept),
+        None => unreachable!(),
+    }
+}
+
+impl Object {
+    /// A visible object that shows no tile and has no properties.
+    pub fn new(
+        alloc: Global,
+        id: u32,
+        placing: Placing,
+        name: MapText,
+    ) -> Result<Object, AllocError>
+        ensures { IfOk result (λ object. object ≡ new_object id placing name) }
+    {
+        Ok(Object {
+            id,
+            placing,
+            name: Some(name),
+            visible: Some(true),
+            gid: None,
+            properties: Chain::new(alloc),
+            kept: kept_by_object(alloc)?,
+        })
     }
 }
 

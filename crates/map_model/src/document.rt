@@ -5,6 +5,7 @@ ghost use Rattle.map_model.specs.Lists.{Each};
 ghost use Rattle.map_model.specs.Parts.{HasTiles, IsWithin, layer_of, with_cell, with_layer};
 ghost use Rattle.map_model.specs.WellFormed.{IsWellFormed};
 
+mod objects;
 mod properties;
 
 use crate::edit::{CellEdit, Side};

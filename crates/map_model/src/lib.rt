@@ -11,6 +11,7 @@ mod held;
 mod layers;
 pub mod limits;
 mod map;
+mod objects;
 mod owner;
 mod parts;
 mod place;

@@ -6,6 +6,7 @@ ghost use Rattle.map_model.specs.Parts.{layer_of, cell_of};
 ghost use Rattle.map_model.specs.Tilesets.{tileset_of, better, best_of, IsTilesetOf, HasNoTileset};
 ghost use Rattle.map_model.specs.WellFormed.{IsWellFormed, IsSize, IsTileSize};
 
+mod objects;
 mod properties;
 
 use crate::create::{first_layer, kept_by_map, one};

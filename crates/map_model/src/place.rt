@@ -1,5 +1,6 @@
 ghost use Rattle.std.specs.Prelude.{◌≡◌};
 ghost use Rattle.map_model.specs.Layers.{sibling_place};
+ghost use Rattle.map_model.specs.Objects.{sibling_object_place};
 
 /// Where a layer stands: how many layers stand before it, in drawing order.
 #[derive(Clone, Copy, PartialEq, Eq, Debug)]
@@ -21,6 +22,18 @@ impl LayerPlace {
 pub struct ObjectPlace {
     pub layer: u32,
     pub at: usize,
+}
+
+impl ObjectPlace {
+    /// The place of which so many objects stand before it, in the same layer.
+    pub fn sibling(self, at: usize) -> ObjectPlace
+        ensures { result ≡ sibling_object_place self at }
+    {
+        ObjectPlace {
+            layer: self.layer,
+            at,
+        }
+    }
 }
 
 /// Where the owner of properties stands.

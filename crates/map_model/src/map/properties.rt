@@ -1,13 +1,13 @@
 // Look-ups of properties and of their owners.
 ghost use Rattle.std.specs.Prelude.{◌≡◌, Some, IfSome};
 ghost use Rattle.std.specs.Option.{option_copied, option_map};
-ghost use Rattle.map_model.specs.Objects.{object_at, objects_in as objects_of_body};
+ghost use Rattle.map_model.specs.Objects.{object_at};
 ghost use Rattle.map_model.specs.Properties.{owner_place, properties_of, property_at, property_place};
 ghost use Rattle.map_model.specs.WellFormed.{IsWellFormed};
 
 use crate::map::Map;
 use crate::owner::Owner;
-use crate::parts::{Body, Object, Property};
+use crate::parts::{Object, Property};
 use crate::place::{ObjectPlace, OwnerPlace};
 use crate::properties::find_property;
 use link_chain::Chain;
@@ -52,22 +52,11 @@ impl Map {
     fn object_at(&self, place: ObjectPlace) -> Option<&Object>
         ensures { option_copied result ≡ object_at self.now place }
     {
-        let objects = objects_in(&self.layer(place.layer)?.body)?;
+        let objects = self.layer(place.layer)?.body.objects()?;
         if place.at < objects.len() {
             Some(objects.get(place.at))
         } else {
             None
         }
-    }
-}
-
-// The objects of an object layer.
-fn objects_in(body: &Body) -> Option<&Chain<Object>>
-    ensures { option_copied result ≡ objects_of_body body.now }
-{
-    match body {
-        Body::Tiles(_, _) => None,
-        Body::Objects(objects) => Some(objects),
-        Body::Other => None,
     }
 }

@@ -1,0 +1,46 @@
+// Changes of objects.
+ghost use Rattle.std.specs.Prelude.{◌≡◌, Some, IsSome, IsSomeAnd};
+ghost use Rattle.std.specs.Option.{option_map};
+ghost use Rattle.map_model.specs.Document.{with_map, IsDocument};
+ghost use Rattle.map_model.specs.Objects.{object_at, object_placing, object_with_placing, with_object, with_object_at, without_object_at, IsObjectPlaceIn};
+ghost use Rattle.map_model.specs.WellFormed.{IsPlacing, IsWellFormed};
+
+use crate::document::Document;
+use crate::objects::{insert_object_in, place_object_in, take_object_in};
+use crate::parts::{Object, Placing};
+use crate::place::ObjectPlace;
+use link_chain::Loose;
+
+impl Document {
+    /// Puts an object in at a place; those from there on stand one place higher. The map is well formed with it.
+    pub fn insert_object(&mut self, place: ObjectPlace, object: Loose<Object>)
+        requires place { IsObjectPlaceIn self.old.map place }
+        requires well_formed { IsSomeAnd object (λ o. IsWellFormed (with_object_at place o self.old.map)) }
+        ensures document { IsSomeAnd object (λ o. self.new ≡ with_map (with_object_at place o) self.old) }
+        ensures well_formed { IsDocument self.new }
+    {
+        insert_object_in(&mut self.map.parts.layers, place, object);
+    }
+
+    /// Takes the object at a place out; those behind it stand one place lower.
+    pub fn take_object(&mut self, place: ObjectPlace) -> Loose<Object>
+        requires { IsSome (object_at self.old.map place) }
+        ensures object { result ≡ object_at self.old.map place }
+        ensures document { self.new ≡ with_map (without_object_at place) self.old }
+        ensures well_formed { IsDocument self.new }
+    {
+        take_object_in(&mut self.map.parts.layers, place)
+    }
+
+    /// Gives the object at a place another placing, and hands the old one back.
+    pub fn set_placing(&mut self, place: ObjectPlace, placing: Placing) -> Placing
+        requires there { IsSome (object_at self.old.map place) }
+        requires placing { IsPlacing placing }
+        ensures given { option_map object_placing (object_at self.old.map place) ≡ Some result }
+        ensures back { IsPlacing result }
+        ensures document { self.new ≡ with_map (with_object place (object_with_placing placing)) self.old }
+        ensures well_formed { IsDocument self.new }
+    {
+        place_object_in(&mut self.map.parts.layers, place, placing)
+    }
+}

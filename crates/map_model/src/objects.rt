@@ -1,0 +1,139 @@
+// The objects of a layer's body, and changes of the objects in a list of layers.
+ghost use Rattle.std.specs.Prelude.{◌≡◌, ◌+◌, ◌<◌, ◌≤◌, ◌^◌, Some, IfSome, IsSome, IsSomeAnd, find, length, slice_get, option_and_then, position};
+ghost use Rattle.std.specs.Option.{option_copied, option_map};
+ghost use Rattle.std.specs.List.{insert, remove};
+ghost use Rattle.map_model.specs.declared.limits.TheConstants.{MAX_OBJECTS};
+ghost use Rattle.map_model.specs.Lists.{Distinct, change_at, change_first, first_some};
+ghost use Rattle.map_model.specs.Objects.{body_with_objects, found_in_layer, has_object_id, layer_with_objects, object_placing, object_with_placing, objects_in, objects_of};
+ghost use Rattle.map_model.specs.Parts.{has_id};
+ghost use Rattle.map_model.specs.WellFormed.{layer_ids};
+
+use crate::layers::place_in;
+use crate::parts::{Body, Layer, Object, Placing};
+use crate::place::ObjectPlace;
+use link_chain::{Chain, Loose};
+use std::mem;
+
+impl Body {
+    /// The objects of an object layer, or `None` for another kind of layer.
+    pub fn objects(&self) -> Option<&Chain<Object>>
+        ensures { option_copied result ≡ objects_in self.now }
+    {
+        match self {
+            Body::Tiles(_, _) => None,
+            Body::Objects(objects) => Some(objects),
+            Body::Other => None,
+        }
+    }
+
+    // Puts an object in at a place of an object layer.
+    fn insert_object(&mut self, at: usize, object: Loose<Object>)
+        requires place { IsSomeAnd (objects_in self.old) (λ os. at ≤ length os) }
+        requires few { IsSomeAnd (objects_in self.old) (λ os. length os ≤ MAX_OBJECTS) }
+        ensures { IsSomeAnd object (λ o. self.new ≡ body_with_objects (λ os. insert os at o) self.old) }
+    {
+        match self {
+            Body::Objects(objects) => objects.insert(at, object),
+            Body::Tiles(_, _) => unreachable!(),
+            Body::Other => unreachable!(),
+        }
+    }
+
+    // Takes the object at a place of an object layer out.
+    fn take_object(&mut self, at: usize) -> Loose<Object>
+        requires { IsSomeAnd (objects_in self.old) (λ os. at < length os) }
+        ensures object { result ≡ option_and_then (λ os. slice_get os at) (objects_in self.old) }
+        ensures body { self.new ≡ body_with_objects (λ os. remove os at) self.old }
+    {
+        match self {
+            Body::Objects(objects) => objects.take(at),
+            Body::Tiles(_, _) => unreachable!(),
+            Body::Other => unreachable!(),
+        }
+    }
+
+    // Gives the object at a place of an object layer another placing, and hands the old one back.
+    fn place_object(&mut self, at: usize, placing: Placing) -> Placing
+        requires { IsSomeAnd (objects_in self.old) (λ os. at < length os) }
+        ensures given { option_map object_placing (option_and_then (λ os. slice_get os at) (objects_in self.old)) ≡ Some result }
+        ensures body { self.new ≡ body_with_objects (change_at at (object_with_placing placing)) self.old }
+    {
+        match self {
+            Body::Objects(objects) => mem::replace(&mut objects.get_mut(at).placing, placing),
+            Body::Tiles(_, _) => unreachable!(),
+            Body::Other => unreachable!(),
+        }
+    }
+}
+
+/// Puts an object in at a place.
+#[inline(never)]
+#[tactic(auto, using(crate::proofs::Changes::places))]
+pub fn insert_object_in(layers: &mut Chain<Layer>, place: ObjectPlace, object: Loose<Object>)
+    requires distinct { Distinct (layer_ids layers.old) }
+    requires place { IsSomeAnd (option_and_then objects_of (find (has_id place.layer) layers.old)) (λ os. place.at ≤ length os) }
+    requires few { IsSomeAnd (option_and_then objects_of (find (has_id place.layer) layers.old)) (λ os. length os ≤ MAX_OBJECTS) }
+    ensures { IsSomeAnd object (λ o. layers.new ≡ change_first (has_id place.layer) (layer_with_objects (λ os. insert os place.at o)) layers.old) }
+{
+    let layer = place_in(layers, place.layer).unwrap();
+    layers.get_mut(layer).body.insert_object(place.at, object);
+}
+
+/// Takes the object at a place out.
+#[inline(never)]
+#[tactic(auto, using(crate::proofs::Changes::places))]
+pub fn take_object_in(layers: &mut Chain<Layer>, place: ObjectPlace) -> Loose<Object>
+    requires distinct { Distinct (layer_ids layers.old) }
+    requires there { IsSomeAnd (option_and_then objects_of (find (has_id place.layer) layers.old)) (λ os. place.at < length os) }
+    ensures object { result ≡ option_and_then (λ os. slice_get os place.at) (option_and_then objects_of (find (has_id place.layer) layers.old)) }
+    ensures layers { layers.new ≡ change_first (has_id place.layer) (layer_with_objects (λ os. remove os place.at)) layers.old }
+{
+    let layer = place_in(layers, place.layer).unwrap();
+    layers.get_mut(layer).body.take_object(place.at)
+}
+
+/// Gives the object at a place another placing, and hands the old one back.
+#[inline(never)]
+#[tactic(auto, using(crate::proofs::Changes::places))]
+pub fn place_object_in(layers: &mut Chain<Layer>, place: ObjectPlace, placing: Placing) -> Placing
+    requires distinct { Distinct (layer_ids layers.old) }
+    requires there { IsSomeAnd (option_and_then objects_of (find (has_id place.layer) layers.old)) (λ os. place.at < length os) }
+    ensures given { option_map object_placing (option_and_then (λ os. slice_get os place.at) (option_and_then objects_of (find (has_id place.layer) layers.old))) ≡ Some result }
+    ensures layers { layers.new ≡ change_first (has_id place.layer) (layer_with_objects (change_at place.at (object_with_placing placing))) layers.old }
+{
+    let layer = place_in(layers, place.layer).unwrap();
+    layers.get_mut(layer).body.place_object(place.at, placing)
+}
+
+// The place of the object with an id in a list of objects.
+fn place_in_objects(objects: &Chain<Object>, id: u32) -> Option<usize>
+    ensures { result ≡ position (has_object_id id) objects.now }
+{
+    objects.iter().position(|object| object.id == id)
+}
+
+/// The object with an id in a layer, behind its place.
+pub fn find_in_layer(layer: &Layer, id: u32) -> Option<(ObjectPlace, &Object)>
+    ensures { option_map (λ found. (found.0, found.1.now)) result ≡ found_in_layer id layer.now }
+{
+    let objects = layer.body.objects()?;
+    let at = place_in_objects(objects, id)?;
+    let place = ObjectPlace {
+        layer: layer.id,
+        at,
+    };
+    Some((place, objects.get(at)))
+}
+
+/// The object with an id, behind its place, found by a walk.
+#[inline(never)]
+pub fn find_in_layers(layers: &Chain<Layer>, id: u32) -> Option<(ObjectPlace, &Object)>
+    ensures { option_map (λ found. (found.0, found.1.now)) result ≡ first_some (found_in_layer id) layers.now }
+{
+    for layer in layers.iter() {
+        if let Some(found) = find_in_layer(layer, id) {
+            return Some(found);
+        }
+    }
+    None
+}
