@@ -1,26 +1,29 @@
 -- Changes of properties that keep a map well formed.
-use Rattle.std.proofs.Common.{◌≡◌, ◌≢◌, ℕ, zero, suc, ◌+◌, ◌*◌, ◌<◌, ◌≤◌, List, [], ◌∷◌, length, Bool, true, false, cond, Option, Some, None, option_map, option_and_then, find, refl, sym, ap, ◌∙◌, subst, arith}
+use Rattle.std.proofs.Common.{◌≡◌, ◌≢◌, ℕ, zero, suc, ◌+◌, ◌*◌, ◌<◌, ◌≤◌, List, [], ◌∷◌, length, Bool, true, false, true≢false, cond, Option, Some, None, IsSome, IsSomeAnd, option_map, option_and_then, refl, sym, ap, ◌∙◌, subst, arith}
 use Rattle.std.specs.Bool.{Decides}
 use Rattle.std.specs.List.{slice_get, slice_set, insert, remove, flat_map, position, position_from}
 use Rattle.std.specs.Str.{bytes_eq}
 use Rattle.std.proofs.lemmas.Iterator.Adapters.{position_from-zero}
 use Rattle.std.proofs.lemmas.Slice.Eq.{bytes_eq-Decides}
+use Rattle.std.specs.FinSet as set
+use Rattle.region.specs.Cells.{cell_cmp}
 use Rattle.serde_json.specs.Data.{no_members}
 use Rattle.map_model.specs.declared.limits.TheConstants.{MAX_PROPERTIES}
 use Rattle.map_model.specs.declared.parts.Layer.{Layer}
 use Rattle.map_model.specs.declared.parts.MapParts.{MapParts}
 use Rattle.map_model.specs.declared.parts.Object.{Object}
 use Rattle.map_model.specs.declared.parts.Property.{Property}
+use Rattle.map_model.specs.declared.parts.PropValue.{PropValue}
 use Rattle.map_model.specs.declared.place.ObjectPlace.{ObjectPlace}
 use Rattle.map_model.specs.declared.place.OwnerPlace.{OwnerPlace}
 use Rattle.map_model.specs.declared.place.OwnerPlace.TheVariants as places
 use Rattle.map_model.specs.declared.setting.Setting.{Setting}
-use Rattle.map_model.specs.Document.{document_of}
+use Rattle.map_model.specs.Document.{document_of, IsSelectionOf}
 use Rattle.map_model.specs.Keeping.{layer_level, map_level, object_level, property_level, property_names}
 use Rattle.map_model.specs.Lists.{Each, Distinct, change_at, change_first}
 use Rattle.map_model.specs.Objects.{object_at, objects_of_layer}
 use Rattle.map_model.specs.Parts.{has_id, layer_of}
-use Rattle.map_model.specs.Properties.{has_name, layer_properties, layer_with_properties, new_property, object_properties, object_with_properties, owner_level, properties_of, property_with_setting, with_properties, IsSetting}
+use Rattle.map_model.specs.Properties.{has_name, layer_properties, layer_with_properties, new_property, object_properties, object_with_properties, owner_level, properties_of, property_at, property_with_setting, setting_of, with_properties, with_property, with_property_at, without_property_at, IsSetting}
 use Rattle.map_model.specs.WellFormed.{AreProperties, IsLayer, IsObject, IsProperty, IsValue, IsWellFormed, ids_of, names_of_property, object_ids_of}
 use Rattle.map_model.proofs.Changes.{length-change_first, length-insert, length-remove_le, Each-at, Each-insert, Each-remove}
 use Rattle.map_model.proofs.Keeps.{Each-found, layers-IsWellFormed}
@@ -83,8 +86,8 @@ with_properties-keeps (places.Layer id) f ps m e are h =
       few = rw length-change_first h.layers.few;
       each = Each-change_first-found (has_id id) (layer_with_properties f) (IsLayer layer_level (m.width * m.height)) m.layers
           (λ l q k.
-            let same : ps ≡ l.properties = sym found.1.1 ∙ ap layer_properties (some-eq found.0 l (sym found.1.0 ∙ q)) in
-            record { properties = subst (λ qs. AreProperties layer_level (f qs)) same are; kept = k.kept; body = k.body }) h.layers.each;
+          let same : ps ≡ l.properties = sym found.1.1 ∙ ap layer_properties (some-eq found.0 l (sym found.1.0 ∙ q)) in
+          record { properties = subst (λ qs. AreProperties layer_level (f qs)) same are; kept = k.kept; body = k.body }) h.layers.each;
       layer_ids = AreIds-change_first ids_of m.next_layer_id (has_id id) (layer_with_properties f) (λ l. refl) m.layers h.layers.layer_ids;
       object_ids = AreIds-change_first object_ids_of m.next_object_id (has_id id) (layer_with_properties f) (λ l. refl) m.layers h.layers.object_ids;
     }) h
@@ -139,7 +142,7 @@ other_names_from name (p ∷ ps) i e = by_test (bytes_eq p.name name) (bytes_eq-
     by_test : (b : Bool) → Decides b (p.name ≡ name) → cond b (Some i) (position_from (has_name name) (i + 1) ps) ≡ None
         → (position_from (has_name name) (i + 1) ps ≡ None → Each (λ n. name ≢ n) (names ps)) → (name ≢ p.name) × Each (λ n. name ≢ n) (names ps)
     by_test true d q rest = cc
-    by_test false d q rest = (λ s. ?, rest q)
+    by_test false d q rest = (λ s. true≢false (sym (d.1 (sym s))), rest q)
 
 pub other_names : (name : List ℕ) (ps : List Property) → position (has_name name) ps ≡ None → Each (λ n. name ≢ n) (names ps)
 other_names name ps e = other_names_from name ps 0 (sym (position_from-zero (has_name name) ps) ∙ e)
@@ -176,3 +179,56 @@ new_property-IsProperty owner name s is = record { value = is; kept = record { u
     by_owner places.Map = omega arith
     by_owner (places.Layer id) = omega arith
     by_owner (places.Object place) = omega arith
+
+-- ---- maps with other properties
+some_properties : (o : Option (List Property)) (at : ℕ) → IsSome (option_and_then (λ ps. slice_get ps at) o) → (ps : List Property) × (o ≡ Some ps)
+some_properties None at h = cc
+some_properties (Some ps) at h = (ps, refl)
+
+pub without_property_at-keeps : (owner : OwnerPlace) (at : ℕ) (m : MapParts) → IsSome (property_at m owner at) → IsWellFormed m → IsWellFormed (without_property_at owner at m)
+without_property_at-keeps owner at m there h =
+    let found = some_properties (properties_of m owner) at there in
+    with_properties-keeps owner (λ ps. remove ps at) found.0 m found.1 (AreProperties-remove (owner_level owner) found.0 at (AreProperties-of owner found.0 m found.1 h)) h
+
+pub with_setting-keeps : (owner : OwnerPlace) (at : ℕ) (s : Setting) (m : MapParts) → IsSome (property_at m owner at) → IsSetting owner s → IsWellFormed m
+    → IsWellFormed (with_property owner at (property_with_setting s) m)
+with_setting-keeps owner at s m there is h =
+    let found = some_properties (properties_of m owner) at there in
+    with_properties-keeps owner (change_at at (property_with_setting s)) found.0 m found.1
+    (AreProperties-change_at (owner_level owner) found.0 at s is (AreProperties-of owner found.0 m found.1 h)) h
+
+-- a property that is there has a setting of its owner's
+pub property_at-IsSetting : (owner : OwnerPlace) (at : ℕ) (s : Setting) (m : MapParts) → option_map setting_of (property_at m owner at) ≡ Some s → IsWellFormed m → IsSetting owner s
+property_at-IsSetting owner at s m e h =
+    let p = mapped setting_of (property_at m owner at) s e in
+    let ps = placed (λ qs. slice_get qs at) (properties_of m owner) p.0 p.1.0 in
+    subst (IsSetting owner) p.1.1 (Each-at (IsProperty (property_level (owner_level owner))) ps.0 at p.0 ps.1.1 (AreProperties-of owner ps.0 m ps.1.0 h).each).value
+
+-- a property with a new name, put in
+pub with_property_at-keeps : (owner : OwnerPlace) (at : ℕ) (p : Property) (ps : List Property) (m : MapParts) → properties_of m owner ≡ Some ps → length ps < MAX_PROPERTIES
+    → IsProperty (property_level (owner_level owner)) p → position (has_name p.name) ps ≡ None → IsWellFormed m → IsWellFormed (with_property_at owner at p m)
+with_property_at-keeps owner at p ps m e few is new h =
+    with_properties-keeps owner (λ qs. insert qs at p) ps m e (AreProperties-insert (owner_level owner) ps at p few is new (AreProperties-of owner ps m e h)) h
+
+-- the selection lies in the map with other properties too
+pub with_properties-IsSelectionOf : (owner : OwnerPlace) (f : List Property → List Property) (m : MapParts) (selection : set.FinSet cell_cmp) → IsSelectionOf m selection
+    → IsSelectionOf (with_properties owner f m) selection
+with_properties-IsSelectionOf places.Map f m selection h = h
+with_properties-IsSelectionOf (places.Layer id) f m selection h = h
+with_properties-IsSelectionOf (places.Object place) f m selection h = h
+
+-- ---- what is left behind the lent properties
+module _ (owner : OwnerPlace) (at : ℕ) (ps : List Property) (m : MapParts) (e : properties_of m owner ≡ Some ps) where
+  pub lent-insert : (loose : Option Property) (new : List Property) → IsSomeAnd loose (λ p. new ≡ insert ps at p)
+      → IsSomeAnd loose (λ p. with_properties owner (λ own. new) m ≡ with_property_at owner at p m)
+  lent-insert None new h = absurd h
+  lent-insert (Some p) new is = with_properties-along owner (λ own. new) (λ qs. insert qs at p) ps m e is
+
+  pub lent-remove : (new : List Property) → new ≡ remove ps at → with_properties owner (λ own. new) m ≡ without_property_at owner at m
+  lent-remove new is = with_properties-along owner (λ own. new) (λ qs. remove qs at) ps m e is
+
+  pub lent-setting : (s : Setting) (p : Property) (kind : List ℕ) (value : PropValue) → slice_get ps at ≡ Some p → kind ≡ s.kind → value ≡ s.value
+      → with_properties owner (λ own. slice_set ps at (record p { kind = kind; value = value })) m ≡ with_property owner at (property_with_setting s) m
+  lent-setting s p kind value there k v =
+      with_properties-along owner (λ own. slice_set ps at (record p { kind = kind; value = value })) (change_at at (property_with_setting s)) ps m e
+      (rw (k, v) (set-at_place (property_with_setting s) ps at p there))

@@ -6,12 +6,10 @@ use Rattle.map_model.specs.declared.parts.Object.{Object}
 use Rattle.map_model.specs.declared.parts.Property.{Property}
 use Rattle.map_model.specs.declared.place.OwnerPlace.{OwnerPlace}
 use Rattle.map_model.specs.declared.place.OwnerPlace.TheVariants as places
-use Rattle.map_model.specs.declared.setting.Setting.{Setting}
-use Rattle.map_model.specs.Document.{DocumentParts}
 use Rattle.map_model.specs.Objects.{objects_of}
 use Rattle.map_model.specs.Part.{Part, IsLawfulPart, whole, of_layer, of_object}
 use Rattle.map_model.specs.Parts.{layer_of}
-use Rattle.map_model.specs.Properties.{layer_properties, layer_with_properties, object_properties, object_with_properties, property_with_setting, setting_of}
+use Rattle.map_model.specs.Properties.{layer_properties, object_properties, property_with_setting, setting_of}
 use Rattle.map_model.specs.PropertyParts.{properties, property_slot, setting, setting_at}
 use Rattle.map_model.specs.Slot.{IsLawfulSlot}
 use Rattle.map_model.proofs.PartLaws.{whole-laws, inner-laws, of_place-laws, of_layer-laws, of_object-laws}

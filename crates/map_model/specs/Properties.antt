@@ -1,5 +1,5 @@
 -- Properties: whose they are, where they stand, and maps with others.
-use Rattle.std.specs.Prelude.{ℕ, List, Bool, Option, Some, None, IsSomeAnd, option_and_then, slice_get, position}
+use Rattle.std.specs.Prelude.{ℕ, List, Bool, Option, Some, option_and_then, slice_get, position}
 use Rattle.std.specs.Option.{option_map}
 use Rattle.std.specs.List.{insert, remove}
 use Rattle.std.specs.Str.{bytes_eq}
@@ -28,9 +28,12 @@ use Rattle.map_model.specs.WellFormed.{IsValue}
 abbrev pub has_name : List ℕ → Property → Bool
 has_name name p = bytes_eq p.name name
 
+abbrev pub setting_with : List ℕ → PropValue → Setting
+setting_with kind value = record { kind = kind; value = value }
+
 -- the type and the value of a property
 abbrev pub setting_of : Property → Setting
-setting_of p = record { kind = p.kind; value = p.value }
+setting_of p = setting_with p.kind p.value
 
 -- the property with another type and value
 abbrev pub property_with_setting : Setting → Property → Property

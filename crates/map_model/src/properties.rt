@@ -2,6 +2,7 @@
 ghost use Rattle.std.specs.Prelude.{◌≡◌, ◌<◌, ◌≤◌, find, position, IfSome, IsSome, IsSomeAnd, Some, option_and_then, length, slice_get};
 ghost use Rattle.std.specs.Option.{option_map};
 ghost use Rattle.std.specs.Borrow.{sem};
+ghost use Rattle.map_model.specs.declared.limits.TheConstants.{MAX_PROPERTIES};
 ghost use Rattle.map_model.specs.Lending.{LendsOfLayer, LendsOfObject, LendsOfPlaced, LendsProperties};
 ghost use Rattle.map_model.specs.Lists.{Distinct};
 ghost use Rattle.map_model.specs.Objects.{object_at, objects_in, objects_of};
@@ -104,7 +105,11 @@ pub fn swap_in(parts: &mut MapParts, owner: OwnerPlace, at: usize, setting: &mut
 }
 
 /// The property with a name, behind its place: one walk.
-pub fn find_property<'a>(properties: &'a Chain<Property>, name: &str) -> Option<(usize, &'a Property)>
+pub fn find_property<'a>(
+    properties: &'a Chain<Property>,
+    name: &str,
+) -> Option<(usize, &'a Property)>
+    requires { length properties.now ≤ MAX_PROPERTIES }
     ensures place { option_map (λ found. found.0) result ≡ position (has_name name.now) properties.now }
     ensures property { IfSome result (λ found. slice_get properties.now found.0 ≡ Some found.1.now) }
 {

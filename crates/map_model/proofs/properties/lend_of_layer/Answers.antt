@@ -1,4 +1,4 @@
-use Rattle.std.proofs.Common.{◌≡◌, Some, List, refl, sym, ap, ◌∙◌, option_map}
+use Rattle.std.proofs.Common.{List, refl, sym, ap, ◌∙◌, option_map}
 use Rattle.map_model.specs.declared.parts.Property.{Property}
 use Rattle.map_model.specs.Parts.{has_id}
 use Rattle.map_model.specs.Properties.{layer_properties, layer_with_properties}

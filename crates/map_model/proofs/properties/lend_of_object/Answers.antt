@@ -1,4 +1,4 @@
-use Rattle.std.proofs.Common.{◌≡◌, Some, List, refl, ap, option_map}
+use Rattle.std.proofs.Common.{List, refl, ap, option_map}
 use Rattle.map_model.specs.declared.parts.Body.TheVariants.{Objects}
 use Rattle.map_model.specs.declared.parts.Property.{Property}
 use Rattle.map_model.specs.Properties.{object_properties, object_with_properties}

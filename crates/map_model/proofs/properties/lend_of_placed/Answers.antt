@@ -1,4 +1,4 @@
-use Rattle.std.proofs.Common.{◌≡◌, List, refl, sym, ◌∙◌}
+use Rattle.std.proofs.Common.{List, refl, sym, ◌∙◌}
 use Rattle.map_model.specs.declared.parts.Property.{Property}
 use Rattle.map_model.specs.Lists.{change_at}
 use Rattle.map_model.specs.Objects.{layer_with_objects}
