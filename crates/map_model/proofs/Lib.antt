@@ -14,3 +14,5 @@ pub mod SlotLaws
 pub mod TilesetChanges
 pub mod TilesetLemmas
 pub mod Turns
+pub mod PropertyKeeps
+pub mod PropertyLaws

@@ -24,7 +24,7 @@ no_properties : (level : ℕ) → AreProperties level []
 no_properties level = record { few = omega arith; each = tt; distinct = tt }
 
 -- members without these names, by a test
-unread-test : (ms : Members) (names : List (List ℕ)) → list_all (λ name. not (is_some (get_member name ms))) names ≡ true → Each (λ name. get_member name ms ≡ None) names
+pub unread-test : (ms : Members) (names : List (List ℕ)) → list_all (λ name. not (is_some (get_member name ms))) names ≡ true → Each (λ name. get_member name ms ≡ None) names
 unread-test ms [] e = tt
 unread-test ms (name ∷ names) e = by_member (get_member name ms) e (unread-test ms names)
   where

@@ -26,13 +26,13 @@ pub record KeepsObjects (f : Object → Object) : Type 0 where
   pub ids : (o : Object) → (f o).id ≡ o.id
   pub objects : (level : ℕ) (o : Object) → IsObject level o → IsObject level (f o)
 
-length-change_at : {X : Type 0} (k : ℕ) (f : X → X) (xs : List X) → length (change_at k f xs) ≡ length xs
+pub length-change_at : {X : Type 0} (k : ℕ) (f : X → X) (xs : List X) → length (change_at k f xs) ≡ length xs
 length-change_at zero f [] = refl
 length-change_at (suc k) f [] = refl
 length-change_at zero f (x ∷ xs) = refl
 length-change_at (suc k) f (x ∷ xs) = ap suc (length-change_at k f xs)
 
-Each-change_at : {X : Type 0} (P : X → Type 0) (k : ℕ) (f : X → X) (xs : List X) → ((x : X) → slice_get xs k ≡ Some x → P x → P (f x)) → Each P xs → Each P (change_at k f xs)
+pub Each-change_at : {X : Type 0} (P : X → Type 0) (k : ℕ) (f : X → X) (xs : List X) → ((x : X) → slice_get xs k ≡ Some x → P x → P (f x)) → Each P xs → Each P (change_at k f xs)
 Each-change_at P zero f [] keeps h = tt
 Each-change_at P (suc k) f [] keeps h = tt
 Each-change_at P zero f (x ∷ xs) keeps h = (keeps x refl h.0, h.1)
@@ -96,7 +96,7 @@ IsLayer-objects g os level size l e few each h = record {
     by_body Other q k = k
 
 -- where the layer is found, it alone changes
-Each-change_first-found : {X : Type 0} (p : X → Bool) (f : X → X) (P : X → Type 0) (xs : List X) → ((x : X) → find p xs ≡ Some x → P x → P (f x)) → Each P xs → Each P (change_first p f xs)
+pub Each-change_first-found : {X : Type 0} (p : X → Bool) (f : X → X) (P : X → Type 0) (xs : List X) → ((x : X) → find p xs ≡ Some x → P x → P (f x)) → Each P xs → Each P (change_first p f xs)
 Each-change_first-found p f P [] keeps h = tt
 Each-change_first-found {X = X} p f P (x ∷ xs) keeps h = by_test (p x) keeps (λ k. Each-change_first-found p f P xs k h.1)
   where
@@ -181,7 +181,7 @@ HasReplaced-objects layer g os m e r =
 
 -- ---- objects that come and go
 -- the objects of a layer of a well-formed map
-objects_of_layer-IsBody : (m : MapParts) (layer : ℕ) (os : List Object) → objects_of_layer m layer ≡ Some os → IsWellFormed m → IsBody layer_level (m.width * m.height) (Objects os)
+pub objects_of_layer-IsBody : (m : MapParts) (layer : ℕ) (os : List Object) → objects_of_layer m layer ≡ Some os → IsWellFormed m → IsBody layer_level (m.width * m.height) (Objects os)
 objects_of_layer-IsBody m layer os e h =
     let found = found_layer os (find (has_id layer) m.layers) e in
     by_body found.0.body found.1.1 (Each-found (has_id layer) (IsLayer layer_level (m.width * m.height)) m.layers found.0 found.1.0 h.layers.each).body

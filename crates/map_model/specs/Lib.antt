@@ -14,3 +14,6 @@ pub mod Slot
 pub mod Tilesets
 pub mod Uses
 pub mod WellFormed
+pub mod Properties
+pub mod PropertyParts
+pub mod Lending

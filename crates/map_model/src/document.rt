@@ -7,6 +7,7 @@ ghost use Rattle.map_model.specs.WellFormed.{IsWellFormed};
 
 mod canvas;
 mod objects;
+mod properties;
 mod tilesets;
 
 use crate::edit::{CellEdit, Side};

@@ -16,7 +16,9 @@ mod objects;
 mod owner;
 mod parts;
 mod place;
+mod properties;
 mod selection;
+mod setting;
 mod tilesets;
 
 pub use canvas::{Canvas, LayerCells};
@@ -28,5 +30,6 @@ pub use owner::Owner;
 pub use parts::{
     Body, Encoding, Layer, LayerKind, MapParts, Object, Placing, PropValue, Property, Tileset,
 };
-pub use place::{LayerPlace, ObjectPlace};
+pub use place::{LayerPlace, ObjectPlace, OwnerPlace};
 pub use selection::SelectionMode;
+pub use setting::{Scalar, Setting};

@@ -7,6 +7,7 @@ ghost use Rattle.map_model.specs.Tilesets.{tileset_of, better, best_of, IsTilese
 ghost use Rattle.map_model.specs.WellFormed.{IsWellFormed, IsSize, IsTileSize};
 
 mod objects;
+mod properties;
 
 use crate::create::{first_layer, kept_by_map, one};
 use crate::held::MapText;

@@ -35,3 +35,13 @@ impl ObjectPlace {
         }
     }
 }
+
+/// Where the owner of properties stands.
+#[derive(Clone, Copy, PartialEq, Eq, Debug)]
+pub enum OwnerPlace {
+    Map,
+    /// The layer with this id.
+    Layer(u32),
+    /// The object at this place.
+    Object(ObjectPlace),
+}
