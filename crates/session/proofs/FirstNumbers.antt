@@ -10,7 +10,7 @@ use Rattle.std.proofs.lemmas.List.Folds.{list_all_at, list_all_more}
 use Rattle.std.proofs.lemmas.List.Splits.{slice_split_at, slice_split_none}
 use Rattle.std.proofs.Math.Seq.{take-append_seam, get_or-append_seam}
 use Rattle.session.specs.Words.{digits_of, number_of, is_numeral_front, AreLeadingDigits, HasLargeFront, IsFirst, pieces_left}
-use Rattle.session.proofs.Digits.{digits_test, digits_large}
+use Rattle.session.proofs.Digits.{digits_large}
 
 pub step_digits : (bs : List ℕ) (i : ℕ) → i < length bs → is_ascii_digit (get_or bs i 0) ≡ true → list_all is_ascii_digit (take i bs) ≡ true → list_all is_ascii_digit (take (i + 1) bs) ≡ true
 step_digits bs i l h k = list_all_more is_ascii_digit bs i 0 l ∙ and_from _ _ k h

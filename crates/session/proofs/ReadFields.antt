@@ -11,7 +11,7 @@ use Rattle.session.specs.declared.line.LineFault.{LineFault}
 use Rattle.session.specs.declared.line.LineFault.TheVariants.{BadWord}
 use Rattle.session.specs.Words.{words, number_of, coordinate_of, numbers_of, document_name_limit, file_name_limit, is_name, is_name_byte, is_text, is_text_byte, are_rows, layer_kind_of, yes_no_of, truth_of, is_key, is_key_byte, is_color, owner_of}
 use Rattle.session.specs.Grammar.{FieldKind, Number, Coordinate, Block, Name, File, Choice, LayerSort, YesNo, Truth, Key, Color, OwnerName, FieldValue, field_at, number_at, coordinate_at, rows_at, block_at, name_at, choice_at, last_text_at, layer_kind_at, yes_no_at, truth_at, key_at, color_at, owner_at, ends_at, ◌>>=◌, word_is}
-use Rattle.session.specs.Spelling.{spaced, commas, choice_word, layer_kind_word, yes_no_word, truth_word, owner_word, field_words, IsField, IsName, IsChoice, IsText, IsKey, AreRows}
+use Rattle.session.specs.Spelling.{spaced, commas, layer_kind_word, yes_no_word, truth_word, field_words, IsField, IsName, IsText, IsKey, AreRows}
 use Rattle.session.proofs.Decimals.{decimal_from}
 use Rattle.session.proofs.Coordinates.{signed_from}
 use Rattle.session.proofs.Commas.{commas_from}

@@ -48,7 +48,9 @@ fn key_field<'a>(rest: Option<&'a str>) -> Result<(Text<'a>, Option<&'a str>), L
 fn has_only_color_digits(bytes: &[u8]) -> bool
     ensures { result ≡ list_all is_color_digit bytes.now }
 {
-    bytes.iter().all(|b| b.is_ascii_digit() || (*b >= b'a' && *b <= b'f'))
+    bytes
+        .iter()
+        .all(|b| b.is_ascii_digit() || (*b >= b'a' && *b <= b'f'))
 }
 
 // Whether a word is a colour: `#` and 6 or 8 digits.
@@ -119,7 +121,11 @@ fn owner(word: &str) -> Option<Owner>
 {
     let (kind, id) = cut(word, b':');
     let Some(id) = id else {
-        return if kind == "map" { Some(Owner::Map) } else { None };
+        return if kind == "map" {
+            Some(Owner::Map)
+        } else {
+            None
+        };
     };
     match number_before(id, b':') {
         Some((id, None)) => owner_of_kind(kind, id),

@@ -1,7 +1,9 @@
 ghost use Rattle.std.specs.Prelude.{◌≡◌};
-ghost use Rattle.session.specs.TypedValues.{type_name};
+ghost use Rattle.map_model.specs.Properties.{scalar_value};
+ghost use Rattle.session.specs.TypedValues.{property_value, type_name};
 
 use crate::text::Text;
+use map_model::Scalar;
 
 /// A property's type and value, as a line gives them.
 #[derive(Drop)]
@@ -28,6 +30,20 @@ impl<'a> TypedValue<'a> {
             TypedValue::Bool(_) => "bool",
             TypedValue::Color(_) => "color",
             TypedValue::Object(_) => "object",
+        }
+    }
+
+    /// The value: a whole number of an int and an object, a truth value of a bool, and of others a text.
+    pub fn scalar(&self) -> Scalar<'a>
+        ensures { scalar_value result ≡ property_value self.now }
+    {
+        match self {
+            TypedValue::String(text) | TypedValue::File(text) | TypedValue::Color(text) => {
+                Scalar::Text(text.as_str())
+            }
+            TypedValue::Int(number) => Scalar::Whole(i64::from(*number)),
+            TypedValue::Bool(truth) => Scalar::Truth(*truth),
+            TypedValue::Object(id) => Scalar::Whole(i64::from(*id)),
         }
     }
 }
