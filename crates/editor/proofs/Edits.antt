@@ -4,7 +4,9 @@ use Rattle.std.proofs.lemmas.List.{length-map}
 use Rattle.std.specs.Prelude.{ℤ, decimal, codes, IfOk, IfErr, MatchResult, IsOkAnd}
 use Rattle.std.specs.Fmt.{signed_decimal}
 use Rattle.std.specs.List.{join_with_byte}
+use Rattle.map_model.specs.declared.owner.Owner.{Owner}
 use Rattle.map_model.specs.Document.{DocumentParts}
+use Rattle.map_model.specs.WellFormed.{IsPixels}
 use Rattle.edits.specs.Stamping.{IsBlock}
 use Rattle.command_api.specs.declared.fault.EditFault.{EditFault}
 use Rattle.command_api.specs.declared.fault.EditFault.TheVariants.{NoSuchLayer, LayerOfAnotherKind, OutsideTheMap, UnknownTile, NoSuchObject, NoSuchProperty, NoSuchTileset, TilesetInUse, FirstIdNotAbove, OutOfRange, TooMany, NoMemory}
@@ -12,15 +14,17 @@ use Rattle.command_api.specs.Law.{Names}
 use Rattle.command_api.specs.Making.{IsRefusalOf, Makes}
 use Rattle.undo_stack.specs.History.{History, Step, current}
 use Rattle.session.specs.declared.line.Line.{Line}
-use Rattle.session.specs.declared.line.Line.TheVariants.{Erase, Stamp}
+use Rattle.session.specs.declared.line.Line.TheVariants.{Erase, Stamp, MoveObject, SetProperty}
 use Rattle.session.specs.declared.reply.Refusal.{Refusal}
 use Rattle.session.specs.declared.reply.Reply.{Reply}
 use Rattle.session.specs.declared.reply.Reply.TheVariants.{Refused}
-use Rattle.session.specs.Spelling.{AreRows, CanBeSpelled, commas, spelling}
+use Rattle.session.specs.declared.typed_value.TypedValue.{TypedValue}
+use Rattle.session.specs.Spelling.{AreRows, CanBeSpelled, IsCoordinate, commas, spelling}
 use Rattle.editor.specs.declared.planned.Edit.{Edit}
 use Rattle.editor.specs.declared.planned.Planned.{Planned}
 use Rattle.editor.specs.declared.planned.Planned.TheVariants as planned
-use Rattle.editor.specs.DocumentSteps.{DocumentStepBy, EditStep, answer_of, edit_of}
+use Rattle.editor.specs.DocumentSteps.{DocumentEdit, DocumentStepBy, EditStep, answer_of, edit_of}
+use Rattle.map_model.specs.Lists.{or_else}
 use Rattle.editor.specs.Planning.{FitsDocument, IsEditBy, KeepsHistory, PlansEdit, PlansLine, PlansOn, edit_change, plan_of}
 use Rattle.editor.specs.Refusals.{refusal_of_edit}
 
@@ -71,6 +75,20 @@ pub stamp-straight : (layer : ℕ) (x y : ℤ) (width : ℕ) (values : List ℕ)
 stamp-straight layer x y width values true h = absurd h.0.0
 stamp-straight layer x y width values false h = refl
 
+-- a move of an object that can be spelled does not follow, and stays within reach
+pub move_object-straight : (object : ℕ) (x y : ℤ) (follows : Bool) → CanBeSpelled (MoveObject object x y follows) → follows ≡ false
+move_object-straight object x y true h = absurd h.0.1.0
+move_object-straight object x y false h = refl
+
+-- a setting of a property that can be spelled does not follow
+pub set_property-straight : (owner : Owner) (name : List ℕ) (value : TypedValue) (follows : Bool) → CanBeSpelled (SetProperty owner name value follows) → follows ≡ false
+set_property-straight owner name value true h = absurd h.0.1.0
+set_property-straight owner name value false h = refl
+
+-- a coordinate is a number of pixels that an object can have
+pub coordinate-IsPixels : (z : ℤ) → IsCoordinate z → IsPixels z
+coordinate-IsPixels z h = record { low = h.low; high = h.high }
+
 -- ---- the values of a line
 length-join : (b : ℕ) (ws : List (List ℕ)) → length ws ≤ length (join_with_byte b ws) + 1
 length-join b [] = omega arith
@@ -101,6 +119,15 @@ pub stamp-IsBlock : (layer : ℕ) (x y : ℤ) (width : ℕ) (values : List ℕ) 
 stamp-IsBlock layer x y width values follows h =
     let rows : AreRows width values = h.0.1.1.1.1.0 in
     record { wide = rows.some; narrow = rows.narrow; whole = rows.rows; few = values-few layer x y width values follows h }
+
+-- ---- one of two kinds of edits
+pub first-PlansLine : (first other : Option DocumentEdit) (d : DocumentParts) (plan : Planned) → PlansLine first d (Some plan) → PlansLine (or_else first other) d (Some plan)
+first-PlansLine None other d plan p = absurd p
+first-PlansLine (Some edit) other d plan p = p
+
+pub other-PlansLine : (first other : Option DocumentEdit) (d : DocumentParts) (plan : Option Planned) → PlansLine first d None → PlansLine other d plan → PlansLine (or_else first other) d plan
+other-PlansLine None other d plan p q = q
+other-PlansLine (Some edit) other d plan p q = absurd p
 
 -- ---- over the active document
 keeps_same : (reply : Reply) (h : History) → KeepsHistory reply h h

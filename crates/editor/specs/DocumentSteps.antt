@@ -4,6 +4,7 @@ use Rattle.std.specs.Prelude.{◌≡◌, ℕ, ◌-◌, ◌≤◌, List, ℤ, pos
 use Rattle.std.specs.Option.{option_map}
 use Rattle.map_model.specs.Document.{DocumentParts}
 use Rattle.map_model.specs.declared.parts.MapParts.{MapParts}
+use Rattle.map_model.specs.Lists.{or_else}
 use Rattle.map_model.specs.Parts.{layer_of, cell_of}
 use Rattle.map_model.specs.Tilesets.{tileset_of}
 use Rattle.map_json.specs.Trees.{text_of}
@@ -17,7 +18,14 @@ use Rattle.edits.specs.Stamping.{after_erase, after_stamp}
 use Rattle.command_api.specs.declared.fault.EditFault.{EditFault}
 use Rattle.command_api.specs.Law.{Names}
 use Rattle.edits.specs.LayerEdits.{after_add, after_remove, after_rename, after_show, after_move}
-use Rattle.layer_commands.specs.Changes.{add_names, remove_names, rename_names, show_names, move_names}
+use Rattle.edits.specs.ObjectEdits.{after_add_object, after_move_object, after_resize_object, after_remove_object}
+use Rattle.edits.specs.PropertyEdits.{after_set_property, after_remove_property}
+use Rattle.edits.specs.Resizing.{after_resize}
+use Rattle.edits.specs.TilesetEdits.{after_add_tileset, after_remove_tileset}
+use Rattle.layer_commands.specs.Changes.{add_names, remove_names, rename_names, show_names, move_names, resize_names}
+use Rattle.object_commands.specs.Changes.{add_object_names, move_object_names, resize_object_names, remove_object_names}
+use Rattle.property_commands.specs.PropertyChanges.{set_property_names, remove_property_names}
+use Rattle.property_commands.specs.TilesetChanges.{add_tileset_names, remove_tileset_names}
 use Rattle.paint_commands.specs.Painting.{erase_names, fill_names, stamp_names}
 use Rattle.paint_commands.specs.Selection.{select_names}
 use Rattle.undo_stack.specs.History.{Step, History, step_named, current, count, is_clean}
@@ -25,7 +33,8 @@ use Rattle.undo_stack.specs.Moving.{Answer, StepsBack, StepsOn, GoesTo, MarksCle
 use Rattle.undo_stack.specs.Reading.{text_at}
 use Rattle.undo_stack.specs.Pushing.{IsPushed}
 use Rattle.session.specs.declared.line.Line.{Line}
-use Rattle.session.specs.declared.line.Line.TheVariants.{Stamp, Erase, Fill, Select, SelectNone, Tile, AddLayer, RemoveLayer, RenameLayer, ShowLayer, MoveLayer, Undo, Redo, Goto, Clean, Dirty, Clear, Show, StepText}
+use Rattle.session.specs.declared.line.Line.TheVariants.{Stamp, Erase, Fill, Select, SelectNone, Tile, AddLayer, RemoveLayer, RenameLayer, ShowLayer, MoveLayer, Resize, AddObject, MoveObject, ResizeObject, RemoveObject, SetProperty, RemoveProperty, AddTileset, RemoveTileset, Undo, Redo, Goto, Clean, Dirty, Clear, Show, StepText}
+use Rattle.session.specs.TypedValues.{property_value, type_name}
 use Rattle.session.specs.declared.reply.LocalTile.{LocalTile}
 use Rattle.session.specs.declared.reply.Refusal.{Refusal}
 use Rattle.session.specs.declared.reply.Refusal.TheVariants as refusals
@@ -64,20 +73,50 @@ fill_edit layer x y value d = answer_of fill_names (after_fill d layer x y value
 unfoldable pub select_edit : Selecting → DocumentParts → Result Step Refusal
 select_edit edit d = answer_of select_names (after_select d edit)
 
--- the lines that are edits: the step on a document, or its refusal
-abbrev pub edit_of : Line → Option (DocumentParts → Result Step Refusal)
-edit_of (Stamp layer x y width values follows) =
+-- the step of an edit on a document, or its refusal
+abbrev pub DocumentEdit : Type 0
+DocumentEdit = DocumentParts → Result Step Refusal
+
+-- the lines that edit cells and the selection
+abbrev pub cells_edit_of : Line → Option DocumentEdit
+cells_edit_of (Stamp layer x y width values follows) =
     Some (λ d. answer_of (stamp_names layer follows) (after_stamp d layer (record { x = x; y = y; width = width; values = values })))
-edit_of (Erase layer x y width height follows) = Some (erase_edit layer (record { x = x; y = y; width = width; height = height }) follows)
-edit_of (Fill layer x y value) = Some (fill_edit layer x y value)
-edit_of (Select mode x y width height) = Some (select_edit (Rectangle mode (record { x = x; y = y; width = width; height = height })))
-edit_of SelectNone = Some (select_edit Nothing)
-edit_of (AddLayer kind name) = Some (λ d. answer_of add_names (after_add d kind name))
-edit_of (RemoveLayer layer) = Some (λ d. answer_of remove_names (after_remove d layer))
-edit_of (RenameLayer layer name) = Some (λ d. answer_of rename_names (after_rename d layer name))
-edit_of (ShowLayer layer visible) = Some (λ d. answer_of show_names (after_show d layer visible))
-edit_of (MoveLayer layer place) = Some (λ d. answer_of move_names (after_move d layer place))
-edit_of line = None
+cells_edit_of (Erase layer x y width height follows) = Some (erase_edit layer (record { x = x; y = y; width = width; height = height }) follows)
+cells_edit_of (Fill layer x y value) = Some (fill_edit layer x y value)
+cells_edit_of (Select mode x y width height) = Some (select_edit (Rectangle mode (record { x = x; y = y; width = width; height = height })))
+cells_edit_of SelectNone = Some (select_edit Nothing)
+cells_edit_of line = None
+
+-- the lines that edit layers and the map's size
+abbrev pub layer_edit_of : Line → Option DocumentEdit
+layer_edit_of (AddLayer kind name) = Some (λ d. answer_of add_names (after_add d kind name))
+layer_edit_of (RemoveLayer layer) = Some (λ d. answer_of remove_names (after_remove d layer))
+layer_edit_of (RenameLayer layer name) = Some (λ d. answer_of rename_names (after_rename d layer name))
+layer_edit_of (ShowLayer layer visible) = Some (λ d. answer_of show_names (after_show d layer visible))
+layer_edit_of (MoveLayer layer place) = Some (λ d. answer_of move_names (after_move d layer place))
+layer_edit_of (Resize width height dx dy) = Some (λ d. answer_of resize_names (after_resize d width height dx dy))
+layer_edit_of line = None
+
+-- the lines that edit objects
+abbrev pub object_edit_of : Line → Option DocumentEdit
+object_edit_of (AddObject layer x y width height name) = Some (λ d. answer_of add_object_names (after_add_object d layer x y width height name))
+object_edit_of (MoveObject object x y follows) = Some (λ d. answer_of (move_object_names object follows) (after_move_object d object x y))
+object_edit_of (ResizeObject object width height) = Some (λ d. answer_of resize_object_names (after_resize_object d object width height))
+object_edit_of (RemoveObject object) = Some (λ d. answer_of remove_object_names (after_remove_object d object))
+object_edit_of line = None
+
+-- the lines that edit properties and tilesets
+abbrev pub property_edit_of : Line → Option DocumentEdit
+property_edit_of (SetProperty owner name value follows) =
+    Some (λ d. answer_of (set_property_names owner name follows) (after_set_property d owner name (type_name value) (property_value value)))
+property_edit_of (RemoveProperty owner name) = Some (λ d. answer_of remove_property_names (after_remove_property d owner name))
+property_edit_of (AddTileset first_id source) = Some (λ d. answer_of add_tileset_names (after_add_tileset d first_id source))
+property_edit_of (RemoveTileset first_id) = Some (λ d. answer_of remove_tileset_names (after_remove_tileset d first_id))
+property_edit_of line = None
+
+-- the lines that are edits
+abbrev pub edit_of : Line → Option DocumentEdit
+edit_of line = or_else (cells_edit_of line) (or_else (layer_edit_of line) (or_else (object_edit_of line) (property_edit_of line)))
 
 -- an accepted edit is pushed
 abbrev pub EditStep : Result Step Refusal → History → Reply → History → Type 0

@@ -4,7 +4,10 @@ use Rattle.map_model.specs.Document.{DocumentParts}
 use Rattle.map_store.specs.Files.{StoreParts}
 use Rattle.command_api.specs.declared.fault.EditFault.{EditFault}
 use Rattle.command_api.specs.Law.{Change}
-use Rattle.layer_commands.specs.Changes.{add_change, remove_change, rename_change, show_change, move_change}
+use Rattle.layer_commands.specs.Changes.{add_change, remove_change, rename_change, show_change, move_change, resize_change}
+use Rattle.object_commands.specs.Changes.{add_object_change, remove_object_change, place_object_change}
+use Rattle.property_commands.specs.PropertyChanges.{set_property_change, remove_property_change}
+use Rattle.property_commands.specs.TilesetChanges.{add_tileset_change, remove_tileset_change}
 use Rattle.paint_commands.specs.Painting.{paint_change}
 use Rattle.paint_commands.specs.Selection.{select_change}
 use Rattle.undo_stack.specs.History.{Step, History, current}
@@ -15,7 +18,7 @@ use Rattle.session.specs.declared.reply.Refusal.TheVariants as refusals
 use Rattle.session.specs.declared.reply.Reply.{Reply}
 use Rattle.session.specs.declared.reply.Reply.TheVariants as replies
 use Rattle.editor.specs.declared.planned.Edit.{Edit}
-use Rattle.editor.specs.declared.planned.Edit.TheVariants.{Paint, AddLayer, RemoveLayer, RenameLayer, ShowLayer, MoveLayer, Select}
+use Rattle.editor.specs.declared.planned.Edit.TheVariants.{Paint, AddLayer, RemoveLayer, RenameLayer, ShowLayer, MoveLayer, Select, ResizeMap, AddObject, RemoveObject, PlaceObject, SetProperty, RemoveProperty, AddTileset, RemoveTileset}
 use Rattle.editor.specs.declared.planned.Planned.{Planned}
 use Rattle.editor.specs.declared.planned.Planned.TheVariants as planned
 use Rattle.editor.specs.DocumentSteps.{DocumentStep, edit_of, state_reply}
@@ -31,6 +34,14 @@ edit_change (RenameLayer command) = rename_change command
 edit_change (ShowLayer command) = show_change command
 edit_change (MoveLayer command) = move_change command
 edit_change (Select command) = select_change command
+edit_change (ResizeMap command) = resize_change command
+edit_change (AddObject command) = add_object_change command
+edit_change (RemoveObject command) = remove_object_change command
+edit_change (PlaceObject command) = place_object_change command
+edit_change (SetProperty command) = set_property_change command
+edit_change (RemoveProperty command) = remove_property_change command
+edit_change (AddTileset command) = add_tileset_change command
+edit_change (RemoveTileset command) = remove_tileset_change command
 
 -- the command fits a document, and follows nothing
 pub record FitsDocument (d : DocumentParts) (c : Change) : Type 0 where

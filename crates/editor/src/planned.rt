@@ -1,5 +1,7 @@
-use layer_commands::{AddLayer, MoveLayer, RemoveLayer, RenameLayer, ShowLayer};
+use layer_commands::{AddLayer, MoveLayer, RemoveLayer, RenameLayer, ResizeMap, ShowLayer};
+use object_commands::{AddObject, PlaceObject, RemoveObject};
 use paint_commands::{PaintCommand, SelectCommand};
+use property_commands::{AddTileset, RemoveProperty, RemoveTileset, SetProperty};
 use session::Reply;
 
 /// An edit that is to be committed, as a command that fits the open document.
@@ -12,6 +14,14 @@ pub enum Edit {
     ShowLayer(ShowLayer),
     MoveLayer(MoveLayer),
     Select(SelectCommand),
+    ResizeMap(ResizeMap),
+    AddObject(AddObject),
+    RemoveObject(RemoveObject),
+    PlaceObject(PlaceObject),
+    SetProperty(SetProperty),
+    RemoveProperty(RemoveProperty),
+    AddTileset(AddTileset),
+    RemoveTileset(RemoveTileset),
 }
 
 /// What is to be done for a line.

@@ -3,17 +3,23 @@ ghost use Rattle.std.specs.Prelude.{◌≡◌, IfOk, Some};
 ghost use Rattle.undo_stack.specs.Stacks.{history};
 ghost use Rattle.session.specs.Spelling.{CanBeSpelled};
 ghost use Rattle.session.specs.declared.line.Line.TheVariants as lines;
-ghost use Rattle.editor.specs.DocumentSteps.{edit_of};
+ghost use Rattle.editor.specs.DocumentSteps.{cells_edit_of, edit_of};
 ghost use Rattle.editor.specs.Editors.{IsUnlimited};
 ghost use Rattle.editor.specs.Machine.{OneDocument, scope_of};
 ghost use Rattle.editor.specs.Planning.{PlansEdit, PlansLine, PlansOn, plan_of, refused};
 
+mod layers;
+mod objects;
+mod properties;
+
 use crate::planned::{Edit, Planned};
+use crate::planning::layers::plan_layers;
+use crate::planning::objects::plan_objects;
+use crate::planning::properties::plan_properties;
 use crate::refusal;
 use crate::steps::step;
 use command_api::{Command, EditFault};
 use edits::{Area, Block, Selecting};
-use layer_commands::{AddLayer, MoveLayer, RemoveLayer, RenameLayer, ShowLayer};
 use map_model::Document;
 use paint_commands::{PaintCommand, SelectCommand};
 use session::{Gids, Line, Refusal, Reply};
@@ -28,8 +34,8 @@ pub fn refused(refusal: Refusal) -> Planned
     Planned::Reply(Reply::Refused(refusal))
 }
 
-// The plan of an edit: its command, or its refusal.
-fn planned(edit: Result<Edit, EditFault>) -> Planned
+/// The plan of an edit: its command, or its refusal.
+pub fn planned(edit: Result<Edit, EditFault>) -> Planned
     ensures { result ≡ plan_of edit }
 {
     match edit {
@@ -61,7 +67,7 @@ fn plan_stamp(
     follows: bool,
 ) -> Planned
     requires { CanBeSpelled (lines.Stamp layer x y width values.now follows) }
-    ensures { PlansLine (edit_of (lines.Stamp layer x y width values.now follows)) document.now (Some result) }
+    ensures { PlansLine (cells_edit_of (lines.Stamp layer x y width values.now follows)) document.now (Some result) }
 {
     let Ok(values) = collected(alloc, values) else {
         return refused(Refusal::NoMemory);
@@ -75,10 +81,10 @@ fn plan_stamp(
     planned(PaintCommand::stamp(alloc, document, layer, &block, follows).map(Edit::Paint))
 }
 
-/// The plan of a line that is an edit, and none of another.
-fn plan_edit(alloc: Global, document: &Document, line: &Line<'_>) -> Option<Planned>
+// The plan of a line that edits cells or the selection, and none of another.
+fn plan_cells(alloc: Global, document: &Document, line: &Line<'_>) -> Option<Planned>
     requires { CanBeSpelled line.now }
-    ensures { PlansLine (edit_of line.now) document.now result }
+    ensures { PlansLine (cells_edit_of line.now) document.now result }
 {
     match line {
         Line::Stamp {
@@ -131,28 +137,25 @@ fn plan_edit(alloc: Global, document: &Document, line: &Line<'_>) -> Option<Plan
             let edit = SelectCommand::new(alloc, document, Selecting::Nothing);
             Some(planned(edit.map(Edit::Select)))
         }
-        Line::AddLayer { kind, name } => {
-            let edit = AddLayer::new(alloc, document, *kind, name.as_str());
-            Some(planned(edit.map(Edit::AddLayer)))
-        }
-        Line::RemoveLayer { layer } => {
-            let edit = RemoveLayer::new(document, *layer);
-            Some(planned(edit.map(Edit::RemoveLayer)))
-        }
-        Line::RenameLayer { layer, name } => {
-            let edit = RenameLayer::new(alloc, document, *layer, name.as_str());
-            Some(planned(edit.map(Edit::RenameLayer)))
-        }
-        Line::ShowLayer { layer, visible } => {
-            let edit = ShowLayer::new(document, *layer, *visible);
-            Some(planned(edit.map(Edit::ShowLayer)))
-        }
-        Line::MoveLayer { layer, place } => {
-            let edit = MoveLayer::new(document, *layer, *place);
-            Some(planned(edit.map(Edit::MoveLayer)))
-        }
         _ => None,
     }
+}
+
+/// The plan of a line that is an edit, and none of another.
+fn plan_edit(alloc: Global, document: &Document, line: &Line<'_>) -> Option<Planned>
+    requires { CanBeSpelled line.now }
+    ensures { PlansLine (edit_of line.now) document.now result }
+{
+    if let Some(plan) = plan_cells(alloc, document, line) {
+        return Some(plan);
+    }
+    if let Some(plan) = plan_layers(alloc, document, line) {
+        return Some(plan);
+    }
+    if let Some(plan) = plan_objects(alloc, document, line) {
+        return Some(plan);
+    }
+    plan_properties(alloc, document, line)
 }
 
 /// Plans a line about a document, the active one: an edit is left to be committed, and any other line is done.

@@ -164,6 +164,14 @@ pub fn run<R: Read, W: Write, S: MapStore>(
                 Edit::ShowLayer(command) => Some(boxed(alloc, command)?),
                 Edit::MoveLayer(command) => Some(boxed(alloc, command)?),
                 Edit::Select(command) => Some(boxed(alloc, command)?),
+                Edit::ResizeMap(command) => Some(boxed(alloc, command)?),
+                Edit::AddObject(command) => Some(boxed(alloc, command)?),
+                Edit::RemoveObject(command) => Some(boxed(alloc, command)?),
+                Edit::PlaceObject(command) => Some(boxed(alloc, command)?),
+                Edit::SetProperty(command) => Some(boxed(alloc, command)?),
+                Edit::RemoveProperty(command) => Some(boxed(alloc, command)?),
+                Edit::AddTileset(command) => Some(boxed(alloc, command)?),
+                Edit::RemoveTileset(command) => Some(boxed(alloc, command)?),
             }
         };
         let Some(reply) = hear(alloc, &mut editor, store, found, lines.line(), put) else {
