@@ -1,0 +1,4 @@
+use Rattle.object_commands.proofs.place.PlaceObject.moved.Goals as goal
+
+pub returns-clause-command : goal.returns-clause-command
+returns-clause-command c = let h = c.eq.ensures in let g = c.in-Some.ensures.place in ?
