@@ -1,5 +1,5 @@
 use Rattle.std.proofs.Common.{◌≡◌, IsSome, Some, rules, refl}
-use Rattle.map_model.specs.Objects.{object_at, object_place}
+use Rattle.map_model.specs.Objects.{object_at}
 use Rattle.map_model.proofs.ObjectKeeps.{without_object_at-keeps}
 use Rattle.command_api.proofs.Links.{link_made}
 use Rattle.object_commands.proofs.remove.RemoveObject.new.Goals as goal
