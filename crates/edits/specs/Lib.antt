@@ -8,6 +8,7 @@ pub mod LayerEdits
 pub mod Laying
 pub mod Marks
 pub mod Painting
+pub mod PropertyEdits
 pub mod Refusals
 pub mod Selecting
 pub mod Stamping

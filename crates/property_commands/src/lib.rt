@@ -1,2 +1,9 @@
 //! The commands of properties and tilesets: one is set, added or removed.
 #![tactic(auto)]
+
+mod owners;
+mod remove;
+mod set;
+
+pub use remove::RemoveProperty;
+pub use set::SetProperty;
