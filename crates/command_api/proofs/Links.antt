@@ -66,15 +66,15 @@ pub place_in-differs : {X : Type 0} (p : Part DocumentParts (List X)) → IsLawf
     → (place_in p k).with_item x d ≡ d → ⊥
 place_in-differs {X = X} p laws k x d free same = by_list (p.get d) refl free
   where
+    some-eq : (ys zs : List X) → Some ys ≡ Some zs → ys ≡ zs
+    some-eq ys zs e = cc
+
     by_list : (o : Option (List X)) → p.get d ≡ o → IsSomeAnd o (λ xs. k ≤ length xs) → ⊥
     by_list None e h = h
     by_list (Some xs) e h =
         let equal = some-eq (insert xs k x) xs (sym (laws.get-update (λ ys. insert ys k x) xs d e) ∙ ap p.get same ∙ e) in
         let more = length-insert xs k x in
         omega (arith, more, ap length equal)
-
-    some-eq : (ys zs : List X) → Some ys ≡ Some zs → ys ≡ zs
-    some-eq ys zs e = cc
 
 -- an edit puts in a held link that changes the document, so that it is not obsolete
 pub differing_link_made : {X E : Type 0} {names : Names} {s : Slot X} {held : Option (Option X)} {d : DocumentParts} {after : Result DocumentParts E} → names.vanishing ≡ WhenEqual
