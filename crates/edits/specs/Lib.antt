@@ -9,6 +9,7 @@ pub mod Laying
 pub mod Marks
 pub mod ObjectEdits
 pub mod Painting
+pub mod PropertyEdits
 pub mod Refusals
 pub mod Selecting
 pub mod Stamping

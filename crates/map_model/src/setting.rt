@@ -1,6 +1,7 @@
 // The type and the value of a property, and new properties.
 ghost use Rattle.std.specs.Prelude.{◌≡◌, IfOk, IsTrue, ◌↔◌};
-ghost use Rattle.map_model.specs.Properties.{new_property, scalar_value, setting_of, setting_with};
+ghost use Rattle.map_model.specs.Properties.{new_property, scalar_value, setting_of, setting_with, IsSetting};
+ghost use Rattle.map_model.specs.declared.place.OwnerPlace.{OwnerPlace};
 
 use crate::held::{Kept, MapText};
 use crate::parts::{PropValue, Property};
@@ -24,7 +25,8 @@ pub enum Scalar<'a> {
 impl Setting {
     /// A type, and a value that a line gives. Where there is no memory nothing is left.
     pub fn new(alloc: Global, kind: &str, value: Scalar<'_>) -> Result<Setting, AllocError>
-        ensures { IfOk result (λ setting. setting ≡ setting_with kind.now (scalar_value value.entry)) }
+        ensures setting { IfOk result (λ setting. setting ≡ setting_with kind.now (scalar_value value.entry)) }
+        ensures value { IfOk result (λ setting. (owner : OwnerPlace) → IsSetting owner setting) }
     {
         let kind = MapText::new(String::from_str(alloc, kind)?);
         let value = match value {

@@ -1,1 +1,2 @@
+pub mod PropertyMaking
 pub mod TilesetsAdded

@@ -1,1 +1,2 @@
+pub mod PropertyChanges
 pub mod TilesetChanges

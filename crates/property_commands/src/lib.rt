@@ -1,6 +1,11 @@
 //! The commands of properties and tilesets: one is set, added or removed.
 #![tactic(auto)]
 
+mod owners;
+mod remove;
+mod set;
 mod tilesets;
 
+pub use remove::RemoveProperty;
+pub use set::SetProperty;
 pub use tilesets::{AddTileset, RemoveTileset};

@@ -1,5 +1,5 @@
 // Look-ups of properties and of their owners.
-ghost use Rattle.std.specs.Prelude.{◌≡◌, Some, IfSome};
+ghost use Rattle.std.specs.Prelude.{◌≡◌, Some, IfSome, IsSome};
 ghost use Rattle.std.specs.Option.{option_copied, option_map};
 ghost use Rattle.map_model.specs.Objects.{object_at};
 ghost use Rattle.map_model.specs.Properties.{owner_place, properties_of, property_at, property_place};
@@ -15,11 +15,15 @@ use link_chain::Chain;
 impl Map {
     /// Where an owner stands; `None` where the map has no such layer or object.
     pub fn owner_place(&self, owner: Owner) -> Option<OwnerPlace>
-        ensures { result ≡ owner_place self.now owner }
+        ensures place { result ≡ owner_place self.now owner }
+        ensures there { IfSome result (λ place. IsSome (properties_of self.now place)) }
     {
         match owner {
             Owner::Map => Some(OwnerPlace::Map),
-            Owner::Layer(id) => self.layer(id).map(|_| OwnerPlace::Layer(id)),
+            Owner::Layer(id) => match self.layer(id) {
+                Some(_) => Some(OwnerPlace::Layer(id)),
+                None => None,
+            },
             Owner::Object(id) => match self.object(id) {
                 Some((place, _)) => Some(OwnerPlace::Object(place)),
                 None => None,

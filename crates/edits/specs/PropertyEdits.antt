@@ -1,0 +1,56 @@
+-- The document after an edit of properties, or the edit's refusal.
+use Rattle.std.specs.Prelude.{ℕ, List, nat_lt, length, Option, Some, None, Result, Ok, Err, if◌then◌else◌}
+use Rattle.std.specs.Option.{ok_or}
+use Rattle.map_model.specs.declared.limits.TheConstants.{MAX_PROPERTIES}
+use Rattle.map_model.specs.declared.owner.Owner.{Owner}
+use Rattle.map_model.specs.declared.owner.Owner.TheVariants as owners
+use Rattle.map_model.specs.declared.parts.MapParts.{MapParts}
+use Rattle.map_model.specs.declared.parts.Property.{Property}
+use Rattle.map_model.specs.declared.parts.PropValue.{PropValue}
+use Rattle.map_model.specs.declared.place.OwnerPlace.{OwnerPlace}
+use Rattle.map_model.specs.declared.place.OwnerPlace.TheVariants as places
+use Rattle.map_model.specs.declared.setting.Setting.{Setting}
+use Rattle.map_model.specs.Document.{DocumentParts, with_map}
+use Rattle.map_model.specs.Properties.{new_property, owner_place, properties_of, property_place, property_with_setting, setting_with, with_property, with_property_at, without_property_at}
+use Rattle.command_api.specs.declared.fault.EditFault.{EditFault}
+use Rattle.command_api.specs.declared.fault.EditFault.TheVariants.{NoSuchLayer, NoSuchObject, NoSuchProperty, TooMany}
+
+-- where an owner stands, or that there is none
+abbrev pub owner_or_fault : MapParts → Owner → Result OwnerPlace EditFault
+owner_or_fault m owners.Map = Ok places.Map
+owner_or_fault m (owners.Layer id) = ok_or (owner_place m (owners.Layer id)) NoSuchLayer
+owner_or_fault m (owners.Object id) = ok_or (owner_place m (owners.Object id)) NoSuchObject
+
+-- ---- a property set
+abbrev pub count_of : Option (List Property) → ℕ
+count_of None = 0
+count_of (Some ps) = length ps
+
+-- how many properties an owner has
+abbrev pub property_count : MapParts → OwnerPlace → ℕ
+property_count m owner = count_of (properties_of m owner)
+
+-- one that is there gets the type and the value where it stands; a new one goes last
+abbrev pub after_set_at : DocumentParts → List ℕ → Setting → OwnerPlace → Option ℕ → Result DocumentParts EditFault
+after_set_at d name s owner (Some at) = Ok (with_map (with_property owner at (property_with_setting s)) d)
+after_set_at d name s owner None =
+    if nat_lt (property_count d.map owner) MAX_PROPERTIES then Ok (with_map (with_property_at owner (property_count d.map owner) (new_property name s)) d) else Err TooMany
+
+abbrev pub after_set_of : DocumentParts → List ℕ → Setting → Result OwnerPlace EditFault → Result DocumentParts EditFault
+after_set_of d name s (Err fault) = Err fault
+after_set_of d name s (Ok owner) = after_set_at d name s owner (property_place d.map owner name)
+
+abbrev pub after_set_property : DocumentParts → Owner → List ℕ → List ℕ → PropValue → Result DocumentParts EditFault
+after_set_property d owner name kind value = after_set_of d name (setting_with kind value) (owner_or_fault d.map owner)
+
+-- ---- a property less
+abbrev pub after_remove_at : DocumentParts → OwnerPlace → Option ℕ → Result DocumentParts EditFault
+after_remove_at d owner None = Err NoSuchProperty
+after_remove_at d owner (Some at) = Ok (with_map (without_property_at owner at) d)
+
+abbrev pub after_remove_of : DocumentParts → List ℕ → Result OwnerPlace EditFault → Result DocumentParts EditFault
+after_remove_of d name (Err fault) = Err fault
+after_remove_of d name (Ok owner) = after_remove_at d owner (property_place d.map owner name)
+
+abbrev pub after_remove_property : DocumentParts → Owner → List ℕ → Result DocumentParts EditFault
+after_remove_property d owner name = after_remove_of d name (owner_or_fault d.map owner)

@@ -1,0 +1,59 @@
+ghost use Rattle.std.specs.Prelude.{◌≡◌, Err, IfOk, IfErr};
+ghost use Rattle.command_api.specs.Making.{Makes};
+ghost use Rattle.edits.specs.PropertyEdits.{after_remove_property};
+ghost use Rattle.property_commands.specs.PropertyChanges.{remove_property_change, remove_property_exchange, remove_property_names};
+
+use crate::owners::place_of;
+use command_api::{Exchange, Label};
+use edits::EditFault;
+use link_chain::Loose;
+use map_model::{Document, Owner, OwnerPlace, Property};
+
+/// A property is removed. While it is not in the map, the command owns it, kept members and all, and puts it back at its
+/// old place.
+#[derive(Drop)]
+pub struct RemoveProperty {
+    owner: OwnerPlace,
+    at: usize,
+    property: Option<Loose<Property>>,
+}
+
+impl RemoveProperty {
+    /// The command that removes the owner's property with a name, not made yet. The document stays as it is.
+    ///
+    /// Refused where there is no such layer or object, and then where it has no such property.
+    pub fn new(document: &Document, owner: Owner, name: &str) -> Result<RemoveProperty, EditFault>
+        ensures command { IfOk result (λ c. Makes remove_property_names document.now (after_remove_property document.now owner name.now) (remove_property_change c)) }
+        ensures refusal { IfErr result (λ fault. after_remove_property document.now owner name.now ≡ Err fault) }
+    {
+        let map = document.map();
+        let owner = place_of(map, owner)?;
+        match map.property(owner, name) {
+            Some((at, _)) => Ok(RemoveProperty {
+                owner,
+                at,
+                property: None,
+            }),
+            None => Err(EditFault::NoSuchProperty),
+        }
+    }
+}
+
+impl Exchange for RemoveProperty {
+    ghost exchange_parts = { remove_property_exchange };
+
+    fn label(&self) -> Label {
+        Label::untagged("Remove Property", "remove property")
+    }
+
+    fn is_settled(&self) -> bool {
+        false
+    }
+
+    fn exchange(&mut self, document: &mut Document) {
+        match self.property.take() {
+            Some(property) => document.insert_property(self.owner, self.at, property),
+            None => self.property = Some(document.take_property(self.owner, self.at)),
+        }
+    }
+}

@@ -1,0 +1,151 @@
+ghost use Rattle.std.specs.Prelude.{◌≡◌, ◌↔◌, IsTrue, Some, IfOk, IfErr, IsSome};
+ghost use Rattle.map_model.specs.declared.place.OwnerPlace.{OwnerPlace};
+ghost use Rattle.map_model.specs.Properties.{new_property, properties_of, scalar_value, setting_of, setting_with, IsSetting};
+ghost use Rattle.command_api.specs.Making.{IsRefusalOf, Makes};
+ghost use Rattle.edits.specs.PropertyEdits.{after_set_property, property_count};
+ghost use Rattle.property_commands.specs.PropertyChanges.{set_property_change, set_property_exchange, set_property_names};
+
+use crate::owners::place_of;
+use command_api::{Exchange, Label};
+use edits::EditFault;
+use link_chain::Loose;
+use map_model::limits::MAX_PROPERTIES;
+use map_model::{Document, MapText, Owner, OwnerPlace, Property, Scalar, Setting};
+use std::alloc::{AllocError, Global};
+
+/// How a property is set.
+#[derive(Drop)]
+enum SetKind {
+    /// The type and the value that the property does not have, and whether they are those that it has.
+    Replace(Setting, bool),
+    /// A new property, while it is not in the map.
+    Add(Option<Loose<Property>>),
+}
+
+/// A property gets a type and a value. One that is there keeps its place and its kept members; a new one goes last.
+#[derive(Drop)]
+pub struct SetProperty {
+    owner: Owner,
+    name: MapText,
+    follows: bool,
+    place: OwnerPlace,
+    at: usize,
+    kind: SetKind,
+}
+
+impl SetProperty {
+    /// The command that gives the owner's property with a name this type and value, not made yet. It takes all the
+    /// memory that its turns will need. The document stays as it is.
+    ///
+    /// Refused where there is no such layer or object; then where the property would be new and there are 256; and then
+    /// where there is no memory.
+    pub fn new(
+        alloc: Global,
+        document: &Document,
+        owner: Owner,
+        name: &str,
+        kind: &str,
+        value: Scalar<'_>,
+        follows: bool,
+    ) -> Result<SetProperty, EditFault>
+        ensures command { IfOk result (λ c. Makes (set_property_names owner name.now follows) document.now (after_set_property document.now owner name.now kind.now (scalar_value value.entry)) (set_property_change c)) }
+        ensures refusal { IfErr result (IsRefusalOf (after_set_property document.now owner name.now kind.now (scalar_value value.entry))) }
+    {
+        let map = document.map();
+        let place = place_of(map, owner)?;
+        match map.property(place, name) {
+            Some((at, property)) => {
+                let is_same = property.has_setting(kind, value);
+                let Ok(setting) = Setting::new(alloc, kind, value) else {
+                    return Err(EditFault::NoMemory);
+                };
+                named(alloc, owner, name, follows, place, at, SetKind::Replace(setting, is_same))
+            }
+            None => {
+                let Some(properties) = map.properties(place) else {
+                    unreachable!();
+                };
+                let at = properties.len();
+                if at >= MAX_PROPERTIES {
+                    return Err(EditFault::TooMany);
+                }
+                let Ok(property) = loose_property(alloc, name, kind, value) else {
+                    return Err(EditFault::NoMemory);
+                };
+                named(alloc, owner, name, follows, place, at, SetKind::Add(Some(property)))
+            }
+        }
+    }
+}
+
+// The command, with a name of its own.
+fn named(
+    alloc: Global,
+    owner: Owner,
+    name: &str,
+    follows: bool,
+    place: OwnerPlace,
+    at: usize,
+    kind: SetKind,
+) -> Result<SetProperty, EditFault>
+    ensures ok { IfOk result (λ c. c ≡ record { owner = owner; name = name.now; follows = follows; place = place; at = at; kind = kind }) }
+    ensures err { IfErr result (λ fault. fault ≡ EditFault.NoMemory) }
+{
+    match String::from_str(alloc, name) {
+        Ok(name) => Ok(SetProperty {
+            owner,
+            name: MapText::new(name),
+            follows,
+            place,
+            at,
+            kind,
+        }),
+        Err(_) => Err(EditFault::NoMemory),
+    }
+}
+
+// A new property in a link of its own.
+fn loose_property(
+    alloc: Global,
+    name: &str,
+    kind: &str,
+    value: Scalar<'_>,
+) -> Result<Loose<Property>, AllocError>
+    ensures property { IfOk result (λ loose. loose ≡ Some (new_property name.now (setting_with kind.now (scalar_value value.entry)))) }
+    ensures value { IfOk result (λ loose. (owner : OwnerPlace) → IsSetting owner (setting_with kind.now (scalar_value value.entry))) }
+{
+    let name = MapText::new(String::from_str(alloc, name)?);
+    let setting = Setting::new(alloc, kind, value)?;
+    Loose::new(alloc, Property::new(alloc, name, setting)).map_err(|_| AllocError)
+}
+
+impl Exchange for SetProperty {
+    ghost exchange_parts = { set_property_exchange };
+
+    fn label(&self) -> Label {
+        Label {
+            text: "Set Property",
+            action: "set property",
+            id: 4,
+        }
+    }
+
+    fn is_settled(&self) -> bool {
+        match &self.kind {
+            SetKind::Replace(_, is_same) => *is_same,
+            SetKind::Add(_) => false,
+        }
+    }
+
+    fn exchange(&mut self, document: &mut Document) {
+        match &mut self.kind {
+            SetKind::Replace(setting, _) => {
+                document.swap_setting(self.place, self.at, setting);
+            }
+            SetKind::Add(held) => match held.take() {
+                Some(property) => document.insert_property(self.place, self.at, property),
+                None => *held = Some(document.take_property(self.place, self.at)),
+            },
+        }
+    }
+}
