@@ -10,14 +10,13 @@ use Rattle.map_model.specs.declared.parts.PropValue.{PropValue}
 use Rattle.map_model.specs.declared.place.OwnerPlace.{OwnerPlace}
 use Rattle.map_model.specs.declared.setting.Setting.{Setting}
 use Rattle.map_model.specs.Document.{DocumentParts}
-use Rattle.map_model.specs.Properties.{new_property, properties_of, property_at, property_place, setting_of, setting_with, with_property_at, IsSetting}
-use Rattle.map_model.specs.PropertyParts.{properties, property_slot, setting_at}
+use Rattle.map_model.specs.Properties.{new_property, properties_of, property_at, property_place, setting_of, setting_with, IsSetting}
+use Rattle.map_model.specs.PropertyParts.{properties, setting_at}
 use Rattle.map_model.specs.WellFormed.{IsWellFormed}
 use Rattle.map_model.proofs.PartLaws.{mapped}
 use Rattle.map_model.proofs.PropertyKeeps.{new_property-IsProperty, with_property_at-keeps}
 use Rattle.map_model.proofs.PropertyLaws.{properties-laws, setting_at-laws}
 use Rattle.command_api.specs.declared.fault.EditFault.{EditFault}
-use Rattle.command_api.specs.Link.{FitsLink}
 use Rattle.command_api.specs.Making.{Makes}
 use Rattle.command_api.proofs.Links.{differing_link_made, place_in-differs}
 use Rattle.command_api.proofs.Swaps.{swap_where_made}
@@ -34,22 +33,6 @@ setting_at-get d owner at s e = by_list (properties_of d.map owner) e
         → option_and_then (λ ps. option_and_then (λ p. Some (setting_of p)) (slice_get ps at)) o ≡ Some s
     by_list None q = cc
     by_list (Some ps) q = mapped setting_of (slice_get ps at) s q
-
--- ---- a link that is held and fits can be put in
-module _ (owner : OwnerPlace) (at : ℕ) (held : Option (Option Property)) (loose : Option Property) (d : DocumentParts) (holds : held ≡ Some loose) (fits : FitsLink (property_slot owner at) held d) where
-  pub held-place : IsSomeAnd (properties_of d.map owner) (λ ps. at ≤ length ps)
-  held-place = by_loose loose (rw holds at fits)
-    where
-      by_loose : (o : Option Property) → FitsLink (property_slot owner at) (Some o) d → IsSomeAnd (properties_of d.map owner) (λ ps. at ≤ length ps)
-      by_loose None h = absurd h.ready
-      by_loose (Some p) h = h.ready
-
-  pub held-IsWellFormed : IsSomeAnd loose (λ p. IsWellFormed (with_property_at owner at p d.map))
-  held-IsWellFormed = by_loose loose (rw holds at fits)
-    where
-      by_loose : (o : Option Property) → FitsLink (property_slot owner at) (Some o) d → IsSomeAnd o (λ p. IsWellFormed (with_property_at owner at p d.map))
-      by_loose None h = absurd h.ready
-      by_loose (Some p) h = h.after
 
 -- ---- a command that is made
 -- what holds of the command that is wanted holds of the one that is made

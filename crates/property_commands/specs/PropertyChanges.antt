@@ -1,10 +1,8 @@
 -- What each command of properties is and does.
-use Rattle.std.specs.Prelude.{◌≡◌, ◌↔◌, IsTrue, ℕ, List, Bool, Option, Some, codes}
+use Rattle.std.specs.Prelude.{ℕ, List, Bool, Some, codes}
 use Rattle.map_model.specs.declared.owner.Owner.{Owner}
-use Rattle.map_model.specs.declared.parts.Property.{Property}
 use Rattle.map_model.specs.declared.place.OwnerPlace.{OwnerPlace}
-use Rattle.map_model.specs.declared.setting.Setting.{Setting}
-use Rattle.map_model.specs.Properties.{setting_of, IsSetting}
+use Rattle.map_model.specs.Properties.{IsSetting}
 use Rattle.map_model.specs.PropertyParts.{property_slot, setting_at}
 use Rattle.command_api.specs.Law.{Change, Names, untagged, Never, WhenEqual}
 use Rattle.command_api.specs.Exchange.{Exchange, change_of}

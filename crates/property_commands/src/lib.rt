@@ -1,6 +1,7 @@
 //! The commands of properties and tilesets: one is set, added or removed.
 #![tactic(auto)]
 
+mod link;
 mod owners;
 mod remove;
 mod set;

@@ -3,6 +3,7 @@ ghost use Rattle.command_api.specs.Making.{Makes};
 ghost use Rattle.edits.specs.PropertyEdits.{after_remove_property};
 ghost use Rattle.property_commands.specs.PropertyChanges.{remove_property_change, remove_property_exchange, remove_property_names};
 
+use crate::link::exchange_property;
 use crate::owners::place_of;
 use command_api::{Exchange, Label};
 use edits::EditFault;
@@ -51,9 +52,6 @@ impl Exchange for RemoveProperty {
     }
 
     fn exchange(&mut self, document: &mut Document) {
-        match self.property.take() {
-            Some(property) => document.insert_property(self.owner, self.at, property),
-            None => self.property = Some(document.take_property(self.owner, self.at)),
-        }
+        exchange_property(document, self.owner, self.at, &mut self.property);
     }
 }

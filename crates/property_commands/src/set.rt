@@ -5,6 +5,7 @@ ghost use Rattle.command_api.specs.Making.{IsRefusalOf, Makes};
 ghost use Rattle.edits.specs.PropertyEdits.{after_set_property, property_count};
 ghost use Rattle.property_commands.specs.PropertyChanges.{set_property_change, set_property_exchange, set_property_names};
 
+use crate::link::exchange_property;
 use crate::owners::place_of;
 use command_api::{Exchange, Label};
 use edits::EditFault;
@@ -59,7 +60,8 @@ impl SetProperty {
                 let Ok(setting) = Setting::new(alloc, kind, value) else {
                     return Err(EditFault::NoMemory);
                 };
-                named(alloc, owner, name, follows, place, at, SetKind::Replace(setting, is_same))
+                let kind = SetKind::Replace(setting, is_same);
+                named(alloc, owner, name, follows, place, at, kind)
             }
             None => {
                 let Some(properties) = map.properties(place) else {
@@ -72,7 +74,8 @@ impl SetProperty {
                 let Ok(property) = loose_property(alloc, name, kind, value) else {
                     return Err(EditFault::NoMemory);
                 };
-                named(alloc, owner, name, follows, place, at, SetKind::Add(Some(property)))
+                let kind = SetKind::Add(Some(property));
+                named(alloc, owner, name, follows, place, at, kind)
             }
         }
     }
@@ -142,10 +145,7 @@ impl Exchange for SetProperty {
             SetKind::Replace(setting, _) => {
                 document.swap_setting(self.place, self.at, setting);
             }
-            SetKind::Add(held) => match held.take() {
-                Some(property) => document.insert_property(self.place, self.at, property),
-                None => *held = Some(document.take_property(self.place, self.at)),
-            },
+            SetKind::Add(held) => exchange_property(document, self.place, self.at, held),
         }
     }
 }

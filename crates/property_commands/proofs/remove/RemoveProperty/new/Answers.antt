@@ -1,4 +1,4 @@
-use Rattle.std.proofs.Common.{◌≡◌, Some, IsSome, refl, rules}
+use Rattle.std.proofs.Common.{IsSome, refl, rules}
 use Rattle.map_model.specs.Properties.{property_at}
 use Rattle.map_model.specs.WellFormed.{IsWellFormed}
 use Rattle.map_model.proofs.PropertyKeeps.{without_property_at-keeps}

@@ -1,7 +1,7 @@
-use Rattle.std.proofs.Common.{◌≡◌, ◌<◌, length, Some, None, Ok, sym, ◌∙◌, rules}
+use Rattle.std.proofs.Common.{◌≡◌, ◌<◌, length, Some, None, Ok, rules}
 use Rattle.map_model.specs.declared.limits.TheConstants.{MAX_PROPERTIES}
 use Rattle.map_model.specs.WellFormed.{IsWellFormed}
-use Rattle.map_model.specs.Properties.{properties_of, property_at, property_place, scalar_value, setting_with, IsSetting}
+use Rattle.map_model.specs.Properties.{properties_of, property_at, property_place, scalar_value}
 use Rattle.edits.specs.PropertyEdits.{after_set_property, owner_or_fault}
 use Rattle.command_api.specs.Making.{Makes}
 use Rattle.property_commands.specs.declared.set.SetProperty.{SetProperty}

@@ -1,0 +1,24 @@
+// A property that is held, or stands in its place.
+ghost use Rattle.map_model.specs.PropertyParts.{property_slot};
+ghost use Rattle.command_api.specs.Exchange.{IsExchanged};
+ghost use Rattle.command_api.specs.Law.{Names};
+ghost use Rattle.command_api.specs.Link.{FitsLink, link};
+
+use link_chain::Loose;
+use map_model::{Document, OwnerPlace, Property};
+
+/// Puts the held property in at a place among its owner's, or, where none is held, takes the one there out.
+pub fn exchange_property(
+    document: &mut Document,
+    owner: OwnerPlace,
+    at: usize,
+    held: &mut Option<Loose<Property>>,
+)
+    requires { FitsLink (property_slot owner at) held.old document.old }
+    ensures { (names : Names) → IsExchanged (link names (property_slot owner at) held.old) (link names (property_slot owner at) held.new) document.old document.new }
+{
+    match held.take() {
+        Some(property) => document.insert_property(owner, at, property),
+        None => *held = Some(document.take_property(owner, at)),
+    }
+}
