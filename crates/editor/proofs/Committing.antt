@@ -6,7 +6,7 @@ use Rattle.command_api.specs.Law.{Change, IsSame}
 use Rattle.undo_stack.specs.History.{History, Step, current}
 use Rattle.undo_stack.specs.Pushing.{IsPushed, step_of}
 use Rattle.session.specs.declared.line.Line.{Line}
-use Rattle.session.specs.declared.line.Line.TheVariants.{Stamp, Erase, Fill, Select, SelectNone, AddLayer, RemoveLayer, RenameLayer, ShowLayer, MoveLayer}
+use Rattle.session.specs.declared.line.Line.TheVariants.{Stamp, Erase, Fill, Select, SelectNone, AddLayer, RemoveLayer, RenameLayer, ShowLayer, MoveLayer, Resize, AddObject, MoveObject, ResizeObject, RemoveObject, SetProperty, RemoveProperty, AddTileset, RemoveTileset}
 use Rattle.session.specs.declared.reply.Refusal.{Refusal}
 use Rattle.session.specs.declared.reply.Refusal.TheVariants.{NoMemory}
 use Rattle.session.specs.declared.reply.Reply.{Reply}
@@ -31,6 +31,15 @@ edit-scope (RemoveLayer layer) edit e = refl
 edit-scope (RenameLayer layer name) edit e = refl
 edit-scope (ShowLayer layer visible) edit e = refl
 edit-scope (MoveLayer layer place) edit e = refl
+edit-scope (Resize width height dx dy) edit e = refl
+edit-scope (AddObject layer x y width height name) edit e = refl
+edit-scope (MoveObject object x y follows) edit e = refl
+edit-scope (ResizeObject object width height) edit e = refl
+edit-scope (RemoveObject object) edit e = refl
+edit-scope (SetProperty owner name value follows) edit e = refl
+edit-scope (RemoveProperty owner name) edit e = refl
+edit-scope (AddTileset first_id source) edit e = refl
+edit-scope (RemoveTileset first_id) edit e = refl
 edit-scope line edit e = absurd cc
 
 asked-scope_by : (line : Line) (edit : Option (DocumentParts → Result Step Refusal)) (active : Option History) (c : Change) → edit_of line ≡ edit → IsEditBy edit active c → scope_of line ≡ OneDocument

@@ -65,6 +65,18 @@ mapped-PlansEdit wrap names d after (Err fault) edit alone is r m =
     let P : Result Edit EditFault → Type 0 = λ x. PlansEdit (answer_of names after) d (plan_of x) in
     subst P (sym m) (made-PlansEdit names d after (Err fault) alone tt r)
 
+-- the same of a command that takes no memory, and so is refused exactly as its edit is
+pub exact-PlansEdit : {K : Type 0} (wrap : K → Edit) (names : Names) (d : DocumentParts) (after : Result DocumentParts EditFault) (made : Result K EditFault) (edit : Result Edit EditFault)
+    → names.follows ≡ false → IfOk made (λ k. Makes names d after (edit_change (wrap k))) → IfErr made (λ fault. after ≡ Err fault)
+    → MatchResult made (λ k. IsOkAnd edit (λ e. e ≡ wrap k)) (λ e. edit ≡ Err e) → PlansEdit (answer_of names after) d (plan_of edit)
+exact-PlansEdit wrap names d after (Ok k) (Ok e) alone is r m =
+    let P : Edit → Type 0 = λ x. PlansEdit (answer_of names after) d (plan_of (Ok x)) in
+    subst P (sym m) (made-PlansEdit names d after (Ok (wrap k)) alone is tt)
+exact-PlansEdit wrap names d after (Ok k) (Err e) alone is r m = absurd m
+exact-PlansEdit wrap names d after (Err fault) edit alone is r m =
+    let P : Result Edit EditFault → Type 0 = λ x. PlansEdit (answer_of names after) d (plan_of x) in
+    subst P (sym m) (inr (refusal_of_edit fault, ap (answer_of names) r, refl))
+
 -- an erase that can be spelled does not follow
 pub erase-straight : (layer : ℕ) (x y : ℤ) (width height : ℕ) (follows : Bool) → CanBeSpelled (Erase layer x y width height follows) → follows ≡ false
 erase-straight layer x y width height true h = absurd h.0.0
