@@ -9,5 +9,6 @@ pub mod Laying
 pub mod Marks
 pub mod Painting
 pub mod Refusals
+pub mod Resizing
 pub mod Selecting
 pub mod Stamping
