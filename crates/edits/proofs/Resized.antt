@@ -1,5 +1,5 @@
 -- A document on the canvas of its new size.
-use Rattle.std.proofs.Common.{◌≡◌, ℕ, ℤ, pos, negsuc, zero, suc, ◌+◌, ◌-◌, ◌*◌, ◌^◌, ◌≤◌, ◌<◌, ◌≤ℤ◌, ◌*ℤ◌, ◌-ℤ◌, neg_ℤ, List, [], ◌∷◌, ◌++◌, length, map, get_or, Bool, true, false, cond, ◌&&◌, nat_lt, Option, Some, None, option_and_then, IfSome, refl, sym, ap, ◌∙◌, arith, append_assoc, length-append}
+use Rattle.std.proofs.Common.{◌≡◌, ℕ, ℤ, pos, negsuc, zero, suc, ◌+◌, ◌*◌, ◌≤◌, ◌<◌, ◌≤ℤ◌, ◌*ℤ◌, ◌-ℤ◌, neg_ℤ, List, [], ◌∷◌, ◌++◌, length, map, get_or, Bool, true, false, cond, ◌&&◌, nat_lt, Option, Some, None, option_and_then, IfSome, refl, sym, ap, ◌∙◌, arith, append_assoc, length-append}
 use Rattle.std.specs.Int.Signed.{le_z_yes}
 use Rattle.std.specs.Prelude.{T, nat_le, int_le, slice_get}
 use Rattle.std.specs.FinSet as set
@@ -10,7 +10,6 @@ use Rattle.std.proofs.Math.Nat.{mul-le-mul}
 use Rattle.std.proofs.Math.Seq.{get_or-append_seam}
 use Rattle.std.proofs.lemmas.Bool.Decides.{nat_tests}
 use Rattle.std.proofs.lemmas.Int.{ints}
-
 use Rattle.std.proofs.lemmas.List.{length-map, map-append}
 use Rattle.std.proofs.lemmas.List.FromFn.{length-map-range_with_len}
 use Rattle.region.specs.Cells.{cell_cmp, in_moved_cut, in_rectangle, has_at, rectangle}
@@ -21,18 +20,17 @@ use Rattle.map_model.specs.declared.limits.TheConstants.{MAX_SIDE, MAX_CELLS, MA
 use Rattle.map_model.specs.declared.parts.Body.{Body}
 use Rattle.map_model.specs.declared.parts.Body.TheVariants.{Tiles, Objects, Other}
 use Rattle.map_model.specs.declared.parts.Layer.{Layer}
-use Rattle.map_model.specs.declared.parts.MapParts.{MapParts}
 use Rattle.map_model.specs.declared.parts.Object.{Object}
-use Rattle.map_model.specs.Canvas.{lists_in, lists_of, tile_layers, object_moved, body_on, layer_on, layers_on, with_canvas, IsShift, AreCells, MayBeMoved, BodyMayBeMoved, IsCanvasOf}
+use Rattle.map_model.specs.Canvas.{lists_in, lists_of, tile_layers, object_moved, body_on, layers_on, with_canvas, IsShift, AreCells, MayBeMoved, BodyMayBeMoved, IsCanvasOf}
 use Rattle.map_model.specs.Bodies.{body_with_tiles}
-use Rattle.map_model.specs.Document.{DocumentParts, IsDocument, LiesIn}
+use Rattle.map_model.specs.Document.{DocumentParts, IsDocument}
 use Rattle.map_model.specs.Keeping.{layer_level, object_level}
 use Rattle.map_model.specs.Lists.{Each}
 use Rattle.map_model.specs.Objects.{objects_in, objects_of, body_with_objects}
-use Rattle.map_model.specs.WellFormed.{IsSize, IsTileValue, IsPixels, IsPlacing, IsObject, IsBody, IsLayer}
+use Rattle.map_model.specs.WellFormed.{IsSize, IsTileValue, IsPixels, IsObject, IsBody, IsLayer}
 use Rattle.map_model.proofs.Listings.{Each-append}
-use Rattle.edits.specs.Blocks.{ValueBlock, offset, value_in, value_over}
-use Rattle.edits.specs.Resizing.{row, table, value_at, layer_block, resized_values, pixels_right, pixels_down, are_pixels, stays, all_stay, objects_stay, is_side, is_size, resized_layer, resized_map, resized_selection, resized, may_resize, after_resize, IsDistance}
+use Rattle.edits.specs.Blocks.{ValueBlock, offset, value_in}
+use Rattle.edits.specs.Resizing.{row, table, value_at, layer_block, resized_values, pixels_right, pixels_down, are_pixels, stays, all_stay, objects_stay, is_side, is_size, resized_layer, resized_selection, resized, may_resize, IsDistance}
 
 -- ---- layers
 body-with : (c : Canvas) (f : List ℕ → List ℕ) (place : ℕ) (b : Body) → ((e : List ℕ) → lists_in b ≡ e ∷ [] → get_or c.layers place e ≡ f e)
@@ -53,9 +51,9 @@ layers-with c f front place (l ∷ ls) held is =
     let next : place + length (lists_of l) ≡ length (front ++ map f (lists_of l)) = omega (arith, length-append front (map f (lists_of l)), length-map (lists_of l) f) in
     let rest = layers-with c f (front ++ map f (lists_of l)) (place + length (lists_of l)) ls (cut ∙ sym (append_assoc front (map f (lists_of l)) (map f (flat_map lists_of ls)))) next in
     let own = λ (cells : List ℕ) (only : lists_in l.body ≡ cells ∷ []).
-        let at : c.layers ≡ front ++ (f cells ∷ map f (flat_map lists_of ls)) = cut ∙ ap (λ xs. front ++ (map f xs ++ map f (flat_map lists_of ls))) only in
-        ap (λ xs. get_or xs place cells) at ∙ ap (λ k. get_or (front ++ (f cells ∷ map f (flat_map lists_of ls))) k cells) is
-        ∙ get_or-append_seam front (f cells) (map f (flat_map lists_of ls)) cells in
+    let at : c.layers ≡ front ++ (f cells ∷ map f (flat_map lists_of ls)) = cut ∙ ap (λ xs. front ++ (map f xs ++ map f (flat_map lists_of ls))) only in
+    ap (λ xs. get_or xs place cells) at ∙ ap (λ k. get_or (front ++ (f cells ∷ map f (flat_map lists_of ls))) k cells) is
+    ∙ get_or-append_seam front (f cells) (map f (flat_map lists_of ls)) cells in
     λ i. record l { body = body-with c f place l.body own i } ∷ rest i
 
 -- ---- the values of a table
@@ -135,13 +133,15 @@ pixels-within (Some z) e =
 objects-may : (right down : ℤ) (level : ℕ) (os : List Object) → Each (IsObject level) os → list_all (stays right down) os ≡ true → Each (MayBeMoved right down) os
 objects-may right down level [] h e = tt
 objects-may right down level (o ∷ os) h e =
-    let first = and-left (stays right down o) (list_all (stays right down) os) e in
-    (record {
-      x = pixels-within _ (and-left _ _ first);
-      y = pixels-within _ (and-right _ _ first);
-      width = h.0.placing.width;
-      height = h.0.placing.height;
-    }, objects-may right down level os h.1 (and-right (stays right down o) (list_all (stays right down) os) e))
+    let first = and-left (stays right down o) (list_all (stays right down) os) e in (
+      record {
+        x = pixels-within _ (and-left _ _ first);
+        y = pixels-within _ (and-right _ _ first);
+        width = h.0.placing.width;
+        height = h.0.placing.height;
+      },
+      objects-may right down level os h.1 (and-right (stays right down o) (list_all (stays right down) os) e),
+    )
 
 body-may : (right down : ℤ) (level size : ℕ) (b : Body) → IsBody level size b → all_stay right down (objects_in b) ≡ true → BodyMayBeMoved right down b
 body-may right down level size (Tiles e own) h stay = tt
@@ -204,7 +204,7 @@ module _ (d : DocumentParts) (width height : ℕ) (dx dy : ℤ) (lists : List (L
       let c : Canvas = record { width = width; height = height; layers = lists; selection = s; right = right; down = down } in
       let on = layers-with c (resized_values d.map width height dx dy) [] 0 d.map.layers laid refl in
       let moved : map (layer-with (resized_values d.map width height dx dy) right down) d.map.layers ≡ map (resized_layer d.map width height dx dy) d.map.layers
-          = λ i. map (layer-with (resized_values d.map width height dx dy) (right_is i) (down_is i)) d.map.layers in
+      = λ i. map (layer-with (resized_values d.map width height dx dy) (right_is i) (down_is i)) d.map.layers in
       λ i. record { map = record d.map { width = width; height = height; layers = (on ∙ moved) i }; selection = selection-is i }
 
   pub canvas-fits : IsDocument d → may_resize d width height dx dy ≡ true → IsShift right → IsShift down

@@ -1,7 +1,7 @@
 -- The rows of a map on which a block lies.
-use Rattle.std.proofs.Common.{◌≡◌, ◌⊎◌, inl, inr, ℕ, ℤ, pos, negsuc, zero, suc, ◌+◌, ◌-◌, ◌*◌, ◌≤◌, ◌<◌, List, [], ◌∷◌, ◌++◌, length, map, take, drop, get_or, Bool, true, false, cond, nat_lt, Option, Some, None, option_and_then, Result, Ok, Err, is_ok, append_assoc, refl, sym, ap, ◌∙◌, arith, length-append, length-take, length-drop, get_or-take, get_or-drop}
+use Rattle.std.proofs.Common.{◌≡◌, inl, inr, ℕ, ℤ, pos, negsuc, zero, suc, ◌+◌, ◌-◌, ◌*◌, ◌≤◌, ◌<◌, List, [], ◌∷◌, ◌++◌, length, take, drop, get_or, Bool, true, false, cond, nat_lt, Option, Some, None, option_and_then, Result, Ok, Err, is_ok, append_assoc, refl, sym, ap, ◌∙◌, arith, length-append, length-take, length-drop, get_or-take, get_or-drop}
 use Rattle.std.specs.Prelude.{nat_le, replicate, OnOk}
-use Rattle.std.specs.List.{slice_get, range_with_len}
+use Rattle.std.specs.List.{slice_get}
 use Rattle.std.specs.Option.{unwrap_or}
 use Rattle.std.proofs.lemmas.Bool.{cases_lt}
 use Rattle.std.proofs.lemmas.Bool.Decides.{nat_tests}
@@ -9,7 +9,7 @@ use Rattle.std.proofs.lemmas.Option.{slice_get-get_or}
 use Rattle.std.proofs.lemmas.List.{take_all, ext_get_or, get_or_append_left, get_or-append_right, get_or-replicate, length-replicate}
 use Rattle.std.proofs.lemmas.List.FromFn.{length-map-range_with_len, get_or-map-range_with_len}
 use Rattle.edits.specs.declared.span.Span.{Span}
-use Rattle.edits.specs.Blocks.{ValueBlock, offset, value_in, value_over, is_below, IsSpan}
+use Rattle.edits.specs.Blocks.{ValueBlock, offset, value_in, is_below, IsSpan}
 use Rattle.edits.specs.Resizing.{row, value_at, IsRowPart}
 
 slice_get-past : {X : Type 0} (xs : List X) (i : ℕ) → length xs ≤ i → slice_get xs i ≡ None
@@ -178,7 +178,7 @@ row-pushed block width y first values old one two three start len long h same he
     let one_is : one ≡ old ++ replicate first 0 = rw gap at (zeros ∙ filled old (start + first) len held (omega arith)) in
     let two_is : two ≡ (old ++ replicate first 0) ++ values = part ∙ ap (λ xs. xs ++ values) one_is in
     let size : long ≡ start + first + length values =
-        omega (arith, counted, ap length two_is, length-append (old ++ replicate first 0) values, length-append old (replicate first 0), length-replicate {A = ℕ} first 0, begun) in
+    omega (arith, counted, ap length two_is, length-append (old ++ replicate first 0) values, length-append old (replicate first 0), length-replicate {A = ℕ} first 0, begun) in
     rest ∙ filled two (start + width) long counted (omega arith) ∙ ap (λ xs. xs ++ replicate (start + width - long) 0) two_is
     ∙ append_assoc (old ++ replicate first 0) values (replicate (start + width - long) 0) ∙ append_assoc old (replicate first 0) (values ++ replicate (start + width - long) 0)
     ∙ ap (λ xs. old ++ xs) (sym (row-is block width y first values h (start + width - long) (omega arith)))

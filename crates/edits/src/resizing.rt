@@ -97,7 +97,10 @@ fn objects_stay(parts: &MapParts, shift: &Shift) -> bool
     requires down { IsShift shift.now.down }
     ensures { result ≡ objects_stay shift.now.right shift.now.down parts.now }
 {
-    parts.layers.iter().all(|layer| all_stay(&layer.body, shift))
+    parts
+        .layers
+        .iter()
+        .all(|layer| all_stay(&layer.body, shift))
 }
 
 // The pixels by which objects are moved where the old map begins so many columns and rows further on.
@@ -142,11 +145,7 @@ fn push_cells(
 }
 
 // The cells of each tile layer of a map in one of the new size.
-fn resized_layers(
-    alloc: Global,
-    parts: &MapParts,
-    to: Resizing,
-) -> Result<LayerCells, AllocError>
+fn resized_layers(alloc: Global, parts: &MapParts, to: Resizing) -> Result<LayerCells, AllocError>
     requires layers { Each (IsLayer layer_level (parts.now.width * parts.now.height)) parts.now.layers }
     requires width { to.width ≤ MAX_SIDE }
     requires height { to.height ≤ MAX_SIDE }

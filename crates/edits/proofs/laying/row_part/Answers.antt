@@ -16,7 +16,7 @@ slice_bounds-result-end c =
     let right : offset c.args.block.now.x c.args.columns.first ≡ Some c.in-Some.right = search rules in
     let down : offset c.args.block.now.y c.args.y ≡ Some c.in-Some-offset.down = search rules in
     let fits = part-within (block_of c.args.block.now) c.args.width c.args.y c.args.columns c.requires.columns c.in-Some.right c.in-Some-offset.down c.args.rows (omega arith)
-        right down (omega arith) c.requires.whole in
+    right down (omega arith) c.requires.whole in
     search rules
 
 pub returns : goal.returns
@@ -27,4 +27,4 @@ returns c =
     let count = c.args.columns.end - c.args.columns.first in
     let same : from + count - from ≡ count = omega arith in
     rw same (some_row (block_of c.args.block.now) c.args.width c.args.y c.args.columns c.requires.columns c.in-Some.right c.in-Some-offset.down c.args.rows (omega arith)
-        right down (omega arith) c.requires.whole)
+    right down (omega arith) c.requires.whole)
