@@ -9,7 +9,9 @@ pub mod Marking
 pub mod Overs
 pub mod Reaches
 pub mod Reaching
+pub mod Resized
 pub mod RowOrder
 pub mod SelectedPlaces
+pub mod RowParts
 pub mod Spreading
 pub mod Turns

@@ -11,6 +11,7 @@ pub mod ObjectEdits
 pub mod Painting
 pub mod PropertyEdits
 pub mod Refusals
+pub mod Resizing
 pub mod Selecting
 pub mod Stamping
 pub mod TilesetEdits

@@ -22,7 +22,7 @@ pub trait Cover {
 }
 
 // How far a column or a row of a map lies behind a start.
-fn offset(start: i32, at: u32) -> Option<u32>
+pub(crate) fn offset(start: i32, at: u32) -> Option<u32>
     requires { at < MAX_SIDE }
     ensures { result ≡ offset start at }
 {

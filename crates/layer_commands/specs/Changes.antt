@@ -2,6 +2,7 @@
 use Rattle.std.specs.Prelude.{false, None, IsSome, codes}
 use Rattle.map_model.specs.declared.parts.MapParts.{MapParts}
 use Rattle.map_model.specs.declared.place.LayerPlace.{LayerPlace}
+use Rattle.map_model.specs.Canvas.{with_canvas, IsCanvasOf}
 use Rattle.map_model.specs.Layers.{layer_at}
 use Rattle.map_model.specs.Part.{of_layer, name, visible}
 use Rattle.map_model.specs.Slot.{layer_slot, next_layer_slot}
@@ -14,6 +15,7 @@ use Rattle.layer_commands.specs.declared.add.AddLayer.{AddLayer}
 use Rattle.layer_commands.specs.declared.remove.RemoveLayer.{RemoveLayer}
 use Rattle.layer_commands.specs.declared.move_layer.MoveLayer.{MoveLayer}
 use Rattle.layer_commands.specs.declared.rename.RenameLayer.{RenameLayer}
+use Rattle.layer_commands.specs.declared.resize.ResizeMap.{ResizeMap}
 use Rattle.layer_commands.specs.declared.show.ShowLayer.{ShowLayer}
 use Rattle.map_model.specs.Document.{with_map}
 use Rattle.edits.specs.LayerEdits.{with_layer_moved}
@@ -79,3 +81,20 @@ move_exchange c = record {
 
 abbrev pub move_change : MoveLayer → Change
 move_change c = change_of (move_exchange c)
+
+-- ---- resize
+abbrev pub resize_names : Names
+resize_names = untagged (codes "Resize Map") (codes "resize map") Never
+
+-- the document and the canvas change places
+abbrev pub resize_exchange : ResizeMap → Exchange
+resize_exchange c = record {
+  names = resize_names;
+  obsolete = false;
+  made = None;
+  exchanged = with_canvas c.canvas;
+  fits = λ d. IsCanvasOf d c.canvas;
+}
+
+abbrev pub resize_change : ResizeMap → Change
+resize_change c = change_of (resize_exchange c)

@@ -1,0 +1,227 @@
+-- A document on the canvas of its new size.
+use Rattle.std.proofs.Common.{◌≡◌, ℕ, ℤ, pos, negsuc, zero, suc, ◌+◌, ◌*◌, ◌≤◌, ◌<◌, ◌≤ℤ◌, ◌*ℤ◌, ◌-ℤ◌, neg_ℤ, List, [], ◌∷◌, ◌++◌, length, map, get_or, Bool, true, false, cond, ◌&&◌, nat_lt, Option, Some, None, option_and_then, IfSome, refl, sym, ap, ◌∙◌, arith, append_assoc, length-append}
+use Rattle.std.specs.Int.Signed.{le_z_yes}
+use Rattle.std.specs.Prelude.{T, nat_le, int_le, slice_get}
+use Rattle.std.specs.FinSet as set
+use Rattle.std.specs.List.{list_all, flat_map, range_with_len}
+use Rattle.std.specs.Option.{unwrap_or}
+use Rattle.std.proofs.Math.IntN.{negsuc-*ℤ-pos}
+use Rattle.std.proofs.Math.Nat.{mul-le-mul}
+use Rattle.std.proofs.Math.Seq.{get_or-append_seam}
+use Rattle.std.proofs.lemmas.Bool.Decides.{nat_tests}
+use Rattle.std.proofs.lemmas.Int.{ints}
+use Rattle.std.proofs.lemmas.List.{length-map, map-append}
+use Rattle.std.proofs.lemmas.List.FromFn.{length-map-range_with_len}
+use Rattle.region.specs.Cells.{cell_cmp, in_moved_cut, in_rectangle, has_at, rectangle}
+use Rattle.region.specs.Equality.{cell_cmp_total}
+use Rattle.region.proofs.Members.{cell_cmp-same, contains-rectangle}
+use Rattle.map_model.specs.declared.canvas.Canvas.{Canvas}
+use Rattle.map_model.specs.declared.limits.TheConstants.{MAX_SIDE, MAX_CELLS, MAX_PIXELS, MAX_TILE_SIDE}
+use Rattle.map_model.specs.declared.parts.Body.{Body}
+use Rattle.map_model.specs.declared.parts.Body.TheVariants.{Tiles, Objects, Other}
+use Rattle.map_model.specs.declared.parts.Layer.{Layer}
+use Rattle.map_model.specs.declared.parts.Object.{Object}
+use Rattle.map_model.specs.Canvas.{lists_in, lists_of, tile_layers, object_moved, body_on, layers_on, with_canvas, IsShift, AreCells, MayBeMoved, BodyMayBeMoved, IsCanvasOf}
+use Rattle.map_model.specs.Bodies.{body_with_tiles}
+use Rattle.map_model.specs.Document.{DocumentParts, IsDocument}
+use Rattle.map_model.specs.Keeping.{layer_level, object_level}
+use Rattle.map_model.specs.Lists.{Each}
+use Rattle.map_model.specs.Objects.{objects_in, objects_of, body_with_objects}
+use Rattle.map_model.specs.WellFormed.{IsSize, IsTileValue, IsPixels, IsObject, IsBody, IsLayer}
+use Rattle.map_model.proofs.Listings.{Each-append}
+use Rattle.edits.specs.Blocks.{ValueBlock, offset, value_in}
+use Rattle.edits.specs.Resizing.{row, table, value_at, layer_block, resized_values, pixels_right, pixels_down, are_pixels, stays, all_stay, objects_stay, is_side, is_size, resized_layer, resized_selection, resized, may_resize, IsDistance}
+
+-- ---- layers
+body-with : (c : Canvas) (f : List ℕ → List ℕ) (place : ℕ) (b : Body) → ((e : List ℕ) → lists_in b ≡ e ∷ [] → get_or c.layers place e ≡ f e)
+    → body_on c place b ≡ body_with_objects (map (object_moved c.right c.down)) (body_with_tiles f b)
+body-with c f place (Tiles e own) h = ap (Tiles e) (h own refl)
+body-with c f place (Objects os) h = refl
+body-with c f place Other h = refl
+
+-- a layer with f of its values, or with its objects moved
+abbrev layer-with : (List ℕ → List ℕ) → ℤ → ℤ → Layer → Layer
+layer-with f right down l = record l { body = body_with_objects (map (object_moved right down)) (body_with_tiles f l.body) }
+
+layers-with : (c : Canvas) (f : List ℕ → List ℕ) (front : List (List ℕ)) (place : ℕ) (ls : List Layer) → c.layers ≡ front ++ map f (flat_map lists_of ls) → place ≡ length front
+    → layers_on c place ls ≡ map (layer-with f c.right c.down) ls
+layers-with c f front place [] held is = refl
+layers-with c f front place (l ∷ ls) held is =
+    let cut : c.layers ≡ front ++ (map f (lists_of l) ++ map f (flat_map lists_of ls)) = held ∙ ap (λ xs. front ++ xs) (map-append f (lists_of l) (flat_map lists_of ls)) in
+    let next : place + length (lists_of l) ≡ length (front ++ map f (lists_of l)) = omega (arith, length-append front (map f (lists_of l)), length-map (lists_of l) f) in
+    let rest = layers-with c f (front ++ map f (lists_of l)) (place + length (lists_of l)) ls (cut ∙ sym (append_assoc front (map f (lists_of l)) (map f (flat_map lists_of ls)))) next in
+    let own = λ (cells : List ℕ) (only : lists_in l.body ≡ cells ∷ []).
+    let at : c.layers ≡ front ++ (f cells ∷ map f (flat_map lists_of ls)) = cut ∙ ap (λ xs. front ++ (map f xs ++ map f (flat_map lists_of ls))) only in
+    ap (λ xs. get_or xs place cells) at ∙ ap (λ k. get_or (front ++ (f cells ∷ map f (flat_map lists_of ls))) k cells) is
+    ∙ get_or-append_seam front (f cells) (map f (flat_map lists_of ls)) cells in
+    λ i. record l { body = body-with c f place l.body own i } ∷ rest i
+
+-- ---- the values of a table
+length-table : (f : ℕ → ℕ → ℕ) (width height : ℕ) → length (table f width height) ≡ width * height
+length-table f width zero = omega arith
+length-table f width (suc y) =
+    let rest = length-table f width y in
+    omega (arith, length-append (table f width y) (row f width y), length-map-range_with_len (λ x. f x y) 0 width, rest)
+
+Each-map : {X Y : Type 0} (P : Y → Type 0) (f : X → Y) → ((x : X) → P (f x)) → (xs : List X) → Each P (map f xs)
+Each-map P f h [] = tt
+Each-map P f h (x ∷ xs) = (h x, Each-map P f h xs)
+
+Each-table : (P : ℕ → Type 0) (f : ℕ → ℕ → ℕ) → ((x y : ℕ) → P (f x y)) → (width height : ℕ) → Each P (table f width height)
+Each-table P f h width zero = tt
+Each-table P f h width (suc y) =
+    Each-append P (table f width y) (row f width y) (Each-table P f h width y) (Each-map P (λ x. f x y) (λ x. h x y) (range_with_len 0 width))
+
+zero-range : IsTileValue 0
+zero-range = omega arith
+
+get-range : (values : List ℕ) (k : ℕ) → Each IsTileValue values → IsTileValue (unwrap_or (slice_get values k) 0)
+get-range [] zero h = zero-range
+get-range [] (suc k) h = zero-range
+get-range (v ∷ values) zero h = h.0
+get-range (v ∷ values) (suc k) h = get-range values k h.1
+
+value-range : (block : ValueBlock) (x y : ℕ) → Each IsTileValue block.values → IsTileValue (value_at block x y)
+value-range block x y h = by_columns (offset block.x x) (offset block.y y)
+  where
+    by_test : (b : Bool) (k : ℕ) → IsTileValue (unwrap_or (cond b (slice_get block.values k) None) 0)
+    by_test false k = zero-range
+    by_test true k = get-range block.values k h
+
+    by_columns : (right down : Option ℕ) → IsTileValue (unwrap_or (option_and_then (λ r. option_and_then (λ d. value_in block r d) down) right) 0)
+    by_columns None down = zero-range
+    by_columns (Some r) None = zero-range
+    by_columns (Some r) (Some d) = by_test (nat_lt r block.width) (d * block.width + r)
+
+-- ---- what fits
+layer-cells : (level size more : ℕ) (f : List ℕ → List ℕ) → ((cells : List ℕ) → Each IsTileValue cells → AreCells more (f cells)) → (b : Body) → IsBody level size b
+    → Each (AreCells more) (map f (lists_in b))
+layer-cells level size more f good (Tiles e own) h = (good own h.1, tt)
+layer-cells level size more f good (Objects os) h = tt
+layer-cells level size more f good Other h = tt
+
+layers-cells : (level size more : ℕ) (f : List ℕ → List ℕ) → ((cells : List ℕ) → Each IsTileValue cells → AreCells more (f cells)) → (ls : List Layer) → Each (IsLayer level size) ls
+    → Each (AreCells more) (map f (flat_map lists_of ls))
+layers-cells level size more f good [] h = tt
+layers-cells level size more f good (l ∷ ls) h =
+    rw (map-append f (lists_of l) (flat_map lists_of ls))
+    (Each-append (AreCells more) (map f (lists_of l)) (map f (flat_map lists_of ls)) (layer-cells level size more f good l.body h.0.body) (layers-cells level size more f good ls h.1))
+
+and-left : (a b : Bool) → (a && b) ≡ true → a ≡ true
+and-left true b e = refl
+and-left false b e = e
+
+and-right : (a b : Bool) → (a && b) ≡ true → b ≡ true
+and-right true b e = e
+and-right false b e = cc
+
+from-true : (b : Bool) → b ≡ true → T b
+from-true true e = tt
+from-true false e = absurd cc
+
+int_le-true : (a b : ℤ) → int_le a b ≡ true → a ≤ℤ b
+int_le-true a b e = le_z_yes (from-true (int_le a b) e)
+
+pixels-within : (o : Option ℤ) → are_pixels o ≡ true → IfSome o IsPixels
+pixels-within None e = tt
+pixels-within (Some z) e =
+    record {
+      low = int_le-true (neg_ℤ MAX_PIXELS) z (and-left (int_le (neg_ℤ MAX_PIXELS) z) (int_le z MAX_PIXELS) e);
+      high = int_le-true z MAX_PIXELS (and-right (int_le (neg_ℤ MAX_PIXELS) z) (int_le z MAX_PIXELS) e);
+    }
+
+objects-may : (right down : ℤ) (level : ℕ) (os : List Object) → Each (IsObject level) os → list_all (stays right down) os ≡ true → Each (MayBeMoved right down) os
+objects-may right down level [] h e = tt
+objects-may right down level (o ∷ os) h e =
+    let first = and-left (stays right down o) (list_all (stays right down) os) e in (
+      record {
+        x = pixels-within _ (and-left _ _ first);
+        y = pixels-within _ (and-right _ _ first);
+        width = h.0.placing.width;
+        height = h.0.placing.height;
+      },
+      objects-may right down level os h.1 (and-right (stays right down o) (list_all (stays right down) os) e),
+    )
+
+body-may : (right down : ℤ) (level size : ℕ) (b : Body) → IsBody level size b → all_stay right down (objects_in b) ≡ true → BodyMayBeMoved right down b
+body-may right down level size (Tiles e own) h stay = tt
+body-may right down level size (Objects os) h stay = objects-may right down (object_level level) os h.1 stay
+body-may right down level size Other h stay = tt
+
+layers-may : (right down : ℤ) (level size : ℕ) (ls : List Layer) → Each (IsLayer level size) ls → list_all (λ l. all_stay right down (objects_of l)) ls ≡ true
+    → Each (λ l. BodyMayBeMoved right down l.body) ls
+layers-may right down level size [] h stay = tt
+layers-may right down level size (l ∷ ls) h stay =
+    let first = and-left (all_stay right down (objects_in l.body)) (list_all (λ k. all_stay right down (objects_of k)) ls) stay in
+    let rest = and-right (all_stay right down (objects_in l.body)) (list_all (λ k. all_stay right down (objects_of k)) ls) stay in
+    (body-may right down level size l.body h.0.body first, layers-may right down level size ls h.1 rest)
+
+below : (a b : ℕ) → nat_le a b ≡ true → a ≤ b
+below a b e = grind (arith, nat_tests)
+
+size-within : (width height : ℕ) → is_size width height ≡ true → IsSize width height
+size-within width height e =
+    let sides = and-left (is_side width && is_side height) (nat_le (width * height) MAX_CELLS) e in
+    let wide = and-left (is_side width) (is_side height) sides in
+    let high = and-right (is_side width) (is_side height) sides in
+    record {
+      wide = below 1 width (and-left (nat_le 1 width) (nat_le width MAX_SIDE) wide);
+      high = below 1 height (and-left (nat_le 1 height) (nat_le height MAX_SIDE) high);
+      width_limit = below width MAX_SIDE (and-right (nat_le 1 width) (nat_le width MAX_SIDE) wide);
+      height_limit = below height MAX_SIDE (and-right (nat_le 1 height) (nat_le height MAX_SIDE) high);
+      cells_limit = below (width * height) MAX_CELLS (and-right (is_side width && is_side height) (nat_le (width * height) MAX_CELLS) e);
+    }
+
+within-map : (width height : ℕ) (q : ℕ × ℕ) → (nat_lt q.0 width && nat_lt q.1 height) ≡ in_rectangle 0 0 width height q
+within-map width height q = grind (arith, nat_tests)
+
+less : (a b : ℕ) → nat_lt a b ≡ true → a < b
+less a b e = grind (arith, nat_tests)
+
+-- ---- pixels
+pub scaled-IsShift : (z : ℤ) (side : ℕ) → IsDistance z → side ≤ MAX_TILE_SIDE → IsShift (z *ℤ pos side)
+scaled-IsShift (pos n) side h l =
+    let few : n ≤ 1000000000 = omega (arith, ints, h.high) in
+    let product : n * side ≤ 1000000000 * 65535 = mul-le-mul few l in
+    record { low = omega (arith, ints); high = omega (arith, ints) }
+scaled-IsShift (negsuc n) side h l =
+    let few : suc n ≤ 1000000000 = omega (arith, ints, h.low) in
+    let product : suc n * side ≤ 1000000000 * 65535 = mul-le-mul few l in
+    rw (negsuc-*ℤ-pos n side) (record { low = omega (arith, ints); high = omega (arith, ints) })
+
+-- ---- the canvas
+module _ (d : DocumentParts) (width height : ℕ) (dx dy : ℤ) (lists : List (List ℕ)) (s : set.FinSet cell_cmp) (right down : ℤ)
+    (laid : lists ≡ map (resized_values d.map width height dx dy) (tile_layers d.map)) (cells : (q : ℕ × ℕ) → set.contains s q ≡ in_moved_cut d.selection dx dy width height q)
+    (right_is : right ≡ pixels_right d.map dx) (down_is : down ≡ pixels_down d.map dy) where
+  selection-is : s ≡ resized_selection width height dx dy d.selection
+  selection-is = set.same_set cell_cmp_total cell_cmp-same s (resized_selection width height dx dy d.selection) (λ q.
+      let old = λ (p : ℕ × ℕ). has_at d.selection (pos p.0 -ℤ dx) (pos p.1 -ℤ dy) in
+      let kept = set.contains-retain (rectangle 0 0 width height) old q (λ p e. ap old (sym (cell_cmp-same q p e))) in
+      cells q ∙ ap (λ b. b && old q) (within-map width height q ∙ sym (contains-rectangle 0 0 width height q)) ∙ sym kept)
+
+  pub canvas-resized : with_canvas (record { width = width; height = height; layers = lists; selection = s; right = right; down = down }) d ≡ resized d width height dx dy
+  canvas-resized =
+      let c : Canvas = record { width = width; height = height; layers = lists; selection = s; right = right; down = down } in
+      let on = layers-with c (resized_values d.map width height dx dy) [] 0 d.map.layers laid refl in
+      let moved : map (layer-with (resized_values d.map width height dx dy) right down) d.map.layers ≡ map (resized_layer d.map width height dx dy) d.map.layers
+      = λ i. map (layer-with (resized_values d.map width height dx dy) (right_is i) (down_is i)) d.map.layers in
+      λ i. record { map = record d.map { width = width; height = height; layers = (on ∙ moved) i }; selection = selection-is i }
+
+  pub canvas-fits : IsDocument d → may_resize d width height dx dy ≡ true → IsShift right → IsShift down
+      → IsCanvasOf d (record { width = width; height = height; layers = lists; selection = s; right = right; down = down })
+  canvas-fits h may right_fits down_fits =
+      let f = resized_values d.map width height dx dy in
+      let stay = and-right (is_size width height) (objects_stay (pixels_right d.map dx) (pixels_down d.map dy) d.map) may in
+      record {
+        size = size-within width height (and-left (is_size width height) (objects_stay (pixels_right d.map dx) (pixels_down d.map dy) d.map) may);
+        count = ap length laid ∙ length-map (tile_layers d.map) f;
+        cells = rw laid (layers-cells layer_level (d.map.width * d.map.height) (width * height) f (λ own range.
+            (length-table (value_at (layer_block d.map dx dy own)) width height, Each-table IsTileValue (value_at (layer_block d.map dx dy own)) (λ x y. value-range (layer_block d.map dx dy own) x y range) width height))
+            d.map.layers h.map.layers.each);
+        selection = λ q one.
+            let both = and-left (nat_lt q.0 width && nat_lt q.1 height) (has_at d.selection (pos q.0 -ℤ dx) (pos q.1 -ℤ dy)) (sym (cells q) ∙ one) in
+            (less q.0 width (and-left (nat_lt q.0 width) (nat_lt q.1 height) both), less q.1 height (and-right (nat_lt q.0 width) (nat_lt q.1 height) both));
+        right = right_fits;
+        down = down_fits;
+        objects = layers-may right down layer_level (d.map.width * d.map.height) d.map.layers h.map.layers.each (rw (right_is, down_is) stay);
+      }

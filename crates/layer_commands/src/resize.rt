@@ -1,0 +1,54 @@
+ghost use Rattle.std.specs.Prelude.{◌≡◌, IfOk, IfErr};
+ghost use Rattle.command_api.specs.Making.{IsRefusalOf, Makes};
+ghost use Rattle.edits.specs.Resizing.{after_resize, IsDistance};
+ghost use Rattle.layer_commands.specs.Changes.{resize_change, resize_exchange, resize_names};
+
+use command_api::{Exchange, Label};
+use edits::{EditFault, resized_canvas};
+use map_model::{Canvas, Document};
+use std::alloc::Global;
+
+/// The map gets another size. The command owns the canvas that the document is not on.
+#[derive(Drop)]
+pub struct ResizeMap {
+    canvas: Canvas,
+}
+
+impl ResizeMap {
+    /// The command that gives the map this width and height, not made yet: its cell (x, y) is then the old cell
+    /// (x - dx, y - dy), or empty where that lies outside the old map. The document stays as it is.
+    ///
+    /// Refused where the new size is not within the limits or an object would not be, and then where there is no memory.
+    pub fn new(
+        alloc: Global,
+        document: &Document,
+        width: u32,
+        height: u32,
+        dx: i32,
+        dy: i32,
+    ) -> Result<ResizeMap, EditFault>
+        requires right { IsDistance dx }
+        requires down { IsDistance dy }
+        ensures command { IfOk result (λ c. Makes resize_names document.now (after_resize document.now width height dx dy) (resize_change c)) }
+        ensures refusal { IfErr result (IsRefusalOf (after_resize document.now width height dx dy)) }
+    {
+        let canvas = resized_canvas(alloc, document, width, height, dx, dy)?;
+        Ok(ResizeMap { canvas })
+    }
+}
+
+impl Exchange for ResizeMap {
+    ghost exchange_parts = { resize_exchange };
+
+    fn label(&self) -> Label {
+        Label::untagged("Resize Map", "resize map")
+    }
+
+    fn is_settled(&self) -> bool {
+        false
+    }
+
+    fn exchange(&mut self, document: &mut Document) {
+        document.swap_canvas(&mut self.canvas);
+    }
+}
