@@ -23,8 +23,15 @@ pub fn plan_properties(alloc: Global, document: &Document, line: &Line<'_>) -> O
             follows,
         } => {
             let (name, kind) = (name.as_str(), value.type_name());
-            let edit =
-                SetProperty::new(alloc, document, *owner, name, kind, value.scalar(), *follows);
+            let edit = SetProperty::new(
+                alloc,
+                document,
+                *owner,
+                name,
+                kind,
+                value.scalar(),
+                *follows,
+            );
             Some(planned(edit.map(Edit::SetProperty)))
         }
         Line::RemoveProperty { owner, name } => {

@@ -11,8 +11,8 @@ pub returns-in-AddObject : goal.returns-in-AddObject
 returns-in-AddObject c =
     let x : SFits w32 c.in-AddObject.x = search rules in
     let y : SFits w32 c.in-AddObject.y = search rules in
-    let command = rw (to_z-of_z w32 c.in-AddObject.x x, to_z-of_z w32 c.in-AddObject.y y) at c.new-edit.ensures.command in
-    let refusal = rw (to_z-of_z w32 c.in-AddObject.x x, to_z-of_z w32 c.in-AddObject.y y) at c.new-edit.ensures.refusal in
+    let command = rw (to_z-of_z w32 c.in-AddObject.x x, to_z-of_z w32 c.in-AddObject.y y, c.as_str-name.ensures) at c.new-edit.ensures.command in
+    let refusal = rw (to_z-of_z w32 c.in-AddObject.x x, to_z-of_z w32 c.in-AddObject.y y, c.as_str-name.ensures) at c.new-edit.ensures.refusal in
     rw (c.in-AddObject.is, c.planned.ensures) (mapped-PlansEdit AddObject add_object_names c.args.document.now _ c.new-edit.result c.map.result refl command refusal c.map.ensures.cases)
 
 pub returns-in-MoveObject : goal.returns-in-MoveObject

@@ -6,7 +6,16 @@ use Rattle.editor.proofs.Edits.{exact-PlansEdit, mapped-PlansEdit}
 use Rattle.editor.proofs.planning.properties.plan_properties.Goals as goal
 
 pub returns-in-RemoveProperty : goal.returns-in-RemoveProperty
-returns-in-RemoveProperty c = ?
+returns-in-RemoveProperty c =
+    let command = rw c.as_str.ensures at c.new-edit-in-RemoveProperty.ensures.command in
+    let refusal = rw c.as_str.ensures at c.new-edit-in-RemoveProperty.ensures.refusal in
+    rw (c.in-RemoveProperty.is, c.planned-in-RemoveProperty.ensures)
+    (exact-PlansEdit RemoveProperty remove_property_names c.args.document.now _ c.new-edit-in-RemoveProperty.result c.map-in-RemoveProperty.result refl command refusal
+    c.map-in-RemoveProperty.ensures.cases)
 
 pub returns-in-AddTileset : goal.returns-in-AddTileset
-returns-in-AddTileset c = ?
+returns-in-AddTileset c =
+    let command = rw c.as_str-in-AddTileset.ensures at c.new-edit-in-AddTileset.ensures.command in
+    let refusal = rw c.as_str-in-AddTileset.ensures at c.new-edit-in-AddTileset.ensures.refusal in
+    rw (c.in-AddTileset.is, c.planned-in-AddTileset.ensures)
+    (mapped-PlansEdit AddTileset add_tileset_names c.args.document.now _ c.new-edit-in-AddTileset.result c.map-in-AddTileset.result refl command refusal c.map-in-AddTileset.ensures.cases)
