@@ -7,6 +7,7 @@ pub mod Joining
 pub mod LayerEdits
 pub mod Laying
 pub mod Marks
+pub mod ObjectEdits
 pub mod Painting
 pub mod PropertyEdits
 pub mod Refusals

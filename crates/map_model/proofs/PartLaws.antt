@@ -6,13 +6,13 @@ use Rattle.map_model.specs.declared.parts.Body.TheVariants.{Tiles, Objects, Othe
 use Rattle.map_model.specs.declared.parts.Layer.{Layer}
 use Rattle.map_model.specs.declared.parts.Object.{Object}
 use Rattle.map_model.specs.declared.place.ObjectPlace.{ObjectPlace}
-use Rattle.map_model.specs.Document.{with_selection}
+use Rattle.map_model.specs.Document.{DocumentParts, with_selection}
 use Rattle.map_model.specs.Layers.{layer_name, layer_with_name, layer_visible, layer_with_visible}
 use Rattle.map_model.specs.Lists.{change_at}
-use Rattle.map_model.specs.Objects.{objects_in, body_with_objects, object_placing, object_with_placing}
-use Rattle.map_model.specs.Parts.{has_id}
+use Rattle.map_model.specs.Objects.{objects_of, objects_in, body_with_objects, object_at, object_placing, object_with_placing}
+use Rattle.map_model.specs.Parts.{has_id, layer_of}
 use Rattle.map_model.proofs.Turns.{change_first-change_first, find-change_first, change_first-along, change_first-same}
-use Rattle.map_model.specs.Part.{Part, IsLawfulPart, AreApart, whole, inner, of_first, of_place, layers, of_layer, objects, placing, layer_objects, of_object, next_layer_id, next_object_id, name, visible, selection}
+use Rattle.map_model.specs.Part.{Part, IsLawfulPart, AreApart, put, whole, inner, of_first, of_place, layers, of_layer, objects, placing, layer_objects, of_object, next_layer_id, next_object_id, name, visible, selection}
 
 some-eq : {V : Type 0} (v w : V) → Some v ≡ Some w → v ≡ w
 some-eq v w e = cc
@@ -150,3 +150,20 @@ placing-laws place = of_object-laws place placing (whole-laws object_placing obj
 
 pub layer_objects-next_object_id : (id : ℕ) → AreApart (layer_objects id) next_object_id
 layer_objects-next_object_id id = record { get-left = λ g d. refl; get-right = λ f d. refl; swapped = λ f g d. refl }
+
+-- a part of the object at a place is that part of the object that stands there
+pub of_object-get : {V : Type 0} (place : ObjectPlace) (p : Part Object V) (d : DocumentParts) → (of_object place p).get d ≡ option_and_then p.get (object_at d.map place)
+of_object-get {V = V} place p d = by_layer (layer_of d.map place.layer)
+  where
+    by_objects : (o : Option (List Object)) → option_and_then (λ os. option_and_then p.get (slice_get os place.at)) o ≡ option_and_then p.get (option_and_then (λ os. slice_get os place.at) o)
+    by_objects None = refl
+    by_objects (Some os) = refl
+
+    by_layer : (o : Option Layer) → option_and_then (λ l. option_and_then (λ os. option_and_then p.get (slice_get os place.at)) (objects_of l)) o
+        ≡ option_and_then p.get (option_and_then (λ os. slice_get os place.at) (option_and_then objects_of o))
+    by_layer None = refl
+    by_layer (Some l) = by_objects (objects_of l)
+
+-- f of a part's own value
+pub update-put : {A V : Type 0} {p : Part A V} → IsLawfulPart p → (f : V → V) (v : V) (a : A) → p.get a ≡ Some v → p.update f a ≡ put p (f v) a
+update-put {p = p} laws f v a e = ap (p.update f) (sym (laws.update-same (λ w. v) v a e refl)) ∙ laws.update-update f (λ w. v) a

@@ -1,2 +1,11 @@
 //! The commands of objects: one is added, removed, moved or resized.
 #![tactic(auto)]
+
+mod add;
+mod place;
+mod remove;
+mod size;
+
+pub use add::AddObject;
+pub use place::PlaceObject;
+pub use remove::RemoveObject;

@@ -1,0 +1,76 @@
+-- The document after an edit of its objects, or the edit's refusal.
+use Rattle.std.specs.Prelude.{ℕ, ◌+◌, ℤ, pos, int_le, List, Bool, true, ◌&&◌, nat_lt, Option, Some, None, Result, Ok, Err, length, if◌then◌else◌}
+use Rattle.std.specs.List.{insert}
+use Rattle.std.specs.Option.{ok_or}
+use Rattle.map_model.specs.declared.limits.TheConstants.{MAX_OBJECTS, MAX_NEXT_ID, MAX_PIXELS}
+use Rattle.map_model.specs.declared.parts.Layer.{Layer}
+use Rattle.map_model.specs.declared.parts.MapParts.{MapParts}
+use Rattle.map_model.specs.declared.parts.Object.{Object}
+use Rattle.map_model.specs.declared.parts.Placing.{Placing}
+use Rattle.map_model.specs.declared.place.ObjectPlace.{ObjectPlace}
+use Rattle.map_model.specs.Document.{DocumentParts, with_map}
+use Rattle.map_model.specs.Layers.{with_next_ids}
+use Rattle.map_model.specs.NewMap.{new_object}
+use Rattle.map_model.specs.Objects.{objects_of, object_place, object_with_placing, with_object, with_objects, without_object_at}
+use Rattle.map_model.specs.Parts.{layer_of}
+use Rattle.command_api.specs.declared.fault.EditFault.{EditFault}
+use Rattle.command_api.specs.declared.fault.EditFault.TheVariants.{NoSuchLayer, LayerOfAnotherKind, NoSuchObject, OutOfRange, TooMany}
+
+-- an object may be so wide and high
+abbrev pub is_object_size : ℕ → ℕ → Bool
+is_object_size width height = int_le (pos width) MAX_PIXELS && int_le (pos height) MAX_PIXELS
+
+-- ---- an object more
+-- where a new object stands, and how large it is
+abbrev pub placing_of : ℤ → ℤ → ℕ → ℕ → Placing
+placing_of x y width height = record { x = Some x; y = Some y; width = Some (pos width); height = Some (pos height) }
+
+-- the objects of an object layer, or why there are none
+abbrev pub objects_or_fault : Option Layer → Result (List Object) EditFault
+objects_or_fault None = Err NoSuchLayer
+objects_or_fault (Some l) = ok_or (objects_of l) LayerOfAnotherKind
+
+-- there may be one more object beside these, and one more id
+abbrev pub has_object_room : MapParts → List Object → Bool
+has_object_room m os = nat_lt (length os) MAX_OBJECTS && nat_lt m.next_object_id MAX_NEXT_ID
+
+-- the object goes last in its layer, and the next object id is one higher
+abbrev pub with_last_object : ℕ → Object → MapParts → MapParts
+with_last_object layer o m = with_next_ids m.next_layer_id (m.next_object_id + 1) (with_objects layer (λ os. insert os (length os) o) m)
+
+-- a new object with the next object id goes behind those of its layer
+abbrev pub after_add_behind : DocumentParts → ℕ → Bool → Placing → List ℕ → Result (List Object) EditFault → Result DocumentParts EditFault
+after_add_behind d layer in_range placing name (Err fault) = Err fault
+after_add_behind d layer in_range placing name (Ok os) =
+    if in_range
+    then (if has_object_room d.map os then Ok (with_map (with_last_object layer (new_object d.map.next_object_id placing name)) d) else Err TooMany)
+    else Err OutOfRange
+
+abbrev pub after_add_object : DocumentParts → ℕ → ℤ → ℤ → ℕ → ℕ → List ℕ → Result DocumentParts EditFault
+after_add_object d layer x y width height name =
+    after_add_behind d layer (is_object_size width height) (placing_of x y width height) name (objects_or_fault (layer_of d.map layer))
+
+-- ---- an object less
+abbrev pub after_remove_object_at : DocumentParts → Option ObjectPlace → Result DocumentParts EditFault
+after_remove_object_at d None = Err NoSuchObject
+after_remove_object_at d (Some place) = Ok (with_map (without_object_at place) d)
+
+abbrev pub after_remove_object : DocumentParts → ℕ → Result DocumentParts EditFault
+after_remove_object d id = after_remove_object_at d (object_place d.map id)
+
+-- ---- an object at another place, or of another size
+abbrev pub moved : ℤ → ℤ → Placing → Placing
+moved x y p = record p { x = Some x; y = Some y }
+
+abbrev pub resized : ℕ → ℕ → Placing → Placing
+resized width height p = record p { width = Some (pos width); height = Some (pos height) }
+
+abbrev pub after_place_at : Bool → (Placing → Placing) → DocumentParts → Option ObjectPlace → Result DocumentParts EditFault
+after_place_at in_range f d None = Err NoSuchObject
+after_place_at in_range f d (Some place) = if in_range then Ok (with_map (with_object place (λ o. object_with_placing (f o.placing) o)) d) else Err OutOfRange
+
+abbrev pub after_move_object : DocumentParts → ℕ → ℤ → ℤ → Result DocumentParts EditFault
+after_move_object d id x y = after_place_at true (moved x y) d (object_place d.map id)
+
+abbrev pub after_resize_object : DocumentParts → ℕ → ℕ → ℕ → Result DocumentParts EditFault
+after_resize_object d id width height = after_place_at (is_object_size width height) (resized width height) d (object_place d.map id)

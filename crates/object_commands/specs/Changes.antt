@@ -1,0 +1,59 @@
+-- What each command is and does.
+use Rattle.std.specs.Prelude.{ℕ, Bool, Some, codes}
+use Rattle.map_model.specs.Part.{of_object, placing}
+use Rattle.map_model.specs.Slot.{object_slot, next_object_slot}
+use Rattle.map_model.specs.WellFormed.{IsPlacing}
+use Rattle.command_api.specs.Law.{Change, Names, untagged, Never, WhenEqual}
+use Rattle.command_api.specs.Tag.{OfObject}
+use Rattle.command_api.specs.Exchange.{Exchange, change_of}
+use Rattle.command_api.specs.Swap.{swap_where}
+use Rattle.command_api.specs.Link.{link}
+use Rattle.object_commands.specs.declared.add.AddObject.{AddObject}
+use Rattle.object_commands.specs.declared.remove.RemoveObject.{RemoveObject}
+use Rattle.object_commands.specs.declared.place.PlaceKind.{PlaceKind}
+use Rattle.object_commands.specs.declared.place.PlaceKind.TheVariants.{Move, Resize}
+use Rattle.object_commands.specs.declared.place.PlaceObject.{PlaceObject}
+
+-- ---- objects that are put in and taken out
+abbrev pub add_object_names : Names
+add_object_names = untagged (codes "Add Object") (codes "add object") Never
+
+abbrev pub add_object_exchange : AddObject → Exchange
+add_object_exchange c = link add_object_names (next_object_slot c.layer c.id) c.object
+
+abbrev pub add_object_change : AddObject → Change
+add_object_change c = change_of (add_object_exchange c)
+
+abbrev pub remove_object_names : Names
+remove_object_names = untagged (codes "Remove Object") (codes "remove object") Never
+
+abbrev pub remove_object_exchange : RemoveObject → Exchange
+remove_object_exchange c = link remove_object_names (object_slot c.place) c.object
+
+abbrev pub remove_object_change : RemoveObject → Change
+remove_object_change c = change_of (remove_object_exchange c)
+
+-- ---- objects that are moved and resized
+-- what a move of the object with an id is called
+abbrev pub move_object_names : ℕ → Bool → Names
+move_object_names id follows = record {
+  text = codes "Move Object";
+  action = codes "move object";
+  tag = Some (record { kind = 3; subject = OfObject id });
+  vanishing = WhenEqual;
+  follows = follows;
+}
+
+abbrev pub resize_object_names : Names
+resize_object_names = untagged (codes "Resize Object") (codes "resize object") WhenEqual
+
+abbrev pub place_object_names : PlaceKind → Names
+place_object_names (Move id follows) = move_object_names id follows
+place_object_names Resize = resize_object_names
+
+-- the object's placing and the one that is held change places
+abbrev pub place_object_exchange : PlaceObject → Exchange
+place_object_exchange c = swap_where (place_object_names c.kind) (of_object c.place placing) (λ d p. IsPlacing p) c.is_same c.placing
+
+abbrev pub place_object_change : PlaceObject → Change
+place_object_change c = change_of (place_object_exchange c)

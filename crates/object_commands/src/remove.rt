@@ -1,0 +1,53 @@
+ghost use Rattle.std.specs.Prelude.{◌≡◌, Err, IfOk, IfErr};
+ghost use Rattle.command_api.specs.Making.{Makes};
+ghost use Rattle.edits.specs.ObjectEdits.{after_remove_object};
+ghost use Rattle.object_commands.specs.Changes.{remove_object_change, remove_object_exchange, remove_object_names};
+
+use command_api::{Exchange, Label};
+use edits::EditFault;
+use link_chain::Loose;
+use map_model::{Document, Object, ObjectPlace};
+
+/// An object is removed. While it is not in the map, the command owns it, and puts it back at its old place.
+#[derive(Drop)]
+pub struct RemoveObject {
+    place: ObjectPlace,
+    object: Option<Loose<Object>>,
+}
+
+impl RemoveObject {
+    /// The command that removes the object with an id, not made yet. The document stays as it is.
+    ///
+    /// Refused where there is no such object.
+    pub fn new(document: &Document, object: u32) -> Result<RemoveObject, EditFault>
+        ensures command { IfOk result (λ c. Makes remove_object_names document.now (after_remove_object document.now object) (remove_object_change c)) }
+        ensures refusal { IfErr result (λ fault. after_remove_object document.now object ≡ Err fault) }
+    {
+        match document.map().object(object) {
+            Some((place, _)) => Ok(RemoveObject {
+                place,
+                object: None,
+            }),
+            None => Err(EditFault::NoSuchObject),
+        }
+    }
+}
+
+impl Exchange for RemoveObject {
+    ghost exchange_parts = { remove_object_exchange };
+
+    fn label(&self) -> Label {
+        Label::untagged("Remove Object", "remove object")
+    }
+
+    fn is_settled(&self) -> bool {
+        false
+    }
+
+    fn exchange(&mut self, document: &mut Document) {
+        match self.object.take() {
+            Some(object) => document.insert_object(self.place, object),
+            None => self.object = Some(document.take_object(self.place)),
+        }
+    }
+}
