@@ -2,7 +2,8 @@
 ghost use Rattle.std.specs.Prelude.{◌≡◌, ◌+◌, ◌*◌, ◌<◌, length, slice_set, string_bytes};
 ghost use Rattle.serde_json.specs.View.{view as data_of, members_view};
 ghost use Rattle.map_model.specs.Lists.{Each};
-ghost use Rattle.map_model.specs.CellEdits.{HaveRange, IsBelow, put_values};
+ghost use Rattle.map_model.specs.CellEdits.{HaveRange, IsBelow, cell_place, put_values, side_value, with_value};
+ghost use Rattle.map_model.specs.WellFormed.{IsTileValue};
 
 use crate::edit::{CellEdit, Side};
 use serde_json::Value;
@@ -82,10 +83,35 @@ impl Cells {
         ensures values { self.new ≡ put_values width side edits.now self.old }
         ensures range { HaveRange side edits.now }
     {
-        for edit in edits {
-            let at = edit.y as usize * width + edit.x as usize;
-            self.values[at] = edit.value(side);
-        }
+        put_all(self.values.as_mut_slice(), width, edits, side);
+    }
+}
+
+// Sets a cell, in the values of a layer of this width, to its value on a side.
+#[inline(always)]
+fn put_one(values: &mut [Gid], width: usize, edit: CellEdit, side: Side)
+    requires { IsBelow width (length values.old) edit }
+    ensures values { values.new ≡ with_value (cell_place width edit) (side_value side edit) values.old }
+    ensures range { IsTileValue (side_value side edit) }
+{
+    let at = edit.y as usize * width + edit.x as usize;
+    values[at] = edit.value(side);
+}
+
+// The same for the cells of a list: two in each round, which halves what a round costs beside them.
+fn put_all(values: &mut [Gid], width: usize, edits: &[CellEdit], side: Side)
+    requires { Each (IsBelow width (length values.old)) edits.now }
+    ensures values { values.new ≡ put_values width side edits.now values.old }
+    ensures range { HaveRange side edits.now }
+{
+    let mut rest = edits;
+    while let [first, second, others @ ..] = rest {
+        put_one(values, width, *first, side);
+        put_one(values, width, *second, side);
+        rest = others;
+    }
+    if let [last] = rest {
+        put_one(values, width, *last, side);
     }
 }
 
