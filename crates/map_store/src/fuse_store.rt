@@ -20,7 +20,6 @@ impl FuseStore {
         ensures kept { ⟦<FuseStore as MapStore>⟧.kept result
             ≡ record { files = (⟦<MemoryStore as MapStore>⟧.kept store).files; failures = 0 } }
         ensures honest { ⟦<FuseStore as MapStore>⟧.honest result }
-        ensures left { result.left ≡ place }
     {
         FuseStore {
             store,
