@@ -26,6 +26,6 @@ pub use command_api::EditFault;
 pub use erase::erase_change;
 pub use fill::fill_change;
 pub use layer::tiles_of_layer;
-pub use resizing::resized_canvas;
+pub use resizing::resized_cells;
 pub use selecting::{Selecting, selected};
 pub use stamp::stamp_change;

@@ -191,7 +191,7 @@ fn new_canvas(
 /// document stays as it is.
 ///
 /// Refused where the new size is not within the limits or an object would not be, and then where there is no memory.
-pub fn resized_canvas(
+pub fn resized_cells(
     alloc: Global,
     document: &Document,
     width: u32,

@@ -4,7 +4,7 @@ ghost use Rattle.edits.specs.Resizing.{after_resize, IsDistance};
 ghost use Rattle.layer_commands.specs.Changes.{resize_change, resize_exchange, resize_names};
 
 use command_api::{Exchange, Label};
-use edits::{EditFault, resized_canvas};
+use edits::{EditFault, resized_cells};
 use map_model::{Canvas, Document};
 use std::alloc::Global;
 
@@ -32,7 +32,7 @@ impl ResizeMap {
         ensures command { IfOk result (λ c. Makes resize_names document.now (after_resize document.now width height dx dy) (resize_change c)) }
         ensures refusal { IfErr result (IsRefusalOf (after_resize document.now width height dx dy)) }
     {
-        let canvas = resized_canvas(alloc, document, width, height, dx, dy)?;
+        let canvas = resized_cells(alloc, document, width, height, dx, dy)?;
         Ok(ResizeMap { canvas })
     }
 }
