@@ -92,8 +92,8 @@ resize_exchange c = record {
   names = resize_names;
   obsolete = false;
   made = None;
-  exchanged = with_canvas c.canvas;
-  fits = λ d. IsCanvasOf d c.canvas;
+  exchanged = with_canvas c.canvas.value;
+  fits = λ d. IsCanvasOf d c.canvas.value;
 }
 
 abbrev pub resize_change : ResizeMap → Change

@@ -8,10 +8,11 @@ use edits::{EditFault, resized_cells};
 use map_model::{Canvas, Document};
 use std::alloc::Global;
 
-/// The map gets another size. The command owns the canvas that the document is not on.
+/// The map gets another size. The command owns the canvas that the document is not on, in a box of its own, since it is
+/// larger than what other commands hold.
 #[derive(Drop)]
 pub struct ResizeMap {
-    canvas: Canvas,
+    canvas: Box<Canvas>,
 }
 
 impl ResizeMap {
@@ -33,7 +34,10 @@ impl ResizeMap {
         ensures refusal { IfErr result (IsRefusalOf (after_resize document.now width height dx dy)) }
     {
         let canvas = resized_cells(alloc, document, width, height, dx, dy)?;
-        Ok(ResizeMap { canvas })
+        match Box::new(alloc, canvas) {
+            Ok(canvas) => Ok(ResizeMap { canvas }),
+            Err(_) => Err(EditFault::NoMemory),
+        }
     }
 }
 

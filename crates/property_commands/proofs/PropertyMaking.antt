@@ -21,9 +21,9 @@ use Rattle.command_api.specs.Making.{Makes}
 use Rattle.command_api.proofs.Links.{differing_link_made, place_in-differs}
 use Rattle.command_api.proofs.Swaps.{swap_where_made}
 use Rattle.edits.specs.PropertyEdits.{after_set_property, owner_or_fault}
-use Rattle.property_commands.specs.declared.set.SetProperty.{SetProperty}
+use Rattle.property_commands.specs.declared.set.PropertySet.{PropertySet}
 use Rattle.property_commands.specs.declared.set.SetKind.TheVariants.{Replace, Add}
-use Rattle.property_commands.specs.PropertyChanges.{set_property_change, set_property_names}
+use Rattle.property_commands.specs.PropertyChanges.{property_set_change, set_property_names}
 
 -- the type and the value at a place, as a part reads them
 pub setting_at-get : (d : DocumentParts) (owner : OwnerPlace) (at : ℕ) (s : Setting) → option_map setting_of (property_at d.map owner at) ≡ Some s → (setting_at owner at).get d ≡ Some s
@@ -36,7 +36,7 @@ setting_at-get d owner at s e = by_list (properties_of d.map owner) e
 
 -- ---- a command that is made
 -- what holds of the command that is wanted holds of the one that is made
-pub made-as : (P : SetProperty → Type 0) (r : Result SetProperty EditFault) (c : SetProperty) → IfOk r (λ made. made ≡ c) → P c → IfOk r P
+pub made-as : (P : PropertySet → Type 0) (r : Result PropertySet EditFault) (c : PropertySet) → IfOk r (λ made. made ≡ c) → P c → IfOk r P
 made-as P (Ok made) c e h = subst P (sym e) h
 made-as P (Err fault) c e h = tt
 
@@ -44,7 +44,7 @@ module _ (d : DocumentParts) (owner : Owner) (name kind : List ℕ) (value : Pro
   pub replace-made : (at : ℕ) (p : Property) (same : Bool) (setting : Setting) → property_place d.map place name ≡ Some at → property_at d.map place at ≡ Some p
       → IsTrue same ↔ setting_of p ≡ setting_with kind value → setting ≡ setting_with kind value → IsSetting place setting
       → Makes (set_property_names owner name follows) d (after_set_property d owner name kind value)
-      (set_property_change (record { owner = owner; name = name; follows = follows; place = place; at = at; kind = Replace setting same }))
+      (property_set_change (record { owner = owner; name = name; follows = follows; place = place; at = at; kind = Replace setting same }))
   replace-made at p same setting there has told is allowed =
       let given : option_map setting_of (property_at d.map place at) ≡ Some (setting_of p) = rw has refl in
       rw is (
@@ -54,7 +54,7 @@ module _ (d : DocumentParts) (owner : Owner) (name kind : List ℕ) (value : Pro
   pub add-made : (ps : List Property) (at : ℕ) (loose : Option Property) → at ≡ length ps → property_place d.map place name ≡ None → properties_of d.map place ≡ Some ps → length ps < MAX_PROPERTIES
       → loose ≡ Some (new_property name (setting_with kind value)) → IsSetting place (setting_with kind value) → IsWellFormed d.map
       → Makes (set_property_names owner name follows) d (after_set_property d owner name kind value)
-      (set_property_change (record { owner = owner; name = name; follows = follows; place = place; at = at; kind = Add (Some loose) }))
+      (property_set_change (record { owner = owner; name = name; follows = follows; place = place; at = at; kind = Add (Some loose) }))
   add-made ps at loose last none are few is allowed h =
       let p = new_property name (setting_with kind value) in
       let behind : length ps ≤ length ps = omega arith in

@@ -10,6 +10,7 @@ use Rattle.command_api.specs.Swap.{swap_where}
 use Rattle.command_api.specs.Link.{link}
 use Rattle.command_api.specs.Tag.{OfName}
 use Rattle.property_commands.specs.declared.remove.RemoveProperty.{RemoveProperty}
+use Rattle.property_commands.specs.declared.set.PropertySet.{PropertySet}
 use Rattle.property_commands.specs.declared.set.SetProperty.{SetProperty}
 use Rattle.property_commands.specs.declared.set.SetKind.{SetKind}
 use Rattle.property_commands.specs.declared.set.SetKind.TheVariants.{Replace, Add}
@@ -29,8 +30,14 @@ abbrev pub set_kind_exchange : Names → OwnerPlace → ℕ → SetKind → Exch
 set_kind_exchange names owner at (Replace setting is_same) = swap_where names (setting_at owner at) (λ d s. IsSetting owner s) is_same setting
 set_kind_exchange names owner at (Add property) = link names (property_slot owner at) property
 
+abbrev pub property_set_exchange : PropertySet → Exchange
+property_set_exchange s = set_kind_exchange (set_property_names s.owner s.name s.follows) s.place s.at s.kind
+
+abbrev pub property_set_change : PropertySet → Change
+property_set_change s = change_of (property_set_exchange s)
+
 abbrev pub set_property_exchange : SetProperty → Exchange
-set_property_exchange c = set_kind_exchange (set_property_names c.owner c.name c.follows) c.place c.at c.kind
+set_property_exchange c = property_set_exchange c.set.value
 
 abbrev pub set_property_change : SetProperty → Change
 set_property_change c = change_of (set_property_exchange c)

@@ -1,9 +1,10 @@
 ghost use Rattle.std.specs.Prelude.{◌≡◌, ◌↔◌, IsTrue, Some, IfOk, IfErr, IsSome};
 ghost use Rattle.map_model.specs.declared.place.OwnerPlace.{OwnerPlace};
 ghost use Rattle.map_model.specs.Properties.{new_property, properties_of, scalar_value, setting_of, setting_with, IsSetting};
+ghost use Rattle.command_api.specs.Exchange.{FitsExchange, IsExchanged};
 ghost use Rattle.command_api.specs.Making.{IsRefusalOf, Makes};
 ghost use Rattle.edits.specs.PropertyEdits.{after_set_property, property_count};
-ghost use Rattle.property_commands.specs.PropertyChanges.{set_property_change, set_property_exchange, set_property_names};
+ghost use Rattle.property_commands.specs.PropertyChanges.{property_set_change, property_set_exchange, set_property_change, set_property_exchange, set_property_names};
 
 use crate::link::exchange_property;
 use crate::owners::place_of;
@@ -23,15 +24,23 @@ enum SetKind {
     Add(Option<Loose<Property>>),
 }
 
-/// A property gets a type and a value. One that is there keeps its place and its kept members; a new one goes last.
+// What is set, and how.
 #[derive(Drop)]
-pub struct SetProperty {
+struct PropertySet {
     owner: Owner,
     name: MapText,
     follows: bool,
     place: OwnerPlace,
     at: usize,
     kind: SetKind,
+}
+
+/// A property gets a type and a value. One that is there keeps its place and its kept members; a new one goes last.
+///
+/// What it holds stands in a box of its own, since it is larger than what other commands hold.
+#[derive(Drop)]
+pub struct SetProperty {
+    set: Box<PropertySet>,
 }
 
 impl SetProperty {
@@ -50,6 +59,28 @@ impl SetProperty {
         follows: bool,
     ) -> Result<SetProperty, EditFault>
         ensures command { IfOk result (λ c. Makes (set_property_names owner name.now follows) document.now (after_set_property document.now owner name.now kind.now (scalar_value value.entry)) (set_property_change c)) }
+        ensures refusal { IfErr result (IsRefusalOf (after_set_property document.now owner name.now kind.now (scalar_value value.entry))) }
+    {
+        let set = PropertySet::new(alloc, document, owner, name, kind, value, follows)?;
+        match Box::new(alloc, set) {
+            Ok(set) => Ok(SetProperty { set }),
+            Err(_) => Err(EditFault::NoMemory),
+        }
+    }
+}
+
+impl PropertySet {
+    // What gives the owner's property with a name this type and value.
+    fn new(
+        alloc: Global,
+        document: &Document,
+        owner: Owner,
+        name: &str,
+        kind: &str,
+        value: Scalar<'_>,
+        follows: bool,
+    ) -> Result<PropertySet, EditFault>
+        ensures command { IfOk result (λ c. Makes (set_property_names owner name.now follows) document.now (after_set_property document.now owner name.now kind.now (scalar_value value.entry)) (property_set_change c)) }
         ensures refusal { IfErr result (IsRefusalOf (after_set_property document.now owner name.now kind.now (scalar_value value.entry))) }
     {
         let map = document.map();
@@ -81,7 +112,7 @@ impl SetProperty {
     }
 }
 
-// The command, with a name of its own.
+// What is set, with a name of its own.
 fn named(
     alloc: Global,
     owner: Owner,
@@ -90,12 +121,12 @@ fn named(
     place: OwnerPlace,
     at: usize,
     kind: SetKind,
-) -> Result<SetProperty, EditFault>
+) -> Result<PropertySet, EditFault>
     ensures ok { IfOk result (λ c. c ≡ record { owner = owner; name = name.now; follows = follows; place = place; at = at; kind = kind }) }
     ensures err { IfErr result (λ fault. fault ≡ EditFault.NoMemory) }
 {
     match String::from_str(alloc, name) {
-        Ok(name) => Ok(SetProperty {
+        Ok(name) => Ok(PropertySet {
             owner,
             name: MapText::new(name),
             follows,
@@ -134,13 +165,30 @@ impl Exchange for SetProperty {
     }
 
     fn is_settled(&self) -> bool {
+        self.set.is_settled()
+    }
+
+    fn exchange(&mut self, document: &mut Document) {
+        self.set.exchange(document);
+    }
+}
+
+impl PropertySet {
+    // Whether the property has this type and value already.
+    fn is_settled(&self) -> bool
+        ensures { result ≡ (property_set_exchange self.now).obsolete }
+    {
         match &self.kind {
             SetKind::Replace(_, is_same) => *is_same,
             SetKind::Add(_) => false,
         }
     }
 
-    fn exchange(&mut self, document: &mut Document) {
+    // Exchanges what is held and the property.
+    fn exchange(&mut self, document: &mut Document)
+        requires { FitsExchange (property_set_exchange self.old) document.old }
+        ensures { IsExchanged (property_set_exchange self.old) (property_set_exchange self.new) document.old document.new }
+    {
         match &mut self.kind {
             SetKind::Replace(setting, _) => {
                 document.swap_setting(self.place, self.at, setting);

@@ -3,7 +3,7 @@ use Rattle.map_model.proofs.PropertyLaws.{setting_at-laws}
 use Rattle.command_api.proofs.Swaps.{swapped_where}
 use Rattle.property_commands.specs.PropertyChanges.{set_property_names}
 use Rattle.property_commands.proofs.PropertyMaking.{setting_at-get}
-use Rattle.property_commands.proofs.set.SetPropertyExchange.exchange.Goals as goal
+use Rattle.property_commands.proofs.set.PropertySet.exchange.Goals as goal
 
 pub returns-in-Replace : goal.returns-in-Replace
 returns-in-Replace c =
