@@ -23,8 +23,7 @@ use Rattle.session.specs.Spelling.{AreRows, CanBeSpelled, IsCoordinate, commas, 
 use Rattle.editor.specs.declared.planned.Edit.{Edit}
 use Rattle.editor.specs.declared.planned.Planned.{Planned}
 use Rattle.editor.specs.declared.planned.Planned.TheVariants as planned
-use Rattle.editor.specs.DocumentSteps.{DocumentEdit, DocumentStepBy, EditStep, answer_of, edit_of}
-use Rattle.map_model.specs.Lists.{or_else}
+use Rattle.editor.specs.DocumentSteps.{DocumentStepBy, EditStep, answer_of, edit_of}
 use Rattle.editor.specs.Planning.{FitsDocument, IsEditBy, KeepsHistory, PlansEdit, PlansLine, PlansOn, edit_change, plan_of}
 use Rattle.editor.specs.Refusals.{refusal_of_edit}
 
@@ -131,15 +130,6 @@ pub stamp-IsBlock : (layer : ℕ) (x y : ℤ) (width : ℕ) (values : List ℕ) 
 stamp-IsBlock layer x y width values follows h =
     let rows : AreRows width values = h.0.1.1.1.1.0 in
     record { wide = rows.some; narrow = rows.narrow; whole = rows.rows; few = values-few layer x y width values follows h }
-
--- ---- one of two kinds of edits
-pub first-PlansLine : (first other : Option DocumentEdit) (d : DocumentParts) (plan : Planned) → PlansLine first d (Some plan) → PlansLine (or_else first other) d (Some plan)
-first-PlansLine None other d plan p = absurd p
-first-PlansLine (Some edit) other d plan p = p
-
-pub other-PlansLine : (first other : Option DocumentEdit) (d : DocumentParts) (plan : Option Planned) → PlansLine first d None → PlansLine other d plan → PlansLine (or_else first other) d plan
-other-PlansLine None other d plan p q = q
-other-PlansLine (Some edit) other d plan p q = absurd p
 
 -- ---- over the active document
 keeps_same : (reply : Reply) (h : History) → KeepsHistory reply h h

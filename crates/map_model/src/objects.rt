@@ -105,24 +105,33 @@ pub fn place_object_in(layers: &mut Chain<Layer>, place: ObjectPlace, placing: P
     layers.get_mut(layer).body.place_object(place.at, placing)
 }
 
-// The place of the object with an id in a list of objects.
-fn place_in_objects(objects: &Chain<Object>, id: u32) -> Option<usize>
-    ensures { result ≡ position (has_object_id id) objects.now }
+// The object with an id in a list of objects, behind its place there: one walk.
+fn find_object(objects: &Chain<Object>, id: u32) -> Option<(usize, &Object)>
+    ensures place { option_map (λ found. found.0) result ≡ position (has_object_id id) objects.now }
+    ensures object { IfSome result (λ found. slice_get objects.now found.0 ≡ Some found.1.now) }
 {
-    objects.iter().position(|object| object.id == id)
+    // That a length is a `usize` bounds the places.
+    if objects.len() == 0 {
+        return None;
+    }
+    for (at, object) in objects.iter().enumerate() {
+        if object.id == id {
+            return Some((at, object));
+        }
+    }
+    None
 }
 
 /// The object with an id in a layer, behind its place.
 pub fn find_in_layer(layer: &Layer, id: u32) -> Option<(ObjectPlace, &Object)>
     ensures { option_map (λ found. (found.0, found.1.now)) result ≡ found_in_layer id layer.now }
 {
-    let objects = layer.body.objects()?;
-    let at = place_in_objects(objects, id)?;
+    let (at, object) = find_object(layer.body.objects()?, id)?;
     let place = ObjectPlace {
         layer: layer.id,
         at,
     };
-    Some((place, objects.get(at)))
+    Some((place, object))
 }
 
 /// The object with an id, behind its place, found by a walk.

@@ -4,6 +4,7 @@ ghost use Rattle.command_api.specs.Making.{IsRefusalOf, Makes};
 ghost use Rattle.edits.specs.TilesetEdits.{after_add_tileset, after_remove_tileset, is_above};
 ghost use Rattle.property_commands.specs.TilesetChanges.{add_tileset_change, add_tileset_exchange, add_tileset_names, remove_tileset_change, remove_tileset_exchange, remove_tileset_names};
 
+use crate::link::exchange_tileset;
 use command_api::{Exchange, Label};
 use edits::EditFault;
 use link_chain::{Chain, Loose};
@@ -82,10 +83,7 @@ impl Exchange for AddTileset {
     }
 
     fn exchange(&mut self, document: &mut Document) {
-        match self.tileset.take() {
-            Some(tileset) => document.insert_tileset(self.at, tileset),
-            None => self.tileset = Some(document.take_tileset(self.at)),
-        }
+        exchange_tileset(document, self.at, &mut self.tileset);
     }
 }
 
@@ -128,9 +126,6 @@ impl Exchange for RemoveTileset {
     }
 
     fn exchange(&mut self, document: &mut Document) {
-        match self.tileset.take() {
-            Some(tileset) => document.insert_tileset(self.at, tileset),
-            None => self.tileset = Some(document.take_tileset(self.at)),
-        }
+        exchange_tileset(document, self.at, &mut self.tileset);
     }
 }
