@@ -51,6 +51,7 @@ fn moved<C: Command>(stack: &Stack<C>, answer: Result<(), StackFault>) -> Reply
 }
 
 // The text of the document's map, where there is memory for it.
+#[inline(never)]
 fn show(alloc: Global, document: &Document) -> Reply
     ensures { (result ≡ replies.Map (text_of document.now.map)) ⊎ (result ≡ replies.Refused refusals.NoMemory) }
 {

@@ -239,6 +239,7 @@ fn is_quiet_line(bytes: &[u8]) -> bool
 }
 
 /// The line that the bytes are, without a newline.
+#[inline(never)]
 #[tactic(auto, unfolding(crate::specs::Grammar::line_of))]
 pub fn parse_line(bytes: &[u8]) -> Result<Line<'_>, LineFault>
     ensures value { Gives (λ x. x) result (line_of bytes.now) }

@@ -55,9 +55,9 @@ fn plan_found<C: Command, S: MapStore>(
 {
     match found {
         Found::TooLong => Planned::Reply(Reply::Refused(Refusal::Line(LineFault::TooLong))),
-        Found::Line => match parse_line(line) {
-            Ok(line) => editor.plan(alloc, store, &line),
-            Err(fault) => Planned::Reply(Reply::Refused(Refusal::Line(fault))),
+        Found::Line => match &parse_line(line) {
+            Ok(line) => editor.plan(alloc, store, line),
+            Err(fault) => Planned::Reply(Reply::Refused(Refusal::Line(*fault))),
         },
     }
 }

@@ -108,6 +108,7 @@ fn documents_text<C: Command>(alloc: Global, group: &Group<C>) -> Result<String,
 
 impl<C: Command> Editor<C> {
     // Opens a new document.
+    #[inline(never)]
     pub(crate) fn open_new(
         &mut self,
         alloc: Global,
@@ -208,6 +209,7 @@ impl<C: Command> Editor<C> {
     }
 
     // The names of the open documents, where there is memory for them.
+    #[inline(never)]
     pub(crate) fn list(&self, alloc: Global) -> Reply
         requires { IsSound C.change self.now }
         ensures { (result ≡ replies.Documents (documents_text (machine_of C.change self.now).group)) ⊎ (result ≡ replies.Refused refusals.NoMemory) }

@@ -18,6 +18,7 @@ use std::alloc::Global;
 
 impl<C: Command> Editor<C> {
     // Opens the map of a file as a new document.
+    #[inline(never)]
     pub(crate) fn open_file<S: MapStore>(
         &mut self,
         alloc: Global,
@@ -46,6 +47,7 @@ impl<C: Command> Editor<C> {
     }
 
     // Writes the active document's map into a file.
+    #[inline(never)]
     pub(crate) fn save<S: MapStore>(
         &mut self,
         alloc: Global,
