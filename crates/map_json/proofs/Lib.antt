@@ -19,3 +19,5 @@ pub mod Fittings
 pub mod Plain
 pub mod Law
 pub mod MapLaw
+pub mod Returning
+pub mod Frames

@@ -1,13 +1,12 @@
 -- What is written has whole numbers alone, and nests no deeper than a reader allows.
-use Rattle.std.proofs.Common.{◌≡◌, ℕ, suc, ◌+◌, ◌*◌, ◌≤◌, ℤ, pos, negsuc, List, [], ◌∷◌, Option, Some, None, Ordering, Less, Equal, Greater, nat_cmp, Bool, false, Result, Ok, Err, refl, ap, ◌∙◌, arith}
-use Rattle.std.specs.Prelude.{codes, IfOk}
+use Rattle.std.proofs.Common.{◌≡◌, ℕ, suc, ◌+◌, ◌*◌, ◌≤◌, ℤ, pos, negsuc, List, [], ◌∷◌, Option, Some, None, Ordering, Less, Equal, Greater, nat_cmp, Bool, false, refl, arith}
+use Rattle.std.specs.Prelude.{codes}
 use Rattle.std.specs.Option.{option_map}
 use Rattle.std.specs.Cmp.Lexicographic.{slice_cmp}
 use Rattle.std.specs.Ordering.{match_ordering}
-use Rattle.serde_json.specs.Data.{Data, boolean, number, string, object, Items, Members, no_members, member, put, depth, items_depth, members_depth}
+use Rattle.serde_json.specs.Data.{Data, boolean, number, string, array, object, no_items, Items, Members, no_members, member, put, depth, items_depth, members_depth}
 use Rattle.serde_json.specs.Find.{of_integer}
-use Rattle.serde_json.specs.Read.{read, max_depth}
-use Rattle.serde_json.specs.Written.{has_float, items_have_float, members_have_float, compact_text}
+use Rattle.serde_json.specs.Written.{has_float, items_have_float, members_have_float}
 use Rattle.map_model.specs.declared.limits.TheConstants.{MAX_DEPTH}
 use Rattle.map_model.specs.declared.parts.Encoding.{Encoding}
 use Rattle.map_model.specs.declared.parts.Encoding.TheVariants.{Array, Base64}
@@ -24,7 +23,8 @@ use Rattle.map_model.specs.Lists.{Each}
 use Rattle.map_model.specs.Keeping.{AreKept, map_level, layer_level, tileset_level, object_level, property_level, tileset_names, object_names, property_names, layer_names, map_names}
 use Rattle.map_model.specs.WellFormed.{IsValue, IsProperty, AreProperties, IsObject, IsBody, IsLayer, IsTileset, IsWellFormed}
 use Rattle.map_json.specs.Members.{with_own, put_some}
-use Rattle.map_json.specs.Trees.{items_by, array_by, whole_tree, value_tree, property_own, property_tree, properties_member, object_own, object_tree, tileset_own, tileset_tree, cells_tree, encoding_member, body_own, layer_own, layer_tree, map_own, tree_of}
+use Rattle.map_json.specs.Trees.{items_by, array_by, whole_tree, value_tree, property_own, property_tree, properties_member, object_own, object_tree, tileset_own, tileset_tree, cells_tree, encoding_member, body_own, layer_own, layer_tree, own_around, tree_of}
+use Rattle.map_json.specs.Appending.{frame_of, layers_tree}
 use Rattle.map_json.proofs.Own.{put_whole}
 
 -- each number is whole, and nothing is more than n deep
@@ -172,14 +172,17 @@ layer_plain level n size width height room l h =
     ((refl, omega arith), (whole_plain m l.id, (text_plain m l.name, (truth_plain m l.visible, (properties_plain level (suc (suc n)) (omega arith) l.properties h.properties, body_plain level n size width height room l.body h.body)))))
     (kept_plain level m (layer_names l.body) l.kept (omega arith) h.kept)
 
--- the tree of a well-formed map
-pub tree_plain : (m : MapParts) → IsWellFormed m → IsPlain 127 (tree_of m)
-unfolding tree_of
-tree_plain m h =
+-- the layers of a well-formed map
+pub layers_tree_plain : (m : MapParts) → IsWellFormed m → IsPlain 126 (layers_tree m)
+layers_tree_plain m h =
+    array_plain (IsLayer layer_level (m.width * m.height)) 125 (layer_tree m.width m.height) (layer_plain layer_level 120 (m.width * m.height) m.width m.height refl) m.layers h.layers.each
+
+-- its members, with this for its layers
+around_plain : (d : Data) (m : MapParts) → IsPlain 126 d → IsWellFormed m → IsPlain 127 (object (with_own (own_around d m) m.kept))
+around_plain d m layers h =
     let whole = whole_plain 126 in
-    let layers = array_plain (IsLayer layer_level (m.width * m.height)) 125 (layer_tree m.width m.height) (layer_plain layer_level 120 (m.width * m.height) m.width m.height refl) m.layers h.layers.each in
     let tilesets = array_plain IsTileset 125 tileset_tree tileset_plain m.tilesets h.tilesets.each in
-    object_plain 126 (map_own m) m.kept (
+    object_plain 126 (own_around d m) m.kept (
       whole m.width,
       (
         whole m.height,
@@ -209,12 +212,11 @@ tree_plain m h =
     )
     (kept_plain map_level 126 map_names m.kept refl h.kept)
 
--- ---- the bytes of such a tree
-module _ {A E : Type 0} where
-  pub text_written : (r : Result A E) (items : A → List ℕ) (d e : Data) → d ≡ e → IsPlain 127 e → IfOk r (λ b. has_float d ≡ false → items b ≡ compact_text d) → IfOk r (λ b. items b ≡ compact_text e)
-  text_written (Ok b) items d e is plain h = h (ap has_float is ∙ plain.0) ∙ ap compact_text is
-  text_written (Err x) items d e is plain h = tt
+-- the tree of a well-formed map
+pub tree_plain : (m : MapParts) → IsWellFormed m → IsPlain 127 (tree_of m)
+unfolding tree_of
+tree_plain m h = around_plain (layers_tree m) m (layers_tree_plain m h) h
 
-  pub read_back : (r : Result A E) (items : A → List ℕ) (d e : Data) → d ≡ e → IsPlain 127 e → IfOk r (λ b. depth d ≤ max_depth → read (items b) ≡ Some d) → IfOk r (λ b. read (items b) ≡ Some e)
-  read_back (Ok b) items d e is plain h = let deep = plain.1 in let same = ap depth is in h (omega arith) ∙ ap (λ x. Some x) is
-  read_back (Err x) items d e is plain h = tt
+-- and its frame
+pub frame_plain : (m : MapParts) → IsWellFormed m → IsPlain 127 (object (frame_of m))
+frame_plain m h = around_plain (array no_items) m (refl, omega arith) h

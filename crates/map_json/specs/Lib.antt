@@ -7,3 +7,4 @@ pub mod Reading
 pub mod Distinctness
 pub mod Maps
 pub mod Trees
+pub mod Appending

@@ -108,8 +108,9 @@ unfoldable pub layer_tree : ℕ → ℕ → Layer → Data
 layer_tree width height l = object (with_own (layer_own width height l) l.kept)
 
 -- ---- maps
-abbrev pub map_own : MapParts → Own
-map_own m =
+-- the own members of a map that are no lists
+abbrev pub plain_own : MapParts → Own
+plain_own m =
     (codes "width", Some (whole_tree m.width))
     ∷ (codes "height", Some (whole_tree m.height))
     ∷ (codes "tilewidth", Some (whole_tree m.tile_width))
@@ -117,12 +118,21 @@ map_own m =
     ∷ (codes "infinite", Some (boolean false))
     ∷ (codes "nextlayerid", Some (whole_tree m.next_layer_id))
     ∷ (codes "nextobjectid", Some (whole_tree m.next_object_id))
-    ∷ (codes "layers", Some (array_by (layer_tree m.width m.height) m.layers))
+    ∷ []
+
+-- all of them, with this for its layers
+abbrev pub own_around : Data → MapParts → Own
+own_around layers m =
+    plain_own m
+    ++ (codes "layers", Some layers)
     ∷ (codes "tilesets", Some (array_by tileset_tree m.tilesets))
     ∷ (codes "properties", properties_member m.properties)
     ∷ (codes "type", Some (string (codes "map")))
     ∷ (codes "version", Some (string (codes "1.10")))
     ∷ []
+
+abbrev pub map_own : MapParts → Own
+map_own m = own_around (array_by (layer_tree m.width m.height) m.layers) m
 
 -- the tree of a map, and its text
 unfoldable pub tree_of : MapParts → Data

@@ -93,6 +93,13 @@ impl JsonObject {
         }
     }
 
+    /// The members, in the order of their names.
+    pub fn members(&self) -> &Map<String, Value>
+        ensures { members_view result.now.entries ≡ self.now }
+    {
+        &self.members
+    }
+
     /// The members, which nothing interprets.
     pub fn into_kept(self) -> Kept
         ensures { result ≡ self }

@@ -14,9 +14,10 @@ mod property;
 mod reading;
 mod scalar;
 mod size;
+mod text;
 mod tileset;
 mod writing;
 
 pub use fault::{MapFault, MapRefusal};
 pub use reading::read_map;
-pub use writing::write_map;
+pub use text::write_map;

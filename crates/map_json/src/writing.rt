@@ -1,4 +1,4 @@
-// The text of a map.
+// What is written for each part of a map, as a tree.
 ghost use Rattle.std.specs.Prelude.{◌≡◌, Some, Ok, IfOk, OnOk};
 ghost use Rattle.std.specs.Option.{option_map};
 ghost use Rattle.serde_json.specs.Data.{Data, boolean, number, string};
@@ -7,23 +7,21 @@ ghost use Rattle.serde_json.specs.Written.{compact_text};
 ghost use Rattle.serde_json.specs.Read.{read};
 ghost use Rattle.serde_json.specs.Find.{of_integer};
 ghost use Rattle.map_json.specs.Members.{put_some, with_own};
-ghost use Rattle.map_json.specs.Maps.{map_of};
-ghost use Rattle.map_json.specs.Trees.{items_by, array_by, whole_tree, value_tree, property_tree, properties_member, object_tree, tileset_tree, bytes_of, cells_tree, encoding_member, body_own, type_word, layer_tree, tree_of, text_of};
+ghost use Rattle.map_json.specs.Trees.{items_by, plain_own, array_by, whole_tree, value_tree, property_tree, properties_member, object_tree, tileset_tree, bytes_of, cells_tree, encoding_member, body_own, type_word, layer_tree};
+ghost use Rattle.map_json.specs.Appending.{frame_of};
 
 use crate::json_object::JsonObject;
 use crate::size::Size;
 use base64::encoded_len;
 use base64::engine::general_purpose::STANDARD;
 use link_chain::Chain;
-use map_model::{
-    Body, Encoding, Layer, Map, MapParts, MapText, Object, PropValue, Property, Tileset,
-};
+use map_model::{Body, Encoding, Layer, MapParts, MapText, Object, PropValue, Property, Tileset};
 use serde_json::Value;
 use std::alloc::{AllocError, Global};
 use tile_id::Gid;
 
 /// What an array of a file has as its entries.
-trait Tree {
+pub trait Tree {
     ghost use Rattle.map_json.specs.declared.size.Size.{Size};
 
     ghost tree: { Size → Self → Data };
@@ -46,7 +44,7 @@ fn array_by<T: Tree + Drop>(
     Ok(Value::from(values))
 }
 
-fn text_tree(alloc: Global, text: &str) -> Result<Value, AllocError>
+pub fn text_tree(alloc: Global, text: &str) -> Result<Value, AllocError>
     ensures { IfOk result (λ value. data_of value ≡ string text.now) }
 {
     Value::try_from_str(alloc, text)
@@ -255,21 +253,10 @@ impl Tree for Layer {
     }
 }
 
-#[tactic(auto, unfolding(crate::specs::Trees::tree_of))]
-fn tree_of(alloc: Global, map: &MapParts) -> Result<Value, AllocError>
-    ensures { IfOk result (λ value. data_of value ≡ tree_of map.now) }
+// Puts the members of a map that are no lists.
+fn put_plain(alloc: Global, map: &MapParts, members: &mut JsonObject) -> Result<(), AllocError>
+    ensures { OnOk result (members.new ≡ with_own (plain_own map.now) members.old) }
 {
-    let size = Size {
-        width: map.width,
-        height: map.height,
-    };
-    let mut members = JsonObject::from_kept(alloc, &map.kept)?;
-    members.put(alloc, "version", text_tree(alloc, "1.10")?)?;
-    members.put(alloc, "type", text_tree(alloc, "map")?)?;
-    let properties = properties_member(alloc, size, &map.properties)?;
-    members.put_some(alloc, "properties", properties)?;
-    members.put(alloc, "tilesets", array_by(alloc, size, &map.tilesets)?)?;
-    members.put(alloc, "layers", array_by(alloc, size, &map.layers)?)?;
     members.put(alloc, "nextobjectid", Value::from(map.next_object_id))?;
     members.put(alloc, "nextlayerid", Value::from(map.next_layer_id))?;
     members.put(alloc, "infinite", Value::from(false))?;
@@ -277,15 +264,21 @@ fn tree_of(alloc: Global, map: &MapParts) -> Result<Value, AllocError>
     members.put(alloc, "tilewidth", Value::from(map.tile_width))?;
     members.put(alloc, "height", Value::from(map.height))?;
     members.put(alloc, "width", Value::from(map.width))?;
-    Ok(members.into_value())
+    Ok(())
 }
 
-/// The text of a map: compact JSON, with the members of each object in the order of their names.
-pub fn write_map(alloc: Global, map: &Map) -> Result<Vec<u8>, AllocError>
-    ensures text { IfOk result (λ bytes. bytes.items ≡ text_of map.now) }
-    ensures read_back { IfOk result (λ bytes. read bytes.items ≡ Some (tree_of map.now)) }
-    ensures read_again { map_of (tree_of map.now) ≡ Ok map.now }
+/// The members of a map, with an empty array for its layers.
+pub fn frame_of(alloc: Global, map: &MapParts) -> Result<JsonObject, AllocError>
+    ensures { IfOk result (λ frame. frame ≡ frame_of map.now) }
 {
-    let tree = tree_of(alloc, map.parts())?;
-    tree.to_vec(alloc)
+    let size = Size::of_map(map);
+    let mut members = JsonObject::from_kept(alloc, &map.kept)?;
+    members.put(alloc, "version", text_tree(alloc, "1.10")?)?;
+    members.put(alloc, "type", text_tree(alloc, "map")?)?;
+    let properties = properties_member(alloc, size, &map.properties)?;
+    members.put_some(alloc, "properties", properties)?;
+    members.put(alloc, "tilesets", array_by(alloc, size, &map.tilesets)?)?;
+    members.put(alloc, "layers", Value::from(Vec::new(alloc)))?;
+    put_plain(alloc, map, &mut members)?;
+    Ok(members)
 }

@@ -1,0 +1,64 @@
+use Rattle.std.proofs.Common.{◌≡◌, ◌≤◌, false, sym, ap, ◌∙◌, subst, arith, codes}
+use Rattle.serde_json.specs.Data.{Members, object, depth}
+use Rattle.serde_json.specs.Read.{read, max_depth}
+use Rattle.serde_json.specs.Written.{compact_text, has_float}
+use Rattle.map_model.specs.declared.parts.MapParts.{MapParts}
+use Rattle.map_model.specs.WellFormed.{IsWellFormed}
+use Rattle.map_json.specs.Appending.{Returns, frame_of, layers_tree, replaced}
+use Rattle.map_json.specs.Trees.{tree_of}
+use Rattle.map_json.proofs.Frames.{replaced-frame_of}
+use Rattle.map_json.proofs.MapLaw.{map_again}
+use Rattle.map_json.proofs.Plain.{frame_plain, layers_tree_plain, tree_plain}
+use Rattle.map_json.proofs.Returning.{read-compact_text}
+use Rattle.map_json.proofs.text.write_map.Goals as goal
+
+-- what is put out is the map's tree
+put_out : (parts m : MapParts) (frame : Members) → parts ≡ m → frame ≡ frame_of parts → IsWellFormed m → object (replaced (codes "layers") (layers_tree parts) frame) ≡ tree_of m
+unfolding tree_of
+put_out parts m frame same is h =
+    rw (is, same) (ap object (replaced-frame_of m h.kept.unread.1.1.1.1.1.1.1.0))
+
+pub push_map-requires-clause-layers_whole : goal.push_map-requires-clause-layers_whole
+push_map-requires-clause-layers_whole c =
+    let P : MapParts → Type 0 = λ m. has_float (layers_tree m) ≡ false in
+    subst P (sym c.parts-parts.ensures.value) (layers_tree_plain c.args.map.now c.parts-parts.ensures.well_formed).0
+
+pub push_map-requires-clause-layers_shallow : goal.push_map-requires-clause-layers_shallow
+push_map-requires-clause-layers_shallow c =
+    let P : MapParts → Type 0 = λ m. depth (layers_tree m) ≤ max_depth in
+    let plain = layers_tree_plain c.args.map.now c.parts-parts.ensures.well_formed in
+    let deep = plain.1 in
+    subst P (sym c.parts-parts.ensures.value) (omega (arith, deep))
+
+pub push_map-requires-clause-whole : goal.push_map-requires-clause-whole
+push_map-requires-clause-whole c =
+    let plain = frame_plain c.args.map.now c.parts-parts.ensures.well_formed in
+    rw (c.in_ok-frame.ensures, c.parts-parts.ensures.value) plain.0
+
+pub push_map-requires-clause-shallow : goal.push_map-requires-clause-shallow
+push_map-requires-clause-shallow c =
+    let plain = frame_plain c.args.map.now c.parts-parts.ensures.well_formed in
+    let deep = plain.1 in
+    rw (c.in_ok-frame.ensures, c.parts-parts.ensures.value) (omega arith)
+
+pub returns-clause-text : goal.returns-clause-text
+returns-clause-text c =
+    let out = put_out c.parts-parts.result.now c.args.map.now c.in_ok-frame.frame c.parts-parts.ensures.value c.in_ok-frame.ensures c.parts-parts.ensures.well_formed in
+    c.in_ok-push_map.ensures.0 ∙ (rw c.new-text.ensures.items (ap compact_text out))
+
+pub returns-clause-read_back : goal.returns-clause-read_back
+returns-clause-read_back c =
+    let m = c.args.map.now in
+    let well = c.parts-parts.ensures.well_formed in
+    let out = put_out c.parts-parts.result.now m c.in_ok-frame.frame c.parts-parts.ensures.value c.in_ok-frame.ensures well in
+    let plain = tree_plain m well in
+    ap read (c.in_ok-push_map.ensures.0 ∙ (rw c.new-text.ensures.items (ap compact_text out))) ∙ read-compact_text (tree_of m) (subst Returns out c.in_ok-push_map.ensures.1) plain.1
+
+pub returns-in_err-frame-clause-read_again : goal.returns-in_err-frame-clause-read_again
+returns-in_err-frame-clause-read_again c = map_again c.args.map.now c.parts-parts.ensures.well_formed
+
+pub returns-in_err-push_map-clause-read_again : goal.returns-in_err-push_map-clause-read_again
+returns-in_err-push_map-clause-read_again c = map_again c.args.map.now c.parts-parts.ensures.well_formed
+
+pub returns-clause-read_again : goal.returns-clause-read_again
+returns-clause-read_again c = map_again c.args.map.now c.parts-parts.ensures.well_formed
