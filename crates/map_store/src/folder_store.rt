@@ -1,4 +1,4 @@
-ghost use Rattle.std.specs.Prelude.{◌≡◌, ◌+◌, ◌-◌, ◌^◌, ◌<◌, ◌≤◌, ◌⊎◌, IfOk, IfSome, OnOk, vec_len, length};
+ghost use Rattle.std.specs.Prelude.{◌≡◌, ◌-◌, ◌^◌, ◌<◌, ◌≤◌, ◌⊎◌, IfOk, IfSome, OnOk, vec_len, length};
 
 use crate::map_store::{MapStore, StoreFault};
 use std::alloc::{AllocError, Global};
@@ -73,21 +73,11 @@ fn read_behind<F: Read>(
     }
 }
 
-// So many zeros, in room for a power of two of them.
-fn zeros(alloc: Global, count: usize) -> Result<Vec<u8>, AllocError>
-    requires { count ≤ LONGEST + 1 }
-    ensures { IfOk result (λ bytes. vec_len bytes ≡ count) }
-{
-    let mut bytes = Vec::with_capacity(alloc, count.next_power_of_two())?;
-    bytes.resize(count, 0)?;
-    Ok(bytes)
-}
-
 // Reads to the end. So many bytes are looked for; where they come, room was taken once.
 fn read_whole<F: Read>(alloc: Global, file: &mut F, size: usize) -> Result<Vec<u8>, StoreFault>
     requires { size ≤ LONGEST }
 {
-    let Ok(mut bytes) = zeros(alloc, size + 1) else {
+    let Ok(mut bytes) = vec![in alloc; 0; size + 1] else {
         return Err(StoreFault::Memory);
     };
     let mut end = 0;
