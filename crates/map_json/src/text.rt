@@ -1,11 +1,10 @@
 // The text of a map. It goes out a member and a layer at a time, so that no more than one layer's tree stands in memory.
 ghost use Rattle.std.specs.Prelude.{◌≡◌, ◌++◌, ◌∷◌, [], ◌≤◌, codes, false, Some, Ok, IfOk, OnOk};
 ghost use Rattle.json.specs.Print.{quoted};
-ghost use Rattle.serde_json.specs.Data.{array, object, depth, items_depth, members_depth};
+ghost use Rattle.serde_json.specs.Data.{object, depth, items_depth, members_depth};
 ghost use Rattle.serde_json.specs.Read.{read, max_depth};
 ghost use Rattle.serde_json.specs.View.{view as data_of};
-ghost use Rattle.serde_json.specs.Written.{comma_if, compact_text, has_float, items_have_float, members_have_float};
-ghost use Rattle.map_model.specs.WellFormed.{IsWellFormed};
+ghost use Rattle.serde_json.specs.Written.{comma_if, has_float, items_have_float, members_have_float};
 ghost use Rattle.map_json.specs.Appending.{Appends, in_place, layers_tree, replaced};
 ghost use Rattle.map_json.specs.Maps.{map_of};
 ghost use Rattle.map_json.specs.Trees.{array_by, items_by, layer_tree, text_of, tree_of};

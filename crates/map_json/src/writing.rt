@@ -2,10 +2,10 @@
 ghost use Rattle.std.specs.Prelude.{◌≡◌, Some, Ok, IfOk, OnOk};
 ghost use Rattle.std.specs.Option.{option_map};
 ghost use Rattle.serde_json.specs.Data.{Data, boolean, number, string};
-ghost use Rattle.serde_json.specs.View.{view as data_of, items_view};
+ghost use Rattle.serde_json.specs.View.{view as data_of};
 ghost use Rattle.serde_json.specs.Find.{of_integer};
-ghost use Rattle.map_json.specs.Members.{put_some, with_own};
-ghost use Rattle.map_json.specs.Trees.{items_by, plain_own, array_by, whole_tree, value_tree, property_tree, properties_member, object_tree, tileset_tree, bytes_of, cells_tree, encoding_member, body_own, type_word, layer_tree};
+ghost use Rattle.map_json.specs.Members.{with_own};
+ghost use Rattle.map_json.specs.Trees.{plain_own, array_by, whole_tree, value_tree, property_tree, properties_member, object_tree, tileset_tree, bytes_of, cells_tree, encoding_member, body_own, type_word, layer_tree};
 ghost use Rattle.map_json.specs.Appending.{frame_of};
 
 use crate::json_object::JsonObject;
