@@ -166,8 +166,14 @@ pub fn on_document<C: Command>(alloc: Global, stack: &mut Stack<C>, line: &Line<
     ensures sound { IsUnlimited C.change stack.new }
     ensures plans { PlansOn line.now (history C.change stack.old) result (history C.change stack.new) }
 {
-    match plan_edit(alloc, stack.document(), line) {
-        Some(plan) => plan,
-        None => Planned::Reply(step(alloc, stack, line)),
+    match line {
+        // Those of most sessions, which are no edits.
+        Line::Tile { .. } | Line::Undo | Line::Redo | Line::Goto { .. } => {
+            Planned::Reply(step(alloc, stack, line))
+        }
+        _ => match plan_edit(alloc, stack.document(), line) {
+            Some(plan) => plan,
+            None => Planned::Reply(step(alloc, stack, line)),
+        },
     }
 }

@@ -111,3 +111,8 @@ read_is_spelled (Fails fault) front ws a h = tt
 pub choose_none : (rows : List (List ℕ × LineForm)) (fault : LineFault) (w : List ℕ) (ws : List (List ℕ)) → AllByRecursion (λ row. bytes_eq w row.0 ≡ false) rows → read (choose rows fault) (w ∷ ws) ≡ Err fault
 choose_none [] fault w ws h = refl
 choose_none (row ∷ rows) fault w ws h = rw h.0 (choose_none rows fault w ws h.1)
+
+-- a word that is none of the first rows'
+pub choose-append : (first later : List (List ℕ × LineForm)) (fault : LineFault) (w : List ℕ) (ws : List (List ℕ)) → AllByRecursion (λ row. bytes_eq w row.0 ≡ false) first → read (choose (first ++ later) fault) (w ∷ ws) ≡ read (choose later fault) (w ∷ ws)
+choose-append [] later fault w ws h = refl
+choose-append (row ∷ rows) later fault w ws h = rw h.0 (choose-append rows later fault w ws h.1)

@@ -1,5 +1,5 @@
 -- Which texts are which lines.
-use Rattle.std.specs.Prelude.{◌≡◌, ℕ, ◌^◌, ℤ, Bool, true, false, not, ◌||◌, ◌==◌, nat_le, List, [], ◌∷◌, length, Option, None, Some, Result, Ok, Err, codes, if◌then◌else◌}
+use Rattle.std.specs.Prelude.{◌≡◌, ℕ, ◌^◌, ℤ, Bool, true, false, not, ◌||◌, ◌==◌, nat_le, List, [], ◌∷◌, ◌++◌, length, Option, None, Some, Result, Ok, Err, codes, if◌then◌else◌}
 use Rattle.std.specs.List.{join_with_byte, list_all}
 use Rattle.std.specs.Str.{bytes_eq, is_utf8}
 use Rattle.session.specs.declared.line.Line.{Line}
@@ -323,9 +323,9 @@ property_lines = (codes "set", set_property_form) ∷ (codes "remove", remove_pr
 abbrev pub tileset_lines : List (List ℕ × LineForm)
 tileset_lines = (codes "add", add_tileset_form) ∷ (codes "remove", remove_tileset_form) ∷ []
 
--- the commands, those of most lines first
-abbrev pub commands : List (List ℕ × LineForm)
-commands =
+-- the commands of most lines
+abbrev pub common_commands : List (List ℕ × LineForm)
+common_commands =
     (codes "stamp", stamp_form)
     ∷ (codes "undo", Ends Undo)
     ∷ (codes "redo", Ends Redo)
@@ -337,7 +337,12 @@ commands =
     ∷ (codes "goto", goto_form)
     ∷ (codes "erase", erase_form)
     ∷ (codes "fill", fill_form)
-    ∷ (codes "select", choose select_lines BadWord)
+    ∷ []
+
+-- the commands of the others
+abbrev pub rare_commands : List (List ℕ × LineForm)
+rare_commands =
+    (codes "select", choose select_lines BadWord)
     ∷ (codes "layer", choose layer_lines BadWord)
     ∷ (codes "object", choose object_lines BadWord)
     ∷ (codes "prop", choose property_lines BadWord)
@@ -358,7 +363,7 @@ commands =
 
 -- the form of all lines but the quiet ones
 abbrev pub line_form : LineForm
-line_form = choose commands UnknownCommand
+line_form = choose (common_commands ++ rare_commands) UnknownCommand
 
 -- nothing, spaces alone, or a comment
 abbrev pub is_quiet : List ℕ → Bool

@@ -1,5 +1,6 @@
-ghost use Rattle.session.specs.Grammar.{Gives, read, Ends, line_form, is_quiet, line_of, erase_form, fill_form, close_form, discard_form, goto_form, new_form, open_form, resize_form, save_form, stamp_form, step_text_form, tile_form, use_form};
+ghost use Rattle.session.specs.Grammar.{Gives, read, choose, Ends, line_form, rare_commands, is_quiet, line_of, erase_form, fill_form, close_form, discard_form, goto_form, new_form, open_form, resize_form, save_form, stamp_form, step_text_form, tile_form, use_form};
 ghost use Rattle.session.specs.Spelling.{Says, CanBeSpelled};
+ghost use Rattle.session.specs.declared.line.LineFault.TheVariants.{UnknownCommand};
 ghost use Rattle.std.specs.Prelude.{◌≡◌, ◌==◌, ◌∷◌, IfOk};
 ghost use Rattle.std.specs.List.{list_all};
 ghost use Rattle.session.specs.Words.{words_left};
@@ -183,22 +184,13 @@ fn step_text<'a>(rest: Option<&'a str>) -> Result<Line<'a>, LineFault>
     Ok(Line::StepText { place })
 }
 
-fn command<'a>(name: &str, rest: Option<&'a str>) -> Result<Line<'a>, LineFault>
-    ensures { Gives (λ x. x) result (read line_form (name.now ∷ words_left rest.entry)) }
+// A line of the commands that are not common. They have a frame of their own, since a function pays at its entry for all
+// that its arms hand on.
+#[inline(never)]
+fn rare_command<'a>(name: &str, rest: Option<&'a str>) -> Result<Line<'a>, LineFault>
+    ensures { Gives (λ x. x) result (read (choose rare_commands UnknownCommand) (name.now ∷ words_left rest.entry)) }
 {
-    // Those of most lines first: the words are compared one after the other.
     match name {
-        "stamp" => stamp(rest),
-        "undo" => bare(Line::Undo, rest),
-        "redo" => bare(Line::Redo, rest),
-        "tile" => tile(rest),
-        "use" => choose_document(rest),
-        "status" => bare(Line::Status, rest),
-        "undotext" => bare(Line::UndoText, rest),
-        "redotext" => bare(Line::RedoText, rest),
-        "goto" => goto(rest),
-        "erase" => erase(rest),
-        "fill" => fill(rest),
         "select" => select(rest),
         "layer" => layer(rest),
         "object" => object(rest),
@@ -217,6 +209,26 @@ fn command<'a>(name: &str, rest: Option<&'a str>) -> Result<Line<'a>, LineFault>
         "discard" => discard(rest),
         "list" => bare(Line::Documents, rest),
         _ => Err(LineFault::UnknownCommand),
+    }
+}
+
+fn command<'a>(name: &str, rest: Option<&'a str>) -> Result<Line<'a>, LineFault>
+    ensures { Gives (λ x. x) result (read line_form (name.now ∷ words_left rest.entry)) }
+{
+    // Those of most lines first: the words are compared one after the other.
+    match name {
+        "stamp" => stamp(rest),
+        "undo" => bare(Line::Undo, rest),
+        "redo" => bare(Line::Redo, rest),
+        "tile" => tile(rest),
+        "use" => choose_document(rest),
+        "status" => bare(Line::Status, rest),
+        "undotext" => bare(Line::UndoText, rest),
+        "redotext" => bare(Line::RedoText, rest),
+        "goto" => goto(rest),
+        "erase" => erase(rest),
+        "fill" => fill(rest),
+        _ => rare_command(name, rest),
     }
 }
 
