@@ -3,9 +3,8 @@ ghost use Rattle.session.specs.Grammar.{choose, layer_lines, Gives, read, layer_
 ghost use Rattle.std.specs.Prelude.{◌≡◌};
 ghost use Rattle.session.specs.Words.{words_left, layer_kind_of, yes_no_of};
 
-use crate::fields::{end_field, number_field, text_field};
+use crate::fields::Fields;
 use crate::line::{Line, LineFault};
-use crate::words::cut;
 use map_model::LayerKind;
 
 /// The kind of layer that a word is.
@@ -20,15 +19,12 @@ fn layer_kind(word: &str) -> Option<LayerKind>
 }
 
 #[tactic(auto, unfolding(crate::specs::Grammar::layer_kind_at))]
-fn layer_kind_field<'a>(rest: Option<&'a str>) -> Result<(LayerKind, Option<&'a str>), LineFault>
-    ensures { Gives (λ x. (x.0, words_left x.1)) result (layer_kind_at (words_left rest.entry)) }
+fn layer_kind_field<'a>(fields: &mut Fields<'a>) -> Result<LayerKind, LineFault>
+    ensures { Gives (λ x. (x, words_left fields.new.rest)) result (layer_kind_at (words_left fields.old.rest)) }
 {
-    let Some(rest) = rest else {
-        return Err(LineFault::BadWord);
-    };
-    let (word, rest) = cut(rest, b' ');
+    let word = fields.word()?;
     match layer_kind(word) {
-        Some(kind) => Ok((kind, rest)),
+        Some(kind) => Ok(kind),
         None => Err(LineFault::BadWord),
     }
 }
@@ -45,75 +41,69 @@ fn yes_no(word: &str) -> Option<bool>
 }
 
 #[tactic(auto, unfolding(crate::specs::Grammar::yes_no_at))]
-fn yes_no_field<'a>(rest: Option<&'a str>) -> Result<(bool, Option<&'a str>), LineFault>
-    ensures { Gives (λ x. (x.0, words_left x.1)) result (yes_no_at (words_left rest.entry)) }
+fn yes_no_field<'a>(fields: &mut Fields<'a>) -> Result<bool, LineFault>
+    ensures { Gives (λ x. (x, words_left fields.new.rest)) result (yes_no_at (words_left fields.old.rest)) }
 {
-    let Some(rest) = rest else {
-        return Err(LineFault::BadWord);
-    };
-    let (word, rest) = cut(rest, b' ');
+    let word = fields.word()?;
     match yes_no(word) {
-        Some(answer) => Ok((answer, rest)),
+        Some(answer) => Ok(answer),
         None => Err(LineFault::BadWord),
     }
 }
 
-fn add_layer<'a>(rest: Option<&'a str>) -> Result<Line<'a>, LineFault>
-    ensures { Gives (λ x. x) result (read add_layer_form (words_left rest.entry)) }
+fn add_layer<'a>(fields: &mut Fields<'a>) -> Result<Line<'a>, LineFault>
+    ensures { Gives (λ x. x) result (read add_layer_form (words_left fields.old.rest)) }
 {
-    let (kind, rest) = layer_kind_field(rest)?;
-    let name = text_field(rest)?;
+    let kind = layer_kind_field(fields)?;
+    let name = fields.text()?;
     Ok(Line::AddLayer { kind, name })
 }
 
-fn remove_layer<'a>(rest: Option<&'a str>) -> Result<Line<'a>, LineFault>
-    ensures { Gives (λ x. x) result (read remove_layer_form (words_left rest.entry)) }
+fn remove_layer<'a>(fields: &mut Fields<'a>) -> Result<Line<'a>, LineFault>
+    ensures { Gives (λ x. x) result (read remove_layer_form (words_left fields.old.rest)) }
 {
-    let (layer, rest) = number_field(rest)?;
-    end_field(rest)?;
+    let layer = fields.number()?;
+    fields.end()?;
     Ok(Line::RemoveLayer { layer })
 }
 
-fn rename_layer<'a>(rest: Option<&'a str>) -> Result<Line<'a>, LineFault>
-    ensures { Gives (λ x. x) result (read rename_layer_form (words_left rest.entry)) }
+fn rename_layer<'a>(fields: &mut Fields<'a>) -> Result<Line<'a>, LineFault>
+    ensures { Gives (λ x. x) result (read rename_layer_form (words_left fields.old.rest)) }
 {
-    let (layer, rest) = number_field(rest)?;
-    let name = text_field(rest)?;
+    let layer = fields.number()?;
+    let name = fields.text()?;
     Ok(Line::RenameLayer { layer, name })
 }
 
-fn show_layer<'a>(rest: Option<&'a str>) -> Result<Line<'a>, LineFault>
-    ensures { Gives (λ x. x) result (read show_layer_form (words_left rest.entry)) }
+fn show_layer<'a>(fields: &mut Fields<'a>) -> Result<Line<'a>, LineFault>
+    ensures { Gives (λ x. x) result (read show_layer_form (words_left fields.old.rest)) }
 {
-    let (layer, rest) = number_field(rest)?;
-    let (visible, rest) = yes_no_field(rest)?;
-    end_field(rest)?;
+    let layer = fields.number()?;
+    let visible = yes_no_field(fields)?;
+    fields.end()?;
     Ok(Line::ShowLayer { layer, visible })
 }
 
-fn move_layer<'a>(rest: Option<&'a str>) -> Result<Line<'a>, LineFault>
-    ensures { Gives (λ x. x) result (read move_layer_form (words_left rest.entry)) }
+fn move_layer<'a>(fields: &mut Fields<'a>) -> Result<Line<'a>, LineFault>
+    ensures { Gives (λ x. x) result (read move_layer_form (words_left fields.old.rest)) }
 {
-    let (layer, rest) = number_field(rest)?;
-    let (place, rest) = number_field(rest)?;
-    end_field(rest)?;
+    let layer = fields.number()?;
+    let place = fields.number()?;
+    fields.end()?;
     Ok(Line::MoveLayer { layer, place })
 }
 
 /// The line of layers that the words behind `layer` are.
-pub fn layer<'a>(rest: Option<&'a str>) -> Result<Line<'a>, LineFault>
-    ensures { Gives (λ x. x) result (read (choose layer_lines BadWord) (words_left rest.entry)) }
+pub fn layer<'a>(fields: &mut Fields<'a>) -> Result<Line<'a>, LineFault>
+    ensures { Gives (λ x. x) result (read (choose layer_lines BadWord) (words_left fields.old.rest)) }
 {
-    let Some(rest) = rest else {
-        return Err(LineFault::BadWord);
-    };
-    let (action, rest) = cut(rest, b' ');
+    let action = fields.word()?;
     match action {
-        "add" => add_layer(rest),
-        "remove" => remove_layer(rest),
-        "rename" => rename_layer(rest),
-        "show" => show_layer(rest),
-        "move" => move_layer(rest),
+        "add" => add_layer(fields),
+        "remove" => remove_layer(fields),
+        "rename" => rename_layer(fields),
+        "show" => show_layer(fields),
+        "move" => move_layer(fields),
         _ => Err(LineFault::BadWord),
     }
 }

@@ -2,19 +2,18 @@ ghost use Rattle.session.specs.declared.line.LineFault.TheVariants.{BadWord};
 ghost use Rattle.session.specs.Grammar.{choose, object_lines, Gives, read, add_object_form, move_object_form, remove_object_form, resize_object_form};
 ghost use Rattle.session.specs.Words.{words_left};
 
-use crate::fields::{coordinate_field, end_field, number_field, text_field};
+use crate::fields::Fields;
 use crate::line::{Line, LineFault};
-use crate::words::cut;
 
-fn add_object<'a>(rest: Option<&'a str>) -> Result<Line<'a>, LineFault>
-    ensures { Gives (λ x. x) result (read add_object_form (words_left rest.entry)) }
+fn add_object<'a>(fields: &mut Fields<'a>) -> Result<Line<'a>, LineFault>
+    ensures { Gives (λ x. x) result (read add_object_form (words_left fields.old.rest)) }
 {
-    let (layer, rest) = number_field(rest)?;
-    let (x, rest) = coordinate_field(rest)?;
-    let (y, rest) = coordinate_field(rest)?;
-    let (width, rest) = number_field(rest)?;
-    let (height, rest) = number_field(rest)?;
-    let name = text_field(rest)?;
+    let layer = fields.number()?;
+    let x = fields.coordinate()?;
+    let y = fields.coordinate()?;
+    let width = fields.number()?;
+    let height = fields.number()?;
+    let name = fields.text()?;
     Ok(Line::AddObject {
         layer,
         x,
@@ -25,13 +24,13 @@ fn add_object<'a>(rest: Option<&'a str>) -> Result<Line<'a>, LineFault>
     })
 }
 
-fn move_object<'a>(rest: Option<&'a str>) -> Result<Line<'a>, LineFault>
-    ensures { Gives (λ x. x) result (read move_object_form (words_left rest.entry)) }
+fn move_object<'a>(fields: &mut Fields<'a>) -> Result<Line<'a>, LineFault>
+    ensures { Gives (λ x. x) result (read move_object_form (words_left fields.old.rest)) }
 {
-    let (object, rest) = number_field(rest)?;
-    let (x, rest) = coordinate_field(rest)?;
-    let (y, rest) = coordinate_field(rest)?;
-    end_field(rest)?;
+    let object = fields.number()?;
+    let x = fields.coordinate()?;
+    let y = fields.coordinate()?;
+    fields.end()?;
     Ok(Line::MoveObject {
         object,
         x,
@@ -40,13 +39,13 @@ fn move_object<'a>(rest: Option<&'a str>) -> Result<Line<'a>, LineFault>
     })
 }
 
-fn resize_object<'a>(rest: Option<&'a str>) -> Result<Line<'a>, LineFault>
-    ensures { Gives (λ x. x) result (read resize_object_form (words_left rest.entry)) }
+fn resize_object<'a>(fields: &mut Fields<'a>) -> Result<Line<'a>, LineFault>
+    ensures { Gives (λ x. x) result (read resize_object_form (words_left fields.old.rest)) }
 {
-    let (object, rest) = number_field(rest)?;
-    let (width, rest) = number_field(rest)?;
-    let (height, rest) = number_field(rest)?;
-    end_field(rest)?;
+    let object = fields.number()?;
+    let width = fields.number()?;
+    let height = fields.number()?;
+    fields.end()?;
     Ok(Line::ResizeObject {
         object,
         width,
@@ -54,27 +53,24 @@ fn resize_object<'a>(rest: Option<&'a str>) -> Result<Line<'a>, LineFault>
     })
 }
 
-fn remove_object<'a>(rest: Option<&'a str>) -> Result<Line<'a>, LineFault>
-    ensures { Gives (λ x. x) result (read remove_object_form (words_left rest.entry)) }
+fn remove_object<'a>(fields: &mut Fields<'a>) -> Result<Line<'a>, LineFault>
+    ensures { Gives (λ x. x) result (read remove_object_form (words_left fields.old.rest)) }
 {
-    let (object, rest) = number_field(rest)?;
-    end_field(rest)?;
+    let object = fields.number()?;
+    fields.end()?;
     Ok(Line::RemoveObject { object })
 }
 
 /// The line of objects that the words behind `object` are.
-pub fn object<'a>(rest: Option<&'a str>) -> Result<Line<'a>, LineFault>
-    ensures { Gives (λ x. x) result (read (choose object_lines BadWord) (words_left rest.entry)) }
+pub fn object<'a>(fields: &mut Fields<'a>) -> Result<Line<'a>, LineFault>
+    ensures { Gives (λ x. x) result (read (choose object_lines BadWord) (words_left fields.old.rest)) }
 {
-    let Some(rest) = rest else {
-        return Err(LineFault::BadWord);
-    };
-    let (action, rest) = cut(rest, b' ');
+    let action = fields.word()?;
     match action {
-        "move" => move_object(rest),
-        "add" => add_object(rest),
-        "resize" => resize_object(rest),
-        "remove" => remove_object(rest),
+        "move" => move_object(fields),
+        "add" => add_object(fields),
+        "resize" => resize_object(fields),
+        "remove" => remove_object(fields),
         _ => Err(LineFault::BadWord),
     }
 }

@@ -5,10 +5,7 @@ ghost use Rattle.std.specs.Prelude.{◌≡◌, ◌==◌, ◌∷◌, IfOk};
 ghost use Rattle.std.specs.List.{list_all};
 ghost use Rattle.session.specs.Words.{words_left};
 
-use crate::fields::{
-    block_field, choice_field, coordinate_field, document_field, end_field, file_field,
-    number_field, text_field,
-};
+use crate::fields::Fields;
 use crate::layer_lines::layer;
 use crate::line::{Line, LineFault};
 use crate::object_lines::object;
@@ -21,15 +18,15 @@ use tile_id::Gid;
 /// A line with so many bytes is too long.
 const LIMIT: usize = 65_536;
 
-fn new<'a>(rest: Option<&'a str>) -> Result<Line<'a>, LineFault>
-    ensures { Gives (λ x. x) result (read new_form (words_left rest.entry)) }
+fn new<'a>(fields: &mut Fields<'a>) -> Result<Line<'a>, LineFault>
+    ensures { Gives (λ x. x) result (read new_form (words_left fields.old.rest)) }
 {
-    let (name, rest) = document_field(rest)?;
-    let (width, rest) = number_field(rest)?;
-    let (height, rest) = number_field(rest)?;
-    let (tile_width, rest) = number_field(rest)?;
-    let (tile_height, rest) = number_field(rest)?;
-    let source = text_field(rest)?;
+    let name = fields.document_name()?;
+    let width = fields.number()?;
+    let height = fields.number()?;
+    let tile_width = fields.number()?;
+    let tile_height = fields.number()?;
+    let source = fields.text()?;
     Ok(Line::New {
         name,
         width,
@@ -40,55 +37,55 @@ fn new<'a>(rest: Option<&'a str>) -> Result<Line<'a>, LineFault>
     })
 }
 
-fn open_file<'a>(rest: Option<&'a str>) -> Result<Line<'a>, LineFault>
-    ensures { Gives (λ x. x) result (read open_form (words_left rest.entry)) }
+fn open_file<'a>(fields: &mut Fields<'a>) -> Result<Line<'a>, LineFault>
+    ensures { Gives (λ x. x) result (read open_form (words_left fields.old.rest)) }
 {
-    let (name, rest) = document_field(rest)?;
-    let (file, rest) = file_field(rest)?;
-    end_field(rest)?;
+    let name = fields.document_name()?;
+    let file = fields.file_name()?;
+    fields.end()?;
     Ok(Line::Open { name, file })
 }
 
-fn save<'a>(rest: Option<&'a str>) -> Result<Line<'a>, LineFault>
-    ensures { Gives (λ x. x) result (read save_form (words_left rest.entry)) }
+fn save<'a>(fields: &mut Fields<'a>) -> Result<Line<'a>, LineFault>
+    ensures { Gives (λ x. x) result (read save_form (words_left fields.old.rest)) }
 {
-    let (file, rest) = file_field(rest)?;
-    end_field(rest)?;
+    let file = fields.file_name()?;
+    fields.end()?;
     Ok(Line::Save { file })
 }
 
-fn close<'a>(rest: Option<&'a str>) -> Result<Line<'a>, LineFault>
-    ensures { Gives (λ x. x) result (read close_form (words_left rest.entry)) }
+fn close<'a>(fields: &mut Fields<'a>) -> Result<Line<'a>, LineFault>
+    ensures { Gives (λ x. x) result (read close_form (words_left fields.old.rest)) }
 {
-    let (name, rest) = document_field(rest)?;
-    end_field(rest)?;
+    let name = fields.document_name()?;
+    fields.end()?;
     Ok(Line::Close { name })
 }
 
-fn discard<'a>(rest: Option<&'a str>) -> Result<Line<'a>, LineFault>
-    ensures { Gives (λ x. x) result (read discard_form (words_left rest.entry)) }
+fn discard<'a>(fields: &mut Fields<'a>) -> Result<Line<'a>, LineFault>
+    ensures { Gives (λ x. x) result (read discard_form (words_left fields.old.rest)) }
 {
-    let (name, rest) = document_field(rest)?;
-    end_field(rest)?;
+    let name = fields.document_name()?;
+    fields.end()?;
     Ok(Line::Discard { name })
 }
 
-fn choose_document<'a>(rest: Option<&'a str>) -> Result<Line<'a>, LineFault>
-    ensures { Gives (λ x. x) result (read use_form (words_left rest.entry)) }
+fn choose_document<'a>(fields: &mut Fields<'a>) -> Result<Line<'a>, LineFault>
+    ensures { Gives (λ x. x) result (read use_form (words_left fields.old.rest)) }
 {
-    let (choice, rest) = choice_field(rest)?;
-    end_field(rest)?;
+    let choice = fields.choice()?;
+    fields.end()?;
     Ok(Line::Use { choice })
 }
 
-fn stamp<'a>(rest: Option<&'a str>) -> Result<Line<'a>, LineFault>
-    ensures { Gives (λ x. x) result (read stamp_form (words_left rest.entry)) }
+fn stamp<'a>(fields: &mut Fields<'a>) -> Result<Line<'a>, LineFault>
+    ensures { Gives (λ x. x) result (read stamp_form (words_left fields.old.rest)) }
 {
-    let (layer, rest) = number_field(rest)?;
-    let (x, rest) = coordinate_field(rest)?;
-    let (y, rest) = coordinate_field(rest)?;
-    let (width, values, rest) = block_field(rest)?;
-    end_field(rest)?;
+    let layer = fields.number()?;
+    let x = fields.coordinate()?;
+    let y = fields.coordinate()?;
+    let (width, values) = fields.block()?;
+    fields.end()?;
     Ok(Line::Stamp {
         layer,
         x,
@@ -99,15 +96,15 @@ fn stamp<'a>(rest: Option<&'a str>) -> Result<Line<'a>, LineFault>
     })
 }
 
-fn erase<'a>(rest: Option<&'a str>) -> Result<Line<'a>, LineFault>
-    ensures { Gives (λ x. x) result (read erase_form (words_left rest.entry)) }
+fn erase<'a>(fields: &mut Fields<'a>) -> Result<Line<'a>, LineFault>
+    ensures { Gives (λ x. x) result (read erase_form (words_left fields.old.rest)) }
 {
-    let (layer, rest) = number_field(rest)?;
-    let (x, rest) = coordinate_field(rest)?;
-    let (y, rest) = coordinate_field(rest)?;
-    let (width, rest) = number_field(rest)?;
-    let (height, rest) = number_field(rest)?;
-    end_field(rest)?;
+    let layer = fields.number()?;
+    let x = fields.coordinate()?;
+    let y = fields.coordinate()?;
+    let width = fields.number()?;
+    let height = fields.number()?;
+    fields.end()?;
     Ok(Line::Erase {
         layer,
         x,
@@ -118,14 +115,14 @@ fn erase<'a>(rest: Option<&'a str>) -> Result<Line<'a>, LineFault>
     })
 }
 
-fn fill<'a>(rest: Option<&'a str>) -> Result<Line<'a>, LineFault>
-    ensures { Gives (λ x. x) result (read fill_form (words_left rest.entry)) }
+fn fill<'a>(fields: &mut Fields<'a>) -> Result<Line<'a>, LineFault>
+    ensures { Gives (λ x. x) result (read fill_form (words_left fields.old.rest)) }
 {
-    let (layer, rest) = number_field(rest)?;
-    let (x, rest) = coordinate_field(rest)?;
-    let (y, rest) = coordinate_field(rest)?;
-    let (value, rest) = number_field(rest)?;
-    end_field(rest)?;
+    let layer = fields.number()?;
+    let x = fields.coordinate()?;
+    let y = fields.coordinate()?;
+    let value = fields.number()?;
+    fields.end()?;
     Ok(Line::Fill {
         layer,
         x,
@@ -134,24 +131,24 @@ fn fill<'a>(rest: Option<&'a str>) -> Result<Line<'a>, LineFault>
     })
 }
 
-fn tile<'a>(rest: Option<&'a str>) -> Result<Line<'a>, LineFault>
-    ensures { Gives (λ x. x) result (read tile_form (words_left rest.entry)) }
+fn tile<'a>(fields: &mut Fields<'a>) -> Result<Line<'a>, LineFault>
+    ensures { Gives (λ x. x) result (read tile_form (words_left fields.old.rest)) }
 {
-    let (layer, rest) = number_field(rest)?;
-    let (x, rest) = coordinate_field(rest)?;
-    let (y, rest) = coordinate_field(rest)?;
-    end_field(rest)?;
+    let layer = fields.number()?;
+    let x = fields.coordinate()?;
+    let y = fields.coordinate()?;
+    fields.end()?;
     Ok(Line::Tile { layer, x, y })
 }
 
-fn resize<'a>(rest: Option<&'a str>) -> Result<Line<'a>, LineFault>
-    ensures { Gives (λ x. x) result (read resize_form (words_left rest.entry)) }
+fn resize<'a>(fields: &mut Fields<'a>) -> Result<Line<'a>, LineFault>
+    ensures { Gives (λ x. x) result (read resize_form (words_left fields.old.rest)) }
 {
-    let (width, rest) = number_field(rest)?;
-    let (height, rest) = number_field(rest)?;
-    let (dx, rest) = coordinate_field(rest)?;
-    let (dy, rest) = coordinate_field(rest)?;
-    end_field(rest)?;
+    let width = fields.number()?;
+    let height = fields.number()?;
+    let dx = fields.coordinate()?;
+    let dy = fields.coordinate()?;
+    fields.end()?;
     Ok(Line::Resize {
         width,
         height,
@@ -161,74 +158,74 @@ fn resize<'a>(rest: Option<&'a str>) -> Result<Line<'a>, LineFault>
 }
 
 // A line of one word.
-fn bare<'a>(line: Line<'a>, rest: Option<&'a str>) -> Result<Line<'a>, LineFault>
-    ensures { Gives (λ x. x) result (read (Ends line.entry) (words_left rest.entry)) }
+fn bare<'a>(line: Line<'a>, fields: &mut Fields<'a>) -> Result<Line<'a>, LineFault>
+    ensures { Gives (λ x. x) result (read (Ends line.entry) (words_left fields.old.rest)) }
 {
-    end_field(rest)?;
+    fields.end()?;
     Ok(line)
 }
 
-fn goto<'a>(rest: Option<&'a str>) -> Result<Line<'a>, LineFault>
-    ensures { Gives (λ x. x) result (read goto_form (words_left rest.entry)) }
+fn goto<'a>(fields: &mut Fields<'a>) -> Result<Line<'a>, LineFault>
+    ensures { Gives (λ x. x) result (read goto_form (words_left fields.old.rest)) }
 {
-    let (index, rest) = number_field(rest)?;
-    end_field(rest)?;
+    let index = fields.number()?;
+    fields.end()?;
     Ok(Line::Goto { index })
 }
 
-fn step_text<'a>(rest: Option<&'a str>) -> Result<Line<'a>, LineFault>
-    ensures { Gives (λ x. x) result (read step_text_form (words_left rest.entry)) }
+fn step_text<'a>(fields: &mut Fields<'a>) -> Result<Line<'a>, LineFault>
+    ensures { Gives (λ x. x) result (read step_text_form (words_left fields.old.rest)) }
 {
-    let (place, rest) = number_field(rest)?;
-    end_field(rest)?;
+    let place = fields.number()?;
+    fields.end()?;
     Ok(Line::StepText { place })
 }
 
 // A line of the commands that are not common. They have a frame of their own, since a function pays at its entry for all
 // that its arms hand on.
 #[inline(never)]
-fn rare_command<'a>(name: &str, rest: Option<&'a str>) -> Result<Line<'a>, LineFault>
-    ensures { Gives (λ x. x) result (read (choose rare_commands UnknownCommand) (name.now ∷ words_left rest.entry)) }
+fn rare_command<'a>(name: &str, fields: &mut Fields<'a>) -> Result<Line<'a>, LineFault>
+    ensures { Gives (λ x. x) result (read (choose rare_commands UnknownCommand) (name.now ∷ words_left fields.old.rest)) }
 {
     match name {
-        "select" => select(rest),
-        "layer" => layer(rest),
-        "object" => object(rest),
-        "prop" => property(rest),
-        "tileset" => tileset(rest),
-        "resize" => resize(rest),
-        "text" => step_text(rest),
-        "clean" => bare(Line::Clean, rest),
-        "dirty" => bare(Line::Dirty, rest),
-        "clear" => bare(Line::Clear, rest),
-        "show" => bare(Line::Show, rest),
-        "new" => new(rest),
-        "open" => open_file(rest),
-        "save" => save(rest),
-        "close" => close(rest),
-        "discard" => discard(rest),
-        "list" => bare(Line::Documents, rest),
+        "select" => select(fields),
+        "layer" => layer(fields),
+        "object" => object(fields),
+        "prop" => property(fields),
+        "tileset" => tileset(fields),
+        "resize" => resize(fields),
+        "text" => step_text(fields),
+        "clean" => bare(Line::Clean, fields),
+        "dirty" => bare(Line::Dirty, fields),
+        "clear" => bare(Line::Clear, fields),
+        "show" => bare(Line::Show, fields),
+        "new" => new(fields),
+        "open" => open_file(fields),
+        "save" => save(fields),
+        "close" => close(fields),
+        "discard" => discard(fields),
+        "list" => bare(Line::Documents, fields),
         _ => Err(LineFault::UnknownCommand),
     }
 }
 
-fn command<'a>(name: &str, rest: Option<&'a str>) -> Result<Line<'a>, LineFault>
-    ensures { Gives (λ x. x) result (read line_form (name.now ∷ words_left rest.entry)) }
+fn command<'a>(name: &str, fields: &mut Fields<'a>) -> Result<Line<'a>, LineFault>
+    ensures { Gives (λ x. x) result (read line_form (name.now ∷ words_left fields.old.rest)) }
 {
     // Those of most lines first: the words are compared one after the other.
     match name {
-        "stamp" => stamp(rest),
-        "undo" => bare(Line::Undo, rest),
-        "redo" => bare(Line::Redo, rest),
-        "tile" => tile(rest),
-        "use" => choose_document(rest),
-        "status" => bare(Line::Status, rest),
-        "undotext" => bare(Line::UndoText, rest),
-        "redotext" => bare(Line::RedoText, rest),
-        "goto" => goto(rest),
-        "erase" => erase(rest),
-        "fill" => fill(rest),
-        _ => rare_command(name, rest),
+        "stamp" => stamp(fields),
+        "undo" => bare(Line::Undo, fields),
+        "redo" => bare(Line::Redo, fields),
+        "tile" => tile(fields),
+        "use" => choose_document(fields),
+        "status" => bare(Line::Status, fields),
+        "undotext" => bare(Line::UndoText, fields),
+        "redotext" => bare(Line::RedoText, fields),
+        "goto" => goto(fields),
+        "erase" => erase(fields),
+        "fill" => fill(fields),
+        _ => rare_command(name, fields),
     }
 }
 
@@ -268,5 +265,6 @@ pub fn parse_line(bytes: &[u8]) -> Result<Line<'_>, LineFault>
         return Ok(Line::Quiet);
     }
     let (name, rest) = cut(text, b' ');
-    command(name, rest)
+    let mut fields = Fields::new(rest);
+    command(name, &mut fields)
 }

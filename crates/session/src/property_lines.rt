@@ -5,7 +5,7 @@ ghost use Rattle.session.specs.declared.line.LineFault.TheVariants.{BadWord};
 ghost use Rattle.session.specs.Grammar.{choose, property_lines, property_types, Gives, read, bool_form, color_form, file_form, int_form, key_at, color_at, object_form, owner_at, remove_property_form, set_property_form, string_form, truth_at};
 ghost use Rattle.session.specs.Words.{is_color, is_color_digit, is_key, is_key_byte, owner_of, owner_with, truth_of, words_left};
 
-use crate::fields::{coordinate_field, end_field, number_field, text_field};
+use crate::fields::Fields;
 use crate::line::{Line, LineFault};
 use crate::text::Text;
 use crate::typed_value::TypedValue;
@@ -32,17 +32,14 @@ fn is_key_word(word: &[u8]) -> bool
 }
 
 #[tactic(auto, unfolding(crate::specs::Grammar::key_at))]
-fn key_field<'a>(rest: Option<&'a str>) -> Result<(Text<'a>, Option<&'a str>), LineFault>
-    ensures { Gives (λ x. (x.0, words_left x.1)) result (key_at (words_left rest.entry)) }
+fn key_field<'a>(fields: &mut Fields<'a>) -> Result<Text<'a>, LineFault>
+    ensures { Gives (λ x. (x, words_left fields.new.rest)) result (key_at (words_left fields.old.rest)) }
 {
-    let Some(rest) = rest else {
-        return Err(LineFault::BadWord);
-    };
-    let (word, rest) = cut(rest, b' ');
+    let word = fields.word()?;
     if !is_key_word(word.as_bytes()) {
         return Err(LineFault::BadWord);
     }
-    Ok((Text::new(word), rest))
+    Ok(Text::new(word))
 }
 
 fn has_only_color_digits(bytes: &[u8]) -> bool
@@ -66,17 +63,14 @@ fn is_color_word(word: &[u8]) -> bool
 }
 
 #[tactic(auto, unfolding(crate::specs::Grammar::color_at))]
-fn color_field<'a>(rest: Option<&'a str>) -> Result<(Text<'a>, Option<&'a str>), LineFault>
-    ensures { Gives (λ x. (x.0, words_left x.1)) result (color_at (words_left rest.entry)) }
+fn color_field<'a>(fields: &mut Fields<'a>) -> Result<Text<'a>, LineFault>
+    ensures { Gives (λ x. (x, words_left fields.new.rest)) result (color_at (words_left fields.old.rest)) }
 {
-    let Some(rest) = rest else {
-        return Err(LineFault::BadWord);
-    };
-    let (word, rest) = cut(rest, b' ');
+    let word = fields.word()?;
     if !is_color_word(word.as_bytes()) {
         return Err(LineFault::BadWord);
     }
-    Ok((Text::new(word), rest))
+    Ok(Text::new(word))
 }
 
 // True or false.
@@ -91,15 +85,12 @@ fn truth(word: &str) -> Option<bool>
 }
 
 #[tactic(auto, unfolding(crate::specs::Grammar::truth_at))]
-fn truth_field<'a>(rest: Option<&'a str>) -> Result<(bool, Option<&'a str>), LineFault>
-    ensures { Gives (λ x. (x.0, words_left x.1)) result (truth_at (words_left rest.entry)) }
+fn truth_field<'a>(fields: &mut Fields<'a>) -> Result<bool, LineFault>
+    ensures { Gives (λ x. (x, words_left fields.new.rest)) result (truth_at (words_left fields.old.rest)) }
 {
-    let Some(rest) = rest else {
-        return Err(LineFault::BadWord);
-    };
-    let (word, rest) = cut(rest, b' ');
+    let word = fields.word()?;
     match truth(word) {
-        Some(truth) => Ok((truth, rest)),
+        Some(truth) => Ok(truth),
         None => Err(LineFault::BadWord),
     }
 }
@@ -135,15 +126,12 @@ fn owner(word: &str) -> Option<Owner>
 }
 
 #[tactic(auto, unfolding(crate::specs::Grammar::owner_at))]
-fn owner_field<'a>(rest: Option<&'a str>) -> Result<(Owner, Option<&'a str>), LineFault>
-    ensures { Gives (λ x. (x.0, words_left x.1)) result (owner_at (words_left rest.entry)) }
+fn owner_field<'a>(fields: &mut Fields<'a>) -> Result<Owner, LineFault>
+    ensures { Gives (λ x. (x, words_left fields.new.rest)) result (owner_at (words_left fields.old.rest)) }
 {
-    let Some(rest) = rest else {
-        return Err(LineFault::BadWord);
-    };
-    let (word, rest) = cut(rest, b' ');
+    let word = fields.word()?;
     match owner(word) {
-        Some(owner) => Ok((owner, rest)),
+        Some(owner) => Ok(owner),
         None => Err(LineFault::BadWord),
     }
 }
@@ -163,104 +151,114 @@ fn set_to<'a>(owner: Owner, name: Text<'a>, value: TypedValue<'a>) -> Line<'a>
 fn set_string<'a>(
     owner: Owner,
     name: Text<'a>,
-    rest: Option<&'a str>,
+    fields: &mut Fields<'a>,
 ) -> Result<Line<'a>, LineFault>
-    ensures { Gives (λ x. x) result (read (string_form owner name.entry) (words_left rest.entry)) }
+    ensures { Gives (λ x. x) result (read (string_form owner name.entry) (words_left fields.old.rest)) }
 {
-    let text = text_field(rest)?;
+    let text = fields.text()?;
     Ok(set_to(owner, name, TypedValue::String(text)))
 }
 
-fn set_file<'a>(owner: Owner, name: Text<'a>, rest: Option<&'a str>) -> Result<Line<'a>, LineFault>
-    ensures { Gives (λ x. x) result (read (file_form owner name.entry) (words_left rest.entry)) }
+fn set_file<'a>(
+    owner: Owner,
+    name: Text<'a>,
+    fields: &mut Fields<'a>,
+) -> Result<Line<'a>, LineFault>
+    ensures { Gives (λ x. x) result (read (file_form owner name.entry) (words_left fields.old.rest)) }
 {
-    let text = text_field(rest)?;
+    let text = fields.text()?;
     Ok(set_to(owner, name, TypedValue::File(text)))
 }
 
-fn set_int<'a>(owner: Owner, name: Text<'a>, rest: Option<&'a str>) -> Result<Line<'a>, LineFault>
-    ensures { Gives (λ x. x) result (read (int_form owner name.entry) (words_left rest.entry)) }
+fn set_int<'a>(owner: Owner, name: Text<'a>, fields: &mut Fields<'a>) -> Result<Line<'a>, LineFault>
+    ensures { Gives (λ x. x) result (read (int_form owner name.entry) (words_left fields.old.rest)) }
 {
-    let (number, rest) = coordinate_field(rest)?;
-    end_field(rest)?;
+    let number = fields.coordinate()?;
+    fields.end()?;
     Ok(set_to(owner, name, TypedValue::Int(number)))
 }
 
-fn set_bool<'a>(owner: Owner, name: Text<'a>, rest: Option<&'a str>) -> Result<Line<'a>, LineFault>
-    ensures { Gives (λ x. x) result (read (bool_form owner name.entry) (words_left rest.entry)) }
+fn set_bool<'a>(
+    owner: Owner,
+    name: Text<'a>,
+    fields: &mut Fields<'a>,
+) -> Result<Line<'a>, LineFault>
+    ensures { Gives (λ x. x) result (read (bool_form owner name.entry) (words_left fields.old.rest)) }
 {
-    let (truth, rest) = truth_field(rest)?;
-    end_field(rest)?;
+    let truth = truth_field(fields)?;
+    fields.end()?;
     Ok(set_to(owner, name, TypedValue::Bool(truth)))
 }
 
-fn set_color<'a>(owner: Owner, name: Text<'a>, rest: Option<&'a str>) -> Result<Line<'a>, LineFault>
-    ensures { Gives (λ x. x) result (read (color_form owner name.entry) (words_left rest.entry)) }
+fn set_color<'a>(
+    owner: Owner,
+    name: Text<'a>,
+    fields: &mut Fields<'a>,
+) -> Result<Line<'a>, LineFault>
+    ensures { Gives (λ x. x) result (read (color_form owner name.entry) (words_left fields.old.rest)) }
 {
-    let (color, rest) = color_field(rest)?;
-    end_field(rest)?;
+    let color = color_field(fields)?;
+    fields.end()?;
     Ok(set_to(owner, name, TypedValue::Color(color)))
 }
 
 fn set_object<'a>(
     owner: Owner,
     name: Text<'a>,
-    rest: Option<&'a str>,
+    fields: &mut Fields<'a>,
 ) -> Result<Line<'a>, LineFault>
-    ensures { Gives (λ x. x) result (read (object_form owner name.entry) (words_left rest.entry)) }
+    ensures { Gives (λ x. x) result (read (object_form owner name.entry) (words_left fields.old.rest)) }
 {
-    let (id, rest) = number_field(rest)?;
-    end_field(rest)?;
+    let id = fields.number()?;
+    fields.end()?;
     Ok(set_to(owner, name, TypedValue::Object(id)))
 }
 
 // The line that sets a property, from its type on.
-fn set_typed<'a>(owner: Owner, name: Text<'a>, rest: Option<&'a str>) -> Result<Line<'a>, LineFault>
-    ensures { Gives (λ x. x) result (read (choose (property_types owner name.entry) BadWord) (words_left rest.entry)) }
+fn set_typed<'a>(
+    owner: Owner,
+    name: Text<'a>,
+    fields: &mut Fields<'a>,
+) -> Result<Line<'a>, LineFault>
+    ensures { Gives (λ x. x) result (read (choose (property_types owner name.entry) BadWord) (words_left fields.old.rest)) }
 {
-    let Some(rest) = rest else {
-        return Err(LineFault::BadWord);
-    };
-    let (type_name, rest) = cut(rest, b' ');
+    let type_name = fields.word()?;
     match type_name {
-        "string" => set_string(owner, name, rest),
-        "int" => set_int(owner, name, rest),
-        "bool" => set_bool(owner, name, rest),
-        "color" => set_color(owner, name, rest),
-        "file" => set_file(owner, name, rest),
-        "object" => set_object(owner, name, rest),
+        "string" => set_string(owner, name, fields),
+        "int" => set_int(owner, name, fields),
+        "bool" => set_bool(owner, name, fields),
+        "color" => set_color(owner, name, fields),
+        "file" => set_file(owner, name, fields),
+        "object" => set_object(owner, name, fields),
         _ => Err(LineFault::BadWord),
     }
 }
 
-fn set_property<'a>(rest: Option<&'a str>) -> Result<Line<'a>, LineFault>
-    ensures { Gives (λ x. x) result (read set_property_form (words_left rest.entry)) }
+fn set_property<'a>(fields: &mut Fields<'a>) -> Result<Line<'a>, LineFault>
+    ensures { Gives (λ x. x) result (read set_property_form (words_left fields.old.rest)) }
 {
-    let (owner, rest) = owner_field(rest)?;
-    let (name, rest) = key_field(rest)?;
-    set_typed(owner, name, rest)
+    let owner = owner_field(fields)?;
+    let name = key_field(fields)?;
+    set_typed(owner, name, fields)
 }
 
-fn remove_property<'a>(rest: Option<&'a str>) -> Result<Line<'a>, LineFault>
-    ensures { Gives (λ x. x) result (read remove_property_form (words_left rest.entry)) }
+fn remove_property<'a>(fields: &mut Fields<'a>) -> Result<Line<'a>, LineFault>
+    ensures { Gives (λ x. x) result (read remove_property_form (words_left fields.old.rest)) }
 {
-    let (owner, rest) = owner_field(rest)?;
-    let (name, rest) = key_field(rest)?;
-    end_field(rest)?;
+    let owner = owner_field(fields)?;
+    let name = key_field(fields)?;
+    fields.end()?;
     Ok(Line::RemoveProperty { owner, name })
 }
 
 /// The line of properties that the words behind `prop` are.
-pub fn property<'a>(rest: Option<&'a str>) -> Result<Line<'a>, LineFault>
-    ensures { Gives (λ x. x) result (read (choose property_lines BadWord) (words_left rest.entry)) }
+pub fn property<'a>(fields: &mut Fields<'a>) -> Result<Line<'a>, LineFault>
+    ensures { Gives (λ x. x) result (read (choose property_lines BadWord) (words_left fields.old.rest)) }
 {
-    let Some(rest) = rest else {
-        return Err(LineFault::BadWord);
-    };
-    let (action, rest) = cut(rest, b' ');
+    let action = fields.word()?;
     match action {
-        "set" => set_property(rest),
-        "remove" => remove_property(rest),
+        "set" => set_property(fields),
+        "remove" => remove_property(fields),
         _ => Err(LineFault::BadWord),
     }
 }

@@ -3,19 +3,18 @@ ghost use Rattle.session.specs.declared.line.Line.TheVariants.{SelectNone};
 ghost use Rattle.session.specs.Grammar.{choose, select_lines, Ends, Gives, read, select_form};
 ghost use Rattle.session.specs.Words.{words_left};
 
-use crate::fields::{coordinate_field, end_field, number_field};
+use crate::fields::Fields;
 use crate::line::{Line, LineFault};
-use crate::words::cut;
 use map_model::SelectionMode;
 
-fn select_rectangle<'a>(mode: SelectionMode, rest: Option<&'a str>) -> Result<Line<'a>, LineFault>
-    ensures { Gives (λ x. x) result (read (select_form mode) (words_left rest.entry)) }
+fn select_rectangle<'a>(mode: SelectionMode, fields: &mut Fields<'a>) -> Result<Line<'a>, LineFault>
+    ensures { Gives (λ x. x) result (read (select_form mode) (words_left fields.old.rest)) }
 {
-    let (x, rest) = coordinate_field(rest)?;
-    let (y, rest) = coordinate_field(rest)?;
-    let (width, rest) = number_field(rest)?;
-    let (height, rest) = number_field(rest)?;
-    end_field(rest)?;
+    let x = fields.coordinate()?;
+    let y = fields.coordinate()?;
+    let width = fields.number()?;
+    let height = fields.number()?;
+    fields.end()?;
     Ok(Line::Select {
         mode,
         x,
@@ -25,27 +24,24 @@ fn select_rectangle<'a>(mode: SelectionMode, rest: Option<&'a str>) -> Result<Li
     })
 }
 
-fn select_none<'a>(rest: Option<&'a str>) -> Result<Line<'a>, LineFault>
-    ensures { Gives (λ x. x) result (read (Ends SelectNone) (words_left rest.entry)) }
+fn select_none<'a>(fields: &mut Fields<'a>) -> Result<Line<'a>, LineFault>
+    ensures { Gives (λ x. x) result (read (Ends SelectNone) (words_left fields.old.rest)) }
 {
-    end_field(rest)?;
+    fields.end()?;
     Ok(Line::SelectNone)
 }
 
 /// The line of selecting that the words behind `select` are.
-pub fn select<'a>(rest: Option<&'a str>) -> Result<Line<'a>, LineFault>
-    ensures { Gives (λ x. x) result (read (choose select_lines BadWord) (words_left rest.entry)) }
+pub fn select<'a>(fields: &mut Fields<'a>) -> Result<Line<'a>, LineFault>
+    ensures { Gives (λ x. x) result (read (choose select_lines BadWord) (words_left fields.old.rest)) }
 {
-    let Some(rest) = rest else {
-        return Err(LineFault::BadWord);
-    };
-    let (way, rest) = cut(rest, b' ');
+    let way = fields.word()?;
     match way {
-        "replace" => select_rectangle(SelectionMode::Replace, rest),
-        "add" => select_rectangle(SelectionMode::Add, rest),
-        "subtract" => select_rectangle(SelectionMode::Subtract, rest),
-        "intersect" => select_rectangle(SelectionMode::Intersect, rest),
-        "none" => select_none(rest),
+        "replace" => select_rectangle(SelectionMode::Replace, fields),
+        "add" => select_rectangle(SelectionMode::Add, fields),
+        "subtract" => select_rectangle(SelectionMode::Subtract, fields),
+        "intersect" => select_rectangle(SelectionMode::Intersect, fields),
+        "none" => select_none(fields),
         _ => Err(LineFault::BadWord),
     }
 }

@@ -7,5 +7,5 @@ use Rattle.session.proofs.parse.command.Goals as goal
 
 pub returns-in_default : goal.returns-in_default
 returns-in_default c =
-    let later = choose-append common_commands rare_commands UnknownCommand c.args.name.now (words_left c.args.rest) (search rules) in
+    let later = choose-append common_commands rare_commands UnknownCommand c.args.name.now (words_left c.args.fields.now.rest) (search rules) in
     subst (Gives (λ x. x) c.rare_command.result) (sym later) c.rare_command.ensures

@@ -1,6 +1,6 @@
-use Rattle.std.proofs.Common.{◌<◌, ◌^◌, length, cond, Ok, sym, ap, ◌∙◌, arith}
+use Rattle.std.proofs.Common.{◌<◌, ◌^◌, ◌∷◌, length, cond, Ok, sym, ap, ◌∙◌, arith}
 use Rattle.session.specs.declared.line.Line.TheVariants.{Quiet}
-use Rattle.session.specs.Words.{words}
+use Rattle.session.specs.Words.{words, words_left}
 use Rattle.session.specs.Grammar.{read, line_form}
 use Rattle.session.proofs.FirstChecks.{checked, refused}
 use Rattle.session.proofs.Laws.{given_says, given_spelled}
@@ -17,7 +17,8 @@ returns-clause-value c =
     let bytes = c.args.bytes.now in
     let short : length bytes < 2 ^ 16 = omega (arith, c.if-bytes-ge-LIMIT.false) in
     let e = checked bytes short c.in-Ok.ensures.cases.1 ∙ ap (λ b. cond b (Ok Quiet) (read line_form (words bytes))) (sym c.is_quiet_line.ensures ∙ c.if-is_quiet_line.false)
-    ∙ ap (read line_form) (ap words (sym c.in-Ok.ensures.cases.0) ∙ c.cut.ensures.pieces) in
+    ∙ ap (read line_form) (ap words (sym c.in-Ok.ensures.cases.0) ∙ c.cut.ensures.pieces)
+    ∙ ap (λ rest. read line_form (c.cut.result.0.now ∷ words_left rest)) (sym c.new-fields.ensures) in
     rw e c.command.ensures
 
 pub returns-clause-says : goal.returns-clause-says

@@ -3,7 +3,7 @@ use Rattle.session.specs.declared.line.LineFault.TheVariants.{BadWord}
 use Rattle.session.specs.Grammar.{last_text_at}
 use Rattle.session.specs.Words.{is_text}
 use Rattle.session.proofs.Cutting.{text_of_words}
-use Rattle.session.proofs.fields.text_field.Goals as goal
+use Rattle.session.proofs.fields.Fields.text.Goals as goal
 
 pub returns-in_default : goal.returns-in_default
 unfolding last_text_at
