@@ -72,6 +72,7 @@ fn step_text<C: Command>(alloc: Global, stack: &Stack<C>, place: u32) -> Reply
 }
 
 /// Does what a line asks for that is no edit.
+#[inline(always)]
 pub fn step<C: Command>(alloc: Global, stack: &mut Stack<C>, line: &Line<'_>) -> Reply
     requires sound { IsUnlimited C.change stack.old }
     requires scope { scope_of line.now ≡ OneDocument }

@@ -56,6 +56,7 @@ impl<'a> Fields<'a> {
     }
 
     /// A number.
+    #[inline(never)]
     #[tactic(auto, unfolding(crate::specs::Grammar::number_at))]
     pub fn number(&mut self) -> Result<u32, LineFault>
         ensures { Gives (λ x. (x, words_left self.new.rest)) result (number_at (words_left self.old.rest)) }
@@ -137,6 +138,7 @@ impl<'a> Fields<'a> {
     }
 
     /// A document's name, or `-` for none.
+    #[inline(never)]
     #[tactic(auto, unfolding(crate::specs::Grammar::choice_at))]
     pub fn choice(&mut self) -> Result<Option<Text<'a>>, LineFault>
         ensures { Gives (λ x. (x, words_left self.new.rest)) result (choice_at (words_left self.old.rest)) }

@@ -248,7 +248,8 @@ fn is_quiet_line(bytes: &[u8]) -> bool
 }
 
 /// The line that the bytes are, without a newline.
-#[inline(never)]
+// (inlined, since a line that is handed back is copied twice)
+#[inline(always)]
 #[tactic(auto, unfolding(crate::specs::Grammar::line_of))]
 pub fn parse_line(bytes: &[u8]) -> Result<Line<'_>, LineFault>
     ensures value { Gives (λ x. x) result (line_of bytes.now) }

@@ -136,8 +136,9 @@ fn push_number(head: &mut ArrayString<512>, number: u64)
     ensures value { head.new.bytes ≡ head.old.bytes ++ decimal number }
     ensures size { array_string_len head.new ≤ array_string_len head.old + 20 }
 {
-    if number == 0 {
-        head.push_str("0");
+    // Most numbers have one digit.
+    if number < 10 {
+        head.push((b'0' + number as u8) as char);
         return;
     }
     let mut buffer = Buffer::new();

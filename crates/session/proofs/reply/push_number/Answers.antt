@@ -1,8 +1,8 @@
 use Rattle.std.proofs.Common.{◌++◌, ap, sym, ◌∙◌, arith}
-use Rattle.std.specs.Fmt.{decimal}
 use Rattle.std.proofs.lemmas.Fmt.{decimal_digit}
 use Rattle.session.proofs.reply.push_number.Goals as goal
 
-pub returns-then-number-eq0-clause-value : goal.returns-then-number-eq0-clause-value
-returns-then-number-eq0-clause-value c =
-    c.push_str.ensures.bytes ∙ ap (λ ds. c.args.head.now.bytes ++ ds) (sym (ap decimal c.if-number-eq0.true ∙ decimal_digit 0 (omega arith)))
+pub returns-then-number-lt10-clause-value : goal.returns-then-number-lt10-clause-value
+returns-then-number-lt10-clause-value c =
+    c.push.ensures.ascii (omega (arith, c.if-number-lt10.true))
+    ∙ ap (λ ds. c.args.head.now.bytes ++ ds) (sym (decimal_digit c.args.number (omega (arith, c.if-number-lt10.true))))
