@@ -1,3 +1,5 @@
+ghost use Rattle.map_model.specs.WellFormed.{IsSize};
+
 use super::{PaintCommand, PaintKind};
 use command_api::Command;
 use edits::Block;
@@ -6,10 +8,13 @@ use std::alloc::{AllocError, Global};
 use std::test::Fail;
 use tile_id::Gid;
 
-// The document of the line `new town 4 3 16 16 town.tsj`.
-fn town(alloc: Global) -> Result<Document, AllocError> {
+// The document of the line `new town W H 16 16 town.tsj`. It promises nothing: the proof of a test would work out the whole map.
+fn town(alloc: Global, width: u32, height: u32) -> Result<Document, AllocError>
+    requires { IsSize width height }
+{
     let source = MapText::new(String::from_str(alloc, "town.tsj")?);
-    Ok(Document::new(alloc, Map::create(alloc, 4, 3, 16, 16, source)?))
+    let map = Map::create(alloc, width, height, 16, 16, source)?;
+    Ok(Document::new(alloc, map))
 }
 
 fn edit(x: u16, before: u32, after: u32) -> CellEdit {
@@ -24,7 +29,7 @@ fn edit(x: u16, before: u32, after: u32) -> CellEdit {
 // A paint is what it was made of, and no more.
 #[test]
 fn has_these_parts(rt: HostRuntime) -> Result<(), Fail> {
-    let document = town(rt.alloc())?;
+    let document = town(rt.alloc(), 4, 3)?;
     let block = Block {
         x: 0,
         y: 0,
@@ -52,8 +57,8 @@ fn has_these_parts(rt: HostRuntime) -> Result<(), Fail> {
 
 // `stamp 1 0 0 2 5,5` is made, and then `stamp 1 0 0 3 5,5,7`, which changes one cell.
 #[test]
-fn is_made_and_turned_back(rt: HostRuntime) -> Result<(), Fail> {
-    let mut document = town(rt.alloc())?;
+fn change_lists_what_differs(rt: HostRuntime) -> Result<(), Fail> {
+    let mut document = town(rt.alloc(), 4, 3)?;
     let first = Block {
         x: 0,
         y: 0,
@@ -70,11 +75,5 @@ fn is_made_and_turned_back(rt: HostRuntime) -> Result<(), Fail> {
     };
     let other = PaintCommand::stamp(rt.alloc(), &document, 1, &second, false)?;
     assert_eq!(rt; other.change(), [edit(2, 0, 7)].as_slice());
-    let again = PaintCommand::stamp(rt.alloc(), &document, 1, &first, false)?;
-    assert!(rt; again.obsolete());
-    assert_eq!(rt; document.map().cell(1, 1, 0), Some(Gid(5)));
-    command.undo(&mut document);
-    assert_eq!(rt; document.map().cell(1, 1, 0), Some(Gid(0)));
-    assert_eq!(rt; command.change(), [edit(0, 0, 5), edit(1, 0, 5)].as_slice());
     Ok(())
 }
