@@ -3,6 +3,8 @@
 #![tactic(auto)]
 
 #[cfg(test)]
+mod cell_list;
+#[cfg(test)]
 mod chains;
 #[cfg(test)]
 mod closing;
@@ -10,3 +12,13 @@ mod closing;
 mod fills;
 #[cfg(test)]
 mod line_reading;
+#[cfg(test)]
+mod paints;
+#[cfg(test)]
+mod regions;
+#[cfg(test)]
+mod stacks;
+#[cfg(test)]
+mod stores;
+#[cfg(test)]
+mod tile_values;

@@ -120,16 +120,19 @@ plain_own m =
     ∷ (codes "nextobjectid", Some (whole_tree m.next_object_id))
     ∷ []
 
--- all of them, with this for its layers
-abbrev pub own_around : Data → MapParts → Own
-own_around layers m =
-    plain_own m
-    ++ (codes "layers", Some layers)
+-- its lists, with this for its layers, and what says that it is a map
+abbrev pub lists_own : Data → MapParts → Own
+lists_own layers m =
+    (codes "layers", Some layers)
     ∷ (codes "tilesets", Some (array_by tileset_tree m.tilesets))
     ∷ (codes "properties", properties_member m.properties)
     ∷ (codes "type", Some (string (codes "map")))
     ∷ (codes "version", Some (string (codes "1.10")))
     ∷ []
+
+-- all of them
+abbrev pub own_around : Data → MapParts → Own
+own_around layers m = plain_own m ++ lists_own layers m
 
 abbrev pub map_own : MapParts → Own
 map_own m = own_around (array_by (layer_tree m.width m.height) m.layers) m

@@ -29,10 +29,10 @@ pub enum LayerType {
 
 /// The type of a layer, which must be there.
 #[tactic(auto, unfolding(crate::specs::Reading::type_at))]
-pub fn layer_type(member: Option<Value>) -> Result<LayerType, MapRefusal>
-    ensures { result ≡ required type_at (option_map data_of member) }
+pub fn layer_type(member: Option<&Value>) -> Result<LayerType, MapRefusal>
+    ensures { result ≡ required type_at (option_map (λ value. data_of value.now) member.entry) }
 {
-    match &member {
+    match member {
         Some(value) => {
             let text = value.as_str().ok_or(MapRefusal::MemberOfAnotherKind)?;
             if text == "tilelayer" {
@@ -50,10 +50,10 @@ pub fn layer_type(member: Option<Value>) -> Result<LayerType, MapRefusal>
 }
 
 #[tactic(auto, unfolding(crate::specs::Reading::encoding_at))]
-fn encoding(member: Option<Value>) -> Result<Encoding, MapRefusal>
-    ensures { result ≡ absent_means Array encoding_at (option_map data_of member) }
+fn encoding(member: Option<&Value>) -> Result<Encoding, MapRefusal>
+    ensures { result ≡ absent_means Array encoding_at (option_map (λ value. data_of value.now) member.entry) }
 {
-    match &member {
+    match member {
         Some(value) => {
             let text = value.as_str().ok_or(MapRefusal::MemberOfAnotherKind)?;
             if text == "csv" {
@@ -69,10 +69,10 @@ fn encoding(member: Option<Value>) -> Result<Encoding, MapRefusal>
 }
 
 #[tactic(auto, unfolding(crate::specs::Reading::compression_at))]
-fn compression(member: Option<Value>) -> Result<(), MapRefusal>
-    ensures { result ≡ absent_means tt compression_at (option_map data_of member) }
+fn compression(member: Option<&Value>) -> Result<(), MapRefusal>
+    ensures { result ≡ absent_means tt compression_at (option_map (λ value. data_of value.now) member.entry) }
 {
-    match &member {
+    match member {
         Some(value) => {
             let text = value.as_str().ok_or(MapRefusal::MemberOfAnotherKind)?;
             if text == "" {
@@ -87,10 +87,10 @@ fn compression(member: Option<Value>) -> Result<(), MapRefusal>
 
 // A width or a height of a layer, which is the map's.
 #[tactic(auto, unfolding(crate::specs::Reading::same_at))]
-fn same(member: Option<Value>, wanted: u32) -> Result<(), MapRefusal>
-    ensures { result ≡ absent_means tt (same_at wanted) (option_map data_of member) }
+fn same(member: Option<&Value>, wanted: u32) -> Result<(), MapRefusal>
+    ensures { result ≡ absent_means tt (same_at wanted) (option_map (λ value. data_of value.now) member.entry) }
 {
-    match &member {
+    match member {
         Some(value) => {
             let number = value.as_number().ok_or(MapRefusal::MemberOfAnotherKind)?;
             let whole = number.as_u64().ok_or(MapRefusal::BadData)?;
@@ -108,12 +108,12 @@ fn cells(
     alloc: Global,
     encoding: Encoding,
     count: usize,
-    member: Option<Value>,
+    member: Option<&Value>,
 ) -> Result<Cells, MapFault>
     requires { count ≤ MAX_CELLS }
-    ensures { Gives result (required (cells_at encoding count) (option_map data_of member)) }
+    ensures { Gives result (required (cells_at encoding count) (option_map (λ value. data_of value.now) member.entry)) }
 {
-    match &member {
+    match member {
         Some(value) => match encoding {
             Encoding::Array => array_cells(alloc, value, count),
             Encoding::Base64 => base64_cells(alloc, value, count),
@@ -128,17 +128,17 @@ fn tiles(alloc: Global, size: Size, members: &mut JsonObject) -> Result<Body, Ma
     ensures value { Gives result (tiles_of size.width size.height members.old) }
     ensures kept { IfOk result (λ body. members.new ≡ without_all (body_names body) members.old) }
 {
-    let spelled = members.take("encoding");
-    let compressed = members.take("compression");
-    let width = members.take("width");
-    let height = members.take("height");
-    let data = members.take("data");
-    let encoding = encoding(spelled)?;
-    compression(compressed)?;
-    same(width, size.width)?;
-    same(height, size.height)?;
+    let encoding = encoding(members.get("encoding"))?;
+    compression(members.get("compression"))?;
+    same(members.get("width"), size.width)?;
+    same(members.get("height"), size.height)?;
     let count = size.width as usize * size.height as usize;
-    let cells = cells(alloc, encoding, count, data)?;
+    let cells = cells(alloc, encoding, count, members.get("data"))?;
+    members.remove("encoding");
+    members.remove("compression");
+    members.remove("width");
+    members.remove("height");
+    members.remove("data");
     Ok(Body::Tiles(encoding, cells))
 }
 

@@ -98,14 +98,21 @@ fn object_names_are_distinct(alloc: Global, body: &Body) -> Result<bool, AllocEr
     Ok(true)
 }
 
+fn names_in_layer_are_distinct(alloc: Global, layer: &Layer) -> Result<bool, AllocError>
+    ensures { IfOk result (λ answer. answer ≡ list_all are_named_apart (lists_of_layer layer.now)) }
+{
+    Ok(
+        names_are_distinct(alloc, &layer.properties)?
+            && object_names_are_distinct(alloc, &layer.body)?,
+    )
+}
+
 fn layer_names_are_distinct(alloc: Global, layers: &Chain<Layer>) -> Result<bool, AllocError>
     ensures { IfOk result (λ answer. answer
         ≡ list_all are_named_apart (flat_map lists_of_layer layers.now)) }
 {
     for layer in layers.iter() {
-        if !names_are_distinct(alloc, &layer.properties)?
-            || !object_names_are_distinct(alloc, &layer.body)?
-        {
+        if !names_in_layer_are_distinct(alloc, layer)? {
             return Ok(false);
         }
     }

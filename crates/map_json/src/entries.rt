@@ -1,10 +1,10 @@
 // Arrays whose entries are read one after the other.
-ghost use Rattle.std.specs.Prelude.{◌≡◌, ◌*◌, ◌≤◌, [], option_map, length, Result};
+ghost use Rattle.std.specs.Prelude.{◌≡◌, ◌*◌, ◌≤◌, [], option_map, length, Ok, Result, IfOk, IfErr, IsSomeAnd};
 ghost use Rattle.serde_json.specs.Data.{Data};
 ghost use Rattle.serde_json.specs.Find.{as_array};
 ghost use Rattle.serde_json.specs.View.{view as data_of, items_view};
 ghost use Rattle.map_model.specs.declared.limits.TheConstants.{MAX_CELLS, MAX_OBJECTS};
-ghost use Rattle.map_json.specs.Steps.{Gives, required, absent_means};
+ghost use Rattle.map_json.specs.Steps.{Fails, Gives, required, absent_means};
 ghost use Rattle.map_json.specs.Entries.{each, entries_at};
 
 use crate::fault::{MapFault, MapRefusal};
@@ -34,6 +34,16 @@ fn array_of(value: Value) -> Option<Vec<Value>>
     }
 }
 
+// An entry in a link of its own.
+fn linked<T: Entry + Drop>(alloc: Global, size: Size, value: Value) -> Result<Loose<T>, MapFault>
+    requires { size.width * size.height ≤ MAX_CELLS }
+    ensures ok { IfOk result (λ loose. IsSomeAnd loose (λ entry. T.reads size (data_of value) ≡ Ok entry)) }
+    ensures err { IfErr result (λ fault. Fails fault (T.reads size (data_of value))) }
+{
+    let entry = T::read(alloc, size, value)?;
+    Loose::new(alloc, entry).map_err(|_| MapFault::Memory)
+}
+
 fn each<T: Entry + Drop>(
     alloc: Global,
     size: Size,
@@ -45,11 +55,8 @@ fn each<T: Entry + Drop>(
 {
     let mut found = Chain::new(alloc);
     for value in values {
-        let entry = T::read(alloc, size, value)?;
-        match Loose::new(alloc, entry) {
-            Ok(loose) => found.insert(found.len(), loose),
-            Err(_) => return Err(MapFault::Memory),
-        }
+        let link = linked(alloc, size, value)?;
+        found.insert(found.len(), link);
     }
     Ok(found)
 }

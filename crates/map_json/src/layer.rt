@@ -20,33 +20,26 @@ use map_model::Layer;
 use serde_json::Value;
 use std::alloc::Global;
 
-// The members of a layer of any kind.
+// The members of a layer of any kind that are moved into it.
 #[derive(Drop)]
 struct CommonMembers {
-    kind: Option<Value>,
-    id: Option<Value>,
     name: Option<Value>,
-    visible: Option<Value>,
     properties: Option<Value>,
 }
 
 #[tactic(auto, using(crate::proofs::MembersLemmas::takes))]
 fn common_members(members: &mut JsonObject) -> CommonMembers
-    ensures kind { option_map data_of result.kind ≡ get_member (codes "type") members.old }
-    ensures id { option_map data_of result.id ≡ get_member (codes "id") members.old }
     ensures name { option_map data_of result.name ≡ get_member (codes "name") members.old }
-    ensures visible { option_map data_of result.visible ≡ get_member (codes "visible") members.old }
     ensures properties { option_map data_of result.properties
         ≡ get_member (codes "properties") members.old }
     ensures kept { members.new ≡ without_all common_names members.old }
 {
-    CommonMembers {
-        kind: members.take("type"),
-        id: members.take("id"),
-        name: members.take("name"),
-        visible: members.take("visible"),
-        properties: members.take("properties"),
-    }
+    members.remove("type");
+    members.remove("id");
+    let name = members.take("name");
+    members.remove("visible");
+    let properties = members.take("properties");
+    CommonMembers { name, properties }
 }
 
 #[tactic(auto, using(crate::proofs::Bodies::common), unfolding(crate::specs::Reading::layer_at))]
@@ -55,17 +48,13 @@ fn layer(alloc: Global, size: Size, value: Value) -> Result<Layer, MapFault>
     ensures { Gives result (layer_at size.width size.height (data_of value)) }
 {
     let mut members = JsonObject::from_value(value).ok_or(MapRefusal::MemberOfAnotherKind)?;
-    let CommonMembers {
-        kind,
-        id,
-        name,
-        visible,
-        properties,
-    } = common_members(&mut members);
-    let kind = layer_type(kind)?;
-    let id = required_id(id)?;
+    let kind = layer_type(members.get("type"))?;
+    let id = required_id(members.get("id"))?;
+    // A fault of the name comes before one of this.
+    let visible = truth_or(members.get("visible"), true);
+    let CommonMembers { name, properties } = common_members(&mut members);
     let name = text_or(alloc, name, "")?;
-    let visible = truth_or(visible, true)?;
+    let visible = visible?;
     let properties = properties_or_none(alloc, size, properties)?;
     let body = body(alloc, size, kind, &mut members)?;
     Ok(Layer {

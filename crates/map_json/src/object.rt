@@ -6,7 +6,7 @@ ghost use Rattle.map_model.specs.Keeping.{object_names};
 ghost use Rattle.map_json.specs.Members.{without_all};
 ghost use Rattle.map_json.specs.Steps.{Gives, optional};
 ghost use Rattle.map_json.specs.Scalars.{whole_at};
-ghost use Rattle.map_json.specs.Reading.{object_at};
+ghost use Rattle.map_json.specs.Reading.{object_at, placing_of};
 
 use crate::entries::Entry;
 use crate::fault::{MapFault, MapRefusal};
@@ -19,61 +19,53 @@ use serde_json::Value;
 use std::alloc::Global;
 use tile_id::Gid;
 
-// The members of an object.
+// The members of an object that are moved into it.
 #[derive(Drop)]
 struct ObjectMembers {
-    id: Option<Value>,
-    x: Option<Value>,
-    y: Option<Value>,
-    width: Option<Value>,
-    height: Option<Value>,
     name: Option<Value>,
-    visible: Option<Value>,
-    gid: Option<Value>,
     properties: Option<Value>,
     kept: JsonObject,
 }
 
 #[tactic(auto, using(crate::proofs::MembersLemmas::takes))]
 fn object_members(mut members: JsonObject) -> ObjectMembers
-    ensures id { option_map data_of result.id ≡ get_member (codes "id") members }
-    ensures x { option_map data_of result.x ≡ get_member (codes "x") members }
-    ensures y { option_map data_of result.y ≡ get_member (codes "y") members }
-    ensures width { option_map data_of result.width ≡ get_member (codes "width") members }
-    ensures height { option_map data_of result.height ≡ get_member (codes "height") members }
     ensures name { option_map data_of result.name ≡ get_member (codes "name") members }
-    ensures visible { option_map data_of result.visible ≡ get_member (codes "visible") members }
-    ensures gid { option_map data_of result.gid ≡ get_member (codes "gid") members }
     ensures properties { option_map data_of result.properties
         ≡ get_member (codes "properties") members }
     ensures kept { result.kept ≡ without_all object_names members }
 {
-    let id = members.take("id");
-    let x = members.take("x");
-    let y = members.take("y");
-    let width = members.take("width");
-    let height = members.take("height");
+    members.remove("id");
+    members.remove("x");
+    members.remove("y");
+    members.remove("width");
+    members.remove("height");
     let name = members.take("name");
-    let visible = members.take("visible");
-    let gid = members.take("gid");
+    members.remove("visible");
+    members.remove("gid");
     let properties = members.take("properties");
     ObjectMembers {
-        id,
-        x,
-        y,
-        width,
-        height,
         name,
-        visible,
-        gid,
         properties,
         kept: members,
     }
 }
 
+// Where an object stands, and how large it is.
+#[tactic(auto, unfolding(crate::specs::Reading::placing_of))]
+fn placing(members: &JsonObject) -> Result<Placing, MapRefusal>
+    ensures { result ≡ placing_of members.now }
+{
+    Ok(Placing {
+        x: optional_pixels(members.get("x"))?,
+        y: optional_pixels(members.get("y"))?,
+        width: optional_pixels(members.get("width"))?,
+        height: optional_pixels(members.get("height"))?,
+    })
+}
+
 // A value of a tile that may be absent.
-fn optional_gid(member: Option<Value>) -> Result<Option<Gid>, MapRefusal>
-    ensures { result ≡ optional (whole_at 0 4294967295) (option_map data_of member) }
+fn optional_gid(member: Option<&Value>) -> Result<Option<Gid>, MapRefusal>
+    ensures { result ≡ optional (whole_at 0 4294967295) (option_map (λ value. data_of value.now) member.entry) }
 {
     match optional_whole(member, 0, u32::MAX)? {
         Some(value) => Ok(Some(Gid(value))),
@@ -84,32 +76,25 @@ fn optional_gid(member: Option<Value>) -> Result<Option<Gid>, MapRefusal>
 impl Entry for Object {
     ghost reads = { λ _. object_at };
 
-    #[tactic(auto, unfolding(crate::specs::Reading::object_at, crate::specs::Reading::placing_of))]
+    #[tactic(auto, unfolding(crate::specs::Reading::object_at))]
     fn read(alloc: Global, size: Size, value: Value) -> Result<Object, MapFault> {
         let members = JsonObject::from_value(value).ok_or(MapRefusal::MemberOfAnotherKind)?;
+        let id = required_id(members.get("id"))?;
+        let placing = placing(&members)?;
+        // A fault of the name comes before those of these two.
+        let visible = optional_truth(members.get("visible"));
+        let gid = optional_gid(members.get("gid"));
         let ObjectMembers {
-            id,
-            x,
-            y,
-            width,
-            height,
             name,
-            visible,
-            gid,
             properties,
             kept,
         } = object_members(members);
         Ok(Object {
-            id: required_id(id)?,
-            placing: Placing {
-                x: optional_pixels(x)?,
-                y: optional_pixels(y)?,
-                width: optional_pixels(width)?,
-                height: optional_pixels(height)?,
-            },
+            id,
+            placing,
             name: optional_text(name)?,
-            visible: optional_truth(visible)?,
-            gid: optional_gid(gid)?,
+            visible: visible?,
+            gid: gid?,
             properties: properties_or_none(alloc, size, properties)?,
             kept: kept.into_kept(),
         })

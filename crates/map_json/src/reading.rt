@@ -22,16 +22,9 @@ use map_model::{Map, MapParts};
 use serde_json::Value;
 use std::alloc::Global;
 
-// The members of a map.
+// The members of a map that are moved into it.
 #[derive(Drop)]
 struct MapMembers {
-    width: Option<Value>,
-    height: Option<Value>,
-    tile_width: Option<Value>,
-    tile_height: Option<Value>,
-    infinite: Option<Value>,
-    next_layer_id: Option<Value>,
-    next_object_id: Option<Value>,
     layers: Option<Value>,
     tilesets: Option<Value>,
     properties: Option<Value>,
@@ -40,43 +33,25 @@ struct MapMembers {
 
 #[tactic(auto, using(crate::proofs::MembersLemmas::takes))]
 fn map_members(mut members: JsonObject) -> MapMembers
-    ensures width { option_map data_of result.width ≡ get_member (codes "width") members }
-    ensures height { option_map data_of result.height ≡ get_member (codes "height") members }
-    ensures tile_width { option_map data_of result.tile_width
-        ≡ get_member (codes "tilewidth") members }
-    ensures tile_height { option_map data_of result.tile_height
-        ≡ get_member (codes "tileheight") members }
-    ensures infinite { option_map data_of result.infinite ≡ get_member (codes "infinite") members }
-    ensures next_layer_id { option_map data_of result.next_layer_id
-        ≡ get_member (codes "nextlayerid") members }
-    ensures next_object_id { option_map data_of result.next_object_id
-        ≡ get_member (codes "nextobjectid") members }
     ensures layers { option_map data_of result.layers ≡ get_member (codes "layers") members }
     ensures tilesets { option_map data_of result.tilesets ≡ get_member (codes "tilesets") members }
     ensures properties { option_map data_of result.properties
         ≡ get_member (codes "properties") members }
     ensures kept { result.kept ≡ without_all map_names members }
 {
-    let width = members.take("width");
-    let height = members.take("height");
-    let tile_width = members.take("tilewidth");
-    let tile_height = members.take("tileheight");
-    let infinite = members.take("infinite");
-    let next_layer_id = members.take("nextlayerid");
-    let next_object_id = members.take("nextobjectid");
+    members.remove("width");
+    members.remove("height");
+    members.remove("tilewidth");
+    members.remove("tileheight");
+    members.remove("infinite");
+    members.remove("nextlayerid");
+    members.remove("nextobjectid");
     let layers = members.take("layers");
     let tilesets = members.take("tilesets");
     let properties = members.take("properties");
     members.remove("type");
     members.remove("version");
     MapMembers {
-        width,
-        height,
-        tile_width,
-        tile_height,
-        infinite,
-        next_layer_id,
-        next_object_id,
         layers,
         tilesets,
         properties,
@@ -88,20 +63,20 @@ fn map_members(mut members: JsonObject) -> MapMembers
 fn parts_of(alloc: Global, members: JsonObject) -> Result<MapParts, MapFault>
     ensures { Gives result (parts_of members) }
 {
-    let members = map_members(members);
-    let width = required_whole(members.width, 1, MAX_SIDE)?;
-    let height = required_whole(members.height, 1, MAX_SIDE)?;
+    let width = required_whole(members.get("width"), 1, MAX_SIDE)?;
+    let height = required_whole(members.get("height"), 1, MAX_SIDE)?;
     if width as usize * height as usize > MAX_CELLS {
         return Err(MapFault::Refused(MapRefusal::OverLimit));
     }
     let size = Size { width, height };
-    let tile_width = required_whole(members.tile_width, 1, MAX_TILE_SIDE)?;
-    let tile_height = required_whole(members.tile_height, 1, MAX_TILE_SIDE)?;
-    if truth_or(members.infinite, false)? {
+    let tile_width = required_whole(members.get("tilewidth"), 1, MAX_TILE_SIDE)?;
+    let tile_height = required_whole(members.get("tileheight"), 1, MAX_TILE_SIDE)?;
+    if truth_or(members.get("infinite"), false)? {
         return Err(MapFault::Refused(MapRefusal::Infinite));
     }
-    let next_layer_id = required_whole(members.next_layer_id, 1, MAX_NEXT_ID)?;
-    let next_object_id = required_whole(members.next_object_id, 1, MAX_NEXT_ID)?;
+    let next_layer_id = required_whole(members.get("nextlayerid"), 1, MAX_NEXT_ID)?;
+    let next_object_id = required_whole(members.get("nextobjectid"), 1, MAX_NEXT_ID)?;
+    let members = map_members(members);
     let layers = required_entries(alloc, size, MAX_LAYERS, members.layers)?;
     let tilesets = required_entries(alloc, size, MAX_TILESETS, members.tilesets)?;
     let properties = properties_or_none(alloc, size, members.properties)?;

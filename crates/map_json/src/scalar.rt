@@ -29,28 +29,32 @@ fn whole(value: &Value, low: u32, high: u32) -> Result<u32, MapRefusal>
 }
 
 /// A whole number that must be there, from low to high.
-pub fn required_whole(member: Option<Value>, low: u32, high: u32) -> Result<u32, MapRefusal>
+pub fn required_whole(member: Option<&Value>, low: u32, high: u32) -> Result<u32, MapRefusal>
     ensures limit { IfOk result (λ n. n ≤ high) }
-    ensures value { result ≡ required (whole_at low high) (option_map data_of member) }
+    ensures value { result ≡ required (whole_at low high) (option_map (λ value. data_of value.now) member.entry) }
 {
-    match &member {
+    match member {
         Some(value) => whole(value, low, high),
         None => Err(MapRefusal::MemberMissing),
     }
 }
 
 /// An id that must be there.
-pub fn required_id(member: Option<Value>) -> Result<u32, MapRefusal>
-    ensures { result ≡ required id_at (option_map data_of member) }
+pub fn required_id(member: Option<&Value>) -> Result<u32, MapRefusal>
+    ensures { result ≡ required id_at (option_map (λ value. data_of value.now) member.entry) }
 {
     required_whole(member, 1, MAX_NEXT_ID - 1)
 }
 
 /// A whole number that may be absent, from low to high.
-pub fn optional_whole(member: Option<Value>, low: u32, high: u32) -> Result<Option<u32>, MapRefusal>
-    ensures { result ≡ optional (whole_at low high) (option_map data_of member) }
+pub fn optional_whole(
+    member: Option<&Value>,
+    low: u32,
+    high: u32,
+) -> Result<Option<u32>, MapRefusal>
+    ensures { result ≡ optional (whole_at low high) (option_map (λ value. data_of value.now) member.entry) }
 {
-    match &member {
+    match member {
         Some(value) => Ok(Some(whole(value, low, high)?)),
         None => Ok(None),
     }
@@ -71,10 +75,10 @@ fn pixels(value: &Value) -> Result<i32, MapRefusal>
 }
 
 /// A number of pixels that may be absent.
-pub fn optional_pixels(member: Option<Value>) -> Result<Option<i32>, MapRefusal>
-    ensures { result ≡ optional pixels_at (option_map data_of member) }
+pub fn optional_pixels(member: Option<&Value>) -> Result<Option<i32>, MapRefusal>
+    ensures { result ≡ optional pixels_at (option_map (λ value. data_of value.now) member.entry) }
 {
-    match &member {
+    match member {
         Some(value) => Ok(Some(pixels(value)?)),
         None => Ok(None),
     }
@@ -88,20 +92,20 @@ fn truth(value: &Value) -> Result<bool, MapRefusal>
 }
 
 /// A truth value, or what its absence means.
-pub fn truth_or(member: Option<Value>, absent: bool) -> Result<bool, MapRefusal>
-    ensures { result ≡ absent_means absent truth_at (option_map data_of member) }
+pub fn truth_or(member: Option<&Value>, absent: bool) -> Result<bool, MapRefusal>
+    ensures { result ≡ absent_means absent truth_at (option_map (λ value. data_of value.now) member.entry) }
 {
-    match &member {
+    match member {
         Some(value) => truth(value),
         None => Ok(absent),
     }
 }
 
 /// A truth value that may be absent.
-pub fn optional_truth(member: Option<Value>) -> Result<Option<bool>, MapRefusal>
-    ensures { result ≡ optional truth_at (option_map data_of member) }
+pub fn optional_truth(member: Option<&Value>) -> Result<Option<bool>, MapRefusal>
+    ensures { result ≡ optional truth_at (option_map (λ value. data_of value.now) member.entry) }
 {
-    match &member {
+    match member {
         Some(value) => Ok(Some(truth(value)?)),
         None => Ok(None),
     }

@@ -1,11 +1,12 @@
 // What is written for each part of a map, as a tree.
 ghost use Rattle.std.specs.Prelude.{◌≡◌, Some, Ok, IfOk, OnOk};
 ghost use Rattle.std.specs.Option.{option_map};
-ghost use Rattle.serde_json.specs.Data.{Data, boolean, number, string};
+ghost use Rattle.serde_json.specs.Data.{Data, array, boolean, no_items, number, string};
 ghost use Rattle.serde_json.specs.View.{view as data_of};
 ghost use Rattle.serde_json.specs.Find.{of_integer};
 ghost use Rattle.map_json.specs.Members.{with_own};
-ghost use Rattle.map_json.specs.Trees.{plain_own, array_by, whole_tree, value_tree, property_tree, properties_member, object_tree, tileset_tree, bytes_of, cells_tree, encoding_member, body_own, type_word, layer_tree};
+ghost use Rattle.map_model.specs.declared.parts.Body.TheVariants.{Tiles};
+ghost use Rattle.map_json.specs.Trees.{plain_own, lists_own, array_by, whole_tree, value_tree, property_own, property_tree, properties_member, object_tree, tileset_tree, bytes_of, cells_tree, encoding_member, body_own, type_word, layer_tree};
 ghost use Rattle.map_json.specs.Appending.{frame_of};
 
 use crate::json_object::JsonObject;
@@ -59,15 +60,25 @@ fn value_tree(alloc: Global, value: &PropValue) -> Result<Value, AllocError>
     }
 }
 
+fn put_property(
+    alloc: Global,
+    property: &Property,
+    members: &mut JsonObject,
+) -> Result<(), AllocError>
+    ensures { OnOk result (members.new ≡ with_own (property_own property.now) members.old) }
+{
+    members.put(alloc, "value", value_tree(alloc, &property.value)?)?;
+    members.put(alloc, "type", text_tree(alloc, property.kind.as_str())?)?;
+    members.put(alloc, "name", text_tree(alloc, property.name.as_str())?)
+}
+
 impl Tree for Property {
     ghost tree = { λ _. property_tree };
 
     #[tactic(auto, unfolding(crate::specs::Trees::property_tree))]
     fn tree(&self, alloc: Global, _size: Size) -> Result<Value, AllocError> {
         let mut members = JsonObject::from_kept(alloc, &self.kept)?;
-        members.put(alloc, "value", value_tree(alloc, &self.value)?)?;
-        members.put(alloc, "type", text_tree(alloc, self.kind.as_str())?)?;
-        members.put(alloc, "name", text_tree(alloc, self.name.as_str())?)?;
+        put_property(alloc, self, &mut members)?;
         Ok(members.into_value())
     }
 }
@@ -197,6 +208,25 @@ fn encoding_member(alloc: Global, encoding: Encoding) -> Result<Option<Value>, A
     }
 }
 
+// Puts the members of a tile layer.
+fn put_tiles(
+    alloc: Global,
+    size: Size,
+    encoding: Encoding,
+    cells: &[Gid],
+    members: &mut JsonObject,
+) -> Result<(), AllocError>
+    ensures { OnOk result
+        (members.new ≡ with_own (body_own size.width size.height (Tiles encoding cells.now)) members.old) }
+{
+    let data = cells_tree(alloc, encoding, cells)?;
+    members.put(alloc, "data", data)?;
+    members.put(alloc, "height", Value::from(size.height))?;
+    members.put(alloc, "width", Value::from(size.width))?;
+    let encoding = encoding_member(alloc, encoding)?;
+    members.put_some(alloc, "encoding", encoding)
+}
+
 // Puts the members of a layer's kind.
 fn put_body(
     alloc: Global,
@@ -209,15 +239,7 @@ fn put_body(
 {
     match body {
         Body::Tiles(encoding, cells) => {
-            members.put(
-                alloc,
-                "data",
-                cells_tree(alloc, *encoding, cells.as_slice())?,
-            )?;
-            members.put(alloc, "height", Value::from(size.height))?;
-            members.put(alloc, "width", Value::from(size.width))?;
-            members.put_some(alloc, "encoding", encoding_member(alloc, *encoding)?)?;
-            Ok(())
+            put_tiles(alloc, size, *encoding, cells.as_slice(), members)
         }
         Body::Objects(objects) => members.put(alloc, "objects", array_by(alloc, size, objects)?),
         Body::Other => Ok(()),
@@ -265,18 +287,25 @@ fn put_plain(alloc: Global, map: &MapParts, members: &mut JsonObject) -> Result<
     Ok(())
 }
 
-/// The members of a map, with an empty array for its layers.
-pub fn frame_of(alloc: Global, map: &MapParts) -> Result<JsonObject, AllocError>
-    ensures { IfOk result (λ frame. frame ≡ frame_of map.now) }
+// Puts the lists of a map, an empty array for its layers, and what says that it is a map.
+fn put_lists(alloc: Global, map: &MapParts, members: &mut JsonObject) -> Result<(), AllocError>
+    ensures { OnOk result (members.new ≡ with_own (lists_own (array no_items) map.now) members.old) }
 {
     let size = Size::of_map(map);
-    let mut members = JsonObject::from_kept(alloc, &map.kept)?;
     members.put(alloc, "version", text_tree(alloc, "1.10")?)?;
     members.put(alloc, "type", text_tree(alloc, "map")?)?;
     let properties = properties_member(alloc, size, &map.properties)?;
     members.put_some(alloc, "properties", properties)?;
     members.put(alloc, "tilesets", array_by(alloc, size, &map.tilesets)?)?;
-    members.put(alloc, "layers", Value::from(Vec::new(alloc)))?;
+    members.put(alloc, "layers", Value::from(Vec::new(alloc)))
+}
+
+/// The members of a map, with an empty array for its layers.
+pub fn frame_of(alloc: Global, map: &MapParts) -> Result<JsonObject, AllocError>
+    ensures { IfOk result (λ frame. frame ≡ frame_of map.now) }
+{
+    let mut members = JsonObject::from_kept(alloc, &map.kept)?;
+    put_lists(alloc, map, &mut members)?;
     put_plain(alloc, map, &mut members)?;
     Ok(members)
 }

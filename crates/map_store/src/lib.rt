@@ -5,8 +5,6 @@ mod folder_store;
 mod fuse_store;
 mod map_store;
 mod memory_store;
-#[cfg(test)]
-mod tests;
 
 pub use folder_store::FolderStore;
 pub use fuse_store::FuseStore;

@@ -16,9 +16,6 @@ use map_model::{CellEdit, Document, Side};
 use std::alloc::Global;
 use tile_id::Gid;
 
-#[cfg(test)]
-mod tests;
-
 /// A way to paint.
 #[derive(Clone, Copy, PartialEq, Eq, Debug)]
 enum PaintKind {
@@ -116,7 +113,15 @@ impl PaintCommand {
             → result.now ≡ difference_in (painted_layer self.now) ((paint_change self.now).undone d).map d.map }
         ensures ordered { AreInRowOrder result.now }
     {
-        self.cells.as_slice()
+        // The cells and what kind of paint they are is all that a paint keeps.
+        let PaintCommand {
+            kind: _,
+            layer: _,
+            follows: _,
+            is_made: _,
+            cells,
+        } = self;
+        cells.as_slice()
     }
 }
 

@@ -1,6 +1,5 @@
 pub mod Before
 pub mod Canonical
-pub mod Cellwise
 pub mod Gaps
 pub mod Listed
 pub mod Members

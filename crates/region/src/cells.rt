@@ -11,9 +11,6 @@ use crate::walks::{any_has, merged, moved_runs, overlaps, push_run, remainders};
 use std::alloc::{AllocError, Global};
 use std::marker::Model;
 
-#[cfg(test)]
-mod tests;
-
 /// A set of cells, each a column and a row below 2^32.
 ///
 /// No call changes its sources, and a call that answers `AllocError` leaves nothing behind.
@@ -141,7 +138,9 @@ impl Region {
     pub fn is_empty(&self) -> bool
         ensures { IsTrue result ↔ (self.now ≡ set.empty) }
     {
-        self.runs.is_empty()
+        // The runs are all that a region keeps.
+        let Region { runs } = self;
+        runs.is_empty()
     }
 
     /// Visits the cells run by run: maximal runs in row order. Equal sets have equal runs.

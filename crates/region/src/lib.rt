@@ -5,8 +5,6 @@
 //! equal runs.
 #![tactic(auto)]
 
-#[cfg(test)]
-mod cell_list;
 mod cells;
 mod moves;
 mod next;

@@ -59,27 +59,3 @@ impl Gid {
         self.0 == 0
     }
 }
-
-#[cfg(test)]
-mod tests {
-    use super::*;
-
-    // Values of Tiled's documentation: tile 5, turned in each way.
-    #[test]
-    fn parts_of_values(rt: HostRuntime) {
-        let values: [(u32, u32, u32); 6] = [
-            (0, 0, 0),
-            (5, 5, 0),
-            (2_147_483_653, 5, 8),
-            (1_073_741_829, 5, 4),
-            (536_870_917, 5, 2),
-            (4_294_967_295, 268_435_455, 15),
-        ];
-        for (value, base, flags) in values {
-            assert_eq!(rt; Gid(value).base(), base);
-            assert_eq!(rt; Gid(value).flags(), flags);
-            assert_eq!(rt; Gid(value).is_empty(), value == 0);
-        }
-        assert_eq!(rt; Gid(5).with_flags(9), Gid(2_415_919_109));
-    }
-}

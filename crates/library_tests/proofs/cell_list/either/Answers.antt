@@ -4,8 +4,8 @@ use Rattle.std.proofs.lemmas.List.Folds.{list_any-append}
 use Rattle.std.proofs.lemmas.List.Sorted.{list_any-IsPermutation}
 use Rattle.region.specs.Cells.{listed}
 use Rattle.region.specs.Equality.{cell_cmp_total}
-use Rattle.region.proofs.Cellwise.{has, is_cell, contains-listed, listed-is}
-use Rattle.region.proofs.cell_list.either.Goals as goal
+use Rattle.library_tests.proofs.Cellwise.{has, is_cell, contains-listed, listed-is}
+use Rattle.library_tests.proofs.cell_list.either.Goals as goal
 
 joined : (a b : Bool) → ((a && not b) || b) ≡ (a || b)
 joined true true = refl

@@ -2,8 +2,8 @@ use Rattle.std.proofs.Common.{◌≡◌, [], sym, ◌∙◌, arith, drop, drop_o
 use Rattle.std.proofs.lemmas.Int.{to_z-of_z}
 use mir.Syntax.{w32}
 use mir.Val.{of_z, to_z}
-use Rattle.region.proofs.Cellwise.{has, contains-listed, in_moved_cut-listed, or-false}
-use Rattle.region.proofs.cell_list.moved.Goals as goal
+use Rattle.library_tests.proofs.Cellwise.{has, contains-listed, in_moved_cut-listed, or-false}
+use Rattle.library_tests.proofs.cell_list.moved.Goals as goal
 
 pub returns : goal.returns
 returns c q =

@@ -2,7 +2,7 @@ use Rattle.std.proofs.Common.{◌≡◌, ℕ, false, ◌∙◌, arith}
 use Rattle.std.proofs.lemmas.Bool.Decides.{nat_tests}
 use Rattle.std.specs.FinSet as set
 use Rattle.region.specs.Cells.{cell_cmp, in_rectangle}
-use Rattle.region.proofs.cell_list.rectangle.Goals as goal
+use Rattle.library_tests.proofs.cell_list.rectangle.Goals as goal
 
 no_rows : (x y w : ℕ) (q : ℕ × ℕ) → false ≡ in_rectangle x y w 0 q
 no_rows x y w q = grind (arith, nat_tests)

@@ -1,12 +1,11 @@
 // Sets of cells as plain lists of columns and rows, in row order and each cell once: slow, and easy to
 // see through. Only the tests use it, to compare regions with. Its clauses are those of `Region`.
-ghost use Rattle.std.specs.Prelude.{◌≡◌, ℕ, ◌+◌, ◌≤◌, ◌++◌, ◌||◌, IfOk, OnOk, if◌then◌else◌, ◌∷◌, []};
+ghost use Rattle.std.specs.Prelude.{◌≡◌, ℕ, ◌+◌, ◌≤◌, ◌<◌, ◌++◌, ◌||◌, pos, ◌+ℤ◌, IfOk, IfSome, IfNone, OnOk, if◌then◌else◌, ◌∷◌, []};
 ghost use Rattle.std.specs.FinSet as set;
 ghost use Rattle.region.specs.Cells.{in_rectangle, in_moved_cut, listed};
-ghost use Rattle.region.specs.Lists.{is_moved, is_some_cell};
+ghost use Rattle.library_tests.specs.Lists.{is_moved, is_some_cell};
 
-use crate::moves::moved_row;
-use crate::runs::Run;
+use region::Run;
 use std::alloc::{AllocError, Global};
 
 // Puts a cell at the end, or leaves it out.
@@ -94,13 +93,24 @@ pub(crate) fn either(
     Ok(cells)
 }
 
+// A column or a row moved by this many, if it is then one of the first `limit`.
+fn moved_place(place: u32, by: i32, limit: u32) -> Option<u32>
+    ensures some { IfSome result (λ r. (r < limit) × (pos r ≡ pos place +ℤ by)) }
+    ensures none { IfNone result ((k : ℕ) → k < limit → pos k ≡ pos place +ℤ by → ⊥) }
+{
+    match place.checked_add_signed(by) {
+        Some(moved) if moved < limit => Some(moved),
+        _ => None,
+    }
+}
+
 // A cell moved by `dx` columns and `dy` rows, if it then lies in the first `w` columns and the first `h`
 // rows.
 fn moved_cell(cell: (u32, u32), dx: i32, dy: i32, w: u32, h: u32) -> Option<(u32, u32)>
     ensures { (q : ℕ × ℕ) → is_some_cell result q ≡ is_moved cell dx dy w h q }
 {
-    let x = moved_row(cell.0, dx, w)?;
-    let y = moved_row(cell.1, dy, h)?;
+    let x = moved_place(cell.0, dx, w)?;
+    let y = moved_place(cell.1, dy, h)?;
     Some((x, y))
 }
 

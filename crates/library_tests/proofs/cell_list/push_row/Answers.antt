@@ -1,7 +1,7 @@
 use Rattle.std.proofs.Common.{◌≡◌, ◌||◌, ap, sym, ◌∙◌, arith}
 use Rattle.region.specs.Cells.{in_rectangle}
-use Rattle.region.proofs.Cellwise.{has, contains-listed}
-use Rattle.region.proofs.cell_list.push_row.Goals as goal
+use Rattle.library_tests.proofs.Cellwise.{has, contains-listed}
+use Rattle.library_tests.proofs.cell_list.push_row.Goals as goal
 
 pub returns : goal.returns
 returns c q =

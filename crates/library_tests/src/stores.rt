@@ -1,4 +1,5 @@
-use crate::{FolderStore, FuseStore, MapStore, MemoryStore, StoreFault};
+// Stores keep files, fail at their call, and leave a file as it is where memory is refused.
+use map_store::{FolderStore, FuseStore, MapStore, MemoryStore, StoreFault};
 use std::alloc::Global;
 use std::fs;
 use std::process::Abort;

@@ -1,5 +1,7 @@
-use super::*;
+// Regions beside plain lists of cells, and what a refused growth leaves.
 use crate::cell_list;
+use region::{Region, Run};
+use std::alloc::{AllocError, Global};
 use std::process::Abort;
 use std::test::Fail;
 
@@ -74,8 +76,7 @@ fn assert_pair(
 #[test]
 fn rectangle_has_a_run_a_row(rt: HostRuntime) -> Result<(), Fail> {
     let band = Region::rect(rt.alloc(), 0, 0, 4096, 256)?;
-    let Region { runs } = &band;
-    assert_eq!(rt; runs.len(), 256);
+    assert_eq!(rt; band.rows().count(), 256);
 
     let column = Region::rect(rt.alloc(), 2048, 0, 1, 256)?;
     let rest = band.without(rt.alloc(), &column)?;

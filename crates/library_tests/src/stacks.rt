@@ -1,12 +1,10 @@
-//! What no clause says: which boxes are let go of and turned, and what a refused push leaves.
+// Of a stack, what no clause says: which boxes are let go of and turned, and what a refused push leaves.
 
 ghost use Rattle.std.specs.Prelude.{◌≡◌, [], true, false};
 ghost use Rattle.command_api.specs.Law.{untagged, Never, WhenEqual};
 ghost use Rattle.undo_stack.specs.History.{current};
 ghost use Rattle.undo_stack.specs.Stacks.{history, Holds};
 
-use super::{Stack, StackFault};
-use crate::entry::Entry;
 use command_api::Command;
 use link_chain::Loose;
 use map_model::{Document, Layer, LayerKind, Map, MapText};
@@ -14,6 +12,7 @@ use std::alloc::{AllocError, Global};
 use std::cell::Cell;
 use std::rc::Rc;
 use std::test::Fail;
+use undo_stack::{Stack, StackFault};
 
 // A document for commands that leave it as it is.
 fn blank(alloc: Global) -> Result<Document, AllocError> {
@@ -395,31 +394,6 @@ fn refused_push_leaves_the_step_above(rt: HostRuntime) {
     if let Some(seen) = refused_below_a_step(alloc, &first, &second, document) {
         assert_eq!(rt; seen, (true, (2, 1, 0), (1, 1, 1)));
     }
-}
-
-#[test]
-fn stack_holds_one_document(rt: HostRuntime) -> Result<(), Fail> {
-    let alloc = rt.alloc();
-    let counts = Counts::new(alloc)?;
-    let mut stack: Stack<Box<dyn Command>> = Stack::new(alloc, blank(alloc)?, 0);
-    let command: Box<dyn Command> = new_probe(alloc, &counts)?;
-    push(&mut stack, command)?;
-    let Stack {
-        document,
-        mut entries,
-        index,
-        clean,
-        limit,
-    } = stack;
-    let document: Document = document;
-    let _ = document.map();
-    assert_eq!(rt; (index, clean, limit), (1, Some(0), 0));
-    if let Some(entry) = entries.pop_front() {
-        let Entry::Command(command) = entry;
-        drop(command);
-    }
-    assert_eq!(rt; counts.all(), (1, 0, 1));
-    Ok(())
 }
 
 #[test]

@@ -6,7 +6,7 @@ use Rattle.std.specs.Ordering.{eq_by_cmp}
 use Rattle.std.proofs.lemmas.Bool.Decides.{nat_tests}
 use Rattle.region.specs.Cells.{cell_cmp, listed, has_at, in_moved_cut}
 use Rattle.region.specs.Equality.{cell_cmp_total}
-use Rattle.region.specs.Lists.{is_at, is_moved}
+use Rattle.library_tests.specs.Lists.{is_at, is_moved}
 use Rattle.region.proofs.Members.{cell_cmp-same}
 
 abbrev pub is_cell : ℕ × ℕ → ℕ × ℕ → Bool

@@ -2,8 +2,8 @@ use Rattle.std.proofs.Common.{◌≡◌, [], sym, ◌∙◌, arith, drop, drop_o
 use Rattle.std.specs.FinSet as set
 use Rattle.region.specs.Cells.{listed}
 use Rattle.region.specs.Equality.{cell_cmp_total}
-use Rattle.region.proofs.Cellwise.{has, contains-listed, listed-is, or-false}
-use Rattle.region.proofs.cell_list.shared.Goals as goal
+use Rattle.library_tests.proofs.Cellwise.{has, contains-listed, listed-is, or-false}
+use Rattle.library_tests.proofs.cell_list.shared.Goals as goal
 
 pub returns : goal.returns
 returns c =
