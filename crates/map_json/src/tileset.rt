@@ -1,10 +1,4 @@
 // Tilesets.
-ghost use Rattle.std.specs.Prelude.{◌≡◌, codes, option_map};
-ghost use Rattle.serde_json.specs.Find.{get_member};
-ghost use Rattle.serde_json.specs.View.{view as data_of};
-ghost use Rattle.map_model.specs.Keeping.{tileset_names};
-ghost use Rattle.map_json.specs.Members.{without_all};
-ghost use Rattle.map_json.specs.Steps.{Gives};
 ghost use Rattle.map_json.specs.Reading.{tileset_at};
 
 use crate::entries::Entry;
