@@ -11,14 +11,8 @@ mod closing;
 #[cfg(test)]
 mod fills;
 #[cfg(test)]
-mod line_reading;
-#[cfg(test)]
 mod paints;
 #[cfg(test)]
 mod regions;
 #[cfg(test)]
 mod stacks;
-#[cfg(test)]
-mod stores;
-#[cfg(test)]
-mod tile_values;

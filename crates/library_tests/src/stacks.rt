@@ -162,55 +162,6 @@ impl Command for Idle {
     }
 }
 
-// A command with texts of its own, which leaves the document as it is and never vanishes.
-#[derive(Drop)]
-struct Titled {
-    text: &'static str,
-    action: &'static str,
-}
-
-impl Command for Titled {
-    ghost change = { λ c. record {
-      names = untagged c.text.now c.action.now Never;
-      obsolete = false;
-      redone = λ d. d;
-      undone = λ d. d;
-      fits_redo = λ _. Unit {0};
-      fits_undo = λ _. Unit {0};
-    } };
-
-    fn text(&self) -> &str {
-        self.text
-    }
-
-    fn action_text(&self) -> &str {
-        self.action
-    }
-
-    fn id(&self) -> i32 {
-        -1
-    }
-
-    fn obsolete(&self) -> bool {
-        false
-    }
-
-    fn redo(&mut self, document: &mut Document) {
-        let _ = document;
-    }
-
-    fn undo(&mut self, document: &mut Document) {
-        let _ = document;
-    }
-}
-
-fn stamp() -> Titled {
-    Titled {
-        text: "Stamp",
-        action: "stamp tiles",
-    }
-}
-
 // The calls below are those of a stack. Of what they do the proofs of the tests need only that the stack stays whole.
 fn push<C: Command>(stack: &mut Stack<C>, command: C) -> Result<(), AllocError>
     requires sound { Holds C.change stack.old }
@@ -253,17 +204,6 @@ fn set_index<C: Command>(stack: &mut Stack<C>, index: usize) -> Result<(), Stack
 {
     // As at `undo`.
     stack.set_index(index)?;
-    Ok(())
-}
-
-fn set_clean<C: Command>(stack: &mut Stack<C>) -> Result<(), StackFault>
-    requires sound { Holds C.change stack.old }
-    requires unlimited { (history C.change stack.old).limit ≡ 0 }
-    ensures sound { Holds C.change stack.new }
-    ensures unlimited { (history C.change stack.new).limit ≡ 0 }
-{
-    // As at `undo`.
-    stack.set_clean()?;
     Ok(())
 }
 
@@ -397,35 +337,6 @@ fn refused_push_leaves_the_step_above(rt: HostRuntime) {
 }
 
 #[test]
-fn index_goes_where_it_is_set(rt: HostRuntime) -> Result<(), Fail> {
-    let alloc = rt.alloc();
-    let mut stack: Stack<Titled> = Stack::new(alloc, blank(alloc)?, 0);
-    let are_pushed = [
-        push(&mut stack, stamp()).is_ok(),
-        push(&mut stack, stamp()).is_ok(),
-        push(&mut stack, stamp()).is_ok(),
-    ];
-    let at_the_end = (set_index(&mut stack, 99).is_ok(), stack.index());
-    let at_the_start = (set_index(&mut stack, 0).is_ok(), stack.index());
-    let between = (set_index(&mut stack, 2).is_ok(), stack.index());
-    let stays_unmarked = stack.is_clean();
-    let is_marked = set_clean(&mut stack).is_ok() && stack.is_clean();
-    stack.reset_clean();
-    let stays_marked = stack.is_clean();
-    drop(stack);
-    assert_eq!(rt; are_pushed, [true; 3]);
-    assert_eq!(rt;
-        (at_the_end, at_the_start, between),
-        ((true, 3), (true, 0), (true, 2))
-    );
-    assert_eq!(rt;
-        (stays_unmarked, is_marked, stays_marked),
-        (false, true, false)
-    );
-    Ok(())
-}
-
-#[test]
 fn clear_lets_go_of_each_box_and_undoes_none(rt: HostRuntime) -> Result<(), Fail> {
     let alloc = rt.alloc();
     let below = Counts::new(alloc)?;
@@ -449,25 +360,5 @@ fn clear_lets_go_of_each_box_and_undoes_none(rt: HostRuntime) -> Result<(), Fail
     );
     assert_eq!(rt; counts, [(1, 0, 1), (1, 1, 1)]);
     assert_eq!(rt; counts, [below.all(), above.all()]);
-    Ok(())
-}
-
-#[test]
-fn texts_are_those_of_the_steps(rt: HostRuntime) -> Result<(), Fail> {
-    let alloc = rt.alloc();
-    let mut stack: Stack<Titled> = Stack::new(alloc, blank(alloc)?, 0);
-    let erase = Titled {
-        text: "Erase",
-        action: "erase tiles",
-    };
-    let mut seen = [(stack.undo_text(), stack.redo_text()) == ("", ""); 6];
-    seen[1] = push(&mut stack, stamp()).is_ok() && push(&mut stack, erase).is_ok();
-    seen[2] = (stack.undo_text(), stack.redo_text()) == ("erase tiles", "");
-    seen[3] = set_index(&mut stack, 1).is_ok();
-    seen[4] = (stack.undo_text(), stack.redo_text()) == ("stamp tiles", "erase tiles");
-    let texts = [stack.text(0), stack.text(1), stack.text(2)];
-    seen[5] = texts == [Some("Stamp"), Some("Erase"), None];
-    drop(stack);
-    assert_eq!(rt; seen, [true; 6]);
     Ok(())
 }

@@ -7,7 +7,6 @@ use std::test::Fail;
 
 mod faults;
 mod flushes;
-mod options;
 mod stores;
 
 /// More than a test's calls, and more than its bytes.
@@ -148,23 +147,6 @@ fn read_script(alloc: Global, rows: &str) -> Result<Script, Fail> {
     Ok(script)
 }
 
-/// Bytes that are many of one piece between two others.
-fn stretched(
-    alloc: Global,
-    front: &[u8],
-    piece: &[u8],
-    count: u32,
-    back: &[u8],
-) -> Result<Vec<u8>, AllocError> {
-    let mut bytes = Vec::new(alloc);
-    bytes.extend_from_slice(front)?;
-    for _ in 0..count {
-        bytes.extend_from_slice(piece)?;
-    }
-    bytes.extend_from_slice(back)?;
-    Ok(bytes)
-}
-
 /// How many lines of a session end within its first bytes.
 fn whole_lines(session: &[u8], count: usize) -> usize {
     session
@@ -181,17 +163,4 @@ fn first_replies(replies: &str, count: usize) -> &str {
         .take(count)
         .fold(0usize, |len, reply| len.saturating_add(reply.len()));
     replies.get(..len).unwrap_or(replies)
-}
-
-#[test]
-fn names_each_run_fault(rt: HostRuntime) -> Result<(), Fail> {
-    let faults = [
-        (RunFault::Read, "read failed"),
-        (RunFault::Write, "write failed"),
-        (RunFault::Memory, "no memory"),
-    ];
-    for (fault, words) in faults {
-        assert_eq!(rt; format!(in rt.alloc(); "{fault}")?.as_str(), words);
-    }
-    Ok(())
 }

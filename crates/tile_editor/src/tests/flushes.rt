@@ -1,7 +1,5 @@
-use super::{
-    MANY, ROW_1, Sink, Source, WHOLE, first_replies, read_script, stretched, taken, whole_lines,
-};
-use crate::run::{Summary, run};
+use super::{MANY, ROW_1, Sink, Source, WHOLE, first_replies, read_script, taken, whole_lines};
+use crate::run::run;
 use map_store::MemoryStore;
 use std::cell::Cell;
 use std::io;
@@ -106,43 +104,5 @@ fn each_read_finds_all_replies_flushed(rt: HostRuntime) -> Result<(), Fail> {
             assert_eq!(rt; reader.seen.as_slice(), due.as_slice(), "by {step}");
         }
     }
-    Ok(())
-}
-
-#[test]
-fn writes_once_a_reply(rt: HostRuntime) -> Result<(), Fail> {
-    let alloc = rt.alloc();
-    let script = read_script(alloc, ROW_1)?;
-    let session = script.session.as_bytes();
-    let bytes = stretched(alloc, session, b"undo\nredo\n\n# note\n", 1000, b"")?;
-    let mut source = Source {
-        bytes: &bytes,
-        step: WHOLE,
-        calls_left: MANY,
-    };
-    let mut sink = Sink::new(alloc, WHOLE, MANY, MANY);
-    let mut store = MemoryStore::new(alloc);
-    let summary = run(alloc, &mut source, &mut sink, &mut store, 0)?;
-    assert_eq!(rt;
-        summary,
-        Summary {
-            lines: 4007,
-            replies: 2007
-        }
-    );
-    assert_eq!(rt; MANY.saturating_sub(sink.writes_left), 2007);
-
-    let mut source = Source {
-        bytes: &bytes,
-        step: WHOLE,
-        calls_left: MANY,
-    };
-    let mut writer = BufWriter::new(alloc, Sink::new(alloc, WHOLE, MANY, MANY))?;
-    assert_eq!(rt;
-        run(alloc, &mut source, &mut writer, &mut store, 0)?,
-        summary
-    );
-    assert!(rt; MANY.saturating_sub(writer.get_ref().writes_left) < 20);
-    assert!(rt; writer.get_ref().text() == sink.text());
     Ok(())
 }
