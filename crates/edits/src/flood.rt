@@ -1,8 +1,8 @@
 // The cells that a fill takes, word by word.
-ghost use Rattle.std.specs.Prelude.{◌≡◌, ◌≢◌, ℕ, ◌+◌, ◌-◌, ◌*◌, ◌/◌, ◌%◌, ◌<◌, ◌≤◌, ◌↔◌, ◌&&◌, [], suc, IfOk, OnOk, true, false, length, nat_eq, nat_lt};
+ghost use Rattle.std.specs.Prelude.{◌≡◌, ◌≢◌, ℕ, ◌+◌, ◌-◌, ◌*◌, ◌/◌, ◌%◌, ◌<◌, ◌≤◌, ◌↔◌, ◌&&◌, [], suc, IfOk, OnOk, true, false, nat_eq, nat_lt};
 ghost use Rattle.std.specs.Int.{bit_at};
 ghost use Rattle.edits.specs.Joining.{AreJoined};
-ghost use Rattle.edits.specs.Flooding.{AreNear, InBatch, IsBatch, IsClosed, IsGround, IsLed, IsSound, Spreads, free_at, free_in, is_taken, start_of, taken_at, work_left};
+ghost use Rattle.edits.specs.Flooding.{AreNear, InBatch, IsBatch, IsClosed, IsGround, IsLed, IsSound, Spreads, free_at, free_in, is_taken, start_of, taken_at};
 ghost use Rattle.edits.specs.Marks.{is_marked, room};
 
 use crate::ground::Ground;

@@ -1,4 +1,4 @@
-ghost use Rattle.std.specs.Prelude.{◌≡◌, ◌+◌, ◌-◌, ◌*◌, ◌^◌, ◌↔◌, ◌<◌, ◌≤◌, false, [], ◌∷◌, ◌++◌, length, IsTrue, IfOk, OnOk, OnErr, IfSome, IfNone, Ok, Some, None, vec_len, slice_range, take, drop};
+ghost use Rattle.std.specs.Prelude.{◌≡◌, ◌+◌, ◌-◌, ◌^◌, ◌↔◌, ◌<◌, ◌≤◌, false, [], ◌∷◌, ◌++◌, length, IsTrue, IfOk, OnOk, OnErr, IfSome, IfNone, Ok, Some, None, vec_len, slice_range, take, drop};
 ghost use Rattle.std.specs.Bool.{OnTrue, OnFalse};
 ghost use Rattle.std.specs.Io.KnownBytes.{IsAtEnd, Consumes, Keeps};
 ghost use Rattle.lines.specs.Lines.{Reading, fresh, budget, HasLine, first_newline, input_left, SameInput, FindsLine, HasNoNewline, SkipsLine, AsksInNeed, SameCalls, HasFailed};

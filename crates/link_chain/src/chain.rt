@@ -1,4 +1,4 @@
-ghost use Rattle.std.specs.Prelude.{◌≡◌, ◌+◌, ◌-◌, ◌^◌, ◌<◌, ◌≤◌, ◌++◌, [], ◌∷◌, length, take, drop, slice_get, slice_set, Some, IfOk, IfErr, IfSome, IsSomeAnd};
+ghost use Rattle.std.specs.Prelude.{◌≡◌, ◌+◌, ◌-◌, ◌^◌, ◌<◌, ◌≤◌, ◌++◌, [], length, take, drop, slice_get, slice_set, Some, IfOk, IfErr, IfSome, IsSomeAnd};
 ghost use Rattle.std.specs.List.{insert, remove};
 ghost use Rattle.std.specs.Borrow.{sem};
 ghost use Rattle.link_chain.specs.Lending.{LendsItem};

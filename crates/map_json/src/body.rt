@@ -1,6 +1,5 @@
 // What a layer holds, by its type.
-ghost use Rattle.std.specs.Prelude.{◌≡◌, ◌*◌, ◌≤◌, codes, option_map, IfOk};
-ghost use Rattle.serde_json.specs.Find.{get_member};
+ghost use Rattle.std.specs.Prelude.{◌≡◌, ◌*◌, ◌≤◌, option_map, IfOk};
 ghost use Rattle.serde_json.specs.View.{view as data_of};
 ghost use Rattle.map_model.specs.Keeping.{body_names};
 ghost use Rattle.map_model.specs.declared.limits.TheConstants.{MAX_CELLS};

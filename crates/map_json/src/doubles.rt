@@ -1,8 +1,8 @@
 // Whether what must differ does, and ids are below the next one.
-ghost use Rattle.std.specs.Prelude.{◌≡◌, ◌==◌, ◌++◌, map, nat_lt, IfOk, OnOk};
+ghost use Rattle.std.specs.Prelude.{◌≡◌, ◌==◌, ◌++◌, nat_lt, IfOk, OnOk};
 ghost use Rattle.std.specs.List.{list_all, flat_map};
 ghost use Rattle.std.specs.Ordering.{is_eq};
-ghost use Rattle.map_model.specs.WellFormed.{layer_ids, object_ids, object_ids_in, first_ids_of, names_of_property};
+ghost use Rattle.map_model.specs.WellFormed.{layer_ids, object_ids, object_ids_in, first_ids_of};
 ghost use Rattle.map_json.specs.Distinctness.{are_distinct, has_no_double, are_below_next, lists_in, lists_of_layer, are_named_apart};
 ghost use Rattle.map_model.specs.declared.parts.Body.TheVariants.{Objects};
 

@@ -1,5 +1,5 @@
 // A JSON object while a map is read or written.
-ghost use Rattle.std.specs.Prelude.{◌≡◌, codes, option_map, OnOk, IfOk};
+ghost use Rattle.std.specs.Prelude.{◌≡◌, option_map, OnOk, IfOk};
 ghost use Rattle.serde_json.specs.Data.{object, put as with_member};
 ghost use Rattle.serde_json.specs.Find.{get_member, as_object};
 ghost use Rattle.serde_json.specs.View.{view as data_of, members_view};

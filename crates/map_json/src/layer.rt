@@ -4,9 +4,8 @@ ghost use Rattle.serde_json.specs.Find.{get_member};
 ghost use Rattle.serde_json.specs.View.{view as data_of};
 ghost use Rattle.map_model.specs.Keeping.{common_names};
 ghost use Rattle.map_model.specs.declared.limits.TheConstants.{MAX_CELLS};
-ghost use Rattle.map_model.specs.declared.parts.Encoding.TheVariants.{Array};
 ghost use Rattle.map_json.specs.Members.{without_all};
-ghost use Rattle.map_json.specs.Steps.{Gives, required, absent_means};
+ghost use Rattle.map_json.specs.Steps.{Gives};
 ghost use Rattle.map_json.specs.Reading.{layer_at};
 
 use crate::body::{body, layer_type};

@@ -4,7 +4,7 @@ ghost use Rattle.serde_json.specs.Find.{get_member};
 ghost use Rattle.serde_json.specs.View.{view as data_of};
 ghost use Rattle.map_model.specs.Keeping.{object_names};
 ghost use Rattle.map_json.specs.Members.{without_all};
-ghost use Rattle.map_json.specs.Steps.{Gives, optional};
+ghost use Rattle.map_json.specs.Steps.{optional};
 ghost use Rattle.map_json.specs.Scalars.{whole_at};
 ghost use Rattle.map_json.specs.Reading.{object_at, placing_of};
 

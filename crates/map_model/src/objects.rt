@@ -1,5 +1,5 @@
 // The objects of a layer's body, and changes of the objects in a list of layers.
-ghost use Rattle.std.specs.Prelude.{◌≡◌, ◌+◌, ◌<◌, ◌≤◌, ◌^◌, Some, IfSome, IsSome, IsSomeAnd, find, length, slice_get, option_and_then, position};
+ghost use Rattle.std.specs.Prelude.{◌≡◌, ◌<◌, ◌≤◌, Some, IfSome, IsSomeAnd, find, length, slice_get, option_and_then, position};
 ghost use Rattle.std.specs.Option.{option_copied, option_map};
 ghost use Rattle.std.specs.List.{insert, remove};
 ghost use Rattle.map_model.specs.declared.limits.TheConstants.{MAX_OBJECTS};

@@ -5,7 +5,7 @@ ghost use Rattle.std.specs.Borrow.{sem};
 ghost use Rattle.map_model.specs.declared.limits.TheConstants.{MAX_PROPERTIES};
 ghost use Rattle.map_model.specs.Lending.{LendsOfLayer, LendsOfObject, LendsOfPlaced, LendsProperties};
 ghost use Rattle.map_model.specs.Lists.{Distinct};
-ghost use Rattle.map_model.specs.Objects.{object_at, objects_in, objects_of};
+ghost use Rattle.map_model.specs.Objects.{objects_in, objects_of};
 ghost use Rattle.map_model.specs.Parts.{has_id};
 ghost use Rattle.map_model.specs.Properties.{has_name, layer_properties, object_properties, properties_of, property_at, property_with_setting, setting_of, with_property, with_property_at, without_property_at};
 ghost use Rattle.map_model.specs.WellFormed.{IsWellFormed, layer_ids};

@@ -1,6 +1,6 @@
 // Tilesets: where they stand, and whether they are in use.
-ghost use Rattle.std.specs.Prelude.{◌≡◌, Some, IfSome};
-ghost use Rattle.std.specs.List.{flat_map, list_any};
+ghost use Rattle.std.specs.Prelude.{◌≡◌, Some};
+ghost use Rattle.std.specs.List.{list_any};
 ghost use Rattle.map_model.specs.NewMap.{external_tileset};
 ghost use Rattle.map_model.specs.Tilesets.{in_use, tileset_place, values_in, values_of, gids_of};
 ghost use Rattle.map_model.specs.Uses.{base_limit, end_of, is_between, nearer};

@@ -1,7 +1,7 @@
-ghost use Rattle.std.specs.Prelude.{◌≡◌, ℕ, ◌+◌, ◌≤◌, ◌↔◌, IsTrue, IfOk, IfSome, IfNone, List, true};
+ghost use Rattle.std.specs.Prelude.{◌≡◌, ℕ, ◌+◌, ◌≤◌, ◌↔◌, IsTrue, IfOk, IfSome, IfNone, List};
 ghost use Rattle.std.specs.FinSet as set;
-ghost use Rattle.region.specs.Cells.{in_rectangle, in_moved_cut, set_of, cells_of, IsFrom, IsInRowOrder};
-ghost use Rattle.region.specs.Runs.{HasNone, IsMaximalRuns, IsNextRun, in_runs};
+ghost use Rattle.region.specs.Cells.{in_rectangle, in_moved_cut, set_of, cells_of, IsInRowOrder};
+ghost use Rattle.region.specs.Runs.{HasNone, IsMaximalRuns, IsNextRun};
 ghost use Rattle.region.specs.declared.runs.Run.{Run as RunOf};
 
 use crate::next::next_in;

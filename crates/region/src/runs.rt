@@ -1,5 +1,5 @@
 // Runs, and what two of them have to do with each other.
-ghost use Rattle.std.specs.Prelude.{◌≡◌, ℕ, ℤ, ◌+◌, ◌<◌, ◌≤◌, ◌&&◌, ◌↔◌, IsTrue, IfSome, max, false};
+ghost use Rattle.std.specs.Prelude.{◌≡◌, ℕ, ◌+◌, ◌<◌, ◌≤◌, ◌&&◌, ◌↔◌, IsTrue, IfSome, max};
 ghost use Rattle.region.specs.Runs.{IsRun, in_run};
 ghost use Rattle.region.specs.Walks.{LiesBehind, IsPart, in_option, is_before, is_after};
 
