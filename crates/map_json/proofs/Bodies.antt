@@ -1,9 +1,9 @@
 -- What a layer holds, read from what is left after the members of every layer were taken out.
 use Rattle.std.proofs.Common.{◌≡◌, ℕ, List, [], ◌∷◌, bytes_eq, false, Bool, true, ◌||◌, refl, ◌∙◌, true≢false}
-use Rattle.std.specs.Prelude.{codes}
 use Rattle.std.specs.List.{list_any}
 use Rattle.serde_json.specs.Data.{Members}
 use Rattle.serde_json.specs.Find.{get_member}
+use Rattle.map_model.specs.declared.names.TheConstants.{WIDTH, HEIGHT, ENCODING, COMPRESSION, DATA, OBJECTS}
 use Rattle.map_model.specs.Keeping.{common_names, body_names, layer_names}
 use Rattle.map_model.specs.declared.parts.Body.{Body}
 use Rattle.map_json.specs.declared.body.LayerType.{LayerType}
@@ -30,8 +30,8 @@ pub body_by_common : (kind : LayerType) (width height : ℕ) (ms : Members) → 
 unfolding tiles_of objects_of
 body_by_common TileLayer width height ms =
     let stays : (q : List ℕ) → list_any (bytes_eq q) common_names ≡ false → get_member q (without_all common_names ms) ≡ get_member q ms = λ q e. get_member-without_all q common_names ms e in
-    rw (stays (codes "encoding") refl, stays (codes "compression") refl, stays (codes "width") refl, stays (codes "height") refl, stays (codes "data") refl) refl
-body_by_common ObjectGroup width height ms = rw (get_member-without_all (codes "objects") common_names ms refl) refl
+    rw (stays ENCODING.now refl, stays COMPRESSION.now refl, stays WIDTH.now refl, stays HEIGHT.now refl, stays DATA.now refl) refl
+body_by_common ObjectGroup width height ms = rw (get_member-without_all OBJECTS.now common_names ms refl) refl
 body_by_common ImageLayer width height ms = refl
 
 pub without_layer_names : (b : Body) (ms : Members) → without_all (layer_names b) ms ≡ without_all (body_names b) (without_all common_names ms)

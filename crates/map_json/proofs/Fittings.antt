@@ -1,14 +1,16 @@
 -- A map that was read, with the tests passed that take all of it, is well formed.
 use Rattle.std.proofs.Common.{◌≡◌, ℕ, ◌*◌, ◌≤◌, List, [], ◌∷◌, map, length, Bool, true, false, not, ◌&&◌, Ordering, Less, Equal, Greater, nat_cmp, Some, Ok, true≢false, refl, sym, ap, ◌∙◌, subst, arith}
-use Rattle.std.specs.Prelude.{◌==◌, codes, nat_le, nat_lt}
+use Rattle.std.specs.Prelude.{◌==◌, nat_le, nat_lt}
 use Rattle.std.specs.List.{list_all, flat_map}
 use Rattle.std.specs.Cmp.Lexicographic.{slice_cmp}
 use Rattle.std.specs.Ordering.{match_ordering}
 use Rattle.std.proofs.lemmas.Bool.{leb-true}
 use Rattle.std.proofs.lemmas.List.Folds.{list_all-append}
+use Rattle.std.specs.Option.{ok_or}
 use Rattle.serde_json.specs.Data.{Data, null, boolean, number, string, array, object, Members, no_members, member, depth}
 use Rattle.serde_json.specs.Find.{get_member, as_object}
 use Rattle.serde_json.specs.Written.{members_have_float}
+use Rattle.map_model.specs.declared.names.TheConstants.{TYPE, PROPERTIES, WIDTH, HEIGHT, TILE_WIDTH, TILE_HEIGHT, INFINITE, NEXT_LAYER_ID, NEXT_OBJECT_ID, LAYERS, TILESETS, VERSION}
 use Rattle.map_model.specs.declared.limits.TheConstants.{MAX_SIDE, MAX_CELLS, MAX_TILE_SIDE, MAX_LAYERS, MAX_TILESETS, MAX_NEXT_ID, MAX_PROPERTIES}
 use Rattle.map_model.specs.declared.parts.Property.{Property}
 use Rattle.map_model.specs.declared.parts.Object.{Object}
@@ -21,7 +23,7 @@ use Rattle.map_model.specs.Keeping.{AreKept, map_level, layer_level, object_leve
 use Rattle.map_model.specs.WellFormed.{IsSize, IsTileSize, IsTileset, AreProperties, IsObject, IsBody, IsLayer, IsWellFormed, names_of_property, ids_of, layer_ids, ids_of_object, object_ids_in, object_ids_of, object_ids, first_ids_of}
 use Rattle.map_json.specs.Members.{without, without_all}
 use Rattle.map_json.specs.declared.fault.MapRefusal.TheVariants.{Fraction, Infinite, IdUsedTwice, OverLimit, NotAMap}
-use Rattle.map_json.specs.Steps.{or_refused, check, required, absent_means}
+use Rattle.map_json.specs.Steps.{required, absent_means}
 use Rattle.map_json.specs.Scalars.{whole_at, truth_at}
 use Rattle.map_json.specs.Entries.{entries_at}
 use Rattle.map_json.specs.Reading.{property_at, properties_of, tileset_at, layer_at}
@@ -31,7 +33,7 @@ use Rattle.map_json.proofs.Fine.{AreFineMembers, IsReadTree}
 use Rattle.map_json.proofs.FineLemmas.{IsFine-get_member, members_have_float-fine, members_depth-fine, AreFineMembers-read, AreReadMembers-without, members_depth-without}
 use Rattle.map_json.proofs.MembersLemmas.{get_member-without, LacksAll-without_all, without-absent}
 use Rattle.map_json.proofs.Words.{both}
-use Rattle.map_json.proofs.Sound.{by_bind, ok_is, or_refused_ok, required_ok, chosen, required_whole_sound, entries_sound, WereRead, properties_sound}
+use Rattle.map_json.proofs.Sound.{by_bind, by_check, ok_is, ok_or_ok, required_ok, required_whole_sound, entries_sound, WereRead, properties_sound}
 use Rattle.map_json.proofs.Owners.{WasReadObject, tileset_sound}
 use Rattle.map_json.proofs.Layers.{WasReadBody, WasReadLayer, layer_sound}
 use Rattle.map_json.proofs.Apart.{either_false, Distinct-numbers, Distinct-texts, Each-flat_map, AreIds-read}
@@ -96,10 +98,10 @@ fine_without_all : (n : ℕ) (v : List ℕ) (ks : List (List ℕ)) (ms : Members
 fine_without_all n v [] ms h = h
 fine_without_all n v (k ∷ ks) ms h = fine_without_all n v ks (without k ms) (fine_without n v k ms h)
 
-kept_of_map : (ms : Members) → AreFineMembers 126 (without (codes "version") ms) → AreKept map_level map_names (without_all map_names ms)
+kept_of_map : (ms : Members) → AreFineMembers 126 (without VERSION.now ms) → AreKept map_level map_names (without_all map_names ms)
 kept_of_map ms h =
     let lacks = LacksAll-without_all map_names ms in
-    let fine = subst (λ (x : Members). AreFineMembers 126 x) (without-absent (codes "version") (without_all map_names ms) lacks.1.1.1.1.1.1.1.1.1.1.1.0) (fine_without_all 126 (codes "version") map_names ms h) in
+    let fine = subst (λ (x : Members). AreFineMembers 126 x) (without-absent VERSION.now (without_all map_names ms) lacks.1.1.1.1.1.1.1.1.1.1.1.0) (fine_without_all 126 VERSION.now map_names ms h) in
     let deep = members_depth-fine 126 (without_all map_names ms) fine in
     record { unread = lacks; whole = members_have_float-fine 126 (without_all map_names ms) fine; shallow = omega arith }
 
@@ -119,39 +121,38 @@ record WasReadMap (m : MapParts) : Type 0 where
   properties : WereRead map_level m.properties
   kept : AreKept map_level map_names m.kept
 
-parts_sound : (ms : Members) (m : MapParts) → AreFineMembers 126 (without (codes "version") ms) → parts_of ms ≡ Ok m → WasReadMap m
+parts_sound : (ms : Members) (m : MapParts) → AreFineMembers 126 (without VERSION.now ms) → parts_of ms ≡ Ok m → WasReadMap m
 unfolding parts_of
 parts_sound ms m fine e =
-    let others = without (codes "version") ms in
-    by_bind (required (whole_at 1 MAX_SIDE) (get_member (codes "width") ms)) _ m e (λ width width_is e1.
-    by_bind (required (whole_at 1 MAX_SIDE) (get_member (codes "height") ms)) _ m e1 (λ height height_is e2.
-    by_bind (check (nat_le (width * height) MAX_CELLS) OverLimit) _ m e2 (λ a a_is e3.
-    by_bind (required (whole_at 1 MAX_TILE_SIDE) (get_member (codes "tilewidth") ms)) _ m e3 (λ tile_width tile_width_is e4.
-    by_bind (required (whole_at 1 MAX_TILE_SIDE) (get_member (codes "tileheight") ms)) _ m e4 (λ tile_height tile_height_is e5.
-    by_bind (absent_means false truth_at (get_member (codes "infinite") ms)) _ m e5 (λ infinite infinite_is e6.
-    by_bind (check (not infinite) Infinite) _ m e6 (λ b b_is e7.
-    by_bind (required (whole_at 1 MAX_NEXT_ID) (get_member (codes "nextlayerid") ms)) _ m e7 (λ next_layer_id next_layer_is e8.
-    by_bind (required (whole_at 1 MAX_NEXT_ID) (get_member (codes "nextobjectid") ms)) _ m e8 (λ next_object_id next_object_is e9.
-    by_bind (required (entries_at MAX_LAYERS (layer_at width height)) (get_member (codes "layers") ms)) _ m e9 (λ layers layers_is e10.
-    by_bind (required (entries_at MAX_TILESETS tileset_at) (get_member (codes "tilesets") ms)) _ m e10 (λ tilesets tilesets_is e11.
+    let others = without VERSION.now ms in
+    by_bind (required (whole_at 1 MAX_SIDE) (get_member WIDTH.now ms)) _ m e (λ width width_is e1.
+    by_bind (required (whole_at 1 MAX_SIDE) (get_member HEIGHT.now ms)) _ m e1 (λ height height_is e2.
+    by_check (nat_le (width * height) MAX_CELLS) OverLimit _ m e2 (λ cells_fit e3.
+    by_bind (required (whole_at 1 MAX_TILE_SIDE) (get_member TILE_WIDTH.now ms)) _ m e3 (λ tile_width tile_width_is e4.
+    by_bind (required (whole_at 1 MAX_TILE_SIDE) (get_member TILE_HEIGHT.now ms)) _ m e4 (λ tile_height tile_height_is e5.
+    by_bind (absent_means false truth_at (get_member INFINITE.now ms)) _ m e5 (λ infinite infinite_is e6.
+    by_check (not infinite) Infinite _ m e6 (λ finite e7.
+    by_bind (required (whole_at 1 MAX_NEXT_ID) (get_member NEXT_LAYER_ID.now ms)) _ m e7 (λ next_layer_id next_layer_is e8.
+    by_bind (required (whole_at 1 MAX_NEXT_ID) (get_member NEXT_OBJECT_ID.now ms)) _ m e8 (λ next_object_id next_object_is e9.
+    by_bind (required (entries_at MAX_LAYERS (layer_at width height)) (get_member LAYERS.now ms)) _ m e9 (λ layers layers_is e10.
+    by_bind (required (entries_at MAX_TILESETS tileset_at) (get_member TILESETS.now ms)) _ m e10 (λ tilesets tilesets_is e11.
     by_bind (properties_of ms) _ m e11 (λ properties properties_is e12.
-    let w = required_whole_sound 1 MAX_SIDE (get_member (codes "width") ms) width width_is in
-    let h = required_whole_sound 1 MAX_SIDE (get_member (codes "height") ms) height height_is in
-    let cells = chosen (nat_le (width * height) MAX_CELLS) (Ok tt) OverLimit a a_is in
-    let tw = required_whole_sound 1 MAX_TILE_SIDE (get_member (codes "tilewidth") ms) tile_width tile_width_is in
-    let th = required_whole_sound 1 MAX_TILE_SIDE (get_member (codes "tileheight") ms) tile_height tile_height_is in
-    let next_layer = required_whole_sound 1 MAX_NEXT_ID (get_member (codes "nextlayerid") ms) next_layer_id next_layer_is in
-    let next_object = required_whole_sound 1 MAX_NEXT_ID (get_member (codes "nextobjectid") ms) next_object_id next_object_is in
-    let layers_in = required_ok (entries_at MAX_LAYERS (layer_at width height)) (get_member (codes "layers") ms) layers layers_is in
-    let layers_fine = IsFine-get_member 126 (codes "layers") others layers_in.0 fine (get_member-without (codes "layers") (codes "version") ms refl ∙ layers_in.1) in
+    let w = required_whole_sound 1 MAX_SIDE (get_member WIDTH.now ms) width width_is in
+    let h = required_whole_sound 1 MAX_SIDE (get_member HEIGHT.now ms) height height_is in
+    let tw = required_whole_sound 1 MAX_TILE_SIDE (get_member TILE_WIDTH.now ms) tile_width tile_width_is in
+    let th = required_whole_sound 1 MAX_TILE_SIDE (get_member TILE_HEIGHT.now ms) tile_height tile_height_is in
+    let next_layer = required_whole_sound 1 MAX_NEXT_ID (get_member NEXT_LAYER_ID.now ms) next_layer_id next_layer_is in
+    let next_object = required_whole_sound 1 MAX_NEXT_ID (get_member NEXT_OBJECT_ID.now ms) next_object_id next_object_is in
+    let layers_in = required_ok (entries_at MAX_LAYERS (layer_at width height)) (get_member LAYERS.now ms) layers layers_is in
+    let layers_fine = IsFine-get_member 126 LAYERS.now others layers_in.0 fine (get_member-without LAYERS.now VERSION.now ms refl ∙ layers_in.1) in
     let layers_read = entries_sound (WasReadLayer layer_level (width * height)) (layer_at width height) 125 (layer_sound layer_level 120 (omega arith) width height) MAX_LAYERS layers_in.0 layers layers_fine layers_in.2 in
-    let tilesets_in = required_ok (entries_at MAX_TILESETS tileset_at) (get_member (codes "tilesets") ms) tilesets tilesets_is in
-    let tilesets_fine = IsFine-get_member 126 (codes "tilesets") others tilesets_in.0 fine (get_member-without (codes "tilesets") (codes "version") ms refl ∙ tilesets_in.1) in
+    let tilesets_in = required_ok (entries_at MAX_TILESETS tileset_at) (get_member TILESETS.now ms) tilesets tilesets_is in
+    let tilesets_fine = IsFine-get_member 126 TILESETS.now others tilesets_in.0 fine (get_member-without TILESETS.now VERSION.now ms refl ∙ tilesets_in.1) in
     let tilesets_read = entries_sound IsTileset tileset_at 125 (tileset_sound 124 (omega arith)) MAX_TILESETS tilesets_in.0 tilesets tilesets_fine tilesets_in.2 in
-    let properties_in : properties_of others ≡ Ok properties = ap (absent_means [] (entries_at MAX_PROPERTIES property_at)) (get_member-without (codes "properties") (codes "version") ms refl) ∙ properties_is in
+    let properties_in : properties_of others ≡ Ok properties = ap (absent_means [] (entries_at MAX_PROPERTIES property_at)) (get_member-without PROPERTIES.now VERSION.now ms refl) ∙ properties_is in
     let kept = without_all map_names ms in
     let made : WasReadMap (record { width = width; height = height; tile_width = tile_width; tile_height = tile_height; layers = layers; tilesets = tilesets; properties = properties; next_layer_id = next_layer_id; next_object_id = next_object_id; kept = kept }) = record {
-      size = record { wide = w.0; high = h.0; width_limit = w.1; height_limit = h.1; cells_limit = leb-true (width * height) MAX_CELLS cells.0 };
+      size = record { wide = w.0; high = h.0; width_limit = w.1; height_limit = h.1; cells_limit = leb-true (width * height) MAX_CELLS cells_fit };
       tile_size = record { wide = tw.0; high = th.0; width_limit = tw.1; height_limit = th.1 };
       next_layer_low = next_layer.0;
       next_layer_high = next_layer.1;
@@ -169,9 +170,9 @@ parts_sound ms m fine e =
 consistent_sound : (p m : MapParts) → consistent p ≡ Ok m → (p ≡ m) × (has_no_double p ≡ true) × (are_below_next p ≡ true)
 unfolding consistent
 consistent_sound p m e =
-    by_bind (check (has_no_double p) IdUsedTwice) _ m e (λ a a_is e1.
-    by_bind (check (are_below_next p) OverLimit) _ m e1 (λ b b_is e2.
-    (ok_is p m e2, (chosen (has_no_double p) (Ok tt) IdUsedTwice a a_is).0, (chosen (are_below_next p) (Ok tt) OverLimit b b_is).0)))
+    by_check (has_no_double p) IdUsedTwice _ m e (λ apart e1.
+    by_check (are_below_next p) OverLimit _ m e1 (λ below e2.
+    (ok_is p m e2, apart, below)))
 
 IsWellFormed-read : (m : MapParts) → WasReadMap m → has_no_double m ≡ true → are_below_next m ≡ true → IsWellFormed m
 IsWellFormed-read m h apart below =
@@ -205,7 +206,7 @@ not_true : (b : Bool) → not b ≡ true → b ≡ false
 not_true true e = absurd (true≢false (sym e))
 not_true false e = refl
 
-root_fine : (d : Data) (ms : Members) → as_object d ≡ Some ms → has_fraction d ≡ false → IsReadTree d → depth d ≤ 127 → AreFineMembers 126 (without (codes "version") ms)
+root_fine : (d : Data) (ms : Members) → as_object d ≡ Some ms → has_fraction d ≡ false → IsReadTree d → depth d ≤ 127 → AreFineMembers 126 (without VERSION.now ms)
 root_fine null ms is e h le = absurd cc
 root_fine (boolean b) ms is e h le = absurd cc
 root_fine (number x) ms is e h le = absurd cc
@@ -213,20 +214,20 @@ root_fine (string s) ms is e h le = absurd cc
 root_fine (array ds) ms is e h le = absurd cc
 root_fine (object ks) ms is e h le =
     let same : ks ≡ ms = cc in
-    let f = either_false (members_have_float (without (codes "version") ks)) (version_has_fraction (get_member (codes "version") ks)) e in
-    let less = members_depth-without (codes "version") ks in
-    subst (λ (x : Members). AreFineMembers 126 (without (codes "version") x)) same
-    (AreFineMembers-read 126 (without (codes "version") ks) (AreReadMembers-without (codes "version") ks h) f.0 (omega arith))
+    let f = either_false (members_have_float (without VERSION.now ks)) (version_has_fraction (get_member VERSION.now ks)) e in
+    let less = members_depth-without VERSION.now ks in
+    subst (λ (x : Members). AreFineMembers 126 (without VERSION.now x)) same
+    (AreFineMembers-read 126 (without VERSION.now ks) (AreReadMembers-without VERSION.now ks h) f.0 (omega arith))
 
 -- what a tree says is well formed
 pub IsWellFormed-map_of : (d : Data) (m : MapParts) → IsReadTree d → depth d ≤ 127 → map_of d ≡ Ok m → IsWellFormed m
 unfolding map_of
 IsWellFormed-map_of d m h le e =
-    by_bind (check (not (has_fraction d)) Fraction) _ m e (λ a a_is e1.
-    by_bind (or_refused NotAMap (as_object d)) _ m e1 (λ ms object e2.
-    by_bind (check (is_map_type (get_member (codes "type") ms)) NotAMap) _ m e2 (λ b b_is e3.
+    by_check (not (has_fraction d)) Fraction _ m e (λ no_fraction e1.
+    by_bind (ok_or (as_object d) NotAMap) _ m e1 (λ ms object e2.
+    by_check (is_map_type (get_member TYPE.now ms)) NotAMap _ m e2 (λ is_map e3.
     by_bind (parts_of ms) _ m e3 (λ p p_is e4.
-    let whole = not_true (has_fraction d) (chosen (not (has_fraction d)) (Ok tt) Fraction a a_is).0 in
-    let fine = root_fine d ms (or_refused_ok NotAMap (as_object d) ms object) whole h le in
+    let whole = not_true (has_fraction d) no_fraction in
+    let fine = root_fine d ms (ok_or_ok (as_object d) NotAMap ms object) whole h le in
     let c = consistent_sound p m e4 in
     subst IsWellFormed c.0 (IsWellFormed-read p (parts_sound ms p fine p_is) c.1 c.2)))))

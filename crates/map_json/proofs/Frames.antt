@@ -8,6 +8,7 @@ use Rattle.std.proofs.lemmas.Map.Text.{is_eq-slice_cmp}
 use Rattle.std.proofs.lemmas.Slice.Eq.{bytes_eq-Decides}
 use Rattle.serde_json.specs.Data.{Data, array, no_items, string, Members, no_members, member, put}
 use Rattle.serde_json.specs.Find.{get_member}
+use Rattle.map_model.specs.declared.names.TheConstants.{TYPE, PROPERTIES, LAYERS, TILESETS, VERSION}
 use Rattle.map_model.specs.declared.parts.MapParts.{MapParts}
 use Rattle.map_json.specs.Appending.{frame_of, in_place, layers_tree, replaced}
 use Rattle.map_json.specs.Members.{Own, put_some, with_own}
@@ -59,19 +60,19 @@ replaced-with_own k d (p ∷ ps) kept =
     replaced-put_some k p.0 d p.1 (with_own ps kept) ∙ ap (put_some p.0 (option_map (in_place k d p.0) p.1)) (replaced-with_own k d ps kept)
 
 -- ---- the map's own
-optional_stays : (d : Data) (o : Option Data) → option_map (in_place (codes "layers") d (codes "properties")) o ≡ o
+optional_stays : (d : Data) (o : Option Data) → option_map (in_place LAYERS.now d PROPERTIES.now) o ≡ o
 optional_stays d None = refl
 optional_stays d (Some e) = refl
 
-own_in_place-own_around : (d : Data) (m : MapParts) → own_in_place (codes "layers") d (own_around (array no_items) m) ≡ own_around d m
+own_in_place-own_around : (d : Data) (m : MapParts) → own_in_place LAYERS.now d (own_around (array no_items) m) ≡ own_around d m
 unfolding own_in_place
 own_in_place-own_around d m =
     ap (λ o. plain_own m
-    ++ (codes "layers", Some d) ∷ (codes "tilesets", Some (array_by tileset_tree m.tilesets)) ∷ (codes "properties", o) ∷ (codes "type", Some (string (codes "map"))) ∷ (codes "version", Some (string (codes "1.10"))) ∷ [])
+    ++ (LAYERS.now, Some d) ∷ (TILESETS.now, Some (array_by tileset_tree m.tilesets)) ∷ (PROPERTIES.now, o) ∷ (TYPE.now, Some (string (codes "map"))) ∷ (VERSION.now, Some (string (codes "1.10"))) ∷ [])
     (optional_stays d (properties_member m.properties))
 
 -- the members of a map are its frame's, with the layers in their place
-pub replaced-frame_of : (m : MapParts) → get_member (codes "layers") m.kept ≡ None → replaced (codes "layers") (layers_tree m) (frame_of m) ≡ with_own (map_own m) m.kept
+pub replaced-frame_of : (m : MapParts) → get_member LAYERS.now m.kept ≡ None → replaced LAYERS.now (layers_tree m) (frame_of m) ≡ with_own (map_own m) m.kept
 replaced-frame_of m absent =
-    replaced-with_own (codes "layers") (layers_tree m) (own_around (array no_items) m) m.kept
-    ∙ rw (replaced-absent (codes "layers") (layers_tree m) m.kept absent) (ap (λ own. with_own own m.kept) (own_in_place-own_around (layers_tree m) m))
+    replaced-with_own LAYERS.now (layers_tree m) (own_around (array no_items) m) m.kept
+    ∙ rw (replaced-absent LAYERS.now (layers_tree m) m.kept absent) (ap (λ own. with_own own m.kept) (own_in_place-own_around (layers_tree m) m))

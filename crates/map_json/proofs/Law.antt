@@ -1,11 +1,12 @@
 -- What is written is read again: properties, objects, tilesets, layers and maps.
 use Rattle.std.proofs.Common.{◌≡◌, ℕ, ◌-◌, ◌*◌, ◌^◌, ◌<◌, ◌≤◌, ℤ, pos, negsuc, eqb, eq-eqb, Bool, true, false, List, [], ◌∷◌, length, Option, Some, None, Result, Ok, refl, ap, ◌∙◌, arith}
-use Rattle.std.specs.Prelude.{codes, nat_le, nat_lt, int_le, neg_ℤ, IfSome}
+use Rattle.std.specs.Prelude.{nat_le, nat_lt, int_le, neg_ℤ, IfSome}
 use Rattle.std.specs.Option.{option_map}
 use Rattle.std.proofs.Math.Dec.{T}
 use Rattle.std.proofs.lemmas.Bool.{lt-ltb, leb-true}
 use Rattle.serde_json.specs.Data.{Data, null, boolean, number, string, array, object, Members}
 use Rattle.serde_json.specs.Find.{get_member, of_integer}
+use Rattle.map_model.specs.declared.names.TheConstants.{ID, NAME, TYPE, VISIBLE, PROPERTIES, WIDTH, HEIGHT, X, Y, GID, FIRST_ID, SOURCE, VALUE}
 use Rattle.map_model.specs.declared.limits.TheConstants.{MAX_NEXT_ID, MAX_PROPERTIES, MAX_FIRST_ID, MAX_PIXELS}
 use Rattle.map_model.specs.declared.parts.Encoding.{Encoding}
 use Rattle.map_model.specs.declared.parts.Encoding.TheVariants.{Array, Base64}
@@ -87,7 +88,7 @@ value_again level (values.Whole (negsuc n)) h = refl
 value_again level (values.Truth b) h = refl
 value_again level (values.Other d) h = other_again d h.kind
 
-property_read : (p : Property) (ms : Members) → get_member (codes "name") ms ≡ Some (string p.name) → get_member (codes "type") ms ≡ Some (string p.kind) → get_member (codes "value") ms ≡ Some (value_tree p.value)
+property_read : (p : Property) (ms : Members) → get_member NAME.now ms ≡ Some (string p.name) → get_member TYPE.now ms ≡ Some (string p.kind) → get_member VALUE.now ms ≡ Some (value_tree p.value)
     → value_of (value_tree p.value) ≡ p.value → without_all property_names ms ≡ p.kept → property_at (object ms) ≡ Ok p
 unfolding property_at text_at
 property_read p ms name kind value held kept = rw (name, kind, value, held, kept) refl
@@ -96,7 +97,7 @@ property_again : (level : ℕ) (p : Property) → IsProperty level p → propert
 unfolding property_tree
 property_again level p h =
     let own = property_own p in
-    property_read p (with_own own p.kept) (get_member-with_own (codes "name") own p.kept) (get_member-with_own (codes "type") own p.kept) (get_member-with_own (codes "value") own p.kept)
+    property_read p (with_own own p.kept) (get_member-with_own NAME.now own p.kept) (get_member-with_own TYPE.now own p.kept) (get_member-with_own VALUE.now own p.kept)
     (value_again level p.value h.value) (without_all-with_own own p.kept refl h.kept.unread)
 
 pub properties_again : (level : ℕ) (ps : List Property) → AreProperties level ps → absent_means [] (entries_at MAX_PROPERTIES property_at) (properties_member ps) ≡ Ok ps
@@ -106,7 +107,7 @@ properties_again level (p ∷ ps) h =
     (all_weaker (IsProperty (property_level level)) (λ q. property_at (property_tree q) ≡ Ok q) (property_again (property_level level)) (p ∷ ps) h.each)
 
 -- ---- tilesets
-tileset_read : (t : Tileset) (ms : Members) → get_member (codes "firstgid") ms ≡ Some (whole_tree t.first_id) → get_member (codes "source") ms ≡ option_map string t.source
+tileset_read : (t : Tileset) (ms : Members) → get_member FIRST_ID.now ms ≡ Some (whole_tree t.first_id) → get_member SOURCE.now ms ≡ option_map string t.source
     → whole_at 1 MAX_FIRST_ID (whole_tree t.first_id) ≡ Ok t.first_id → without_all tileset_names ms ≡ t.kept → tileset_at (object ms) ≡ Ok t
 unfolding tileset_at
 tileset_read t ms first source first_ok kept = rw (first, first_ok, source, text_again t.source, kept) refl
@@ -115,23 +116,23 @@ pub tileset_again : (t : Tileset) → IsTileset t → tileset_at (tileset_tree t
 unfolding tileset_tree
 tileset_again t h =
     let own = tileset_own t in
-    tileset_read t (with_own own t.kept) (get_member-with_own (codes "firstgid") own t.kept)
-    (get_member-with_own (codes "source") own t.kept ∙ or_none (option_map string t.source) (get_member (codes "source") t.kept) h.kept.unread.1.0)
+    tileset_read t (with_own own t.kept) (get_member-with_own FIRST_ID.now own t.kept)
+    (get_member-with_own SOURCE.now own t.kept ∙ or_none (option_map string t.source) (get_member SOURCE.now t.kept) h.kept.unread.1.0)
     (whole_again 1 MAX_FIRST_ID t.first_id h.low h.high) (without_all-with_own own t.kept refl h.kept.unread)
 
 -- ---- objects
 abbrev pixels_tree : ℤ → Data
 pixels_tree z = number (of_integer z)
 
-placing_read : (p : Placing) (ms : Members) → get_member (codes "x") ms ≡ option_map pixels_tree p.x → get_member (codes "y") ms ≡ option_map pixels_tree p.y
-    → get_member (codes "width") ms ≡ option_map pixels_tree p.width → get_member (codes "height") ms ≡ option_map pixels_tree p.height → IsPlacing p → placing_of ms ≡ Ok p
+placing_read : (p : Placing) (ms : Members) → get_member X.now ms ≡ option_map pixels_tree p.x → get_member Y.now ms ≡ option_map pixels_tree p.y
+    → get_member WIDTH.now ms ≡ option_map pixels_tree p.width → get_member HEIGHT.now ms ≡ option_map pixels_tree p.height → IsPlacing p → placing_of ms ≡ Ok p
 unfolding placing_of
 placing_read p ms x y width height h =
     let again = optional_again IsPixels pixels_tree pixels_at pixels_again in
     rw (x, again p.x h.x, y, again p.y h.y, width, again p.width h.width, height, again p.height h.height) refl
 
-object_read : (o : Object) (ms : Members) → get_member (codes "id") ms ≡ Some (whole_tree o.id) → placing_of ms ≡ Ok o.placing → get_member (codes "name") ms ≡ option_map string o.name
-    → get_member (codes "visible") ms ≡ option_map boolean o.visible → get_member (codes "gid") ms ≡ option_map whole_tree o.gid → get_member (codes "properties") ms ≡ properties_member o.properties
+object_read : (o : Object) (ms : Members) → get_member ID.now ms ≡ Some (whole_tree o.id) → placing_of ms ≡ Ok o.placing → get_member NAME.now ms ≡ option_map string o.name
+    → get_member VISIBLE.now ms ≡ option_map boolean o.visible → get_member GID.now ms ≡ option_map whole_tree o.gid → get_member PROPERTIES.now ms ≡ properties_member o.properties
     → id_at (whole_tree o.id) ≡ Ok o.id → optional (whole_at 0 4294967295) (option_map whole_tree o.gid) ≡ Ok o.gid
     → absent_means [] (entries_at MAX_PROPERTIES property_at) (properties_member o.properties) ≡ Ok o.properties → without_all object_names ms ≡ o.kept → object_at (object ms) ≡ Ok o
 unfolding object_at
@@ -145,17 +146,17 @@ object_again level o id_ok h =
     let kept = o.kept in
     let ms = with_own own kept in
     let lacks = h.kept.unread in
-    object_read o ms (get_member-with_own (codes "id") own kept)
+    object_read o ms (get_member-with_own ID.now own kept)
     (placing_read o.placing ms
-    (get_member-with_own (codes "x") own kept ∙ or_none (option_map pixels_tree o.placing.x) (get_member (codes "x") kept) lacks.1.0)
-    (get_member-with_own (codes "y") own kept ∙ or_none (option_map pixels_tree o.placing.y) (get_member (codes "y") kept) lacks.1.1.0)
-    (get_member-with_own (codes "width") own kept ∙ or_none (option_map pixels_tree o.placing.width) (get_member (codes "width") kept) lacks.1.1.1.0)
-    (get_member-with_own (codes "height") own kept ∙ or_none (option_map pixels_tree o.placing.height) (get_member (codes "height") kept) lacks.1.1.1.1.0)
+    (get_member-with_own X.now own kept ∙ or_none (option_map pixels_tree o.placing.x) (get_member X.now kept) lacks.1.0)
+    (get_member-with_own Y.now own kept ∙ or_none (option_map pixels_tree o.placing.y) (get_member Y.now kept) lacks.1.1.0)
+    (get_member-with_own WIDTH.now own kept ∙ or_none (option_map pixels_tree o.placing.width) (get_member WIDTH.now kept) lacks.1.1.1.0)
+    (get_member-with_own HEIGHT.now own kept ∙ or_none (option_map pixels_tree o.placing.height) (get_member HEIGHT.now kept) lacks.1.1.1.1.0)
     h.placing)
-    (get_member-with_own (codes "name") own kept ∙ or_none (option_map string o.name) (get_member (codes "name") kept) lacks.1.1.1.1.1.0)
-    (get_member-with_own (codes "visible") own kept ∙ or_none (option_map boolean o.visible) (get_member (codes "visible") kept) lacks.1.1.1.1.1.1.0)
-    (get_member-with_own (codes "gid") own kept ∙ or_none (option_map whole_tree o.gid) (get_member (codes "gid") kept) lacks.1.1.1.1.1.1.1.0)
-    (get_member-with_own (codes "properties") own kept ∙ or_none (properties_member o.properties) (get_member (codes "properties") kept) lacks.1.1.1.1.1.1.1.1.0)
+    (get_member-with_own NAME.now own kept ∙ or_none (option_map string o.name) (get_member NAME.now kept) lacks.1.1.1.1.1.0)
+    (get_member-with_own VISIBLE.now own kept ∙ or_none (option_map boolean o.visible) (get_member VISIBLE.now kept) lacks.1.1.1.1.1.1.0)
+    (get_member-with_own GID.now own kept ∙ or_none (option_map whole_tree o.gid) (get_member GID.now kept) lacks.1.1.1.1.1.1.1.0)
+    (get_member-with_own PROPERTIES.now own kept ∙ or_none (properties_member o.properties) (get_member PROPERTIES.now kept) lacks.1.1.1.1.1.1.1.1.0)
     id_ok (optional_again IsTileValue whole_tree (whole_at 0 4294967295) gid_again o.gid h.gid) (properties_again level o.properties h.properties)
     (without_all-with_own own kept refl lacks)
 

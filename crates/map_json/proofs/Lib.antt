@@ -21,3 +21,4 @@ pub mod Law
 pub mod MapLaw
 pub mod Returning
 pub mod Frames
+pub mod RoundTrip

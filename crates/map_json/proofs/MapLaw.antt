@@ -9,6 +9,7 @@ use Rattle.std.proofs.lemmas.List.Folds.{list_all-append}
 use Rattle.serde_json.specs.Data.{Data, boolean, string, object, Members, no_members, member}
 use Rattle.serde_json.specs.Find.{get_member}
 use Rattle.serde_json.specs.Written.{has_float, members_have_float}
+use Rattle.map_model.specs.declared.names.TheConstants.{ID, NAME, TYPE, VISIBLE, PROPERTIES, WIDTH, HEIGHT, TILE_WIDTH, TILE_HEIGHT, INFINITE, NEXT_LAYER_ID, NEXT_OBJECT_ID, LAYERS, TILESETS, VERSION, ENCODING, COMPRESSION, DATA, OBJECTS}
 use Rattle.map_model.specs.declared.limits.TheConstants.{MAX_SIDE, MAX_CELLS, MAX_TILE_SIDE, MAX_LAYERS, MAX_TILESETS, MAX_NEXT_ID, MAX_PROPERTIES, MAX_OBJECTS}
 use Rattle.map_model.specs.declared.parts.Encoding.{Encoding}
 use Rattle.map_model.specs.declared.parts.Property.{Property}
@@ -63,19 +64,19 @@ type_again (Tiles e cells) = refl
 type_again (Objects os) = refl
 type_again Other = refl
 
-no_properties : (width height : ℕ) (b : Body) (d : Option Data) → find_own (codes "properties") (body_own width height b) d ≡ d
+no_properties : (width height : ℕ) (b : Body) (d : Option Data) → find_own PROPERTIES.now (body_own width height b) d ≡ d
 no_properties width height (Tiles e cells) d = refl
 no_properties width height (Objects os) d = refl
 no_properties width height Other d = refl
 
-tiles_read : (width height : ℕ) (e : Encoding) (cells : List ℕ) (ms : Members) → get_member (codes "encoding") ms ≡ encoding_member e → get_member (codes "compression") ms ≡ None
-    → get_member (codes "width") ms ≡ Some (whole_tree width) → get_member (codes "height") ms ≡ Some (whole_tree height) → get_member (codes "data") ms ≡ Some (cells_tree e cells)
+tiles_read : (width height : ℕ) (e : Encoding) (cells : List ℕ) (ms : Members) → get_member ENCODING.now ms ≡ encoding_member e → get_member COMPRESSION.now ms ≡ None
+    → get_member WIDTH.now ms ≡ Some (whole_tree width) → get_member HEIGHT.now ms ≡ Some (whole_tree height) → get_member DATA.now ms ≡ Some (cells_tree e cells)
     → cells_at e (width * height) (cells_tree e cells) ≡ Ok cells → tiles_of width height ms ≡ Ok (Tiles e cells)
 unfolding tiles_of
 tiles_read width height e cells ms encoding compression wide high data_is cells_ok =
     rw (encoding, encoding_again e, compression, wide, same_again width, high, same_again height, data_is, cells_ok) refl
 
-objects_read : (os : List Object) (ms : Members) → get_member (codes "objects") ms ≡ Some (array_by object_tree os) → entries_at MAX_OBJECTS object_at (array_by object_tree os) ≡ Ok os → objects_of ms ≡ Ok (Objects os)
+objects_read : (os : List Object) (ms : Members) → get_member OBJECTS.now ms ≡ Some (array_by object_tree os) → entries_at MAX_OBJECTS object_at (array_by object_tree os) ≡ Ok os → objects_of ms ≡ Ok (Objects os)
 unfolding objects_of
 objects_read os ms is ok = rw (is, ok) refl
 
@@ -88,13 +89,13 @@ body_again : (level next width height : ℕ) → next ≤ MAX_NEXT_ID → (l : L
 body_again level next width height few l (Tiles e cells) kept lacks h ids =
     let own = layer_own width height (with_body l (Tiles e cells)) in
     tiles_read width height e cells (with_own own kept)
-    (get_member-with_own (codes "encoding") own kept ∙ or_none (encoding_member e) (get_member (codes "encoding") kept) lacks.1.1.1.1.1.0)
-    (get_member-with_own (codes "compression") own kept ∙ lacks.1.1.1.1.1.1.0)
-    (get_member-with_own (codes "width") own kept) (get_member-with_own (codes "height") own kept) (get_member-with_own (codes "data") own kept)
+    (get_member-with_own ENCODING.now own kept ∙ or_none (encoding_member e) (get_member ENCODING.now kept) lacks.1.1.1.1.1.0)
+    (get_member-with_own COMPRESSION.now own kept ∙ lacks.1.1.1.1.1.1.0)
+    (get_member-with_own WIDTH.now own kept) (get_member-with_own HEIGHT.now own kept) (get_member-with_own DATA.now own kept)
     (cells_tree_again e (width * height) cells h.0 h.1)
 body_again level next width height few l (Objects os) kept lacks h ids =
     let own = layer_own width height (with_body l (Objects os)) in
-    objects_read os (with_own own kept) (get_member-with_own (codes "objects") own kept)
+    objects_read os (with_own own kept) (get_member-with_own OBJECTS.now own kept)
     (entries_again object_tree object_at MAX_OBJECTS os h.0 (objects_again (object_level level) next few os h.1 ids))
 body_again level next width height few l Other kept lacks h ids = refl
 
@@ -103,8 +104,8 @@ kept_again width height l (Tiles e cells) kept lacks = without_all-with_own (lay
 kept_again width height l (Objects os) kept lacks = without_all-with_own (layer_own width height (with_body l (Objects os))) kept refl lacks
 kept_again width height l Other kept lacks = without_all-with_own (layer_own width height (with_body l Other)) kept refl lacks
 
-layer_read : (width height : ℕ) (l : Layer) (ms : Members) → get_member (codes "type") ms ≡ Some (string (type_word l.body)) → get_member (codes "id") ms ≡ Some (whole_tree l.id)
-    → get_member (codes "name") ms ≡ Some (string l.name) → get_member (codes "visible") ms ≡ Some (boolean l.visible) → get_member (codes "properties") ms ≡ properties_member l.properties
+layer_read : (width height : ℕ) (l : Layer) (ms : Members) → get_member TYPE.now ms ≡ Some (string (type_word l.body)) → get_member ID.now ms ≡ Some (whole_tree l.id)
+    → get_member NAME.now ms ≡ Some (string l.name) → get_member VISIBLE.now ms ≡ Some (boolean l.visible) → get_member PROPERTIES.now ms ≡ properties_member l.properties
     → id_at (whole_tree l.id) ≡ Ok l.id → absent_means [] (entries_at MAX_PROPERTIES property_at) (properties_member l.properties) ≡ Ok l.properties
     → body_by (kind_of l.body) width height ms ≡ Ok l.body → without_all (layer_names l.body) ms ≡ l.kept → layer_at width height (object ms) ≡ Ok l
 unfolding layer_at text_at truth_at
@@ -118,10 +119,10 @@ layer_again level next next_object width height few few_objects l h id ids =
     let own = layer_own width height l in
     let kept = l.kept in
     let lacks = h.kept.unread in
-    layer_read width height l (with_own own kept) (get_member-with_own (codes "type") own kept) (get_member-with_own (codes "id") own kept) (get_member-with_own (codes "name") own kept)
-    (get_member-with_own (codes "visible") own kept)
-    (get_member-with_own (codes "properties") own kept ∙ or_none (properties_member l.properties) (find_own (codes "properties") (body_own width height l.body) (get_member (codes "properties") kept))
-    (no_properties width height l.body (get_member (codes "properties") kept) ∙ lacks.1.1.1.1.0))
+    layer_read width height l (with_own own kept) (get_member-with_own TYPE.now own kept) (get_member-with_own ID.now own kept) (get_member-with_own NAME.now own kept)
+    (get_member-with_own VISIBLE.now own kept)
+    (get_member-with_own PROPERTIES.now own kept ∙ or_none (properties_member l.properties) (find_own PROPERTIES.now (body_own width height l.body) (get_member PROPERTIES.now kept))
+    (no_properties width height l.body (get_member PROPERTIES.now kept) ∙ lacks.1.1.1.1.0))
     (id_again next l.id few id) (properties_again level l.properties h.properties)
     (body_again level next_object width height few_objects l l.body kept lacks h.body ids) (kept_again width height l l.body kept lacks)
 
@@ -172,11 +173,11 @@ consistent_again m h =
     ) refl
 
 -- ---- maps
-parts_read : (m : MapParts) (ms : Members) → get_member (codes "width") ms ≡ Some (whole_tree m.width) → get_member (codes "height") ms ≡ Some (whole_tree m.height)
-    → get_member (codes "tilewidth") ms ≡ Some (whole_tree m.tile_width) → get_member (codes "tileheight") ms ≡ Some (whole_tree m.tile_height) → get_member (codes "infinite") ms ≡ Some (boolean false)
-    → get_member (codes "nextlayerid") ms ≡ Some (whole_tree m.next_layer_id) → get_member (codes "nextobjectid") ms ≡ Some (whole_tree m.next_object_id)
-    → get_member (codes "layers") ms ≡ Some (array_by (layer_tree m.width m.height) m.layers) → get_member (codes "tilesets") ms ≡ Some (array_by tileset_tree m.tilesets)
-    → get_member (codes "properties") ms ≡ properties_member m.properties
+parts_read : (m : MapParts) (ms : Members) → get_member WIDTH.now ms ≡ Some (whole_tree m.width) → get_member HEIGHT.now ms ≡ Some (whole_tree m.height)
+    → get_member TILE_WIDTH.now ms ≡ Some (whole_tree m.tile_width) → get_member TILE_HEIGHT.now ms ≡ Some (whole_tree m.tile_height) → get_member INFINITE.now ms ≡ Some (boolean false)
+    → get_member NEXT_LAYER_ID.now ms ≡ Some (whole_tree m.next_layer_id) → get_member NEXT_OBJECT_ID.now ms ≡ Some (whole_tree m.next_object_id)
+    → get_member LAYERS.now ms ≡ Some (array_by (layer_tree m.width m.height) m.layers) → get_member TILESETS.now ms ≡ Some (array_by tileset_tree m.tilesets)
+    → get_member PROPERTIES.now ms ≡ properties_member m.properties
     → whole_at 1 MAX_SIDE (whole_tree m.width) ≡ Ok m.width → whole_at 1 MAX_SIDE (whole_tree m.height) ≡ Ok m.height → nat_le (m.width * m.height) MAX_CELLS ≡ true
     → whole_at 1 MAX_TILE_SIDE (whole_tree m.tile_width) ≡ Ok m.tile_width → whole_at 1 MAX_TILE_SIDE (whole_tree m.tile_height) ≡ Ok m.tile_height
     → whole_at 1 MAX_NEXT_ID (whole_tree m.next_layer_id) ≡ Ok m.next_layer_id → whole_at 1 MAX_NEXT_ID (whole_tree m.next_object_id) ≡ Ok m.next_object_id
@@ -193,10 +194,10 @@ parts_again m h =
     let lacks = h.kept.unread in
     let layer = h.layers.layer_ids in
     let object = h.layers.object_ids in
-    parts_read m (with_own own kept) (get_member-with_own (codes "width") own kept) (get_member-with_own (codes "height") own kept) (get_member-with_own (codes "tilewidth") own kept)
-    (get_member-with_own (codes "tileheight") own kept) (get_member-with_own (codes "infinite") own kept) (get_member-with_own (codes "nextlayerid") own kept)
-    (get_member-with_own (codes "nextobjectid") own kept) (get_member-with_own (codes "layers") own kept) (get_member-with_own (codes "tilesets") own kept)
-    (get_member-with_own (codes "properties") own kept ∙ or_none (properties_member m.properties) (get_member (codes "properties") kept) lacks.1.1.1.1.1.1.1.1.1.0)
+    parts_read m (with_own own kept) (get_member-with_own WIDTH.now own kept) (get_member-with_own HEIGHT.now own kept) (get_member-with_own TILE_WIDTH.now own kept)
+    (get_member-with_own TILE_HEIGHT.now own kept) (get_member-with_own INFINITE.now own kept) (get_member-with_own NEXT_LAYER_ID.now own kept)
+    (get_member-with_own NEXT_OBJECT_ID.now own kept) (get_member-with_own LAYERS.now own kept) (get_member-with_own TILESETS.now own kept)
+    (get_member-with_own PROPERTIES.now own kept ∙ or_none (properties_member m.properties) (get_member PROPERTIES.now kept) lacks.1.1.1.1.1.1.1.1.1.0)
     (whole_again 1 MAX_SIDE m.width h.size.wide h.size.width_limit) (whole_again 1 MAX_SIDE m.height h.size.high h.size.height_limit) (le-leb (m.width * m.height) MAX_CELLS h.size.cells_limit)
     (whole_again 1 MAX_TILE_SIDE m.tile_width h.tile_size.wide h.tile_size.width_limit) (whole_again 1 MAX_TILE_SIDE m.tile_height h.tile_size.high h.tile_size.height_limit)
     (whole_again 1 MAX_NEXT_ID m.next_layer_id layer.next_low layer.next_high) (whole_again 1 MAX_NEXT_ID m.next_object_id object.next_low object.next_high)
@@ -217,7 +218,7 @@ members_have_float-without k (member l d ms) e =
     let f = either_false (has_float d) (members_have_float ms) e in
     whole_without_at (slice_cmp nat_cmp k l) l d (without k ms) f.0 (members_have_float-without k ms f.1)
 
-map_read : (m : MapParts) (ms : Members) → members_have_float (without (codes "version") ms) ≡ false → get_member (codes "version") ms ≡ Some (string (codes "1.10")) → get_member (codes "type") ms ≡ Some (string (codes "map"))
+map_read : (m : MapParts) (ms : Members) → members_have_float (without VERSION.now ms) ≡ false → get_member VERSION.now ms ≡ Some (string (codes "1.10")) → get_member TYPE.now ms ≡ Some (string (codes "map"))
     → parts_of ms ≡ Ok m → consistent m ≡ Ok m → map_of (object ms) ≡ Ok m
 unfolding map_of
 map_read m ms whole version type parts fits = rw (whole, version, type, parts) fits
@@ -228,4 +229,4 @@ unfolding tree_of
 map_again m h =
     let own = map_own m in
     let ms = with_own own m.kept in
-    map_read m ms (members_have_float-without (codes "version") ms (tree_plain m h).0) (get_member-with_own (codes "version") own m.kept) (get_member-with_own (codes "type") own m.kept) (parts_again m h) (consistent_again m h)
+    map_read m ms (members_have_float-without VERSION.now ms (tree_plain m h).0) (get_member-with_own VERSION.now own m.kept) (get_member-with_own TYPE.now own m.kept) (parts_again m h) (consistent_again m h)

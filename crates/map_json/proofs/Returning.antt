@@ -1,16 +1,19 @@
 -- A text that is put together reads as what was put together.
-use Rattle.std.proofs.Common.{◌≡◌, ℕ, suc, ◌≤◌, List, [], ◌∷◌, ◌++◌, max, Some, option_map, option_and_then, false, refl, sym, ap, ap₂, ◌∙◌, arith, append_assoc, append-nil}
+use Rattle.std.proofs.Common.{◌≡◌, IsUtf8, ℕ, suc, ◌≤◌, List, [], ◌∷◌, ◌++◌, max, Some, option_map, option_and_then, Bool, true, false, refl, sym, ap, ap₂, ◌∙◌, arith, append_assoc, append-nil}
+use Rattle.std.proofs.lemmas.Str.{IsUtf8-append}
 use Rattle.json.specs.Json as json
 use Rattle.json.specs.Tree as tree
 use Rattle.json.specs.Tree.{HasNumbers, ItemsHaveNumbers, MembersHaveNumbers, json_tokens}
 use Rattle.json.specs.Lex.{tokens}
+use Rattle.json.specs.Print.{quoted}
 use Rattle.json.proofs.Numbered.{document-HasNumbers}
 use Rattle.json.specs.Token.{Token}
 use Rattle.json.proofs.Printed.Tokens.{tokens-print}
 use Rattle.json.proofs.Printed.Trees.{ArePrintable-json_tokens, value-json_tokens}
+use Rattle.json.proofs.Printed.Utf8.{IsUtf8-are_ascii, IsUtf8-key}
 use Rattle.serde_json.specs.Data.{Data, null, boolean, number, string, array, object, Items, no_items, item, Members, no_members, member, put, depth, items_depth, members_depth}
 use Rattle.serde_json.specs.Read.{read, max_depth, of_json, of_items, of_members}
-use Rattle.serde_json.specs.Written.{IsInOrder, has_float, outline, items_outline, members_outline, compact_text}
+use Rattle.serde_json.specs.Written.{IsInOrder, has_float, outline, items_outline, members_outline, comma_if, compact_text, items_text, members_text}
 use Rattle.serde_json.proofs.Texts.{tokens_from_order, print-outline}
 use Rattle.map_json.specs.Appending.{Returns}
 
@@ -38,41 +41,75 @@ parsed-outline n d ts same shallow =
     (ap (json.value n) (same ∙ sym (append-nil (json_tokens (outline d)))) ∙ value-json_tokens (outline d) n [] (omega (arith, depth-outline d)))
 
 -- a value whose text reads as the value
-pub Returns-read : (d : Data) (text : List ℕ) → IsInOrder text d → has_float d ≡ false → depth d ≤ max_depth → read text ≡ Some d → Returns d
-Returns-read d text ordered whole shallow again =
-    let same : tokens text ≡ json_tokens (outline d) = tokens_from_order text d ordered whole in (
-      document-HasNumbers text (outline d) (parsed-outline json.max_depth d (tokens text) same (omega arith)),
-      sym (ap (option_and_then of_json) (parsed-outline max_depth d (tokens text) same shallow)) ∙ again,
-    )
+pub Returns-read : (d : Data) (text : List ℕ) → IsUtf8 (compact_text d) → IsInOrder text d → has_float d ≡ false → depth d ≤ max_depth → read text ≡ Some d → Returns d
+Returns-read d text utf8 ordered whole shallow again =
+    let same : tokens text ≡ json_tokens (outline d) = tokens_from_order text d ordered whole in
+    record {
+      utf8 = utf8;
+      numbers = document-HasNumbers text (outline d) (parsed-outline json.max_depth d (tokens text) same (omega arith));
+      reads = sym (ap (option_and_then of_json) (parsed-outline max_depth d (tokens text) same shallow)) ∙ again;
+    }
 
 -- the text of a value that returns
 pub read-compact_text : (d : Data) → Returns d → depth d ≤ max_depth → read (compact_text d) ≡ Some d
 read-compact_text d h shallow =
-    let same = ap tokens (sym (print-outline d)) ∙ tokens-print (json_tokens (outline d)) (ArePrintable-json_tokens (outline d) h.0) in
-    ap (option_and_then of_json) (parsed-outline max_depth d (tokens (compact_text d)) same shallow) ∙ h.1
+    let same = ap tokens (sym (print-outline d)) ∙ tokens-print (json_tokens (outline d)) (ArePrintable-json_tokens (outline d) h.numbers) in
+    ap (option_and_then of_json) (parsed-outline max_depth d (tokens (compact_text d)) same shallow) ∙ h.reads
+
+-- ---- text in front of text
+ascii_then : (b : ℕ) (rest : List ℕ) → IsUtf8 (b ∷ []) → IsUtf8 rest → IsUtf8 (b ∷ rest)
+ascii_then b rest one more = IsUtf8-append (b ∷ []) rest one more
+
+comma_then : (later : Bool) (rest : List ℕ) → IsUtf8 rest → IsUtf8 (comma_if later ++ rest)
+comma_then true rest utf8 = ascii_then 44 rest (IsUtf8-are_ascii (44 ∷ []) refl) utf8
+comma_then false rest utf8 = utf8
 
 -- ---- items
-abbrev pub ItemsReturn : Items → Type 0
-ItemsReturn ds = ItemsHaveNumbers (items_outline ds) × (of_items (items_outline ds) ≡ Some ds)
+pub record ItemsReturn (ds : Items) : Type 0 where
+  pub utf8 : (later : Bool) → IsUtf8 (items_text later ds)
+  pub numbers : ItemsHaveNumbers (items_outline ds)
+  pub reads : of_items (items_outline ds) ≡ Some ds
+
+pub ItemsReturn-none : ItemsReturn no_items
+ItemsReturn-none = record { utf8 = λ later. IsUtf8-are_ascii (93 ∷ []) refl; numbers = tt; reads = refl }
 
 pub ItemsReturn-item : (d : Data) (ds : Items) → Returns d → ItemsReturn ds → ItemsReturn (item d ds)
 ItemsReturn-item d ds one more =
-    ((one.0, more.0), ap (option_and_then (λ e. option_map (item e) (of_items (items_outline ds)))) one.1 ∙ ap (option_map (item d)) more.1)
+    record {
+      utf8 = λ later. comma_then later (compact_text d ++ items_text true ds) (IsUtf8-append (compact_text d) (items_text true ds) one.utf8 (more.utf8 true));
+      numbers = (one.numbers, more.numbers);
+      reads = ap (option_and_then (λ e. option_map (item e) (of_items (items_outline ds)))) one.reads ∙ ap (option_map (item d)) more.reads;
+    }
 
 pub Returns-array : (ds : Items) → ItemsReturn ds → Returns (array ds)
-Returns-array ds h = (h.0, ap (option_map array) h.1)
+Returns-array ds h =
+    record { utf8 = ascii_then 91 (items_text false ds) (IsUtf8-are_ascii (91 ∷ []) refl) (h.utf8 false); numbers = h.numbers; reads = ap (option_map array) h.reads }
 
 -- ---- members
--- the members, put one after another over those that were found, are these
-abbrev pub MembersReturn : Members → Members → Members → Type 0
-MembersReturn ms found all = MembersHaveNumbers (members_outline ms) × (of_members (members_outline ms) found ≡ Some all)
+key_then : (k rest : List ℕ) → IsUtf8 k → IsUtf8 rest → IsUtf8 (quoted k ++ 58 ∷ rest)
+key_then k rest name utf8 = rw (← append_assoc (quoted k) (58 ∷ []) rest) (IsUtf8-append (quoted k ++ 58 ∷ []) rest (IsUtf8-key k name) utf8)
 
-pub MembersReturn-member : (k : List ℕ) (d : Data) (ms found all : Members) → Returns d → MembersReturn ms (put k d found) all → MembersReturn (member k d ms) found all
-MembersReturn-member k d ms found all one more =
-    ((one.0, more.0), ap (option_and_then (λ e. of_members (members_outline ms) (put k e found))) one.1 ∙ more.1)
+-- the members, put one after another over those that were found, are these
+pub record MembersReturn (ms found all : Members) : Type 0 where
+  pub utf8 : (later : Bool) → IsUtf8 (members_text later ms)
+  pub numbers : MembersHaveNumbers (members_outline ms)
+  pub reads : of_members (members_outline ms) found ≡ Some all
+
+pub MembersReturn-none : (all : Members) → MembersReturn no_members all all
+MembersReturn-none all = record { utf8 = λ later. IsUtf8-are_ascii (125 ∷ []) refl; numbers = tt; reads = refl }
+
+pub MembersReturn-member : (k : List ℕ) (d : Data) (ms found all : Members) → IsUtf8 k → Returns d → MembersReturn ms (put k d found) all → MembersReturn (member k d ms) found all
+MembersReturn-member k d ms found all name one more =
+    let rest = compact_text d ++ members_text true ms in
+    record {
+      utf8 = λ later. comma_then later (quoted k ++ 58 ∷ rest) (key_then k rest name (IsUtf8-append (compact_text d) (members_text true ms) one.utf8 (more.utf8 true)));
+      numbers = (one.numbers, more.numbers);
+      reads = ap (option_and_then (λ e. of_members (members_outline ms) (put k e found))) one.reads ∙ more.reads;
+    }
 
 pub Returns-object : (ms : Members) → MembersReturn ms no_members ms → Returns (object ms)
-Returns-object ms h = (h.0, ap (option_map object) h.1)
+Returns-object ms h =
+    record { utf8 = ascii_then 123 (members_text false ms) (IsUtf8-are_ascii (123 ∷ []) refl) (h.utf8 false); numbers = h.numbers; reads = ap (option_map object) h.reads }
 
 -- ---- texts, regrouped
 pub regroup_item : (text comma value rest : List ℕ) → ((text ++ comma) ++ value) ++ rest ≡ text ++ (comma ++ (value ++ rest))

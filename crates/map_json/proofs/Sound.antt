@@ -6,11 +6,13 @@ use Rattle.std.specs.Result.{result_ok}
 use Rattle.std.specs.Int.Signed.{le_z_yes}
 use Rattle.std.proofs.Math.Dec.{T}
 use Rattle.std.proofs.lemmas.Bool.{eqb-true, leb-true, ltb-true, le-leb}
+use Rattle.std.specs.Option.{ok_or}
 use Rattle.base64.specs.Engines.{standard}
 use Rattle.base64.specs.GeneralPurpose.{decode_of}
 use Rattle.serde_json.specs.Events.{items_len}
 use Rattle.serde_json.specs.Data.{Num, unsigned, negative, float, Data, Members, null, boolean, array, string, number, object, Items, no_items, item}
 use Rattle.serde_json.specs.Find.{get_member, as_object, as_array, as_number, as_str, as_u64}
+use Rattle.map_model.specs.declared.names.TheConstants.{NAME, TYPE, PROPERTIES, VALUE}
 use Rattle.map_model.specs.declared.limits.TheConstants.{MAX_DEPTH, MAX_PROPERTIES}
 use Rattle.map_model.specs.declared.parts.Encoding.{Encoding}
 use Rattle.map_model.specs.declared.parts.Encoding.TheVariants.{Array, Base64}
@@ -18,10 +20,11 @@ use Rattle.map_model.specs.declared.parts.Property.{Property}
 use Rattle.map_model.specs.Lists.{Each}
 use Rattle.map_model.specs.Keeping.{AreKept, IsKeptValue, IsOfAnotherKind, property_names, property_level}
 use Rattle.map_model.specs.WellFormed.{IsWhole, IsValue, IsProperty}
+use Rattle.map_model.specs.Steps.{◌>>=◌, ◌>>◌, check}
 use Rattle.map_json.specs.Members.{without_all}
 use Rattle.map_json.specs.declared.fault.MapRefusal.{MapRefusal}
 use Rattle.map_json.specs.declared.fault.MapRefusal.TheVariants.{MemberOfAnotherKind, OverLimit, BadData}
-use Rattle.map_json.specs.Steps.{◌>>=◌, or_refused, required, absent_means}
+use Rattle.map_json.specs.Steps.{required, absent_means}
 use Rattle.map_json.specs.Scalars.{whole_at, text_at}
 use Rattle.map_json.specs.Entries.{each, entries_at}
 use Rattle.map_json.specs.Cells.{cell_of, cells_of, packed, words_of, is_byte, array_cells_at, base64_cells_at}
@@ -41,9 +44,9 @@ done x = Ok x
 pub ok_is : {A : Type 0} (x y : A) → done x ≡ done y → x ≡ y
 ok_is x y e = cc
 
-pub or_refused_ok : {A : Type 0} (f : MapRefusal) (o : Option A) (x : A) → or_refused f o ≡ Ok x → o ≡ Some x
-or_refused_ok f None x e = absurd cc
-or_refused_ok f (Some y) x e = ap (λ z. Some z) (ok_is y x e)
+pub ok_or_ok : {A : Type 0} (o : Option A) (f : MapRefusal) (x : A) → ok_or o f ≡ Ok x → o ≡ Some x
+ok_or_ok None f x e = absurd cc
+ok_or_ok (Some y) f x e = ap (λ z. Some z) (ok_is y x e)
 
 pub required_ok : {A : Type 0} (read : Data → Result A MapRefusal) (o : Option Data) (x : A) → required read o ≡ Ok x → (d : Data) × (o ≡ Some d) × (read d ≡ Ok x)
 required_ok read None x e = absurd cc
@@ -53,6 +56,16 @@ required_ok read (Some d) x e = (d, refl, e)
 pub by_bind : {A B : Type 0} {C : Type 0} (r : Result A MapRefusal) (f : A → Result B MapRefusal) (y : B) → (r >>= f) ≡ Ok y → ((x : A) → r ≡ Ok x → f x ≡ Ok y → C) → C
 by_bind (Ok x) f y e next = next x refl e
 by_bind (Err d) f y e next = absurd cc
+
+-- one whose value nothing needs
+pub by_step : {A B : Type 0} {C : Type 0} (r : Result A MapRefusal) (rest : Result B MapRefusal) (y : B) → (r >> rest) ≡ Ok y → (rest ≡ Ok y → C) → C
+by_step (Ok x) rest y e next = next e
+by_step (Err d) rest y e next = absurd cc
+
+-- a test that was passed
+pub by_check : {B : Type 0} {C : Type 0} (b : Bool) (f : MapRefusal) (rest : Result B MapRefusal) (y : B) → (check b f >> rest) ≡ Ok y → (b ≡ true → rest ≡ Ok y → C) → C
+by_check true f rest y e next = next refl e
+by_check false f rest y e next = absurd cc
 
 -- ---- values
 pub from_true : (b : Bool) → b ≡ true → T b
@@ -103,13 +116,13 @@ object_fine n (array x) ms h e = absurd cc
 pub property_sound : (level n : ℕ) → level + n ≤ MAX_DEPTH → (d : Data) (p : Property) → IsFine (suc n) d → property_at d ≡ Ok p → IsProperty level p
 unfolding property_at
 property_sound level n room d p fine e =
-    by_bind (or_refused MemberOfAnotherKind (as_object d)) _ p e (λ ms object e1.
-    by_bind (required text_at (get_member (codes "name") ms)) _ p e1 (λ name name_is e2.
-    by_bind (absent_means (codes "string") text_at (get_member (codes "type") ms)) _ p e2 (λ kind kind_is e3.
-    by_bind (required value_at (get_member (codes "value") ms)) _ p e3 (λ value value_is e4.
-    let members = object_fine n d ms fine (or_refused_ok MemberOfAnotherKind (as_object d) ms object) in
-    let found = required_ok value_at (get_member (codes "value") ms) value value_is in
-    let held : IsValue level value = subst (IsValue level) (ok_is (value_of found.0) value found.2) (value_sound level n found.0 room (IsFine-get_member n (codes "value") ms found.0 members found.1)) in
+    by_bind (ok_or (as_object d) MemberOfAnotherKind) _ p e (λ ms object e1.
+    by_bind (required text_at (get_member NAME.now ms)) _ p e1 (λ name name_is e2.
+    by_bind (absent_means (codes "string") text_at (get_member TYPE.now ms)) _ p e2 (λ kind kind_is e3.
+    by_bind (required value_at (get_member VALUE.now ms)) _ p e3 (λ value value_is e4.
+    let members = object_fine n d ms fine (ok_or_ok (as_object d) MemberOfAnotherKind ms object) in
+    let found = required_ok value_at (get_member VALUE.now ms) value value_is in
+    let held : IsValue level value = subst (IsValue level) (ok_is (value_of found.0) value found.2) (value_sound level n found.0 room (IsFine-get_member n VALUE.now ms found.0 members found.1)) in
     let made : IsProperty level (record { name = name; kind = kind; value = value; kept = without_all property_names ms }) = record { value = held; kept = kept_sound level n property_names ms room members } in
     subst (IsProperty level) (ok_is (record { name = name; kind = kind; value = value; kept = without_all property_names ms }) p e4) made))))
 
@@ -139,9 +152,9 @@ module _ {A : Type 0} (P : A → Type 0) (read : Data → Result A MapRefusal) (
 
   pub entries_sound : (most : ℕ) (d : Data) (xs : List A) → IsFine (suc n) d → entries_at most read d ≡ Ok xs → (length xs ≤ most) × Each P xs
   entries_sound most d xs h e =
-      by_bind (or_refused MemberOfAnotherKind (as_array d)) _ xs e (λ ds ds_is e1.
+      by_bind (ok_or (as_array d) MemberOfAnotherKind) _ xs e (λ ds ds_is e1.
       let fits = chosen (nat_le (items_len ds) most) (each read ds) OverLimit xs e1 in
-      let all = each_sound ds xs (array_fine n d ds h (or_refused_ok MemberOfAnotherKind (as_array d) ds ds_is)) fits.1 in
+      let all = each_sound ds xs (array_fine n d ds h (ok_or_ok (as_array d) MemberOfAnotherKind ds ds_is)) fits.1 in
       (subst (λ (k : ℕ). k ≤ most) (sym all.0) (leb-true (items_len ds) most fits.0), all.1))
 
 -- properties that were read; whether their names differ is told apart
@@ -150,11 +163,11 @@ pub record WereRead (level : ℕ) (ps : List Property) : Type 0 where
   pub each : Each (IsProperty (property_level level)) ps
 
 pub properties_sound : (level n : ℕ) → property_level level + n ≤ MAX_DEPTH → (ms : Members) (ps : List Property) → AreFineMembers (suc (suc n)) ms → properties_of ms ≡ Ok ps → WereRead level ps
-properties_sound level n room ms ps h e = at_member (get_member (codes "properties") ms) refl e where
-  at_member : (o : Option Data) → get_member (codes "properties") ms ≡ o → absent_means [] (entries_at MAX_PROPERTIES property_at) o ≡ Ok ps → WereRead level ps
+properties_sound level n room ms ps h e = at_member (get_member PROPERTIES.now ms) refl e where
+  at_member : (o : Option Data) → get_member PROPERTIES.now ms ≡ o → absent_means [] (entries_at MAX_PROPERTIES property_at) o ≡ Ok ps → WereRead level ps
   at_member None is f = subst (WereRead level) (ok_is [] ps f) (record { few = omega arith; each = tt })
   at_member (Some d) is f =
-      let s = entries_sound (IsProperty (property_level level)) property_at (suc n) (property_sound (property_level level) n room) MAX_PROPERTIES d ps (IsFine-get_member (suc (suc n)) (codes "properties") ms d h is) f in
+      let s = entries_sound (IsProperty (property_level level)) property_at (suc n) (property_sound (property_level level) n room) MAX_PROPERTIES d ps (IsFine-get_member (suc (suc n)) PROPERTIES.now ms d h is) f in
       record { few = s.0; each = s.1 }
 
 -- ---- scalars and cells
@@ -162,8 +175,8 @@ properties_sound level n room ms ps h e = at_member (get_member (codes "properti
 pub whole_sound : (low high : ℕ) (d : Data) (n : ℕ) → whole_at low high d ≡ Ok n → (low ≤ n) × (n ≤ high)
 unfolding whole_at
 whole_sound low high d n e =
-    by_bind (or_refused MemberOfAnotherKind (as_number d)) _ n e (λ x x_is e1.
-    by_bind (or_refused OverLimit (as_u64 x)) _ n e1 (λ k k_is e2.
+    by_bind (ok_or (as_number d) MemberOfAnotherKind) _ n e (λ x x_is e1.
+    by_bind (ok_or (as_u64 x) OverLimit) _ n e1 (λ k k_is e2.
     let c = chosen (nat_le low k && nat_le k high) (Ok k) OverLimit n e2 in
     let b = both (nat_le low k) (nat_le k high) c.0 in
     subst (λ (m : ℕ). (low ≤ m) × (m ≤ high)) (ok_is k n c.1) (leb-true low k b.0, leb-true k high b.1)))
@@ -199,13 +212,13 @@ AreCells count cells = (length cells ≡ count) × Each (λ c. c < 2 ^ 32) cells
 pub cells_tree_sound : (e : Encoding) (count : ℕ) (d : Data) (cells : List ℕ) → cells_at e count d ≡ Ok cells → AreCells count cells
 unfolding array_cells_at base64_cells_at
 cells_tree_sound Array count d cells e =
-    by_bind (or_refused MemberOfAnotherKind (as_array d)) _ cells e (λ ds ds_is e1.
-    by_bind (or_refused BadData (cells_of ds)) _ cells e1 (λ cs cs_is e2.
+    by_bind (ok_or (as_array d) MemberOfAnotherKind) _ cells e (λ ds ds_is e1.
+    by_bind (ok_or (cells_of ds) BadData) _ cells e1 (λ cs cs_is e2.
     let c = chosen (eqb (length cs) count) (Ok cs) BadData cells e2 in
-    subst (AreCells count) (ok_is cs cells c.1) (eqb-true (length cs) count c.0, cells_sound ds cs (or_refused_ok BadData (cells_of ds) cs cs_is))))
+    subst (AreCells count) (ok_is cs cells c.1) (eqb-true (length cs) count c.0, cells_sound ds cs (ok_or_ok (cells_of ds) BadData cs cs_is))))
 cells_tree_sound Base64 count d cells e =
-    by_bind (or_refused MemberOfAnotherKind (as_str d)) _ cells e (λ text text_is e1.
-    by_bind (or_refused BadData (result_ok (decode_of standard (packed text)))) _ cells e1 (λ bytes bytes_is e2.
+    by_bind (ok_or (as_str d) MemberOfAnotherKind) _ cells e (λ text text_is e1.
+    by_bind (ok_or (result_ok (decode_of standard (packed text))) BadData) _ cells e1 (λ bytes bytes_is e2.
     let c = chosen (eqb (length bytes) (4 * count) && list_all is_byte bytes) (Ok (words_of bytes)) BadData cells e2 in
     let b = both (eqb (length bytes) (4 * count)) (list_all is_byte bytes) c.0 in
     subst (AreCells count) (ok_is (words_of bytes) cells c.1) (words_sound bytes count (eqb-true (length bytes) (4 * count) b.0) b.1)))

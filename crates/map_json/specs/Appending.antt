@@ -1,5 +1,5 @@
 -- For private clauses: a text that grows by one value after another, and what stays true of it.
-use Rattle.std.specs.Prelude.{◌≡◌, ℕ, List, ◌++◌, if◌then◌else◌, Some}
+use Rattle.std.specs.Prelude.{◌≡◌, IsUtf8, ℕ, List, ◌++◌, if◌then◌else◌, Some}
 use Rattle.std.specs.Str.{bytes_eq}
 use Rattle.json.specs.Tree.{HasNumbers}
 use Rattle.serde_json.specs.Data.{Data, array, Members, no_members, member, no_items}
@@ -9,9 +9,11 @@ use Rattle.map_model.specs.declared.parts.MapParts.{MapParts}
 use Rattle.map_json.specs.Members.{with_own}
 use Rattle.map_json.specs.Trees.{array_by, layer_tree, own_around}
 
--- the value's JSON reads as the value
-abbrev pub Returns : Data → Type 0
-Returns d = HasNumbers (outline d) × (of_json (outline d) ≡ Some d)
+-- the value's text is UTF-8, and its JSON reads as the value
+pub record Returns (d : Data) : Type 0 where
+  pub utf8 : IsUtf8 (compact_text d)
+  pub numbers : HasNumbers (outline d)
+  pub reads : of_json (outline d) ≡ Some d
 
 -- the new text is the old one and the value's, which reads as the value
 abbrev pub Appends : Data → List ℕ → List ℕ → Type 0

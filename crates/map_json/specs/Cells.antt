@@ -3,13 +3,14 @@ use Rattle.std.specs.Prelude.{ℕ, ◌*◌, ◌^◌, ◌||◌, ◌&&◌, ◌==�
 use Rattle.std.specs.List.{list_all}
 use Rattle.std.specs.Int.{w32, from_le_bytes}
 use Rattle.std.specs.Result.{result_ok}
+use Rattle.std.specs.Option.{ok_or}
 use Rattle.base64.specs.Engines.{standard}
 use Rattle.base64.specs.GeneralPurpose.{decode_of}
 use Rattle.serde_json.specs.Data.{Data, Items, no_items, item}
 use Rattle.serde_json.specs.Find.{as_number, as_u64, as_str, as_array}
+use Rattle.map_model.specs.Steps.{◌>>=◌}
 use Rattle.map_json.specs.declared.fault.MapRefusal.{MapRefusal}
 use Rattle.map_json.specs.declared.fault.MapRefusal.TheVariants.{MemberOfAnotherKind, BadData}
-use Rattle.map_json.specs.Steps.{◌>>=◌, or_refused}
 
 -- a whole number of 32 bits
 unfoldable pub cell_of : Data → Option ℕ
@@ -21,8 +22,8 @@ cells_of (item d ds) = option_and_then (λ c. option_map (λ cs. c ∷ cs) (cell
 
 unfoldable pub array_cells_at : ℕ → Data → Result (List ℕ) MapRefusal
 array_cells_at count d = do
-  ds ← or_refused MemberOfAnotherKind (as_array d)
-  cells ← or_refused BadData (cells_of ds)
+  ds ← ok_or (as_array d) MemberOfAnotherKind
+  cells ← ok_or (cells_of ds) BadData
   if length cells == count then Ok cells else Err BadData
 
 -- a space, a tab, CR or LF
@@ -46,6 +47,6 @@ is_byte b = nat_lt b 256
 
 unfoldable pub base64_cells_at : ℕ → Data → Result (List ℕ) MapRefusal
 base64_cells_at count d = do
-  text ← or_refused MemberOfAnotherKind (as_str d)
-  bytes ← or_refused BadData (result_ok (decode_of standard (packed text)))
+  text ← ok_or (as_str d) MemberOfAnotherKind
+  bytes ← ok_or (result_ok (decode_of standard (packed text))) BadData
   if length bytes == 4 * count && list_all is_byte bytes then Ok (words_of bytes) else Err BadData

@@ -1,11 +1,12 @@
 -- Arrays whose entries are read one after the other.
 use Rattle.std.specs.Prelude.{ℕ, List, [], ◌∷◌, nat_le, if◌then◌else◌, Result, Ok, Err}
+use Rattle.std.specs.Option.{ok_or}
 use Rattle.serde_json.specs.Data.{Data, Items, no_items, item}
 use Rattle.serde_json.specs.Find.{as_array}
 use Rattle.serde_json.specs.Events.{items_len}
+use Rattle.map_model.specs.Steps.{◌>>=◌}
 use Rattle.map_json.specs.declared.fault.MapRefusal.{MapRefusal}
 use Rattle.map_json.specs.declared.fault.MapRefusal.TheVariants.{MemberOfAnotherKind, OverLimit}
-use Rattle.map_json.specs.Steps.{◌>>=◌, or_refused}
 
 -- each entry in turn
 abbrev pub each : {A : Type 0} → (Data → Result A MapRefusal) → Items → Result (List A) MapRefusal
@@ -15,5 +16,5 @@ each read (item d ds) = read d >>= (λ x. each read ds >>= (λ xs. Ok (x ∷ xs)
 -- an array that is not too long, and its entries
 abbrev pub entries_at : {A : Type 0} → ℕ → (Data → Result A MapRefusal) → Data → Result (List A) MapRefusal
 entries_at most read d = do
-  ds ← or_refused MemberOfAnotherKind (as_array d)
+  ds ← ok_or (as_array d) MemberOfAnotherKind
   if nat_le (items_len ds) most then each read ds else Err OverLimit

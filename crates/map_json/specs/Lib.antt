@@ -8,3 +8,4 @@ pub mod Distinctness
 pub mod Maps
 pub mod Trees
 pub mod Appending
+pub mod RoundTrip

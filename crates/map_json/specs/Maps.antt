@@ -1,18 +1,21 @@
 -- What a file says: the map, or the first fault.
 use Rattle.std.specs.Prelude.{◌≡◌, ◌⊎◌, IsUtf8, ℕ, ◌*◌, ◌||◌, List, codes, false, Bool, not, nat_le, Option, Some, None, Result, Ok, Err}
 use Rattle.std.specs.Str.{bytes_eq}
+use Rattle.std.specs.Option.{ok_or}
 use Rattle.serde_json.specs.Data.{Data, null, boolean, number, string, array, object, Members}
 use Rattle.serde_json.specs.Find.{as_object, as_str, get_member}
 use Rattle.serde_json.specs.Read.{read}
 use Rattle.serde_json.specs.Written.{has_float, members_have_float}
+use Rattle.map_model.specs.declared.names.TheConstants.{TYPE, WIDTH, HEIGHT, TILE_WIDTH, TILE_HEIGHT, INFINITE, NEXT_LAYER_ID, NEXT_OBJECT_ID, LAYERS, TILESETS, VERSION}
 use Rattle.map_model.specs.declared.limits.TheConstants.{MAX_SIDE, MAX_CELLS, MAX_TILE_SIDE, MAX_LAYERS, MAX_TILESETS, MAX_NEXT_ID}
 use Rattle.map_model.specs.declared.parts.MapParts.{MapParts}
 use Rattle.map_model.specs.Keeping.{map_names}
+use Rattle.map_model.specs.Steps.{◌>>=◌, ◌>>◌, check}
 use Rattle.map_json.specs.declared.fault.MapRefusal.{MapRefusal}
 use Rattle.map_json.specs.declared.fault.MapRefusal.TheVariants.{NotJson, Fraction, Infinite, IdUsedTwice, OverLimit, NotAMap}
 use Rattle.map_json.specs.declared.fault.MapFault.{MapFault}
 use Rattle.map_json.specs.declared.fault.MapFault.TheVariants.{Memory, Refused}
-use Rattle.map_json.specs.Steps.{◌>>=◌, or_refused, check, required, absent_means}
+use Rattle.map_json.specs.Steps.{required, absent_means}
 use Rattle.map_json.specs.Scalars.{whole_at, truth_at}
 use Rattle.map_json.specs.Entries.{entries_at}
 use Rattle.map_json.specs.Members.{without, without_all}
@@ -37,7 +40,7 @@ has_fraction (boolean b) = false
 has_fraction (number n) = has_float (number n)
 has_fraction (string s) = false
 has_fraction (array ds) = has_float (array ds)
-has_fraction (object ms) = members_have_float (without (codes "version") ms) || version_has_fraction (get_member (codes "version") ms)
+has_fraction (object ms) = members_have_float (without VERSION.now ms) || version_has_fraction (get_member VERSION.now ms)
 
 -- ---- the root
 abbrev pub is_map_text : Option (List ℕ) → Bool
@@ -52,17 +55,17 @@ is_map_type (Some d) = is_map_text (as_str d)
 -- the parts of a map, member by member in this order
 unfoldable pub parts_of : Members → Result MapParts MapRefusal
 parts_of ms = do
-  width ← required (whole_at 1 MAX_SIDE) (get_member (codes "width") ms)
-  height ← required (whole_at 1 MAX_SIDE) (get_member (codes "height") ms)
-  a ← check (nat_le (width * height) MAX_CELLS) OverLimit
-  tile_width ← required (whole_at 1 MAX_TILE_SIDE) (get_member (codes "tilewidth") ms)
-  tile_height ← required (whole_at 1 MAX_TILE_SIDE) (get_member (codes "tileheight") ms)
-  infinite ← absent_means false truth_at (get_member (codes "infinite") ms)
-  b ← check (not infinite) Infinite
-  next_layer_id ← required (whole_at 1 MAX_NEXT_ID) (get_member (codes "nextlayerid") ms)
-  next_object_id ← required (whole_at 1 MAX_NEXT_ID) (get_member (codes "nextobjectid") ms)
-  layers ← required (entries_at MAX_LAYERS (layer_at width height)) (get_member (codes "layers") ms)
-  tilesets ← required (entries_at MAX_TILESETS tileset_at) (get_member (codes "tilesets") ms)
+  width ← required (whole_at 1 MAX_SIDE) (get_member WIDTH.now ms)
+  height ← required (whole_at 1 MAX_SIDE) (get_member HEIGHT.now ms)
+  check (nat_le (width * height) MAX_CELLS) OverLimit
+  tile_width ← required (whole_at 1 MAX_TILE_SIDE) (get_member TILE_WIDTH.now ms)
+  tile_height ← required (whole_at 1 MAX_TILE_SIDE) (get_member TILE_HEIGHT.now ms)
+  infinite ← absent_means false truth_at (get_member INFINITE.now ms)
+  check (not infinite) Infinite
+  next_layer_id ← required (whole_at 1 MAX_NEXT_ID) (get_member NEXT_LAYER_ID.now ms)
+  next_object_id ← required (whole_at 1 MAX_NEXT_ID) (get_member NEXT_OBJECT_ID.now ms)
+  layers ← required (entries_at MAX_LAYERS (layer_at width height)) (get_member LAYERS.now ms)
+  tilesets ← required (entries_at MAX_TILESETS tileset_at) (get_member TILESETS.now ms)
   properties ← properties_of ms
   Ok (record {
     width = width;
@@ -80,16 +83,16 @@ parts_of ms = do
 -- a map whose ids fit together
 unfoldable pub consistent : MapParts → Result MapParts MapRefusal
 consistent m = do
-  a ← check (has_no_double m) IdUsedTwice
-  b ← check (are_below_next m) OverLimit
+  check (has_no_double m) IdUsedTwice
+  check (are_below_next m) OverLimit
   Ok m
 
 -- what a tree says
 unfoldable pub map_of : Data → Result MapParts MapRefusal
 map_of d = do
-  a ← check (not (has_fraction d)) Fraction
-  ms ← or_refused NotAMap (as_object d)
-  b ← check (is_map_type (get_member (codes "type") ms)) NotAMap
+  check (not (has_fraction d)) Fraction
+  ms ← ok_or (as_object d) NotAMap
+  check (is_map_type (get_member TYPE.now ms)) NotAMap
   m ← parts_of ms
   consistent m
 

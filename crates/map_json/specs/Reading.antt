@@ -1,8 +1,10 @@
 -- What the tree of each owner says: properties, objects, tilesets and layers, member by member in this order.
 use Rattle.std.specs.Prelude.{ℕ, ◌-◌, ◌*◌, ◌==◌, ℤ, neg_ℤ, List, [], codes, true, if◌then◌else◌, ⊤, Option, Some, None, Result, Ok, Err}
 use Rattle.std.specs.Str.{bytes_eq}
+use Rattle.std.specs.Option.{ok_or}
 use Rattle.serde_json.specs.Data.{Num, Data, null, boolean, number, string, array, object, Members}
 use Rattle.serde_json.specs.Find.{as_object, as_number, as_u64, as_i64, as_str, get_member}
+use Rattle.map_model.specs.declared.names.TheConstants.{ID, NAME, TYPE, VISIBLE, PROPERTIES, WIDTH, HEIGHT, ENCODING, COMPRESSION, DATA, OBJECTS, X, Y, GID, FIRST_ID, SOURCE, VALUE}
 use Rattle.map_model.specs.declared.limits.TheConstants.{MAX_NEXT_ID, MAX_PIXELS, MAX_PROPERTIES, MAX_OBJECTS, MAX_FIRST_ID}
 use Rattle.map_model.specs.declared.parts.Encoding.{Encoding}
 use Rattle.map_model.specs.declared.parts.Encoding.TheVariants.{Array, Base64}
@@ -16,11 +18,12 @@ use Rattle.map_model.specs.declared.parts.Body.TheVariants.{Tiles, Objects, Othe
 use Rattle.map_model.specs.declared.parts.Layer.{Layer}
 use Rattle.map_model.specs.declared.parts.Tileset.{Tileset}
 use Rattle.map_model.specs.Keeping.{layer_names, object_names, tileset_names, property_names}
+use Rattle.map_model.specs.Steps.{◌>>=◌, ◌>>◌, check}
 use Rattle.map_json.specs.declared.body.LayerType.{LayerType}
 use Rattle.map_json.specs.declared.body.LayerType.TheVariants.{TileLayer, ObjectGroup, ImageLayer}
 use Rattle.map_json.specs.declared.fault.MapRefusal.{MapRefusal}
 use Rattle.map_json.specs.declared.fault.MapRefusal.TheVariants.{MemberOfAnotherKind, Compressed, BadData}
-use Rattle.map_json.specs.Steps.{◌>>=◌, or_refused, check, required, absent_means, optional}
+use Rattle.map_json.specs.Steps.{required, absent_means, optional}
 use Rattle.map_json.specs.Scalars.{whole_at, signed_at, text_at, truth_at}
 use Rattle.map_json.specs.Entries.{entries_at}
 use Rattle.map_json.specs.Members.{without_all}
@@ -45,15 +48,15 @@ value_at d = Ok (value_of d)
 
 unfoldable pub property_at : Data → Result Property MapRefusal
 property_at d = do
-  ms ← or_refused MemberOfAnotherKind (as_object d)
-  name ← required text_at (get_member (codes "name") ms)
-  kind ← absent_means (codes "string") text_at (get_member (codes "type") ms)
-  value ← required value_at (get_member (codes "value") ms)
+  ms ← ok_or (as_object d) MemberOfAnotherKind
+  name ← required text_at (get_member NAME.now ms)
+  kind ← absent_means (codes "string") text_at (get_member TYPE.now ms)
+  value ← required value_at (get_member VALUE.now ms)
   Ok (record { name = name; kind = kind; value = value; kept = without_all property_names ms })
 
 -- the properties of an owner; none where the member is absent
 abbrev pub properties_of : Members → Result (List Property) MapRefusal
-properties_of ms = absent_means [] (entries_at MAX_PROPERTIES property_at) (get_member (codes "properties") ms)
+properties_of ms = absent_means [] (entries_at MAX_PROPERTIES property_at) (get_member PROPERTIES.now ms)
 
 -- ---- objects
 abbrev pub id_at : Data → Result ℕ MapRefusal
@@ -64,35 +67,35 @@ pixels_at = signed_at (neg_ℤ MAX_PIXELS) MAX_PIXELS
 
 unfoldable pub placing_of : Members → Result Placing MapRefusal
 placing_of ms = do
-  x ← optional pixels_at (get_member (codes "x") ms)
-  y ← optional pixels_at (get_member (codes "y") ms)
-  width ← optional pixels_at (get_member (codes "width") ms)
-  height ← optional pixels_at (get_member (codes "height") ms)
+  x ← optional pixels_at (get_member X.now ms)
+  y ← optional pixels_at (get_member Y.now ms)
+  width ← optional pixels_at (get_member WIDTH.now ms)
+  height ← optional pixels_at (get_member HEIGHT.now ms)
   Ok (record { x = x; y = y; width = width; height = height })
 
 unfoldable pub object_at : Data → Result Object MapRefusal
 object_at d = do
-  ms ← or_refused MemberOfAnotherKind (as_object d)
-  id ← required id_at (get_member (codes "id") ms)
+  ms ← ok_or (as_object d) MemberOfAnotherKind
+  id ← required id_at (get_member ID.now ms)
   placing ← placing_of ms
-  name ← optional text_at (get_member (codes "name") ms)
-  visible ← optional truth_at (get_member (codes "visible") ms)
-  gid ← optional (whole_at 0 4294967295) (get_member (codes "gid") ms)
+  name ← optional text_at (get_member NAME.now ms)
+  visible ← optional truth_at (get_member VISIBLE.now ms)
+  gid ← optional (whole_at 0 4294967295) (get_member GID.now ms)
   properties ← properties_of ms
   Ok (record { id = id; placing = placing; name = name; visible = visible; gid = gid; properties = properties; kept = without_all object_names ms })
 
 -- ---- tilesets
 unfoldable pub tileset_at : Data → Result Tileset MapRefusal
 tileset_at d = do
-  ms ← or_refused MemberOfAnotherKind (as_object d)
-  first_id ← required (whole_at 1 MAX_FIRST_ID) (get_member (codes "firstgid") ms)
-  source ← optional text_at (get_member (codes "source") ms)
+  ms ← ok_or (as_object d) MemberOfAnotherKind
+  first_id ← required (whole_at 1 MAX_FIRST_ID) (get_member FIRST_ID.now ms)
+  source ← optional text_at (get_member SOURCE.now ms)
   Ok (record { first_id = first_id; source = source; kept = without_all tileset_names ms })
 
 -- ---- layers
 unfoldable pub type_at : Data → Result LayerType MapRefusal
 type_at d = do
-  s ← or_refused MemberOfAnotherKind (as_str d)
+  s ← ok_or (as_str d) MemberOfAnotherKind
   if bytes_eq s (codes "tilelayer") then Ok TileLayer
       else if bytes_eq s (codes "objectgroup") then Ok ObjectGroup
       else if bytes_eq s (codes "imagelayer") then Ok ImageLayer
@@ -100,20 +103,20 @@ type_at d = do
 
 unfoldable pub encoding_at : Data → Result Encoding MapRefusal
 encoding_at d = do
-  s ← or_refused MemberOfAnotherKind (as_str d)
+  s ← ok_or (as_str d) MemberOfAnotherKind
   if bytes_eq s (codes "csv") then Ok Array else if bytes_eq s (codes "base64") then Ok Base64 else Err MemberOfAnotherKind
 
 -- no compression is an empty text
 unfoldable pub compression_at : Data → Result ⊤ MapRefusal
 compression_at d = do
-  s ← or_refused MemberOfAnotherKind (as_str d)
+  s ← ok_or (as_str d) MemberOfAnotherKind
   check (bytes_eq s []) Compressed
 
 -- the map's width or height
 unfoldable pub same_at : ℕ → Data → Result ⊤ MapRefusal
 same_at n d = do
-  x ← or_refused MemberOfAnotherKind (as_number d)
-  k ← or_refused BadData (as_u64 x)
+  x ← ok_or (as_number d) MemberOfAnotherKind
+  k ← ok_or (as_u64 x) BadData
   check (k == n) BadData
 
 abbrev pub cells_at : Encoding → ℕ → Data → Result (List ℕ) MapRefusal
@@ -122,16 +125,16 @@ cells_at Base64 count d = base64_cells_at count d
 
 unfoldable pub tiles_of : ℕ → ℕ → Members → Result Body MapRefusal
 tiles_of width height ms = do
-  encoding ← absent_means Array encoding_at (get_member (codes "encoding") ms)
-  a ← absent_means tt compression_at (get_member (codes "compression") ms)
-  b ← absent_means tt (same_at width) (get_member (codes "width") ms)
-  c ← absent_means tt (same_at height) (get_member (codes "height") ms)
-  cells ← required (cells_at encoding (width * height)) (get_member (codes "data") ms)
+  encoding ← absent_means Array encoding_at (get_member ENCODING.now ms)
+  absent_means tt compression_at (get_member COMPRESSION.now ms)
+  absent_means tt (same_at width) (get_member WIDTH.now ms)
+  absent_means tt (same_at height) (get_member HEIGHT.now ms)
+  cells ← required (cells_at encoding (width * height)) (get_member DATA.now ms)
   Ok (Tiles encoding cells)
 
 unfoldable pub objects_of : Members → Result Body MapRefusal
 objects_of ms = do
-  objects ← required (entries_at MAX_OBJECTS object_at) (get_member (codes "objects") ms)
+  objects ← required (entries_at MAX_OBJECTS object_at) (get_member OBJECTS.now ms)
   Ok (Objects objects)
 
 -- what a layer of this type holds, on a map of this size
@@ -142,11 +145,11 @@ body_by ImageLayer width height ms = Ok Other
 
 unfoldable pub layer_at : ℕ → ℕ → Data → Result Layer MapRefusal
 layer_at width height d = do
-  ms ← or_refused MemberOfAnotherKind (as_object d)
-  type ← required type_at (get_member (codes "type") ms)
-  id ← required id_at (get_member (codes "id") ms)
-  name ← absent_means [] text_at (get_member (codes "name") ms)
-  visible ← absent_means true truth_at (get_member (codes "visible") ms)
+  ms ← ok_or (as_object d) MemberOfAnotherKind
+  type ← required type_at (get_member TYPE.now ms)
+  id ← required id_at (get_member ID.now ms)
+  name ← absent_means [] text_at (get_member NAME.now ms)
+  visible ← absent_means true truth_at (get_member VISIBLE.now ms)
   properties ← properties_of ms
   body ← body_by type width height ms
   Ok (record { id = id; name = name; visible = visible; properties = properties; kept = without_all (layer_names body) ms; body = body })

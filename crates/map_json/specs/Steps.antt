@@ -1,24 +1,11 @@
--- Steps of reading a map, of which the first that refuses decides.
-use Rattle.std.specs.Prelude.{◌≡◌, Bool, Option, Some, None, Result, Ok, Err, ⊤, if◌then◌else◌}
+-- Steps of reading a map: a member that must be there or may be absent, and what code answers for a step.
+use Rattle.std.specs.Prelude.{◌≡◌, Option, Some, None, Result, Ok, Err}
 use Rattle.serde_json.specs.Data.{Data}
+use Rattle.map_model.specs.Steps.{◌>>=◌}
 use Rattle.map_json.specs.declared.fault.MapRefusal.{MapRefusal}
 use Rattle.map_json.specs.declared.fault.MapRefusal.TheVariants.{MemberMissing}
 use Rattle.map_json.specs.declared.fault.MapFault.{MapFault}
 use Rattle.map_json.specs.declared.fault.MapFault.TheVariants.{Memory, Refused}
-
-infixl 10 ◌>>=◌
-abbrev pub ◌>>=◌ : {A B : Type 0} → Result A MapRefusal → (A → Result B MapRefusal) → Result B MapRefusal
-(Ok x) >>= f = f x
-(Err e) >>= f = Err e
-
--- the value, or this refusal where there is none
-abbrev pub or_refused : {A : Type 0} → MapRefusal → Option A → Result A MapRefusal
-or_refused f None = Err f
-or_refused f (Some x) = Ok x
-
--- a test, or this refusal where it fails
-abbrev pub check : Bool → MapRefusal → Result ⊤ MapRefusal
-check b f = if b then Ok tt else Err f
 
 -- a member that must be there
 abbrev pub required : {A : Type 0} → (Data → Result A MapRefusal) → Option Data → Result A MapRefusal

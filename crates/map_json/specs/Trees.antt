@@ -7,6 +7,7 @@ use Rattle.base64.specs.GeneralPurpose.{encode_of}
 use Rattle.serde_json.specs.Data.{Data, boolean, number, string, array, object, unsigned, Items, no_items, item}
 use Rattle.serde_json.specs.Find.{of_integer}
 use Rattle.serde_json.specs.Written.{compact_text}
+use Rattle.map_model.specs.declared.names.TheConstants.{ID, NAME, TYPE, VISIBLE, PROPERTIES, WIDTH, HEIGHT, TILE_WIDTH, TILE_HEIGHT, INFINITE, NEXT_LAYER_ID, NEXT_OBJECT_ID, LAYERS, TILESETS, VERSION, ENCODING, COMPRESSION, DATA, OBJECTS, X, Y, GID, FIRST_ID, SOURCE, VALUE}
 use Rattle.map_model.specs.declared.parts.Encoding.{Encoding}
 use Rattle.map_model.specs.declared.parts.Encoding.TheVariants.{Array, Base64}
 use Rattle.map_model.specs.declared.parts.PropValue.{PropValue}
@@ -38,7 +39,7 @@ value_tree (values.Truth b) = boolean b
 value_tree (values.Other d) = d
 
 abbrev pub property_own : Property → Own
-property_own p = (codes "name", Some (string p.name)) ∷ (codes "type", Some (string p.kind)) ∷ (codes "value", Some (value_tree p.value)) ∷ []
+property_own p = (NAME.now, Some (string p.name)) ∷ (TYPE.now, Some (string p.kind)) ∷ (VALUE.now, Some (value_tree p.value)) ∷ []
 
 unfoldable pub property_tree : Property → Data
 property_tree p = object (with_own (property_own p) p.kept)
@@ -51,15 +52,15 @@ properties_member (p ∷ ps) = Some (array_by property_tree (p ∷ ps))
 -- ---- objects
 abbrev pub object_own : Object → Own
 object_own o =
-    (codes "id", Some (whole_tree o.id))
-    ∷ (codes "x", option_map (λ z. number (of_integer z)) o.placing.x)
-    ∷ (codes "y", option_map (λ z. number (of_integer z)) o.placing.y)
-    ∷ (codes "width", option_map (λ z. number (of_integer z)) o.placing.width)
-    ∷ (codes "height", option_map (λ z. number (of_integer z)) o.placing.height)
-    ∷ (codes "name", option_map string o.name)
-    ∷ (codes "visible", option_map boolean o.visible)
-    ∷ (codes "gid", option_map whole_tree o.gid)
-    ∷ (codes "properties", properties_member o.properties)
+    (ID.now, Some (whole_tree o.id))
+    ∷ (X.now, option_map (λ z. number (of_integer z)) o.placing.x)
+    ∷ (Y.now, option_map (λ z. number (of_integer z)) o.placing.y)
+    ∷ (WIDTH.now, option_map (λ z. number (of_integer z)) o.placing.width)
+    ∷ (HEIGHT.now, option_map (λ z. number (of_integer z)) o.placing.height)
+    ∷ (NAME.now, option_map string o.name)
+    ∷ (VISIBLE.now, option_map boolean o.visible)
+    ∷ (GID.now, option_map whole_tree o.gid)
+    ∷ (PROPERTIES.now, properties_member o.properties)
     ∷ []
 
 unfoldable pub object_tree : Object → Data
@@ -67,7 +68,7 @@ object_tree o = object (with_own (object_own o) o.kept)
 
 -- ---- tilesets
 abbrev pub tileset_own : Tileset → Own
-tileset_own t = (codes "firstgid", Some (whole_tree t.first_id)) ∷ (codes "source", option_map string t.source) ∷ []
+tileset_own t = (FIRST_ID.now, Some (whole_tree t.first_id)) ∷ (SOURCE.now, option_map string t.source) ∷ []
 
 unfoldable pub tileset_tree : Tileset → Data
 tileset_tree t = object (with_own (tileset_own t) t.kept)
@@ -93,15 +94,15 @@ type_word Other = codes "imagelayer"
 
 abbrev pub body_own : ℕ → ℕ → Body → Own
 body_own width height (Tiles e cells) =
-    (codes "encoding", encoding_member e) ∷ (codes "compression", None) ∷ (codes "width", Some (whole_tree width)) ∷ (codes "height", Some (whole_tree height))
-    ∷ (codes "data", Some (cells_tree e cells)) ∷ []
-body_own width height (Objects os) = (codes "objects", Some (array_by object_tree os)) ∷ []
+    (ENCODING.now, encoding_member e) ∷ (COMPRESSION.now, None) ∷ (WIDTH.now, Some (whole_tree width)) ∷ (HEIGHT.now, Some (whole_tree height))
+    ∷ (DATA.now, Some (cells_tree e cells)) ∷ []
+body_own width height (Objects os) = (OBJECTS.now, Some (array_by object_tree os)) ∷ []
 body_own width height Other = []
 
 abbrev pub layer_own : ℕ → ℕ → Layer → Own
 layer_own width height l =
-    ((codes "type", Some (string (type_word l.body))) ∷ (codes "id", Some (whole_tree l.id)) ∷ (codes "name", Some (string l.name))
-    ∷ (codes "visible", Some (boolean l.visible)) ∷ (codes "properties", properties_member l.properties) ∷ [])
+    ((TYPE.now, Some (string (type_word l.body))) ∷ (ID.now, Some (whole_tree l.id)) ∷ (NAME.now, Some (string l.name))
+    ∷ (VISIBLE.now, Some (boolean l.visible)) ∷ (PROPERTIES.now, properties_member l.properties) ∷ [])
     ++ body_own width height l.body
 
 unfoldable pub layer_tree : ℕ → ℕ → Layer → Data
@@ -111,23 +112,23 @@ layer_tree width height l = object (with_own (layer_own width height l) l.kept)
 -- the own members of a map that are no lists
 abbrev pub plain_own : MapParts → Own
 plain_own m =
-    (codes "width", Some (whole_tree m.width))
-    ∷ (codes "height", Some (whole_tree m.height))
-    ∷ (codes "tilewidth", Some (whole_tree m.tile_width))
-    ∷ (codes "tileheight", Some (whole_tree m.tile_height))
-    ∷ (codes "infinite", Some (boolean false))
-    ∷ (codes "nextlayerid", Some (whole_tree m.next_layer_id))
-    ∷ (codes "nextobjectid", Some (whole_tree m.next_object_id))
+    (WIDTH.now, Some (whole_tree m.width))
+    ∷ (HEIGHT.now, Some (whole_tree m.height))
+    ∷ (TILE_WIDTH.now, Some (whole_tree m.tile_width))
+    ∷ (TILE_HEIGHT.now, Some (whole_tree m.tile_height))
+    ∷ (INFINITE.now, Some (boolean false))
+    ∷ (NEXT_LAYER_ID.now, Some (whole_tree m.next_layer_id))
+    ∷ (NEXT_OBJECT_ID.now, Some (whole_tree m.next_object_id))
     ∷ []
 
 -- its lists, with this for its layers, and what says that it is a map
 abbrev pub lists_own : Data → MapParts → Own
 lists_own layers m =
-    (codes "layers", Some layers)
-    ∷ (codes "tilesets", Some (array_by tileset_tree m.tilesets))
-    ∷ (codes "properties", properties_member m.properties)
-    ∷ (codes "type", Some (string (codes "map")))
-    ∷ (codes "version", Some (string (codes "1.10")))
+    (LAYERS.now, Some layers)
+    ∷ (TILESETS.now, Some (array_by tileset_tree m.tilesets))
+    ∷ (PROPERTIES.now, properties_member m.properties)
+    ∷ (TYPE.now, Some (string (codes "map")))
+    ∷ (VERSION.now, Some (string (codes "1.10")))
     ∷ []
 
 -- all of them

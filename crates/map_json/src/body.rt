@@ -14,7 +14,7 @@ use crate::fault::{MapFault, MapRefusal};
 use crate::json_object::JsonObject;
 use crate::size::Size;
 use map_model::limits::MAX_OBJECTS;
-use map_model::{Body, Cells, Encoding};
+use map_model::{Body, Cells, Encoding, names};
 use serde_json::Value;
 use std::alloc::Global;
 
@@ -127,17 +127,17 @@ fn tiles(alloc: Global, size: Size, members: &mut JsonObject) -> Result<Body, Ma
     ensures value { Gives result (tiles_of size.width size.height members.old) }
     ensures kept { IfOk result (λ body. members.new ≡ without_all (body_names body) members.old) }
 {
-    let encoding = encoding(members.get("encoding"))?;
-    compression(members.get("compression"))?;
-    same(members.get("width"), size.width)?;
-    same(members.get("height"), size.height)?;
+    let encoding = encoding(members.get(names::ENCODING))?;
+    compression(members.get(names::COMPRESSION))?;
+    same(members.get(names::WIDTH), size.width)?;
+    same(members.get(names::HEIGHT), size.height)?;
     let count = size.width as usize * size.height as usize;
-    let cells = cells(alloc, encoding, count, members.get("data"))?;
-    members.remove("encoding");
-    members.remove("compression");
-    members.remove("width");
-    members.remove("height");
-    members.remove("data");
+    let cells = cells(alloc, encoding, count, members.get(names::DATA))?;
+    members.remove(names::ENCODING);
+    members.remove(names::COMPRESSION);
+    members.remove(names::WIDTH);
+    members.remove(names::HEIGHT);
+    members.remove(names::DATA);
     Ok(Body::Tiles(encoding, cells))
 }
 
@@ -147,7 +147,7 @@ fn objects(alloc: Global, size: Size, members: &mut JsonObject) -> Result<Body, 
     ensures value { Gives result (objects_of members.old) }
     ensures kept { IfOk result (λ body. members.new ≡ without_all (body_names body) members.old) }
 {
-    let objects = members.take("objects");
+    let objects = members.take(names::OBJECTS);
     let objects = required_entries(alloc, size, MAX_OBJECTS, objects)?;
     Ok(Body::Objects(objects))
 }

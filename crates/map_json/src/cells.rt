@@ -1,10 +1,11 @@
 // The cells of a layer, as an array or in base64.
 ghost use Rattle.std.specs.Prelude.{◌≡◌, ◌*◌, ◌≤◌, Ok, IfOk, IfErr, length};
+ghost use Rattle.std.specs.Option.{ok_or};
 ghost use Rattle.base64.specs.Engines.{standard};
 ghost use Rattle.base64.specs.GeneralPurpose.{decode_of, IsDecodeFailure, IsBytes};
 ghost use Rattle.serde_json.specs.View.{view as data_of, items_view};
 ghost use Rattle.map_model.specs.declared.limits.TheConstants.{MAX_CELLS};
-ghost use Rattle.map_json.specs.Steps.{Gives, GivesBy, or_refused};
+ghost use Rattle.map_json.specs.Steps.{Gives, GivesBy};
 ghost use Rattle.map_json.specs.Cells.{is_blank, cell_of, cells_of, array_cells_at, base64_cells_at, packed, words_of};
 ghost use Rattle.map_json.specs.declared.fault.MapRefusal.TheVariants.{BadData};
 
@@ -31,7 +32,7 @@ fn cell(value: &Value) -> Option<Gid>
 
 fn cells(alloc: Global, values: &Vec<Value>) -> Result<Vec<Gid>, MapFault>
     ensures { GivesBy (λ found. found.items) result
-        (or_refused BadData (cells_of (items_view values.now.items))) }
+        (ok_or (cells_of (items_view values.now.items)) BadData) }
 {
     let mut found = Vec::with_capacity(alloc, values.len())?;
     for value in values {

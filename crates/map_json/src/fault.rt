@@ -8,9 +8,9 @@ use std::alloc::{AllocError, AllocFailed};
 /// What is wrong with a file: the first fault in the order in which a file is looked at.
 #[derive(Clone, Copy, PartialEq, Eq, Debug)]
 pub enum MapRefusal {
-    /// The bytes are not UTF-8, or no JSON text, or it nests deeper than 127.
+    /// The bytes are not UTF-8, or no JSON text, or it nests deeper than 127, or a number is too great for a float.
     NotJson,
-    /// A number that is not whole stands somewhere but as the version of the map.
+    /// A number that is not whole, or is `-0`, or does not fit 64 bits, stands somewhere but as the version of the map.
     Fraction,
     /// A member that must be there is absent.
     MemberMissing,

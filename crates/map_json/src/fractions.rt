@@ -1,11 +1,13 @@
 // Whether a tree has a number that is not whole.
-ghost use Rattle.std.specs.Prelude.{◌≡◌, codes, option_map};
+ghost use Rattle.std.specs.Prelude.{◌≡◌, option_map};
 ghost use Rattle.serde_json.specs.Data.{object};
 ghost use Rattle.serde_json.specs.View.{view as data_of, items_view, members_view};
 ghost use Rattle.serde_json.specs.Written.{has_float, items_have_float, members_have_float};
+ghost use Rattle.map_model.specs.declared.names.TheConstants.{VERSION};
 ghost use Rattle.map_json.specs.Members.{without};
 ghost use Rattle.map_json.specs.Maps.{version_has_fraction, has_fraction};
 
+use map_model::names;
 use serde_json::{Map, Value};
 
 #[cycle(floats)]
@@ -62,7 +64,7 @@ fn version_has_fraction(version: Option<&Value>) -> bool
 // Whether a member other than the version has a number in it that is not whole.
 fn others_have_fraction(members: &Map<String, Value>) -> bool
     ensures { result
-        ≡ members_have_float (without (codes "version") (members_view members.now.entries)) }
+        ≡ members_have_float (without VERSION.now (members_view members.now.entries)) }
 {
     for (key, member) in members.iter() {
         if key.as_str() != "version" && has_float(member) {
@@ -75,7 +77,7 @@ fn others_have_fraction(members: &Map<String, Value>) -> bool
 fn object_has_fraction(members: &Map<String, Value>) -> bool
     ensures { result ≡ has_fraction (object (members_view members.now.entries)) }
 {
-    others_have_fraction(members) || version_has_fraction(members.get("version"))
+    others_have_fraction(members) || version_has_fraction(members.get(names::VERSION))
 }
 
 /// Whether a number that is not whole stands anywhere but as the version of the root.

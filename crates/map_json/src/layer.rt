@@ -1,7 +1,8 @@
 // Layers.
-ghost use Rattle.std.specs.Prelude.{◌≡◌, ◌*◌, ◌≤◌, codes, option_map};
+ghost use Rattle.std.specs.Prelude.{◌≡◌, ◌*◌, ◌≤◌, option_map};
 ghost use Rattle.serde_json.specs.Find.{get_member};
 ghost use Rattle.serde_json.specs.View.{view as data_of};
+ghost use Rattle.map_model.specs.declared.names.TheConstants.{NAME, PROPERTIES};
 ghost use Rattle.map_model.specs.Keeping.{common_names};
 ghost use Rattle.map_model.specs.declared.limits.TheConstants.{MAX_CELLS};
 ghost use Rattle.map_json.specs.Members.{without_all};
@@ -15,7 +16,7 @@ use crate::json_object::JsonObject;
 use crate::property::properties_or_none;
 use crate::scalar::{required_id, text_or, truth_or};
 use crate::size::Size;
-use map_model::Layer;
+use map_model::{Layer, names};
 use serde_json::Value;
 use std::alloc::Global;
 
@@ -28,16 +29,16 @@ struct CommonMembers {
 
 #[tactic(auto, using(crate::proofs::MembersLemmas::takes))]
 fn common_members(members: &mut JsonObject) -> CommonMembers
-    ensures name { option_map data_of result.name ≡ get_member (codes "name") members.old }
+    ensures name { option_map data_of result.name ≡ get_member NAME.now members.old }
     ensures properties { option_map data_of result.properties
-        ≡ get_member (codes "properties") members.old }
+        ≡ get_member PROPERTIES.now members.old }
     ensures kept { members.new ≡ without_all common_names members.old }
 {
-    members.remove("type");
-    members.remove("id");
-    let name = members.take("name");
-    members.remove("visible");
-    let properties = members.take("properties");
+    members.remove(names::TYPE);
+    members.remove(names::ID);
+    let name = members.take(names::NAME);
+    members.remove(names::VISIBLE);
+    let properties = members.take(names::PROPERTIES);
     CommonMembers { name, properties }
 }
 
@@ -47,10 +48,10 @@ fn layer(alloc: Global, size: Size, value: Value) -> Result<Layer, MapFault>
     ensures { Gives result (layer_at size.width size.height (data_of value)) }
 {
     let mut members = JsonObject::from_value(value).ok_or(MapRefusal::MemberOfAnotherKind)?;
-    let kind = layer_type(members.get("type"))?;
-    let id = required_id(members.get("id"))?;
+    let kind = layer_type(members.get(names::TYPE))?;
+    let id = required_id(members.get(names::ID))?;
     // A fault of the name comes before one of this.
-    let visible = truth_or(members.get("visible"), true);
+    let visible = truth_or(members.get(names::VISIBLE), true);
     let CommonMembers { name, properties } = common_members(&mut members);
     let name = text_or(alloc, name, "")?;
     let visible = visible?;

@@ -20,4 +20,4 @@ mod writing;
 
 pub use fault::{MapFault, MapRefusal};
 pub use reading::read_map;
-pub use text::write_map;
+pub use text::{write_map, written_is_read};

@@ -1,7 +1,8 @@
 // Objects of an object layer.
-ghost use Rattle.std.specs.Prelude.{◌≡◌, codes, option_map};
+ghost use Rattle.std.specs.Prelude.{◌≡◌, option_map};
 ghost use Rattle.serde_json.specs.Find.{get_member};
 ghost use Rattle.serde_json.specs.View.{view as data_of};
+ghost use Rattle.map_model.specs.declared.names.TheConstants.{NAME, PROPERTIES};
 ghost use Rattle.map_model.specs.Keeping.{object_names};
 ghost use Rattle.map_json.specs.Members.{without_all};
 ghost use Rattle.map_json.specs.Steps.{optional};
@@ -14,7 +15,7 @@ use crate::json_object::JsonObject;
 use crate::property::properties_or_none;
 use crate::scalar::{optional_pixels, optional_text, optional_truth, optional_whole, required_id};
 use crate::size::Size;
-use map_model::{Object, Placing};
+use map_model::{Object, Placing, names};
 use serde_json::Value;
 use std::alloc::Global;
 use tile_id::Gid;
@@ -29,20 +30,20 @@ struct ObjectMembers {
 
 #[tactic(auto, using(crate::proofs::MembersLemmas::takes))]
 fn object_members(mut members: JsonObject) -> ObjectMembers
-    ensures name { option_map data_of result.name ≡ get_member (codes "name") members }
+    ensures name { option_map data_of result.name ≡ get_member NAME.now members }
     ensures properties { option_map data_of result.properties
-        ≡ get_member (codes "properties") members }
+        ≡ get_member PROPERTIES.now members }
     ensures kept { result.kept ≡ without_all object_names members }
 {
-    members.remove("id");
-    members.remove("x");
-    members.remove("y");
-    members.remove("width");
-    members.remove("height");
-    let name = members.take("name");
-    members.remove("visible");
-    members.remove("gid");
-    let properties = members.take("properties");
+    members.remove(names::ID);
+    members.remove(names::X);
+    members.remove(names::Y);
+    members.remove(names::WIDTH);
+    members.remove(names::HEIGHT);
+    let name = members.take(names::NAME);
+    members.remove(names::VISIBLE);
+    members.remove(names::GID);
+    let properties = members.take(names::PROPERTIES);
     ObjectMembers {
         name,
         properties,
@@ -56,10 +57,10 @@ fn placing(members: &JsonObject) -> Result<Placing, MapRefusal>
     ensures { result ≡ placing_of members.now }
 {
     Ok(Placing {
-        x: optional_pixels(members.get("x"))?,
-        y: optional_pixels(members.get("y"))?,
-        width: optional_pixels(members.get("width"))?,
-        height: optional_pixels(members.get("height"))?,
+        x: optional_pixels(members.get(names::X))?,
+        y: optional_pixels(members.get(names::Y))?,
+        width: optional_pixels(members.get(names::WIDTH))?,
+        height: optional_pixels(members.get(names::HEIGHT))?,
     })
 }
 
@@ -79,11 +80,11 @@ impl Entry for Object {
     #[tactic(auto, unfolding(crate::specs::Reading::object_at))]
     fn read(alloc: Global, size: Size, value: Value) -> Result<Object, MapFault> {
         let members = JsonObject::from_value(value).ok_or(MapRefusal::MemberOfAnotherKind)?;
-        let id = required_id(members.get("id"))?;
+        let id = required_id(members.get(names::ID))?;
         let placing = placing(&members)?;
         // A fault of the name comes before those of these two.
-        let visible = optional_truth(members.get("visible"));
-        let gid = optional_gid(members.get("gid"));
+        let visible = optional_truth(members.get(names::VISIBLE));
+        let gid = optional_gid(members.get(names::GID));
         let ObjectMembers {
             name,
             properties,

@@ -1,7 +1,8 @@
 // Properties.
-ghost use Rattle.std.specs.Prelude.{◌≡◌, ◌*◌, ◌≤◌, [], codes, option_map};
+ghost use Rattle.std.specs.Prelude.{◌≡◌, ◌*◌, ◌≤◌, [], option_map};
 ghost use Rattle.serde_json.specs.Find.{get_member};
 ghost use Rattle.serde_json.specs.View.{view as data_of};
+ghost use Rattle.map_model.specs.declared.names.TheConstants.{NAME, TYPE, VALUE};
 ghost use Rattle.map_model.specs.Keeping.{property_names};
 ghost use Rattle.map_model.specs.declared.limits.TheConstants.{MAX_CELLS, MAX_PROPERTIES};
 ghost use Rattle.map_json.specs.Members.{without_all};
@@ -16,7 +17,7 @@ use crate::scalar::{required_text, text_or};
 use crate::size::Size;
 use link_chain::Chain;
 use map_model::limits::MAX_PROPERTIES;
-use map_model::{JsonValue, MapText, PropValue, Property};
+use map_model::{JsonValue, MapText, PropValue, Property, names};
 use serde_json::Value;
 use std::alloc::Global;
 
@@ -45,14 +46,14 @@ struct PropertyMembers {
 
 #[tactic(auto, using(crate::proofs::MembersLemmas::takes))]
 fn property_members(mut members: JsonObject) -> PropertyMembers
-    ensures name { option_map data_of result.name ≡ get_member (codes "name") members }
-    ensures kind { option_map data_of result.kind ≡ get_member (codes "type") members }
-    ensures value { option_map data_of result.value ≡ get_member (codes "value") members }
+    ensures name { option_map data_of result.name ≡ get_member NAME.now members }
+    ensures kind { option_map data_of result.kind ≡ get_member TYPE.now members }
+    ensures value { option_map data_of result.value ≡ get_member VALUE.now members }
     ensures kept { result.kept ≡ without_all property_names members }
 {
-    let name = members.take("name");
-    let kind = members.take("type");
-    let value = members.take("value");
+    let name = members.take(names::NAME);
+    let kind = members.take(names::TYPE);
+    let value = members.take(names::VALUE);
     PropertyMembers {
         name,
         kind,

@@ -1,7 +1,8 @@
 // A map from its text.
-ghost use Rattle.std.specs.Prelude.{◌≡◌, codes, option_map};
+ghost use Rattle.std.specs.Prelude.{◌≡◌, option_map};
 ghost use Rattle.serde_json.specs.Find.{get_member};
 ghost use Rattle.serde_json.specs.View.{view as data_of};
+ghost use Rattle.map_model.specs.declared.names.TheConstants.{PROPERTIES, LAYERS, TILESETS};
 ghost use Rattle.map_model.specs.Keeping.{map_names};
 ghost use Rattle.map_json.specs.Members.{without_all};
 ghost use Rattle.map_json.specs.Steps.{Gives};
@@ -18,7 +19,7 @@ use crate::size::Size;
 use map_model::limits::{
     MAX_CELLS, MAX_LAYERS, MAX_NEXT_ID, MAX_SIDE, MAX_TILE_SIDE, MAX_TILESETS,
 };
-use map_model::{Map, MapParts};
+use map_model::{Map, MapParts, names};
 use serde_json::Value;
 use std::alloc::Global;
 
@@ -33,24 +34,24 @@ struct MapMembers {
 
 #[tactic(auto, using(crate::proofs::MembersLemmas::takes))]
 fn map_members(mut members: JsonObject) -> MapMembers
-    ensures layers { option_map data_of result.layers ≡ get_member (codes "layers") members }
-    ensures tilesets { option_map data_of result.tilesets ≡ get_member (codes "tilesets") members }
+    ensures layers { option_map data_of result.layers ≡ get_member LAYERS.now members }
+    ensures tilesets { option_map data_of result.tilesets ≡ get_member TILESETS.now members }
     ensures properties { option_map data_of result.properties
-        ≡ get_member (codes "properties") members }
+        ≡ get_member PROPERTIES.now members }
     ensures kept { result.kept ≡ without_all map_names members }
 {
-    members.remove("width");
-    members.remove("height");
-    members.remove("tilewidth");
-    members.remove("tileheight");
-    members.remove("infinite");
-    members.remove("nextlayerid");
-    members.remove("nextobjectid");
-    let layers = members.take("layers");
-    let tilesets = members.take("tilesets");
-    let properties = members.take("properties");
-    members.remove("type");
-    members.remove("version");
+    members.remove(names::WIDTH);
+    members.remove(names::HEIGHT);
+    members.remove(names::TILE_WIDTH);
+    members.remove(names::TILE_HEIGHT);
+    members.remove(names::INFINITE);
+    members.remove(names::NEXT_LAYER_ID);
+    members.remove(names::NEXT_OBJECT_ID);
+    let layers = members.take(names::LAYERS);
+    let tilesets = members.take(names::TILESETS);
+    let properties = members.take(names::PROPERTIES);
+    members.remove(names::TYPE);
+    members.remove(names::VERSION);
     MapMembers {
         layers,
         tilesets,
@@ -63,19 +64,19 @@ fn map_members(mut members: JsonObject) -> MapMembers
 fn parts_of(alloc: Global, members: JsonObject) -> Result<MapParts, MapFault>
     ensures { Gives result (parts_of members) }
 {
-    let width = required_whole(members.get("width"), 1, MAX_SIDE)?;
-    let height = required_whole(members.get("height"), 1, MAX_SIDE)?;
+    let width = required_whole(members.get(names::WIDTH), 1, MAX_SIDE)?;
+    let height = required_whole(members.get(names::HEIGHT), 1, MAX_SIDE)?;
     if width as usize * height as usize > MAX_CELLS {
         return Err(MapFault::Refused(MapRefusal::OverLimit));
     }
     let size = Size { width, height };
-    let tile_width = required_whole(members.get("tilewidth"), 1, MAX_TILE_SIDE)?;
-    let tile_height = required_whole(members.get("tileheight"), 1, MAX_TILE_SIDE)?;
-    if truth_or(members.get("infinite"), false)? {
+    let tile_width = required_whole(members.get(names::TILE_WIDTH), 1, MAX_TILE_SIDE)?;
+    let tile_height = required_whole(members.get(names::TILE_HEIGHT), 1, MAX_TILE_SIDE)?;
+    if truth_or(members.get(names::INFINITE), false)? {
         return Err(MapFault::Refused(MapRefusal::Infinite));
     }
-    let next_layer_id = required_whole(members.get("nextlayerid"), 1, MAX_NEXT_ID)?;
-    let next_object_id = required_whole(members.get("nextobjectid"), 1, MAX_NEXT_ID)?;
+    let next_layer_id = required_whole(members.get(names::NEXT_LAYER_ID), 1, MAX_NEXT_ID)?;
+    let next_object_id = required_whole(members.get(names::NEXT_OBJECT_ID), 1, MAX_NEXT_ID)?;
     let members = map_members(members);
     let layers = required_entries(alloc, size, MAX_LAYERS, members.layers)?;
     let tilesets = required_entries(alloc, size, MAX_TILESETS, members.tilesets)?;
@@ -127,7 +128,7 @@ fn map_of(alloc: Global, value: Value) -> Result<MapParts, MapFault>
         return Err(MapFault::Refused(MapRefusal::Fraction));
     }
     let members = JsonObject::from_value(value).ok_or(MapRefusal::NotAMap)?;
-    if !is_map_type(members.get("type")) {
+    if !is_map_type(members.get(names::TYPE)) {
         return Err(MapFault::Refused(MapRefusal::NotAMap));
     }
     let parts = parts_of(alloc, members)?;

@@ -1,9 +1,8 @@
 // Members that are a number, a text or a truth value.
-ghost use Rattle.std.specs.Prelude.{◌≡◌, ◌≤◌, ◌-◌, IfOk, option_map};
+ghost use Rattle.std.specs.Prelude.{◌≡◌, ◌≤◌, IfOk, option_map};
 ghost use Rattle.serde_json.specs.View.{view as data_of};
-ghost use Rattle.map_model.specs.declared.limits.TheConstants.{MAX_PIXELS, MAX_NEXT_ID};
 ghost use Rattle.map_json.specs.Steps.{required, absent_means, optional, Gives};
-ghost use Rattle.map_json.specs.Scalars.{whole_at, signed_at, text_at, truth_at};
+ghost use Rattle.map_json.specs.Scalars.{whole_at, text_at, truth_at};
 ghost use Rattle.map_json.specs.Reading.{id_at, pixels_at};
 
 use crate::fault::{MapFault, MapRefusal};

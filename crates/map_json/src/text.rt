@@ -1,19 +1,21 @@
 // The text of a map. It goes out a member and a layer at a time, so that no more than one layer's tree stands in memory.
-ghost use Rattle.std.specs.Prelude.{◌≡◌, ◌++◌, ◌∷◌, [], ◌≤◌, codes, false, Some, Ok, IfOk, OnOk};
+ghost use Rattle.std.specs.Prelude.{◌≡◌, ◌++◌, ◌∷◌, [], ◌≤◌, false, Ok, IfOk, OnOk};
 ghost use Rattle.json.specs.Print.{quoted};
 ghost use Rattle.serde_json.specs.Data.{object, depth, items_depth, members_depth};
-ghost use Rattle.serde_json.specs.Read.{read, max_depth};
+ghost use Rattle.serde_json.specs.Read.{max_depth};
 ghost use Rattle.serde_json.specs.View.{view as data_of};
 ghost use Rattle.serde_json.specs.Written.{comma_if, has_float, items_have_float, members_have_float};
+ghost use Rattle.map_model.specs.declared.names.TheConstants.{LAYERS};
 ghost use Rattle.map_json.specs.Appending.{Appends, in_place, layers_tree, replaced};
-ghost use Rattle.map_json.specs.Maps.{map_of};
+ghost use Rattle.map_json.specs.Maps.{IsTreeOf, map_of};
+ghost use Rattle.map_json.specs.RoundTrip.{WrittenIsRead};
 ghost use Rattle.map_json.specs.Trees.{array_by, items_by, layer_tree, text_of, tree_of};
 
 use crate::json_object::JsonObject;
 use crate::size::Size;
 use crate::writing::{Tree, frame_of, text_tree};
 use link_chain::Chain;
-use map_model::{Layer, Map, MapParts};
+use map_model::{Layer, Map, MapParts, names};
 use serde_json::Value;
 use std::alloc::{AllocError, Global};
 
@@ -82,9 +84,9 @@ fn push_member(
     requires layers_shallow { depth (layers_tree map.now) ≤ max_depth }
     requires whole { has_float (data_of value.now) ≡ false }
     requires shallow { depth (data_of value.now) ≤ max_depth }
-    ensures { OnOk result (Appends (in_place (codes "layers") (layers_tree map.now) name.now (data_of value.now)) text.old.items text.new.items) }
+    ensures { OnOk result (Appends (in_place LAYERS.now (layers_tree map.now) name.now (data_of value.now)) text.old.items text.new.items) }
 {
-    if name == "layers" {
+    if name == names::LAYERS {
         return push_layers(alloc, text, Size::of_map(map), &map.layers);
     }
     push_value(alloc, text, value)
@@ -101,7 +103,7 @@ fn push_map(
     requires layers_shallow { depth (layers_tree map.now) ≤ max_depth }
     requires whole { members_have_float frame.now ≡ false }
     requires shallow { members_depth frame.now ≤ max_depth }
-    ensures { OnOk result (Appends (object (replaced (codes "layers") (layers_tree map.now) frame.now)) text.old.items text.new.items) }
+    ensures { OnOk result (Appends (object (replaced LAYERS.now (layers_tree map.now) frame.now)) text.old.items text.new.items) }
 {
     text.push(b'{')?;
     let mut later = false;
@@ -117,7 +119,7 @@ fn push_map(
 /// The text of a map: compact JSON, with the members of each object in the order of their names.
 pub fn write_map(alloc: Global, map: &Map) -> Result<Vec<u8>, AllocError>
     ensures text { IfOk result (λ bytes. bytes.items ≡ text_of map.now) }
-    ensures read_back { IfOk result (λ bytes. read bytes.items ≡ Some (tree_of map.now)) }
+    ensures read_back { IfOk result (λ bytes. IsTreeOf bytes.items (tree_of map.now)) }
     ensures read_again { map_of (tree_of map.now) ≡ Ok map.now }
 {
     let parts = map.parts();
@@ -125,4 +127,11 @@ pub fn write_map(alloc: Global, map: &Map) -> Result<Vec<u8>, AllocError>
     let mut text = Vec::new(alloc);
     push_map(alloc, &mut text, parts, &frame)?;
     Ok(text)
+}
+
+/// What was written is read: bytes that have the tree of a map give that map, unless memory runs out.
+pub fn written_is_read(map: &Map)
+    ensures { WrittenIsRead map.now }
+{
+    let _parts = map.parts();
 }

@@ -6,8 +6,8 @@ use crate::fault::{MapFault, MapRefusal};
 use crate::json_object::JsonObject;
 use crate::scalar::{optional_text, required_whole};
 use crate::size::Size;
-use map_model::Tileset;
 use map_model::limits::MAX_FIRST_ID;
+use map_model::{Tileset, names};
 use serde_json::Value;
 use std::alloc::Global;
 
@@ -17,9 +17,9 @@ impl Entry for Tileset {
     #[tactic(auto, using(crate::proofs::MembersLemmas::takes), unfolding(crate::specs::Reading::tileset_at))]
     fn read(_alloc: Global, _size: Size, value: Value) -> Result<Tileset, MapFault> {
         let mut members = JsonObject::from_value(value).ok_or(MapRefusal::MemberOfAnotherKind)?;
-        let first_id = required_whole(members.get("firstgid"), 1, MAX_FIRST_ID)?;
-        members.remove("firstgid");
-        let source = optional_text(members.take("source"))?;
+        let first_id = required_whole(members.get(names::FIRST_ID), 1, MAX_FIRST_ID)?;
+        members.remove(names::FIRST_ID);
+        let source = optional_text(members.take(names::SOURCE))?;
         Ok(Tileset {
             first_id,
             source,

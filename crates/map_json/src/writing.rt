@@ -1,5 +1,5 @@
 // What is written for each part of a map, as a tree.
-ghost use Rattle.std.specs.Prelude.{◌≡◌, Some, Ok, IfOk, OnOk};
+ghost use Rattle.std.specs.Prelude.{◌≡◌, IfOk, OnOk};
 ghost use Rattle.std.specs.Option.{option_map};
 ghost use Rattle.serde_json.specs.Data.{Data, array, boolean, no_items, number, string};
 ghost use Rattle.serde_json.specs.View.{view as data_of};
@@ -14,7 +14,9 @@ use crate::size::Size;
 use base64::encoded_len;
 use base64::engine::general_purpose::STANDARD;
 use link_chain::Chain;
-use map_model::{Body, Encoding, Layer, MapParts, MapText, Object, PropValue, Property, Tileset};
+use map_model::{
+    Body, Encoding, Layer, MapParts, MapText, Object, PropValue, Property, Tileset, names,
+};
 use serde_json::Value;
 use std::alloc::{AllocError, Global};
 use tile_id::Gid;
@@ -67,9 +69,17 @@ fn put_property(
 ) -> Result<(), AllocError>
     ensures { OnOk result (members.new ≡ with_own (property_own property.now) members.old) }
 {
-    members.put(alloc, "value", value_tree(alloc, &property.value)?)?;
-    members.put(alloc, "type", text_tree(alloc, property.kind.as_str())?)?;
-    members.put(alloc, "name", text_tree(alloc, property.name.as_str())?)
+    members.put(alloc, names::VALUE, value_tree(alloc, &property.value)?)?;
+    members.put(
+        alloc,
+        names::TYPE,
+        text_tree(alloc, property.kind.as_str())?,
+    )?;
+    members.put(
+        alloc,
+        names::NAME,
+        text_tree(alloc, property.name.as_str())?,
+    )
 }
 
 impl Tree for Property {
@@ -139,15 +149,15 @@ impl Tree for Object {
     fn tree(&self, alloc: Global, size: Size) -> Result<Value, AllocError> {
         let mut members = JsonObject::from_kept(alloc, &self.kept)?;
         let properties = properties_member(alloc, size, &self.properties)?;
-        members.put_some(alloc, "properties", properties)?;
-        members.put_some(alloc, "gid", optional_gid(self.gid))?;
-        members.put_some(alloc, "visible", optional_truth(self.visible))?;
-        members.put_some(alloc, "name", optional_text(alloc, &self.name)?)?;
-        members.put_some(alloc, "height", optional_pixels(self.placing.height))?;
-        members.put_some(alloc, "width", optional_pixels(self.placing.width))?;
-        members.put_some(alloc, "y", optional_pixels(self.placing.y))?;
-        members.put_some(alloc, "x", optional_pixels(self.placing.x))?;
-        members.put(alloc, "id", Value::from(self.id))?;
+        members.put_some(alloc, names::PROPERTIES, properties)?;
+        members.put_some(alloc, names::GID, optional_gid(self.gid))?;
+        members.put_some(alloc, names::VISIBLE, optional_truth(self.visible))?;
+        members.put_some(alloc, names::NAME, optional_text(alloc, &self.name)?)?;
+        members.put_some(alloc, names::HEIGHT, optional_pixels(self.placing.height))?;
+        members.put_some(alloc, names::WIDTH, optional_pixels(self.placing.width))?;
+        members.put_some(alloc, names::Y, optional_pixels(self.placing.y))?;
+        members.put_some(alloc, names::X, optional_pixels(self.placing.x))?;
+        members.put(alloc, names::ID, Value::from(self.id))?;
         Ok(members.into_value())
     }
 }
@@ -158,8 +168,8 @@ impl Tree for Tileset {
     #[tactic(auto, unfolding(crate::specs::Trees::tileset_tree))]
     fn tree(&self, alloc: Global, _size: Size) -> Result<Value, AllocError> {
         let mut members = JsonObject::from_kept(alloc, &self.kept)?;
-        members.put_some(alloc, "source", optional_text(alloc, &self.source)?)?;
-        members.put(alloc, "firstgid", Value::from(self.first_id))?;
+        members.put_some(alloc, names::SOURCE, optional_text(alloc, &self.source)?)?;
+        members.put(alloc, names::FIRST_ID, Value::from(self.first_id))?;
         Ok(members.into_value())
     }
 }
@@ -220,11 +230,11 @@ fn put_tiles(
         (members.new ≡ with_own (body_own size.width size.height (Tiles encoding cells.now)) members.old) }
 {
     let data = cells_tree(alloc, encoding, cells)?;
-    members.put(alloc, "data", data)?;
-    members.put(alloc, "height", Value::from(size.height))?;
-    members.put(alloc, "width", Value::from(size.width))?;
+    members.put(alloc, names::DATA, data)?;
+    members.put(alloc, names::HEIGHT, Value::from(size.height))?;
+    members.put(alloc, names::WIDTH, Value::from(size.width))?;
     let encoding = encoding_member(alloc, encoding)?;
-    members.put_some(alloc, "encoding", encoding)
+    members.put_some(alloc, names::ENCODING, encoding)
 }
 
 // Puts the members of a layer's kind.
@@ -241,7 +251,11 @@ fn put_body(
         Body::Tiles(encoding, cells) => {
             put_tiles(alloc, size, *encoding, cells.as_slice(), members)
         }
-        Body::Objects(objects) => members.put(alloc, "objects", array_by(alloc, size, objects)?),
+        Body::Objects(objects) => members.put(
+            alloc,
+            names::OBJECTS,
+            array_by(alloc, size, objects)?,
+        ),
         Body::Other => Ok(()),
     }
 }
@@ -264,11 +278,11 @@ impl Tree for Layer {
         let mut members = JsonObject::from_kept(alloc, &self.kept)?;
         put_body(alloc, size, &self.body, &mut members)?;
         let properties = properties_member(alloc, size, &self.properties)?;
-        members.put_some(alloc, "properties", properties)?;
-        members.put(alloc, "visible", Value::from(self.visible))?;
-        members.put(alloc, "name", text_tree(alloc, self.name.as_str())?)?;
-        members.put(alloc, "id", Value::from(self.id))?;
-        members.put(alloc, "type", text_tree(alloc, type_word(&self.body))?)?;
+        members.put_some(alloc, names::PROPERTIES, properties)?;
+        members.put(alloc, names::VISIBLE, Value::from(self.visible))?;
+        members.put(alloc, names::NAME, text_tree(alloc, self.name.as_str())?)?;
+        members.put(alloc, names::ID, Value::from(self.id))?;
+        members.put(alloc, names::TYPE, text_tree(alloc, type_word(&self.body))?)?;
         Ok(members.into_value())
     }
 }
@@ -277,13 +291,17 @@ impl Tree for Layer {
 fn put_plain(alloc: Global, map: &MapParts, members: &mut JsonObject) -> Result<(), AllocError>
     ensures { OnOk result (members.new ≡ with_own (plain_own map.now) members.old) }
 {
-    members.put(alloc, "nextobjectid", Value::from(map.next_object_id))?;
-    members.put(alloc, "nextlayerid", Value::from(map.next_layer_id))?;
-    members.put(alloc, "infinite", Value::from(false))?;
-    members.put(alloc, "tileheight", Value::from(map.tile_height))?;
-    members.put(alloc, "tilewidth", Value::from(map.tile_width))?;
-    members.put(alloc, "height", Value::from(map.height))?;
-    members.put(alloc, "width", Value::from(map.width))?;
+    members.put(
+        alloc,
+        names::NEXT_OBJECT_ID,
+        Value::from(map.next_object_id),
+    )?;
+    members.put(alloc, names::NEXT_LAYER_ID, Value::from(map.next_layer_id))?;
+    members.put(alloc, names::INFINITE, Value::from(false))?;
+    members.put(alloc, names::TILE_HEIGHT, Value::from(map.tile_height))?;
+    members.put(alloc, names::TILE_WIDTH, Value::from(map.tile_width))?;
+    members.put(alloc, names::HEIGHT, Value::from(map.height))?;
+    members.put(alloc, names::WIDTH, Value::from(map.width))?;
     Ok(())
 }
 
@@ -292,12 +310,16 @@ fn put_lists(alloc: Global, map: &MapParts, members: &mut JsonObject) -> Result<
     ensures { OnOk result (members.new ≡ with_own (lists_own (array no_items) map.now) members.old) }
 {
     let size = Size::of_map(map);
-    members.put(alloc, "version", text_tree(alloc, "1.10")?)?;
-    members.put(alloc, "type", text_tree(alloc, "map")?)?;
+    members.put(alloc, names::VERSION, text_tree(alloc, "1.10")?)?;
+    members.put(alloc, names::TYPE, text_tree(alloc, "map")?)?;
     let properties = properties_member(alloc, size, &map.properties)?;
-    members.put_some(alloc, "properties", properties)?;
-    members.put(alloc, "tilesets", array_by(alloc, size, &map.tilesets)?)?;
-    members.put(alloc, "layers", Value::from(Vec::new(alloc)))
+    members.put_some(alloc, names::PROPERTIES, properties)?;
+    members.put(
+        alloc,
+        names::TILESETS,
+        array_by(alloc, size, &map.tilesets)?,
+    )?;
+    members.put(alloc, names::LAYERS, Value::from(Vec::new(alloc)))
 }
 
 /// The members of a map, with an empty array for its layers.

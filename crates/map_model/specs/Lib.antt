@@ -14,6 +14,8 @@ pub mod Slot
 pub mod Tilesets
 pub mod Uses
 pub mod WellFormed
+pub mod Sizes
 pub mod Properties
 pub mod PropertyParts
 pub mod Lending
+pub mod Steps

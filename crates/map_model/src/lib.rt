@@ -12,6 +12,7 @@ mod held;
 mod layers;
 pub mod limits;
 mod map;
+pub mod names;
 mod objects;
 mod owner;
 mod parts;
@@ -19,6 +20,7 @@ mod place;
 mod properties;
 mod selection;
 mod setting;
+mod sizes;
 mod tilesets;
 
 pub use canvas::{Canvas, LayerCells};
@@ -33,3 +35,4 @@ pub use parts::{
 pub use place::{LayerPlace, ObjectPlace, OwnerPlace};
 pub use selection::SelectionMode;
 pub use setting::{Scalar, Setting};
+pub use sizes::{is_size, is_tile_size};

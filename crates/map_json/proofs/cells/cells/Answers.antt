@@ -1,8 +1,8 @@
+use Rattle.std.specs.Option.{ok_or}
 use Rattle.std.proofs.Common.{ap, sym, ◌∙◌}
 use Rattle.serde_json.specs.View.{items_view}
 use Rattle.map_json.specs.Cells.{cells_of}
 use Rattle.map_json.proofs.Loops.{no_front, one_more_cell, bad_cell, all_cells}
-use Rattle.map_json.specs.Steps.{or_refused}
 use Rattle.map_json.specs.declared.fault.MapRefusal.TheVariants.{BadData}
 use Rattle.map_json.proofs.cells.cells.Goals as goal
 
@@ -17,9 +17,9 @@ pub returns-in_default : goal.returns-in_default
 returns-in_default c =
     let whole = ap (λ vs. cells_of (items_view vs)) c.deref-value-items.ensures.value in
     let bad = bad_cell c.deref-value-items.result.now c.loop-value.value-index c.value-item.result c.loop-value-test.true c.value-item.is c.loop-value.found.items (sym c.in_default.ensures) in
-    ap (or_refused BadData) (sym whole ∙ sym c.loop-value.invariant ∙ bad)
+    ap (λ o. ok_or o BadData) (sym whole ∙ sym c.loop-value.invariant ∙ bad)
 
 pub returns : goal.returns
 returns c =
     let whole = ap (λ vs. cells_of (items_view vs)) c.deref-value-items.ensures.value in
-    ap (or_refused BadData) (sym whole ∙ sym c.loop-value.invariant ∙ all_cells c.deref-value-items.result.now c.loop-value.value-index c.loop-value.found.items c.loop-value-test.false)
+    ap (λ o. ok_or o BadData) (sym whole ∙ sym c.loop-value.invariant ∙ all_cells c.deref-value-items.result.now c.loop-value.value-index c.loop-value.found.items c.loop-value-test.false)

@@ -1,9 +1,9 @@
 use Rattle.std.proofs.Common.{◌≡◌}
-use Rattle.std.specs.Prelude.{codes}
 use Rattle.serde_json.specs.View.{members_view}
 use Rattle.serde_json.specs.Written.{members_have_float}
+use Rattle.map_model.specs.declared.names.TheConstants.{VERSION}
 use Rattle.map_json.specs.Members.{without}
 use Rattle.map_json.proofs.fractions.others_have_fraction.Given as goal
 
 abbrev pub invariant-loop-key : goal.invariant-loop-key
-invariant-loop-key l = members_have_float (without (codes "version") (members_view l.key-iterator)) ≡ members_have_float (without (codes "version") (members_view l.members.entries))
+invariant-loop-key l = members_have_float (without VERSION.now (members_view l.key-iterator)) ≡ members_have_float (without VERSION.now (members_view l.members.entries))

@@ -1,7 +1,8 @@
-use Rattle.std.proofs.Common.{◌≡◌, ◌≤◌, false, sym, ap, ◌∙◌, subst, arith, codes}
+use Rattle.std.proofs.Common.{◌≡◌, IsUtf8, ◌≤◌, false, sym, ap, ◌∙◌, subst, arith}
 use Rattle.serde_json.specs.Data.{Members, object, depth}
 use Rattle.serde_json.specs.Read.{read, max_depth}
 use Rattle.serde_json.specs.Written.{compact_text, has_float}
+use Rattle.map_model.specs.declared.names.TheConstants.{LAYERS}
 use Rattle.map_model.specs.declared.parts.MapParts.{MapParts}
 use Rattle.map_model.specs.WellFormed.{IsWellFormed}
 use Rattle.map_json.specs.Appending.{Returns, frame_of, layers_tree, replaced}
@@ -13,7 +14,7 @@ use Rattle.map_json.proofs.Returning.{read-compact_text}
 use Rattle.map_json.proofs.text.write_map.Goals as goal
 
 -- what is put out is the map's tree
-put_out : (parts m : MapParts) (frame : Members) → parts ≡ m → frame ≡ frame_of parts → IsWellFormed m → object (replaced (codes "layers") (layers_tree parts) frame) ≡ tree_of m
+put_out : (parts m : MapParts) (frame : Members) → parts ≡ m → frame ≡ frame_of parts → IsWellFormed m → object (replaced LAYERS.now (layers_tree parts) frame) ≡ tree_of m
 unfolding tree_of
 put_out parts m frame same is h =
     rw (is, same) (ap object (replaced-frame_of m h.kept.unread.1.1.1.1.1.1.1.0))
@@ -52,7 +53,9 @@ returns-clause-read_back c =
     let well = c.parts-parts.ensures.well_formed in
     let out = put_out c.parts-parts.result.now m c.in_ok-frame.frame c.parts-parts.ensures.value c.in_ok-frame.ensures well in
     let plain = tree_plain m well in
-    ap read (c.in_ok-push_map.ensures.0 ∙ (rw c.new-text.ensures.items (ap compact_text out))) ∙ read-compact_text (tree_of m) (subst Returns out c.in_ok-push_map.ensures.1) plain.1
+    let is : c.push_map.new.text.items ≡ compact_text (tree_of m) = c.in_ok-push_map.ensures.0 ∙ (rw c.new-text.ensures.items (ap compact_text out)) in
+    let back = subst Returns out c.in_ok-push_map.ensures.1 in
+    (subst IsUtf8 (sym is) back.utf8, ap read is ∙ read-compact_text (tree_of m) back plain.1)
 
 pub returns-in_err-frame-clause-read_again : goal.returns-in_err-frame-clause-read_again
 returns-in_err-frame-clause-read_again c = map_again c.args.map.now c.parts-parts.ensures.well_formed
