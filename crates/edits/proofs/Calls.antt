@@ -1,12 +1,16 @@
 -- What the calls of an edit hand on: the layer of a well-formed map, what an edit reaches of it, and its change.
-use Rattle.std.proofs.Common.{◌≡◌, inl, inr, ℕ, ◌/◌, ◌%◌, ◌*◌, ◌<◌, List, length, Bor, Option, None, false, Result, Ok, Err, IfOk, ℤ, mul_comm, sym, ap, ◌∙◌, subst, arith}
+use Rattle.std.proofs.Common.{◌≡◌, inl, inr, ℕ, ◌/◌, ◌%◌, ◌*◌, ◌<◌, List, length, Bor, Option, Some, None, false, Result, Ok, Err, IfOk, IsSomeAnd, ℤ, mul_comm, sym, ap, ◌∙◌, subst, arith}
 use Rattle.std.specs.FinSet as set
 use Rattle.region.specs.Cells.{cell_cmp}
+use Rattle.map_model.specs.declared.parts.Body.{Body}
+use Rattle.map_model.specs.declared.parts.Body.TheVariants.{Tiles, Objects, Other}
+use Rattle.map_model.specs.declared.parts.Layer.{Layer}
 use Rattle.map_model.specs.declared.parts.MapParts.{MapParts}
 use Rattle.map_model.specs.declared.edit.CellEdit.{CellEdit}
 use Rattle.map_model.specs.CellEdits.{AreInRowOrder}
-use Rattle.map_model.specs.Document.{DocumentParts}
-use Rattle.map_model.specs.Parts.{HasTiles, tiles_in}
+use Rattle.map_model.specs.Bodies.{IsTiles, tiles_of}
+use Rattle.map_model.specs.Document.{DocumentParts, with_map}
+use Rattle.map_model.specs.Parts.{layer_of, HasTiles, tiles_in, tiles_of_layer}
 use Rattle.map_model.specs.WellFormed.{IsWellFormed}
 use Rattle.map_model.proofs.Keeps.{length-tiles_in}
 use Rattle.map_model.proofs.Turns.{tiles_in-with_tiles}
@@ -15,10 +19,11 @@ use Rattle.edits.specs.declared.area.Area.{Area}
 use Rattle.edits.specs.declared.change.CellChange.{CellChange}
 use Rattle.edits.specs.declared.span.Span.{Span}
 use Rattle.edits.specs.Blocks.{ValueBlock, offset, is_below, stamp_over, erase_over, IsSpan}
-use Rattle.edits.specs.Covering.{covered}
+use Rattle.edits.specs.Covering.{covered, covered_map}
 use Rattle.edits.specs.Difference.{difference, difference_in}
 use Rattle.edits.specs.Laying.{IsLayerOf, IsReach}
-use Rattle.edits.specs.Painting.{IsPainted, Painting, painted_map}
+use Rattle.edits.specs.Painting.{IsPainted}
+use Rattle.edits.specs.Refusals.{body_tiles_or_fault, tiles_or_fault}
 use Rattle.edits.specs.Stamping.{IsBlock}
 use Rattle.edits.proofs.RowOrder.{difference-AreInRowOrder}
 use Rattle.edits.proofs.Overs.{stamp_over-column, stamp_over-row, erase_over-column, erase_over-row}
@@ -29,6 +34,21 @@ pub record IsTheLayer (m : MapParts) (id : ℕ) (tiles : List ℕ) : Type 0 wher
   pub well_formed : IsWellFormed m
   pub has : HasTiles m id
   pub is : tiles ≡ tiles_in m id
+
+tiles_of_found : (found : Option Layer) (tiles : List ℕ) → tiles_or_fault found ≡ Ok tiles → IsSomeAnd found (λ l. IsTiles l.body) × (tiles ≡ tiles_of_layer found)
+tiles_of_found None tiles e = cc
+tiles_of_found (Some l) tiles e = by_body l.body e
+  where
+    by_body : (b : Body) → body_tiles_or_fault b ≡ Ok tiles → IsTiles b × (tiles ≡ tiles_of b)
+    by_body (Tiles f cells) e = (tt, cc)
+    by_body (Objects os) e = cc
+    by_body Other e = cc
+
+-- the values that an edit finds
+pub IsTheLayer-found : (m : MapParts) (id : ℕ) (tiles : List ℕ) → IsWellFormed m → tiles_or_fault (layer_of m id) ≡ Ok tiles → IsTheLayer m id tiles
+IsTheLayer-found m id tiles well_formed e =
+    let found = tiles_of_found (layer_of m id) tiles e in
+    record { well_formed = well_formed; has = found.0; is = found.1 }
 
 pub length-layer : (m : MapParts) (id : ℕ) (tiles : List ℕ) → IsTheLayer m id tiles → length tiles ≡ m.width * m.height
 length-layer m id tiles h = ap length h.is ∙ length-tiles_in m id h.has h.well_formed
@@ -82,32 +102,34 @@ IsReach-erase m id tiles selection columns rows a layer cs rs =
 -- ---- the change
 -- the changes of all places are the difference of the map and the covered one
 changes-difference_in : (m : MapParts) (id : ℕ) (tiles : List ℕ) (over : ℕ → ℕ → Option ℕ) → IsTheLayer m id tiles
-    → difference m.width tiles (covered m.width over tiles) (length tiles) ≡ difference_in id m (painted_map (record { layer = id; fault = None; over = over }) m)
+    → difference m.width tiles (covered m.width over tiles) (length tiles) ≡ difference_in id m (covered_map id over m)
 changes-difference_in m id tiles over h =
     ap (λ (vs : List ℕ). difference m.width vs (covered m.width over vs) (length vs)) h.is
     ∙ ap (difference m.width (tiles_in m id) (covered m.width over (tiles_in m id))) (length-tiles_in m id h.has h.well_formed)
     ∙ ap (λ vs. difference m.width (tiles_in m id) vs (m.width * m.height)) (sym (tiles_in-with_tiles m id (covered m.width over) h.has))
 
-pub IsPainted-changes : (d : DocumentParts) (p : Painting) (tiles : List ℕ) (change : CellChange) → p.fault ≡ None → IsTheLayer d.map p.layer tiles → change.layer ≡ p.layer
-    → change.cells ≡ difference d.map.width tiles (covered d.map.width p.over tiles) (length tiles) → IsPainted d p change
-IsPainted-changes d p tiles change accepted layer id cells = record {
+pub IsPainted-changes : (d : DocumentParts) (id : ℕ) (over : ℕ → ℕ → Option ℕ) (after : Result DocumentParts EditFault) (tiles : List ℕ) (change : CellChange)
+    → after ≡ Ok (with_map (covered_map id over) d) → IsTheLayer d.map id tiles → change.layer ≡ id
+    → change.cells ≡ difference d.map.width tiles (covered d.map.width over tiles) (length tiles) → IsPainted d id after change
+IsPainted-changes d id over after tiles change accepted layer is cells = record {
   well_formed = layer.well_formed;
-  accepted = accepted;
   tiles = layer.has;
+  over = over;
+  accepted = accepted;
   exact = record {
-    layer = id;
-    cells = cells ∙ changes-difference_in d.map p.layer tiles p.over layer;
+    layer = is;
+    cells = cells ∙ changes-difference_in d.map id tiles over layer;
     ordered =
         let P : List CellEdit → Type 0 = AreInRowOrder in
-        subst P (sym cells) (difference-AreInRowOrder d.map.width tiles (covered d.map.width p.over tiles) (length tiles) (omega (arith, layer.well_formed.size.wide)));
+        subst P (sym cells) (difference-AreInRowOrder d.map.width tiles (covered d.map.width over tiles) (length tiles) (omega (arith, layer.well_formed.size.wide)));
   };
 }
 
 -- the same of a change that a call may have made, of a layer of this width and with this selection
-pub IsPainted-result : (d : DocumentParts) (p : Painting) (tiles : List ℕ) (width : ℕ) (over : ℕ → ℕ → Option ℕ) (o : Result CellChange EditFault) → p.fault ≡ None → IsTheLayer d.map p.layer tiles
-    → width ≡ d.map.width → over ≡ p.over → IfOk o (λ change. change.layer ≡ p.layer) → IfOk o (λ change. change.cells ≡ difference width tiles (covered width over tiles) (length tiles))
-    → IfOk o (IsPainted d p)
-IsPainted-result d p tiles width over (Ok change) accepted layer wide is id cells =
-    IsPainted-changes d p tiles change accepted layer id
-    (cells ∙ ap (λ w. difference w tiles (covered w over tiles) (length tiles)) wide ∙ ap (λ (f : ℕ → ℕ → Option ℕ). difference d.map.width tiles (covered d.map.width f tiles) (length tiles)) is)
-IsPainted-result d p tiles width over (Err fault) accepted layer wide is id cells = tt
+pub IsPainted-result : (d : DocumentParts) (id : ℕ) (own : ℕ → ℕ → Option ℕ) (after : Result DocumentParts EditFault) (tiles : List ℕ) (width : ℕ) (over : ℕ → ℕ → Option ℕ)
+    (o : Result CellChange EditFault) → after ≡ Ok (with_map (covered_map id own) d) → IsTheLayer d.map id tiles → width ≡ d.map.width → over ≡ own
+    → IfOk o (λ change. change.layer ≡ id) → IfOk o (λ change. change.cells ≡ difference width tiles (covered width over tiles) (length tiles)) → IfOk o (IsPainted d id after)
+IsPainted-result d id own after tiles width over (Ok change) accepted layer wide same is cells =
+    IsPainted-changes d id own after tiles change accepted layer is
+    (cells ∙ ap (λ w. difference w tiles (covered w over tiles) (length tiles)) wide ∙ ap (λ (f : ℕ → ℕ → Option ℕ). difference d.map.width tiles (covered d.map.width f tiles) (length tiles)) same)
+IsPainted-result d id own after tiles width over (Err fault) accepted layer wide same is cells = tt

@@ -1,7 +1,7 @@
 -- A document on the canvas of its new size.
 use Rattle.std.proofs.Common.{◌≡◌, ℕ, ℤ, pos, negsuc, zero, suc, ◌+◌, ◌*◌, ◌≤◌, ◌<◌, ◌≤ℤ◌, ◌*ℤ◌, ◌-ℤ◌, neg_ℤ, List, [], ◌∷◌, ◌++◌, length, map, get_or, Bool, true, false, cond, ◌&&◌, nat_lt, Option, Some, None, option_and_then, IfSome, refl, sym, ap, ◌∙◌, arith, append_assoc, length-append}
 use Rattle.std.specs.Int.Signed.{le_z_yes}
-use Rattle.std.specs.Prelude.{T, nat_le, int_le, slice_get}
+use Rattle.std.specs.Prelude.{T, int_le, slice_get, unsigned_abs}
 use Rattle.std.specs.FinSet as set
 use Rattle.std.specs.List.{list_all, flat_map, range_with_len}
 use Rattle.std.specs.Option.{unwrap_or}
@@ -16,7 +16,7 @@ use Rattle.region.specs.Cells.{cell_cmp, in_moved_cut, in_rectangle, has_at, rec
 use Rattle.region.specs.Equality.{cell_cmp_total}
 use Rattle.region.proofs.Members.{cell_cmp-same, contains-rectangle}
 use Rattle.map_model.specs.declared.canvas.Canvas.{Canvas}
-use Rattle.map_model.specs.declared.limits.TheConstants.{MAX_SIDE, MAX_CELLS, MAX_PIXELS, MAX_TILE_SIDE}
+use Rattle.map_model.specs.declared.limits.TheConstants.{MAX_PIXELS, MAX_TILE_SIDE}
 use Rattle.map_model.specs.declared.parts.Body.{Body}
 use Rattle.map_model.specs.declared.parts.Body.TheVariants.{Tiles, Objects, Other}
 use Rattle.map_model.specs.declared.parts.Layer.{Layer}
@@ -30,7 +30,7 @@ use Rattle.map_model.specs.Objects.{objects_in, objects_of, body_with_objects}
 use Rattle.map_model.specs.WellFormed.{IsSize, IsTileValue, IsPixels, IsObject, IsBody, IsLayer}
 use Rattle.map_model.proofs.Listings.{Each-append}
 use Rattle.edits.specs.Blocks.{ValueBlock, offset, value_in}
-use Rattle.edits.specs.Resizing.{row, table, value_at, layer_block, resized_values, pixels_right, pixels_down, are_pixels, stays, all_stay, objects_stay, is_side, is_size, resized_layer, resized_selection, resized, may_resize, IsDistance}
+use Rattle.edits.specs.Resizing.{row, table, value_at, layer_block, resized_values, pixels_right, pixels_down, are_pixels, stays, all_stay, objects_stay, resized_layer, resized_selection, resized, IsDistance}
 
 -- ---- layers
 body-with : (c : Canvas) (f : List ℕ → List ℕ) (place : ℕ) (b : Body) → ((e : List ℕ) → lists_in b ≡ e ∷ [] → get_or c.layers place e ≡ f e)
@@ -156,22 +156,6 @@ layers-may right down level size (l ∷ ls) h stay =
     let rest = and-right (all_stay right down (objects_in l.body)) (list_all (λ k. all_stay right down (objects_of k)) ls) stay in
     (body-may right down level size l.body h.0.body first, layers-may right down level size ls h.1 rest)
 
-below : (a b : ℕ) → nat_le a b ≡ true → a ≤ b
-below a b e = grind (arith, nat_tests)
-
-size-within : (width height : ℕ) → is_size width height ≡ true → IsSize width height
-size-within width height e =
-    let sides = and-left (is_side width && is_side height) (nat_le (width * height) MAX_CELLS) e in
-    let wide = and-left (is_side width) (is_side height) sides in
-    let high = and-right (is_side width) (is_side height) sides in
-    record {
-      wide = below 1 width (and-left (nat_le 1 width) (nat_le width MAX_SIDE) wide);
-      high = below 1 height (and-left (nat_le 1 height) (nat_le height MAX_SIDE) high);
-      width_limit = below width MAX_SIDE (and-right (nat_le 1 width) (nat_le width MAX_SIDE) wide);
-      height_limit = below height MAX_SIDE (and-right (nat_le 1 height) (nat_le height MAX_SIDE) high);
-      cells_limit = below (width * height) MAX_CELLS (and-right (is_side width && is_side height) (nat_le (width * height) MAX_CELLS) e);
-    }
-
 within-map : (width height : ℕ) (q : ℕ × ℕ) → (nat_lt q.0 width && nat_lt q.1 height) ≡ in_rectangle 0 0 width height q
 within-map width height q = grind (arith, nat_tests)
 
@@ -179,14 +163,18 @@ less : (a b : ℕ) → nat_lt a b ≡ true → a < b
 less a b e = grind (arith, nat_tests)
 
 -- ---- pixels
+-- the most pixels, as a natural number
+abbrev most : ℕ
+most = unsigned_abs MAX_PIXELS
+
 pub scaled-IsShift : (z : ℤ) (side : ℕ) → IsDistance z → side ≤ MAX_TILE_SIDE → IsShift (z *ℤ pos side)
 scaled-IsShift (pos n) side h l =
-    let few : n ≤ 1000000000 = omega (arith, ints, h.high) in
-    let product : n * side ≤ 1000000000 * 65535 = mul-le-mul few l in
+    let few : n ≤ most = omega (arith, ints, h.high) in
+    let product : n * side ≤ most * MAX_TILE_SIDE = mul-le-mul few l in
     record { low = omega (arith, ints); high = omega (arith, ints) }
 scaled-IsShift (negsuc n) side h l =
-    let few : suc n ≤ 1000000000 = omega (arith, ints, h.low) in
-    let product : suc n * side ≤ 1000000000 * 65535 = mul-le-mul few l in
+    let few : suc n ≤ most = omega (arith, ints, h.low) in
+    let product : suc n * side ≤ most * MAX_TILE_SIDE = mul-le-mul few l in
     rw (negsuc-*ℤ-pos n side) (record { low = omega (arith, ints); high = omega (arith, ints) })
 
 -- ---- the canvas
@@ -207,13 +195,12 @@ module _ (d : DocumentParts) (width height : ℕ) (dx dy : ℤ) (lists : List (L
       = λ i. map (layer-with (resized_values d.map width height dx dy) (right_is i) (down_is i)) d.map.layers in
       λ i. record { map = record d.map { width = width; height = height; layers = (on ∙ moved) i }; selection = selection-is i }
 
-  pub canvas-fits : IsDocument d → may_resize d width height dx dy ≡ true → IsShift right → IsShift down
+  pub canvas-fits : IsDocument d → IsSize width height → objects_stay right down d.map ≡ true → IsShift right → IsShift down
       → IsCanvasOf d (record { width = width; height = height; layers = lists; selection = s; right = right; down = down })
-  canvas-fits h may right_fits down_fits =
+  canvas-fits h size stay right_fits down_fits =
       let f = resized_values d.map width height dx dy in
-      let stay = and-right (is_size width height) (objects_stay (pixels_right d.map dx) (pixels_down d.map dy) d.map) may in
       record {
-        size = size-within width height (and-left (is_size width height) (objects_stay (pixels_right d.map dx) (pixels_down d.map dy) d.map) may);
+        size = size;
         count = ap length laid ∙ length-map (tile_layers d.map) f;
         cells = rw laid (layers-cells layer_level (d.map.width * d.map.height) (width * height) f (λ own range.
             (length-table (value_at (layer_block d.map dx dy own)) width height, Each-table IsTileValue (value_at (layer_block d.map dx dy own)) (λ x y. value-range (layer_block d.map dx dy own) x y range) width height))
@@ -223,5 +210,5 @@ module _ (d : DocumentParts) (width height : ℕ) (dx dy : ℤ) (lists : List (L
             (less q.0 width (and-left (nat_lt q.0 width) (nat_lt q.1 height) both), less q.1 height (and-right (nat_lt q.0 width) (nat_lt q.1 height) both));
         right = right_fits;
         down = down_fits;
-        objects = layers-may right down layer_level (d.map.width * d.map.height) d.map.layers h.map.layers.each (rw (right_is, down_is) stay);
+        objects = layers-may right down layer_level (d.map.width * d.map.height) d.map.layers h.map.layers.each stay;
       }

@@ -4,7 +4,7 @@ use Rattle.std.specs.List.{slice_get}
 use Rattle.std.specs.FinSet as set
 use Rattle.std.proofs.lemmas.Bool.{or_cases, and_parts, and_from, ltb-true, lt-ltb, leb-true, le-leb, eqb-true, eq-eqb}
 use Rattle.std.proofs.lemmas.Bool.Decides.{same_from_decides}
-use Rattle.std.proofs.lemmas.Nat.{mul-add-lt, div-mul-add, div-add-mod', div_below, mod_below}
+use Rattle.std.proofs.lemmas.Nat.{mul-add-lt, div-mul-add, div-add-mod', mod_below}
 use Rattle.std.proofs.lemmas.Option.{slice_get-get_or}
 use Rattle.region.specs.declared.runs.Run.{Run}
 use Rattle.region.specs.Cells.{cell_cmp}
@@ -21,7 +21,7 @@ use Rattle.edits.specs.Joining.{AreJoined, is_free, is_reached, is_value}
 use Rattle.edits.specs.Marks.{is_marked, is_between}
 use Rattle.edits.proofs.Differences.{difference-skip, get_or-each_at}
 use Rattle.edits.proofs.Joined.{end_free, is_reached-AreJoined, reached-free}
-use Rattle.edits.proofs.Flooded.{in_row, is_between-true, is_value-within, between, free_in-column, free_in-row}
+use Rattle.edits.proofs.Flooded.{in_row, is_between-true, between, free_in-column, free_in-row}
 
 or_assoc : (a b c : Bool) → ((a || b) || c) ≡ (a || (b || c))
 or_assoc true b c = refl
@@ -171,21 +171,3 @@ difference-own w values s x y value some own =
         let found = ap (λ o. is_value o (get_or values (y * w + x) 0)) (sym (slice_get-get_or values k 0 l)) ∙ there in
         let same = eqb-true (get_or values k 0) (get_or values (y * w + x) 0) found in
         ap (λ b. covered_value (cond b (Some value) None) (get_or values k 0)) e ∙ own ∙ sym same
-
--- ---- joined cells of a layer
--- as many steps as a layer has cells join exactly what a path joins
-pub is_joined-AreJoined : (w : ℕ) (values : List ℕ) (s : set.FinSet cell_cmp) (x y : ℕ) → HasCell w values x y → (q : ℕ × ℕ)
-    → (is_joined w values s (x, y) q ≡ true) ↔ AreJoined (free_from w values s (x, y)) (x, y) q
-is_joined-AreJoined w values s x y h q =
-    subst (λ n. (is_reached (free_from w values s (x, y)) (x, y) n q ≡ true) ↔ AreJoined (free_from w values s (x, y)) (x, y) q) (sym h.size)
-    (is_reached-AreJoined (free_from w values s (x, y)) (x, y) w h.height bounded q)
-  where
-    bounded : (r : ℕ × ℕ) → free_from w values s (x, y) r ≡ true → (r.0 < w) × (r.1 < h.height)
-    bounded r f =
-        let own = get_or values (y * w + x) 0 in
-        let place = r.1 * w + r.0 in
-        let parts = and_parts (nat_lt r.0 w) (is_value (slice_get values place) own && lets_change s r) f in
-        let column = ltb-true r.0 w parts.0 in
-        let inside = is_value-within values place own (and_parts (is_value (slice_get values place) own) (lets_change s r) parts.1).0 in
-        let row = div_below place w h.height (omega arith) (omega (arith, h.size)) in
-        (column, omega (arith, row, div-mul-add r.1 w r.0 column))

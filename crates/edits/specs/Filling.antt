@@ -1,15 +1,18 @@
 -- What a fill does, and why one is refused.
-use Rattle.std.specs.Prelude.{◌≡◌, ◌↔◌, ℕ, ◌+◌, ◌*◌, ℤ, pos, negsuc, List, Bool, true, ◌&&◌, nat_lt, Option, Some, None, Result, length, slice_index, if◌then◌else◌}
+use Rattle.std.specs.Prelude.{◌≡◌, ◌↔◌, ℕ, ◌+◌, ◌*◌, ℤ, pos, negsuc, List, Bool, true, ◌&&◌, nat_lt, Option, Some, None, Result, Ok, length, slice_index, if◌then◌else◌}
 use Rattle.std.specs.FinSet as set
+use Rattle.std.specs.Option.{ok_or}
 use Rattle.region.specs.Cells.{cell_cmp}
 use Rattle.map_model.specs.declared.parts.MapParts.{MapParts}
-use Rattle.map_model.specs.Document.{DocumentParts}
-use Rattle.map_model.specs.Parts.{layer_of, tiles_in}
+use Rattle.map_model.specs.Document.{DocumentParts, with_map}
+use Rattle.map_model.specs.Parts.{layer_of, tiles_in, HasTiles}
+use Rattle.map_model.specs.WellFormed.{IsWellFormed}
 use Rattle.command_api.specs.declared.fault.EditFault.{EditFault}
-use Rattle.command_api.specs.declared.fault.EditFault.TheVariants.{OutsideTheMap}
+use Rattle.command_api.specs.declared.fault.EditFault.TheVariants.{OutsideTheMap, UnknownTile}
+use Rattle.map_model.specs.Steps.{◌>>=◌, ◌>>◌, check}
+use Rattle.edits.specs.Covering.{covered_map}
 use Rattle.edits.specs.Joining.{AreJoined, is_free, is_reached}
-use Rattle.edits.specs.Painting.{Painting, after_painting}
-use Rattle.edits.specs.Refusals.{tile_layer_fault, first_fault, is_known, known_fault}
+use Rattle.edits.specs.Refusals.{tiles_or_fault, is_known}
 
 -- ---- the cells that a fill takes
 -- the cells that are free to a fill from a cell: those of its whole value
@@ -31,31 +34,18 @@ map_cell m (pos x) (pos y) = if nat_lt x m.width && nat_lt y m.height then Some 
 map_cell m (pos x) (negsuc y) = None
 map_cell m (negsuc x) y = None
 
--- the start lies in the map
-abbrev pub start_fault : Option (ℕ × ℕ) → Option EditFault
-start_fault None = Some OutsideTheMap
-start_fault (Some cell) = None
-
--- the first refusal of a fill: of its layer, its start or its value
-abbrev pub fill_fault : MapParts → ℕ → Option (ℕ × ℕ) → ℕ → Option EditFault
-fill_fault m id start value = first_fault (tile_layer_fault (layer_of m id)) (first_fault (start_fault start) (known_fault (is_known m value)))
-
--- what a fill puts over a layer, where there is a start
-abbrev pub fill_over_from : DocumentParts → ℕ → Option (ℕ × ℕ) → ℕ → ℕ → ℕ → Option ℕ
-fill_over_from d id None value x y = None
-fill_over_from d id (Some start) value x y = fill_over d.map.width (tiles_in d.map id) d.selection start value x y
-
-abbrev pub fill_painting : DocumentParts → ℕ → ℤ → ℤ → ℕ → Painting
-fill_painting d id x y value = record { layer = id; fault = fill_fault d.map id (map_cell d.map x y) value; over = fill_over_from d id (map_cell d.map x y) value }
-
--- the document after a fill, or its refusal
+-- the document after a fill, or its refusal: of its layer, its start or its value
 abbrev pub after_fill : DocumentParts → ℕ → ℤ → ℤ → ℕ → Result DocumentParts EditFault
-after_fill d id x y value = after_painting d (fill_painting d id x y value)
+after_fill d id x y value = do
+  tiles ← tiles_or_fault (layer_of d.map id)
+  start ← ok_or (map_cell d.map x y) OutsideTheMap
+  check (is_known d.map value) UnknownTile
+  Ok (with_map (covered_map id (fill_over d.map.width tiles d.selection start value)) d)
 
--- a cell is joined to the start exactly where a list of free cells leads to it
-abbrev pub TakesJoined : DocumentParts → ℕ → Option (ℕ × ℕ) → Type 0
-TakesJoined d id None = Unit {0}
-TakesJoined d id (Some start) =
-    let width = d.map.width in
-    let tiles = tiles_in d.map id in
-    (q : ℕ × ℕ) → (is_joined width tiles d.selection start q ≡ true) ↔ AreJoined (free_from width tiles d.selection start) start q
+-- ---- a law
+-- in a tile layer of a well-formed map, as many steps as it has cells lead from a start to a cell exactly where a list of free cells does
+abbrev pub ReachedIsJoined : Type 0
+ReachedIsJoined =
+    (m : MapParts) (id : ℕ) (selection : set.FinSet cell_cmp) (start q : ℕ × ℕ) → IsWellFormed m → HasTiles m id
+    → let free = free_from m.width (tiles_in m id) selection start in
+    (is_joined m.width (tiles_in m id) selection start q ≡ true) ↔ AreJoined free start q

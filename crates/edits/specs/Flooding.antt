@@ -6,6 +6,7 @@ use Rattle.std.specs.Prelude.{◌≡◌, ◌≢◌, ◌⊎◌, ℕ, ◌+◌, ◌
 use Rattle.std.specs.Int.{bit_at}
 use Rattle.std.specs.FinSet as set
 use Rattle.region.specs.Cells.{cell_cmp}
+use Rattle.map_model.specs.declared.limits.TheConstants.{MAX_SIDE}
 use Rattle.map_model.specs.Lists.{Each}
 use Rattle.edits.specs.declared.marks.Marks.{Marks}
 use Rattle.edits.specs.declared.ground.Ground.{Ground}
@@ -42,8 +43,8 @@ start_of ground = (ground.start.0, ground.start.1)
 -- the values are those of a layer that has the start
 pub record IsGround (ground : Ground) : Type 0 where
   pub size : length ground.tiles.now ≡ ground.height * ground.width
-  pub narrow : ground.width ≤ 4096
-  pub low : ground.height ≤ 4096
+  pub narrow : ground.width ≤ MAX_SIDE
+  pub low : ground.height ≤ MAX_SIDE
   pub column : ground.start.0 < ground.width
   pub row : ground.start.1 < ground.height
 
@@ -124,8 +125,8 @@ pub record Spreads (ground : Ground) (old new : Spread) : Type 0 where
 pub record HasCell (width : ℕ) (tiles : List ℕ) (x y : ℕ) : Type 0 where
   pub height : ℕ
   pub size : length tiles ≡ height * width
-  pub narrow : width ≤ 4096
-  pub low : height ≤ 4096
+  pub narrow : width ≤ MAX_SIDE
+  pub low : height ≤ MAX_SIDE
   pub column : x < width
   pub row : y < height
 

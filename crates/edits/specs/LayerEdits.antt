@@ -1,5 +1,6 @@
 -- The document after an edit of its layers, or the edit's refusal.
-use Rattle.std.specs.Prelude.{ℕ, ◌+◌, ◌*◌, List, Bool, ◌&&◌, nat_lt, Option, Some, None, is_some, Result, Ok, Err, length, if◌then◌else◌}
+use Rattle.std.specs.Prelude.{ℕ, ◌+◌, ◌*◌, List, Bool, ◌&&◌, nat_lt, Option, Some, None, is_some, Result, Ok, length}
+use Rattle.std.specs.Option.{ok_or}
 use Rattle.map_model.specs.declared.limits.TheConstants.{MAX_LAYERS, MAX_NEXT_ID}
 use Rattle.map_model.specs.declared.parts.Layer.{Layer}
 use Rattle.map_model.specs.declared.parts.LayerKind.{LayerKind}
@@ -9,6 +10,7 @@ use Rattle.map_model.specs.Document.{DocumentParts, with_map}
 use Rattle.map_model.specs.Layers.{layer_place, layer_at, last_place, sibling_place, with_layer_at, without_layer_at, layer_with_name, layer_with_visible, with_next_ids}
 use Rattle.map_model.specs.NewMap.{new_layer}
 use Rattle.map_model.specs.Parts.{layer_of, with_layer}
+use Rattle.map_model.specs.Steps.{◌>>=◌, ◌>>◌, check}
 use Rattle.command_api.specs.declared.fault.EditFault.{EditFault}
 use Rattle.command_api.specs.declared.fault.EditFault.TheVariants.{NoSuchLayer, OutOfRange, TooMany}
 
@@ -26,15 +28,15 @@ abbrev pub has_room : MapParts → Bool
 has_room m = nat_lt (length m.layers) MAX_LAYERS && nat_lt m.next_layer_id MAX_NEXT_ID
 
 abbrev pub after_add : DocumentParts → LayerKind → List ℕ → Result DocumentParts EditFault
-after_add d kind name = if has_room d.map then Ok (with_map (with_last (next_layer kind name d.map)) d) else Err TooMany
+after_add d kind name = do
+  check (has_room d.map) TooMany
+  Ok (with_map (with_last (next_layer kind name d.map)) d)
 
 -- ---- a layer less
-abbrev pub after_remove_at : DocumentParts → Option LayerPlace → Result DocumentParts EditFault
-after_remove_at d None = Err NoSuchLayer
-after_remove_at d (Some place) = Ok (with_map (without_layer_at place) d)
-
 abbrev pub after_remove : DocumentParts → ℕ → Result DocumentParts EditFault
-after_remove d id = after_remove_at d (layer_place d.map id)
+after_remove d id = do
+  place ← ok_or (layer_place d.map id) NoSuchLayer
+  Ok (with_map (without_layer_at place) d)
 
 -- ---- a layer at another place
 -- a layer, where there is one, put in at a place
@@ -46,19 +48,19 @@ put_in (Some l) place m = with_layer_at place l m
 abbrev pub with_layer_moved : LayerPlace → LayerPlace → MapParts → MapParts
 with_layer_moved from to m = put_in (layer_at m from) to (without_layer_at from m)
 
-abbrev pub after_move_from : DocumentParts → ℕ → Option LayerPlace → Result DocumentParts EditFault
-after_move_from d to None = Err NoSuchLayer
-after_move_from d to (Some from) = if nat_lt to (length d.map.layers) then Ok (with_map (with_layer_moved from (sibling_place from to)) d) else Err OutOfRange
-
 abbrev pub after_move : DocumentParts → ℕ → ℕ → Result DocumentParts EditFault
-after_move d id to = after_move_from d to (layer_place d.map id)
+after_move d id to = do
+  from ← ok_or (layer_place d.map id) NoSuchLayer
+  check (nat_lt to (length d.map.layers)) OutOfRange
+  Ok (with_map (with_layer_moved from (sibling_place from to)) d)
 
 -- ---- a layer changed where it stands
-abbrev pub after_change : (Layer → Layer) → DocumentParts → ℕ → Result DocumentParts EditFault
-after_change f d id = if is_some (layer_of d.map id) then Ok (with_map (with_layer id f) d) else Err NoSuchLayer
-
 abbrev pub after_rename : DocumentParts → ℕ → List ℕ → Result DocumentParts EditFault
-after_rename d id name = after_change (layer_with_name name) d id
+after_rename d id name = do
+  check (is_some (layer_of d.map id)) NoSuchLayer
+  Ok (with_map (with_layer id (layer_with_name name)) d)
 
 abbrev pub after_show : DocumentParts → ℕ → Bool → Result DocumentParts EditFault
-after_show d id visible = after_change (layer_with_visible visible) d id
+after_show d id visible = do
+  check (is_some (layer_of d.map id)) NoSuchLayer
+  Ok (with_map (with_layer id (layer_with_visible visible)) d)

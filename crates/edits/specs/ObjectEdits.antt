@@ -1,5 +1,5 @@
 -- The document after an edit of its objects, or the edit's refusal.
-use Rattle.std.specs.Prelude.{ℕ, ◌+◌, ℤ, pos, int_le, List, Bool, true, ◌&&◌, nat_lt, Option, Some, None, Result, Ok, Err, length, if◌then◌else◌}
+use Rattle.std.specs.Prelude.{ℕ, ◌+◌, ℤ, pos, int_le, List, Bool, ◌&&◌, nat_lt, Option, Some, Result, Ok, length}
 use Rattle.std.specs.List.{insert}
 use Rattle.std.specs.Option.{ok_or}
 use Rattle.map_model.specs.declared.limits.TheConstants.{MAX_OBJECTS, MAX_NEXT_ID, MAX_PIXELS}
@@ -13,6 +13,7 @@ use Rattle.map_model.specs.Layers.{with_next_ids}
 use Rattle.map_model.specs.NewMap.{new_object}
 use Rattle.map_model.specs.Objects.{objects_of, object_place, object_with_placing, with_object, with_objects, without_object_at}
 use Rattle.map_model.specs.Parts.{layer_of}
+use Rattle.map_model.specs.Steps.{◌>>=◌, ◌>>◌, check}
 use Rattle.command_api.specs.declared.fault.EditFault.{EditFault}
 use Rattle.command_api.specs.declared.fault.EditFault.TheVariants.{NoSuchLayer, LayerOfAnotherKind, NoSuchObject, OutOfRange, TooMany}
 
@@ -25,10 +26,11 @@ is_object_size width height = int_le (pos width) MAX_PIXELS && int_le (pos heigh
 abbrev pub placing_of : ℤ → ℤ → ℕ → ℕ → Placing
 placing_of x y width height = record { x = Some x; y = Some y; width = Some (pos width); height = Some (pos height) }
 
--- the objects of an object layer, or why there are none
+-- the objects of an object layer
 abbrev pub objects_or_fault : Option Layer → Result (List Object) EditFault
-objects_or_fault None = Err NoSuchLayer
-objects_or_fault (Some l) = ok_or (objects_of l) LayerOfAnotherKind
+objects_or_fault found = do
+  l ← ok_or found NoSuchLayer
+  ok_or (objects_of l) LayerOfAnotherKind
 
 -- there may be one more object beside these, and one more id
 abbrev pub has_object_room : MapParts → List Object → Bool
@@ -38,25 +40,19 @@ has_object_room m os = nat_lt (length os) MAX_OBJECTS && nat_lt m.next_object_id
 abbrev pub with_last_object : ℕ → Object → MapParts → MapParts
 with_last_object layer o m = with_next_ids m.next_layer_id (m.next_object_id + 1) (with_objects layer (λ os. insert os (length os) o) m)
 
--- a new object with the next object id goes behind those of its layer
-abbrev pub after_add_behind : DocumentParts → ℕ → Bool → Placing → List ℕ → Result (List Object) EditFault → Result DocumentParts EditFault
-after_add_behind d layer in_range placing name (Err fault) = Err fault
-after_add_behind d layer in_range placing name (Ok os) =
-    if in_range
-    then (if has_object_room d.map os then Ok (with_map (with_last_object layer (new_object d.map.next_object_id placing name)) d) else Err TooMany)
-    else Err OutOfRange
-
+-- a new object with the next object id
 abbrev pub after_add_object : DocumentParts → ℕ → ℤ → ℤ → ℕ → ℕ → List ℕ → Result DocumentParts EditFault
-after_add_object d layer x y width height name =
-    after_add_behind d layer (is_object_size width height) (placing_of x y width height) name (objects_or_fault (layer_of d.map layer))
+after_add_object d layer x y width height name = do
+  objects ← objects_or_fault (layer_of d.map layer)
+  check (is_object_size width height) OutOfRange
+  check (has_object_room d.map objects) TooMany
+  Ok (with_map (with_last_object layer (new_object d.map.next_object_id (placing_of x y width height) name)) d)
 
 -- ---- an object less
-abbrev pub after_remove_object_at : DocumentParts → Option ObjectPlace → Result DocumentParts EditFault
-after_remove_object_at d None = Err NoSuchObject
-after_remove_object_at d (Some place) = Ok (with_map (without_object_at place) d)
-
 abbrev pub after_remove_object : DocumentParts → ℕ → Result DocumentParts EditFault
-after_remove_object d id = after_remove_object_at d (object_place d.map id)
+after_remove_object d id = do
+  place ← ok_or (object_place d.map id) NoSuchObject
+  Ok (with_map (without_object_at place) d)
 
 -- ---- an object at another place, or of another size
 abbrev pub moved : ℤ → ℤ → Placing → Placing
@@ -65,12 +61,17 @@ moved x y p = record p { x = Some x; y = Some y }
 abbrev pub resized : ℕ → ℕ → Placing → Placing
 resized width height p = record p { width = Some (pos width); height = Some (pos height) }
 
-abbrev pub after_place_at : Bool → (Placing → Placing) → DocumentParts → Option ObjectPlace → Result DocumentParts EditFault
-after_place_at in_range f d None = Err NoSuchObject
-after_place_at in_range f d (Some place) = if in_range then Ok (with_map (with_object place (λ o. object_with_placing (f o.placing) o)) d) else Err OutOfRange
+-- the object at a place has its placing changed so
+abbrev pub with_placing : ObjectPlace → (Placing → Placing) → MapParts → MapParts
+with_placing place f m = with_object place (λ o. object_with_placing (f o.placing) o) m
 
 abbrev pub after_move_object : DocumentParts → ℕ → ℤ → ℤ → Result DocumentParts EditFault
-after_move_object d id x y = after_place_at true (moved x y) d (object_place d.map id)
+after_move_object d id x y = do
+  place ← ok_or (object_place d.map id) NoSuchObject
+  Ok (with_map (with_placing place (moved x y)) d)
 
 abbrev pub after_resize_object : DocumentParts → ℕ → ℕ → ℕ → Result DocumentParts EditFault
-after_resize_object d id width height = after_place_at (is_object_size width height) (resized width height) d (object_place d.map id)
+after_resize_object d id width height = do
+  place ← ok_or (object_place d.map id) NoSuchObject
+  check (is_object_size width height) OutOfRange
+  Ok (with_map (with_placing place (resized width height)) d)

@@ -1,5 +1,5 @@
 -- Edits of the cells of a tile layer.
-use Rattle.std.specs.Prelude.{◌≡◌, ℕ, Option, Some, None, Result, Ok, Err}
+use Rattle.std.specs.Prelude.{◌≡◌, ℕ, Option, Result, Ok}
 use Rattle.map_model.specs.declared.parts.MapParts.{MapParts}
 use Rattle.map_model.specs.CellEdits.{AreInRowOrder}
 use Rattle.map_model.specs.Document.{DocumentParts, with_map}
@@ -10,25 +10,6 @@ use Rattle.edits.specs.declared.change.CellChange.{CellChange}
 use Rattle.edits.specs.Covering.{covered_map}
 use Rattle.edits.specs.Difference.{difference_in}
 
--- such an edit of a document: its layer, why it is refused, where it is, and what it puts over the cells
-pub record Painting : Type 0 where
-  pub layer : ℕ
-  pub fault : Option EditFault
-  pub over : ℕ → ℕ → Option ℕ
-
--- a document, or a refusal
-abbrev pub answer_by : Option EditFault → DocumentParts → Result DocumentParts EditFault
-answer_by None d = Ok d
-answer_by (Some fault) d = Err fault
-
--- the map after an edit
-abbrev pub painted_map : Painting → MapParts → MapParts
-painted_map p m = covered_map p.layer p.over m
-
--- the document after an edit, or the edit's refusal
-abbrev pub after_painting : DocumentParts → Painting → Result DocumentParts EditFault
-after_painting d p = answer_by p.fault (with_map (painted_map p) d)
-
 -- a change holds exactly the cells that differ between two maps in a tile layer: in row order, each once, with the
 -- values before and after, which are unequal
 pub record IsCellChange (id : ℕ) (m n : MapParts) (change : CellChange) : Type 0 where
@@ -36,9 +17,11 @@ pub record IsCellChange (id : ℕ) (m n : MapParts) (change : CellChange) : Type
   pub cells : change.cells ≡ difference_in id m n
   pub ordered : AreInRowOrder change.cells
 
--- the edit of a well-formed document is not refused, and the change is that of the map and the one after the edit
-pub record IsPainted (d : DocumentParts) (p : Painting) (change : CellChange) : Type 0 where
+-- the edit of a well-formed document is not refused: it puts values over the cells of a tile layer, and the change is that of the map and
+-- the one after the edit
+pub record IsPainted (d : DocumentParts) (id : ℕ) (after : Result DocumentParts EditFault) (change : CellChange) : Type 0 where
   pub well_formed : IsWellFormed d.map
-  pub accepted : p.fault ≡ None
-  pub tiles : HasTiles d.map p.layer
-  pub exact : IsCellChange p.layer d.map (painted_map p d.map) change
+  pub tiles : HasTiles d.map id
+  pub over : ℕ → ℕ → Option ℕ
+  pub accepted : after ≡ Ok (with_map (covered_map id over) d)
+  pub exact : IsCellChange id d.map (covered_map id over d.map) change

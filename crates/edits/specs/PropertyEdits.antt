@@ -1,5 +1,5 @@
 -- The document after an edit of properties, or the edit's refusal.
-use Rattle.std.specs.Prelude.{ℕ, List, nat_lt, length, Option, Some, None, Result, Ok, Err, if◌then◌else◌}
+use Rattle.std.specs.Prelude.{ℕ, List, nat_lt, length, Option, Some, None, Result, Ok}
 use Rattle.std.specs.Option.{ok_or}
 use Rattle.map_model.specs.declared.limits.TheConstants.{MAX_PROPERTIES}
 use Rattle.map_model.specs.declared.owner.Owner.{Owner}
@@ -12,6 +12,7 @@ use Rattle.map_model.specs.declared.place.OwnerPlace.TheVariants as places
 use Rattle.map_model.specs.declared.setting.Setting.{Setting}
 use Rattle.map_model.specs.Document.{DocumentParts, with_map}
 use Rattle.map_model.specs.Properties.{new_property, owner_place, properties_of, property_place, property_with_setting, setting_with, with_property, with_property_at, without_property_at}
+use Rattle.map_model.specs.Steps.{◌>>=◌, ◌>>◌, check}
 use Rattle.command_api.specs.declared.fault.EditFault.{EditFault}
 use Rattle.command_api.specs.declared.fault.EditFault.TheVariants.{NoSuchLayer, NoSuchObject, NoSuchProperty, TooMany}
 
@@ -33,24 +34,18 @@ property_count m owner = count_of (properties_of m owner)
 -- one that is there gets the type and the value where it stands; a new one goes last
 abbrev pub after_set_at : DocumentParts → List ℕ → Setting → OwnerPlace → Option ℕ → Result DocumentParts EditFault
 after_set_at d name s owner (Some at) = Ok (with_map (with_property owner at (property_with_setting s)) d)
-after_set_at d name s owner None =
-    if nat_lt (property_count d.map owner) MAX_PROPERTIES then Ok (with_map (with_property_at owner (property_count d.map owner) (new_property name s)) d) else Err TooMany
-
-abbrev pub after_set_of : DocumentParts → List ℕ → Setting → Result OwnerPlace EditFault → Result DocumentParts EditFault
-after_set_of d name s (Err fault) = Err fault
-after_set_of d name s (Ok owner) = after_set_at d name s owner (property_place d.map owner name)
+after_set_at d name s owner None = do
+  check (nat_lt (property_count d.map owner) MAX_PROPERTIES) TooMany
+  Ok (with_map (with_property_at owner (property_count d.map owner) (new_property name s)) d)
 
 abbrev pub after_set_property : DocumentParts → Owner → List ℕ → List ℕ → PropValue → Result DocumentParts EditFault
-after_set_property d owner name kind value = after_set_of d name (setting_with kind value) (owner_or_fault d.map owner)
+after_set_property d owner name kind value = do
+  place ← owner_or_fault d.map owner
+  after_set_at d name (setting_with kind value) place (property_place d.map place name)
 
 -- ---- a property less
-abbrev pub after_remove_at : DocumentParts → OwnerPlace → Option ℕ → Result DocumentParts EditFault
-after_remove_at d owner None = Err NoSuchProperty
-after_remove_at d owner (Some at) = Ok (with_map (without_property_at owner at) d)
-
-abbrev pub after_remove_of : DocumentParts → List ℕ → Result OwnerPlace EditFault → Result DocumentParts EditFault
-after_remove_of d name (Err fault) = Err fault
-after_remove_of d name (Ok owner) = after_remove_at d owner (property_place d.map owner name)
-
 abbrev pub after_remove_property : DocumentParts → Owner → List ℕ → Result DocumentParts EditFault
-after_remove_property d owner name = after_remove_of d name (owner_or_fault d.map owner)
+after_remove_property d owner name = do
+  place ← owner_or_fault d.map owner
+  at ← ok_or (property_place d.map place name) NoSuchProperty
+  Ok (with_map (without_property_at place at) d)

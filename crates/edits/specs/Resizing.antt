@@ -1,11 +1,11 @@
 -- What resizing a map does, and why it is refused.
 use Rattle.std.proofs.Common.{zero, suc}
-use Rattle.std.specs.Prelude.{◌≡◌, ℕ, ◌+◌, ◌<◌, ◌≤◌, ◌≤ℤ◌, length, slice_index_or, ◌*◌, ℤ, pos, neg_ℤ, ◌-ℤ◌, ◌*ℤ◌, int_le, List, [], ◌++◌, map, Bool, true, ◌&&◌, nat_le, if◌then◌else◌, Option, Some, None, Result, Ok, Err}
+use Rattle.std.specs.Prelude.{◌≡◌, ℕ, ◌+◌, ◌<◌, ◌≤◌, ◌≤ℤ◌, length, slice_index_or, ℤ, pos, neg_ℤ, ◌-ℤ◌, ◌*ℤ◌, int_le, List, [], ◌++◌, map, Bool, true, ◌&&◌, Option, Some, None, Result, Ok}
 use Rattle.std.specs.FinSet as set
 use Rattle.std.specs.List.{list_all, range_with_len}
 use Rattle.std.specs.Option.{unwrap_or}
 use Rattle.region.specs.Cells.{cell_cmp, has_at, rectangle}
-use Rattle.map_model.specs.declared.limits.TheConstants.{MAX_SIDE, MAX_CELLS, MAX_PIXELS}
+use Rattle.map_model.specs.declared.limits.TheConstants.{MAX_PIXELS}
 use Rattle.map_model.specs.declared.parts.Layer.{Layer}
 use Rattle.map_model.specs.declared.parts.MapParts.{MapParts}
 use Rattle.map_model.specs.declared.parts.Object.{Object}
@@ -13,8 +13,10 @@ use Rattle.map_model.specs.Canvas.{object_moved, placing_moved}
 use Rattle.map_model.specs.Document.{DocumentParts}
 use Rattle.map_model.specs.Objects.{objects_of, layer_with_objects}
 use Rattle.map_model.specs.Parts.{layer_with_tiles}
+use Rattle.map_model.specs.Sizes.{is_size}
 use Rattle.command_api.specs.declared.fault.EditFault.{EditFault}
 use Rattle.command_api.specs.declared.fault.EditFault.TheVariants.{OutOfRange}
+use Rattle.map_model.specs.Steps.{◌>>◌, check}
 use Rattle.edits.specs.Blocks.{ValueBlock, value_over}
 
 -- ---- cells
@@ -63,12 +65,6 @@ abbrev pub objects_stay : ℤ → ℤ → MapParts → Bool
 objects_stay right down m = list_all (λ l. all_stay right down (objects_of l)) m.layers
 
 -- ---- the map
-abbrev pub is_side : ℕ → Bool
-is_side side = nat_le 1 side && nat_le side MAX_SIDE
-
-abbrev pub is_size : ℕ → ℕ → Bool
-is_size width height = (is_side width && is_side height) && nat_le (width * height) MAX_CELLS
-
 abbrev pub resized_layer : MapParts → ℕ → ℕ → ℤ → ℤ → Layer → Layer
 resized_layer m width height dx dy l =
     layer_with_objects (map (object_moved (pixels_right m dx) (pixels_down m dy))) (layer_with_tiles (resized_values m width height dx dy) l)
@@ -86,13 +82,12 @@ resized d width height dx dy = record {
   selection = resized_selection width height dx dy d.selection;
 }
 
--- the new size is within the limits, and so is each object where it is then
-abbrev pub may_resize : DocumentParts → ℕ → ℕ → ℤ → ℤ → Bool
-may_resize d width height dx dy = is_size width height && objects_stay (pixels_right d.map dx) (pixels_down d.map dy) d.map
-
--- the document after a resizing, or its refusal
+-- the document after a resizing, or its refusal: of the new size, or of objects where they are then
 abbrev pub after_resize : DocumentParts → ℕ → ℕ → ℤ → ℤ → Result DocumentParts EditFault
-after_resize d width height dx dy = if may_resize d width height dx dy then Ok (resized d width height dx dy) else Err OutOfRange
+after_resize d width height dx dy = do
+  check (is_size width height) OutOfRange
+  check (objects_stay (pixels_right d.map dx) (pixels_down d.map dy) d.map) OutOfRange
+  Ok (resized d width height dx dy)
 
 -- ---- a row of a block
 -- the values are those of the block in a row of the map, from a column on; before and behind them the block has 0 or does not lie
@@ -102,7 +97,7 @@ pub record IsRowPart (block : ValueBlock) (width y first : ℕ) (values : List �
   pub under : (k : ℕ) → k < length values → value_at block (first + k) y ≡ slice_index_or values k 0
   pub behind : (x : ℕ) → first + length values ≤ x → x < width → value_at block x y ≡ 0
 
--- the numbers of columns and rows by which a map can be moved
+-- the numbers of columns and rows by which a map can be moved: as many as there may be pixels
 pub record IsDistance (z : ℤ) : Type 0 where
-  pub low : neg_ℤ (pos 1000000000) ≤ℤ z
-  pub high : z ≤ℤ pos 1000000000
+  pub low : neg_ℤ MAX_PIXELS ≤ℤ z
+  pub high : z ≤ℤ MAX_PIXELS

@@ -1,12 +1,14 @@
 -- The document after an edit of its tilesets, or the edit's refusal.
-use Rattle.std.specs.Prelude.{ℕ, List, Bool, ◌&&◌, nat_lt, nat_le, Option, Some, None, Result, Ok, Err, length, if◌then◌else◌}
+use Rattle.std.specs.Prelude.{ℕ, List, Bool, ◌&&◌, not, nat_lt, nat_le, Result, Ok, length}
 use Rattle.std.specs.List.{list_all}
+use Rattle.std.specs.Option.{ok_or}
 use Rattle.map_model.specs.declared.limits.TheConstants.{MAX_FIRST_ID, MAX_TILESETS}
 use Rattle.map_model.specs.declared.parts.MapParts.{MapParts}
 use Rattle.map_model.specs.declared.parts.Tileset.{Tileset}
 use Rattle.map_model.specs.Document.{DocumentParts, with_map}
 use Rattle.map_model.specs.NewMap.{external_tileset}
 use Rattle.map_model.specs.Tilesets.{tileset_place, has_uses, with_tileset_at, without_tileset_at}
+use Rattle.map_model.specs.Steps.{◌>>=◌, ◌>>◌, check}
 use Rattle.command_api.specs.declared.fault.EditFault.{EditFault}
 use Rattle.command_api.specs.declared.fault.EditFault.TheVariants.{NoSuchTileset, TilesetInUse, FirstIdNotAbove, OutOfRange, TooMany}
 
@@ -24,17 +26,15 @@ abbrev pub with_last_tileset : Tileset → MapParts → MapParts
 with_last_tileset t m = with_tileset_at (length m.tilesets) t m
 
 abbrev pub after_add_tileset : DocumentParts → ℕ → List ℕ → Result DocumentParts EditFault
-after_add_tileset d first_id source =
-    if is_above first_id d.map.tilesets then
-    (if is_first_id first_id then
-    (if nat_lt (length d.map.tilesets) MAX_TILESETS then Ok (with_map (with_last_tileset (external_tileset first_id source)) d) else Err TooMany)
-    else Err OutOfRange)
-    else Err FirstIdNotAbove
+after_add_tileset d first_id source = do
+  check (is_above first_id d.map.tilesets) FirstIdNotAbove
+  check (is_first_id first_id) OutOfRange
+  check (nat_lt (length d.map.tilesets) MAX_TILESETS) TooMany
+  Ok (with_map (with_last_tileset (external_tileset first_id source)) d)
 
 -- ---- a tileset less
-abbrev pub after_remove_tileset_at : DocumentParts → ℕ → Option ℕ → Result DocumentParts EditFault
-after_remove_tileset_at d first_id None = Err NoSuchTileset
-after_remove_tileset_at d first_id (Some at) = if has_uses d.map first_id then Err TilesetInUse else Ok (with_map (without_tileset_at at) d)
-
 abbrev pub after_remove_tileset : DocumentParts → ℕ → Result DocumentParts EditFault
-after_remove_tileset d first_id = after_remove_tileset_at d first_id (tileset_place d.map first_id)
+after_remove_tileset d first_id = do
+  at ← ok_or (tileset_place d.map first_id) NoSuchTileset
+  check (not (has_uses d.map first_id)) TilesetInUse
+  Ok (with_map (without_tileset_at at) d)

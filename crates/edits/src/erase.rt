@@ -1,7 +1,7 @@
 ghost use Rattle.std.specs.Prelude.{IfOk, IfErr};
 ghost use Rattle.command_api.specs.Making.{IsRefusalOf};
 ghost use Rattle.edits.specs.Painting.{IsPainted};
-ghost use Rattle.edits.specs.Stamping.{after_erase, erase_painting};
+ghost use Rattle.edits.specs.Stamping.{after_erase};
 
 use crate::area::Area;
 use crate::change::CellChange;
@@ -23,7 +23,7 @@ pub fn erase_change(
     layer: u32,
     area: &Area,
 ) -> Result<CellChange, EditFault>
-    ensures change { IfOk result (IsPainted document.now (erase_painting document.now layer area.now)) }
+    ensures change { IfOk result (IsPainted document.now layer (after_erase document.now layer area.now)) }
     ensures refusal { IfErr result (IsRefusalOf (after_erase document.now layer area.now)) }
 {
     let map = document.map();

@@ -1,6 +1,6 @@
 ghost use Rattle.std.specs.Prelude.{◌≡◌, IfOk, IfErr};
 ghost use Rattle.command_api.specs.Making.{IsRefusalOf};
-ghost use Rattle.edits.specs.Filling.{TakesJoined, after_fill, fill_painting, map_cell};
+ghost use Rattle.edits.specs.Filling.{after_fill, map_cell};
 ghost use Rattle.edits.specs.Painting.{IsPainted};
 
 use crate::change::{CellChange, CellEdits};
@@ -38,8 +38,7 @@ pub fn fill_change(
     y: i32,
     value: Gid,
 ) -> Result<CellChange, EditFault>
-    ensures change { IfOk result (IsPainted document.now (fill_painting document.now layer x y value)) }
-    ensures joined { IfOk result (λ change. TakesJoined document.now layer (map_cell document.now.map x y)) }
+    ensures change { IfOk result (IsPainted document.now layer (after_fill document.now layer x y value)) }
     ensures refusal { IfErr result (IsRefusalOf (after_fill document.now layer x y value)) }
 {
     let map = document.map();

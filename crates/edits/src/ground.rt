@@ -1,6 +1,7 @@
 // What a fill goes over.
 ghost use Rattle.std.specs.Prelude.{◌≡◌, ℕ, ◌+◌, ◌*◌, ◌/◌, ◌%◌, ◌<◌, ◌≤◌, ◌^◌, IfOk, true, length, nat_eq, slice_get};
 ghost use Rattle.std.specs.Int.{bit_at};
+ghost use Rattle.map_model.specs.declared.limits.TheConstants.{MAX_SIDE};
 ghost use Rattle.edits.specs.Flooding.{AreAllowed, AreSelected, AreSideBySide, HasCell, IsGround, IsGroundOf, IsLed, free_at};
 ghost use Rattle.edits.specs.Joining.{is_value};
 ghost use Rattle.edits.specs.Marks.{room};
@@ -29,8 +30,8 @@ fn selected_places(
     width: u32,
     height: u32,
 ) -> Result<Marks, AllocError>
-    requires narrow { width ≤ 4096 }
-    requires low { height ≤ 4096 }
+    requires narrow { width ≤ MAX_SIDE }
+    requires low { height ≤ MAX_SIDE }
     ensures room { IfOk result (λ marks. room marks ≡ 64 * (height * width / 64 + 1)) }
     ensures cells { IfOk result (AreSelected width (height * width) selection.now) }
 {

@@ -1,8 +1,8 @@
 // The tile layer that an edit changes, and the values that an edit sets.
-ghost use Rattle.std.specs.Prelude.{◌≡◌, MatchResult, None, Some};
+ghost use Rattle.std.specs.Prelude.{◌≡◌, MatchResult, Ok, Err};
 ghost use Rattle.std.specs.List.{list_all};
-ghost use Rattle.map_model.specs.Parts.{layer_of, tiles_in, HasTiles};
-ghost use Rattle.edits.specs.Refusals.{is_known, tile_layer_fault};
+ghost use Rattle.map_model.specs.Parts.{layer_of};
+ghost use Rattle.edits.specs.Refusals.{is_known, tiles_or_fault};
 
 use command_api::EditFault;
 use map_model::Map;
@@ -13,8 +13,8 @@ use tile_id::Gid;
 /// Refused where there is no layer with the id, and then where it is not a tile layer.
 pub fn tiles_of_layer(map: &Map, layer: u32) -> Result<&[Gid], EditFault>
     ensures { MatchResult result
-        (λ tiles. (tile_layer_fault (layer_of map.now layer) ≡ None) × HasTiles map.now layer × (tiles.now ≡ tiles_in map.now layer))
-        (λ fault. tile_layer_fault (layer_of map.now layer) ≡ Some fault) }
+        (λ tiles. tiles_or_fault (layer_of map.now layer) ≡ Ok tiles.now)
+        (λ fault. tiles_or_fault (layer_of map.now layer) ≡ Err fault) }
 {
     let Some(layer) = map.layer(layer) else {
         return Err(EditFault::NoSuchLayer);

@@ -1,6 +1,7 @@
 // The part of a tile layer that an edit reaches, and the changes that it makes there.
 ghost use Rattle.std.specs.Prelude.{◌≡◌, ℕ, ◌+◌, ◌*◌, ◌<◌, ◌≤◌, ◌++◌, true, false, OnOk, IfOk, IfErr, IfSome, IfNone, length};
 ghost use Rattle.command_api.specs.declared.fault.EditFault.TheVariants.{NoMemory};
+ghost use Rattle.map_model.specs.declared.limits.TheConstants.{MAX_SIDE};
 ghost use Rattle.edits.specs.Covering.{lets_change};
 ghost use Rattle.edits.specs.Laying.{AreNextColumns, IsReach, changes_below, changed_to};
 
@@ -31,8 +32,8 @@ fn push_change(
     before: Gid,
     over: Option<Gid>,
 ) -> Result<(), AllocError>
-    requires column { x < 4096 }
-    requires row { y < 4096 }
+    requires column { x < MAX_SIDE }
+    requires row { y < MAX_SIDE }
     ensures { OnOk result (cells.new.items ≡ cells.old.items ++ changed_to x y before over) }
 {
     if let Some(after) = over

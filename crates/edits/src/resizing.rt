@@ -8,15 +8,15 @@ ghost use Rattle.map_model.specs.Canvas.{lists_in, tile_layers, with_canvas, IsC
 ghost use Rattle.map_model.specs.Keeping.{layer_level};
 ghost use Rattle.map_model.specs.Lists.{Each};
 ghost use Rattle.map_model.specs.Objects.{objects_in};
-ghost use Rattle.map_model.specs.WellFormed.{IsBody, IsLayer, IsTileSize};
-ghost use Rattle.edits.specs.Resizing.{after_resize, all_stay, are_pixels, is_side, is_size, may_resize, objects_stay, pixels_down, pixels_right, resized, resized_values, stays, IsDistance};
+ghost use Rattle.map_model.specs.WellFormed.{IsBody, IsLayer, IsSize, IsTileSize};
+ghost use Rattle.edits.specs.Resizing.{after_resize, all_stay, are_pixels, objects_stay, pixels_down, pixels_right, resized, resized_values, stays, IsDistance};
 
 use crate::block::Block;
 use crate::laying::laid_cells;
 use command_api::EditFault;
 use link_chain::Chain;
-use map_model::limits::{MAX_CELLS, MAX_PIXELS, MAX_SIDE};
-use map_model::{Body, Canvas, Cells, Document, LayerCells, MapParts, Object};
+use map_model::limits::MAX_PIXELS;
+use map_model::{Body, Canvas, Cells, Document, LayerCells, MapParts, Object, is_size};
 use std::alloc::{AllocError, Global};
 
 // The size of a new map, and where the old one begins on it.
@@ -33,19 +33,6 @@ struct Resizing {
 struct Shift {
     right: i64,
     down: i64,
-}
-
-// Whether a map may be so wide, or so high.
-fn is_side(side: u32) -> bool
-    ensures { result ≡ is_side side }
-{
-    1 <= side && side <= MAX_SIDE
-}
-
-fn is_size(width: u32, height: u32) -> bool
-    ensures { result ≡ is_size width height }
-{
-    is_side(width) && is_side(height) && width as usize * height as usize <= MAX_CELLS
 }
 
 // Whether a number of pixels, where there is one, is within the limits when it is moved by others.
@@ -168,7 +155,8 @@ fn new_canvas(
     requires right { shift.right ≡ pixels_right document.now.map to.dx }
     requires down { shift.down ≡ pixels_down document.now.map to.dy }
     requires fits { IsShift shift.right × IsShift shift.down }
-    requires may { may_resize document.now to.width to.height to.dx to.dy ≡ true }
+    requires size { IsSize to.width to.height }
+    requires objects { objects_stay shift.right shift.down document.now.map ≡ true }
     ensures document { IfOk result (λ c. with_canvas c document.now ≡ resized document.now to.width to.height to.dx to.dy) }
     ensures fits { IfOk result (IsCanvasOf document.now) }
 {

@@ -2,7 +2,7 @@ ghost use Rattle.std.specs.Prelude.{IfOk, IfErr};
 ghost use Rattle.command_api.specs.Making.{IsRefusalOf};
 ghost use Rattle.edits.specs.Blocks.{block_of};
 ghost use Rattle.edits.specs.Painting.{IsPainted};
-ghost use Rattle.edits.specs.Stamping.{IsBlock, after_stamp, stamp_painting};
+ghost use Rattle.edits.specs.Stamping.{IsBlock, after_stamp};
 
 use crate::block::Block;
 use crate::change::CellChange;
@@ -25,7 +25,7 @@ pub fn stamp_change(
     block: &Block<'_>,
 ) -> Result<CellChange, EditFault>
     requires { IsBlock (block_of block.now) }
-    ensures change { IfOk result (IsPainted document.now (stamp_painting document.now layer (block_of block.now))) }
+    ensures change { IfOk result (IsPainted document.now layer (after_stamp document.now layer (block_of block.now))) }
     ensures refusal { IfErr result (IsRefusalOf (after_stamp document.now layer (block_of block.now))) }
 {
     let map = document.map();

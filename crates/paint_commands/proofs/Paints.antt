@@ -1,5 +1,5 @@
 -- A paint that is made, turned back and made again.
-use Rattle.std.proofs.Common.{◌≡◌, ℕ, List, [], ◌∷◌, length, Bool, true, false, not, nat_eq, Some, Ok, refl, sym, ap, ◌∙◌, subst, arith}
+use Rattle.std.proofs.Common.{◌≡◌, ℕ, List, [], ◌∷◌, length, Bool, true, false, not, nat_eq, Some, Result, Ok, refl, sym, ap, ◌∙◌, subst, arith}
 use Rattle.std.proofs.lemmas.Bool.Decides.{nat_tests}
 use Rattle.map_model.specs.declared.edit.CellEdit.{CellEdit}
 use Rattle.map_model.specs.declared.edit.Side.{Side}
@@ -12,11 +12,12 @@ use Rattle.map_model.specs.WellFormed.{IsWellFormed}
 use Rattle.map_model.proofs.CellEdits.{length-put_values}
 use Rattle.map_model.proofs.Turns.{HasTiles-with_tiles}
 use Rattle.edits.specs.declared.change.CellChange.{CellChange}
-use Rattle.edits.specs.Covering.{covered}
+use Rattle.edits.specs.Covering.{covered, covered_map}
 use Rattle.edits.specs.Difference.{difference_in}
-use Rattle.edits.specs.Painting.{IsPainted, Painting, after_painting, answer_by, painted_map}
+use Rattle.edits.specs.Painting.{IsPainted}
 use Rattle.edits.proofs.Differences.{length-each_at}
 use Rattle.edits.proofs.Turns.{with_edits-after, with_edits-before, with_edits-again, with_edits-none, difference_in-same, difference_in-within}
+use Rattle.command_api.specs.declared.fault.EditFault.{EditFault}
 use Rattle.command_api.specs.Law.{Names, WhenEqual}
 use Rattle.command_api.specs.Making.{Makes}
 use Rattle.paint_commands.specs.declared.paint.PaintKind.{PaintKind}
@@ -92,27 +93,25 @@ difference-before false layer cells d other h = absurd (other refl)
 difference-before true layer cells d other h = h.exact
 
 -- ---- a new paint
-module _ (d : DocumentParts) (p : Painting) (change : CellChange) (is : IsPainted d p change) where
-  turned : with_edits d.map change.layer change.cells After ≡ painted_map p d.map
+module _ (d : DocumentParts) (id : ℕ) (after : Result DocumentParts EditFault) (change : CellChange) (is : IsPainted d id after change) where
+  turned : with_edits d.map change.layer change.cells After ≡ covered_map id is.over d.map
   turned =
-      ap (λ id. with_edits d.map id change.cells After) is.exact.layer
-      ∙ with_edits-after d.map p.layer (covered d.map.width p.over) change.cells (λ vs. length-each_at _ 0 vs) is.exact.cells is.tiles is.well_formed
+      ap (λ k. with_edits d.map k change.cells After) is.exact.layer
+      ∙ with_edits-after d.map id (covered d.map.width is.over) change.cells (λ vs. length-each_at _ 0 vs) is.exact.cells is.tiles is.well_formed
 
   new-IsDifference : IsDifference false change.layer change.cells d
   new-IsDifference = record {
     well_formed = is.well_formed;
     tiles = rw is.exact.layer is.tiles;
-    exact = is.exact.cells ∙ ap (λ id. difference_in id d.map (painted_map p d.map)) (sym is.exact.layer) ∙ ap (difference_in change.layer d.map) (sym turned);
+    exact = is.exact.cells ∙ ap (λ k. difference_in k d.map (covered_map id is.over d.map)) (sym is.exact.layer) ∙ ap (difference_in change.layer d.map) (sym turned);
   }
 
-  new-document : after_painting d p ≡ Ok (painted change.layer change.cells After d)
-  new-document =
-      ap (λ o. answer_by o (record d { map = painted_map p d.map })) is.accepted
-      ∙ ap (λ m. Ok (record d { map = m })) (sym turned)
+  new-document : after ≡ Ok (painted change.layer change.cells After d)
+  new-document = is.accepted ∙ ap (λ m. Ok (record d { map = m })) (sym turned)
 
   -- the command of an edit's change leads to the document after the edit
   pub paint_made : (kind : PaintKind) (follows : Bool) (names : Names) → paint_names kind change.layer follows ≡ names → names.vanishing ≡ WhenEqual
-      → Makes names d (after_painting d p) (paint_change (new_paint kind follows change))
+      → Makes names d after (paint_change (new_paint kind follows change))
   paint_made kind follows names called vanishes = record {
     fits = (λ e. cc, record { fits = new-IsDifference; settled = rw (called, vanishes) (difference-settled false change.layer change.cells d new-IsDifference) });
     document = new-document;

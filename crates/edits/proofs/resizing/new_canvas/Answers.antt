@@ -30,4 +30,4 @@ returns-clause-fits c =
     let one : set.contains c.in_ok-selection.selection q ≡ in_moved_cut d.selection to.dx to.dy to.width to.height q = search (rules, c.in_ok-selection.ensures q) in
     one in
     canvas-fits d to.width to.height to.dx to.dy c.in_ok-layers.layers c.in_ok-selection.selection _ _ laid cells (search rules) (search rules) c.selection-selection.ensures.well_formed
-    c.requires.may (search rules) (search rules)
+    c.requires.size (search rules) (search rules) (search rules)

@@ -3,6 +3,12 @@ use Rattle.std.proofs.lemmas.Grind.{common_steps}
 use Rattle.edits.proofs.Resized.{scaled-IsShift}
 use Rattle.edits.proofs.resizing.shift_of.Goals as goal
 
+pub overflow_mul-result : goal.overflow_mul-result
+overflow_mul-result c = grind (arith, common_steps)
+
+pub overflow_mul-result-2 : goal.overflow_mul-result-2
+overflow_mul-result-2 c = grind (arith, common_steps)
+
 pub returns-clause-right : goal.returns-clause-right
 returns-clause-right c = grind (arith, common_steps)
 

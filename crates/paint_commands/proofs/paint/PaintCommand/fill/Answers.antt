@@ -1,5 +1,5 @@
 use Rattle.std.proofs.Common.{refl, false, rules}
-use Rattle.edits.specs.Filling.{fill_painting}
+use Rattle.edits.specs.Filling.{after_fill}
 use Rattle.edits.specs.Painting.{IsPainted}
 use Rattle.paint_commands.specs.declared.paint.PaintKind.TheVariants.{Fill}
 use Rattle.paint_commands.specs.Painting.{fill_names}
@@ -9,6 +9,6 @@ use Rattle.paint_commands.proofs.paint.PaintCommand.fill.Goals as goal
 pub returns-clause-command : goal.returns-clause-command
 returns-clause-command c =
     let d = c.args.document.now in
-    let edit = fill_painting d c.args.layer c.args.x c.args.y c.args.value in
-    let is : IsPainted d edit c.in_ok-change.change = search rules in
-    rw c.of_change.ensures (paint_made d edit c.in_ok-change.change is Fill false fill_names refl refl)
+    let after = after_fill d c.args.layer c.args.x c.args.y c.args.value in
+    let is : IsPainted d c.args.layer after c.in_ok-change.change = search rules in
+    rw c.of_change.ensures (paint_made d c.args.layer after c.in_ok-change.change is Fill false fill_names refl refl)
