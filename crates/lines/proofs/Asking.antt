@@ -3,8 +3,7 @@ use Rattle.std.proofs.Common.{◌≡◌, ℕ, ◌≤◌, List, ◌++◌, [], len
 use Rattle.std.specs.Prelude.{unwrap_or}
 use Rattle.std.specs.Io.KnownBytes.{Consumes, Keeps, prepend_known}
 use Rattle.std.proofs.lemmas.List.Elements.{All-append}
-use Rattle.lines.specs.Lines.{Reading, input_left, HasNoNewline, CameWithLast, AsksInNeed}
-use Rattle.lines.proofs.Finding.{SkipsFront}
+use Rattle.lines.specs.Lines.{Reading, input_left, HasNoNewline, StopsInLine, CameWithLast, AsksInNeed}
 
 -- a call that gave bytes, and one that failed
 pub came_given : (old more : List ℕ) (before after : Option (List ℕ)) (n : ℕ) → HasNoNewline old → length more ≡ n → Consumes before after more → CameWithLast (prepend_known old before) after n
@@ -17,7 +16,7 @@ came_kept old None after h e = tt
 came_kept old (Some xs) None h e = e
 came_kept old (Some xs) (Some ys) h e = (old, [], h, refl, ap (λ zs. old ++ zs) (sym e))
 
-came_behind : (before mid after : Option (List ℕ)) (n : ℕ) → SkipsFront before mid → CameWithLast mid after n → CameWithLast before after n
+came_behind : (before mid after : Option (List ℕ)) (n : ℕ) → StopsInLine before mid → CameWithLast mid after n → CameWithLast before after n
 came_behind None mid after n s c = tt
 came_behind (Some xs) None after n s c = absurd s
 came_behind (Some xs) (Some ys) None n s c = c
@@ -35,7 +34,7 @@ asks_count : (s : Reading) (k : Option (List ℕ)) (t : Reading) (m : Option (Li
 asks_count s k t m a = elim a [ inl called ↦ omega (arith, called.0) | inr none ↦ omega (arith, none.0) ]
 
 -- calls, and then further ones
-pub asks_on : (s : Reading) (k : Option (List ℕ)) (t : Reading) (m : Option (List ℕ)) (u : Reading) (n : Option (List ℕ)) → SkipsFront (input_left s k) (input_left t m) → AsksInNeed s k t m → AsksInNeed t m u n → AsksInNeed s k u n
+pub asks_on : (s : Reading) (k : Option (List ℕ)) (t : Reading) (m : Option (List ℕ)) (u : Reading) (n : Option (List ℕ)) → StopsInLine (input_left s k) (input_left t m) → AsksInNeed s k t m → AsksInNeed t m u n → AsksInNeed s k u n
 asks_on s k t m u n f a b = elim b [
   | inl called ↦ inl (omega (arith, called.0, asks_count s k t m a), came_behind _ _ _ _ f called.1)
   | inr none ↦ let P : Option (List ℕ) → Type 0 = λ o. AsksInNeed s k u o in subst P (sym none.2) (asks_same s k t u m a none.0 none.1)

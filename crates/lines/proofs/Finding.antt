@@ -1,19 +1,13 @@
 -- How a reader of lines finds the lines of its input.
-use Rattle.std.proofs.Common.{◌≡◌, ◌≢◌, ℕ, ◌+◌, ◌^◌, ◌<◌, ◌≤◌, true, false, eqb, List, [], ◌∷◌, ◌++◌, length, take, drop, Option, Some, None, refl, sym, ap, subst, ◌∙◌, inl, inr, append_assoc, arith}
-use Rattle.std.specs.Prelude.{⊤, is_some, IfSome, IfNone, ◌↔◌, Contains}
+use Rattle.std.proofs.Common.{◌≡◌, ◌≢◌, ℕ, ◌+◌, ◌^◌, ◌<◌, ◌≤◌, true, false, eqb, List, [], ◌∷◌, ◌++◌, length, take, drop, Option, Some, None, refl, sym, ap, subst, ◌∙◌, inl, inr, append_assoc, arith, Result, Ok, Err, OnErr}
+use Rattle.std.specs.Prelude.{is_some, IfSome, IfNone, ◌↔◌, Contains}
 use Rattle.std.specs.List.{AllByRecursion}
 use Rattle.std.specs.Io.KnownBytes.{IsAtEnd, prepend_known}
 use Rattle.std.proofs.lemmas.List.{append-nil, length-append, take_all, drop_all}
 use Rattle.std.proofs.lemmas.Bool.{ne_eqb}
 use Rattle.std.proofs.lemmas.List.Elements.{recursion_from_All, All-append, All-contains, Contains-append_right}
 use Rattle.lines.specs.declared.reader.Found.TheVariants.{Line, TooLong}
-use Rattle.lines.specs.Lines.{joined, last_line, LinesAreCut, lines_of, SameInput, FindsLine, HasNoNewline, SkipsLine}
-
--- the new input is the old one without some bytes at its front, none of them a newline
-abbrev pub SkipsFront : Option (List ℕ) → Option (List ℕ) → Type 0
-SkipsFront None new = ⊤
-SkipsFront (Some xs) None = ⊥
-SkipsFront (Some xs) (Some ys) = (front : List ℕ) × HasNoNewline front × (xs ≡ front ++ ys)
+use Rattle.lines.specs.Lines.{joined, last_line, LinesAreCut, lines_of, SameInput, FindsLine, HasNoNewline, SkipsLine, StopsInLine}
 
 abbrev IsOther : ℕ → Type 0
 IsOther b = b ≢ 10
@@ -46,6 +40,11 @@ reaches : (p first ys zs : List ℕ) → AllByRecursion IsOther p → p ++ ys �
 reaches [] first ys zs h e = omega arith
 reaches (b ∷ p) [] ys zs h e = absurd (h.0 cc)
 reaches (b ∷ p) (c ∷ first) ys zs h e = let tail : p ++ ys ≡ first ++ 10 ∷ zs = cc in let r = reaches p first ys zs h.1 tail in omega arith
+
+-- a fact that holds anyway holds at an error
+pub on_err : {T E P : Type 0} (r : Result T E) → P → OnErr r P
+on_err (Ok x) p = tt
+on_err (Err e) p = p
 
 pub same_refl : (before : Option (List ℕ)) → SameInput before before
 same_refl None = tt
@@ -92,31 +91,37 @@ finds_last (Some xs) (Some ys) p n h e none l z s =
     let whole : xs ≡ p = h ∙ ap (λ (zs : List ℕ). p ++ zs) e ∙ append-nil p in
     (ap lines_of whole ∙ ends p (recursion_from_All IsOther p none) (omega arith) ∙ ap (λ (zs : List ℕ). zs ∷ []) (sym all) ∙ ap (λ (zs : List ℕ). take n p ∷ lines_of zs) (sym rest), omega (arith, ap length all))
 
-pub skips_past : (before k : Option (List ℕ)) (p q : List ℕ) → SkipsFront before (prepend_known p k) → HasNoNewline p → q ≡ [] → SkipsFront before (prepend_known q k)
+pub skips_past : (before k : Option (List ℕ)) (p q : List ℕ) → StopsInLine before (prepend_known p k) → HasNoNewline p → q ≡ [] → StopsInLine before (prepend_known q k)
 skips_past None k p q s n z = tt
 skips_past (Some xs) None p q s n z = s
 skips_past (Some xs) (Some ys) p q s n z =
     (s.0 ++ p, All-append IsOther s.0 p s.1 n, s.2 ∙ sym (append_assoc s.0 p ys) ∙ ap (λ (ws : List ℕ). (s.0 ++ p) ++ (ws ++ ys)) (sym z))
 
-pub skips_same : (before mid after : Option (List ℕ)) → SkipsFront before mid → SameInput mid after → SkipsFront before after
+pub skips_same : (before mid after : Option (List ℕ)) → StopsInLine before mid → SameInput mid after → StopsInLine before after
 skips_same None mid after s h = tt
 skips_same (Some xs) None after s h = absurd s
 skips_same (Some xs) (Some ys) None s h = h
 skips_same (Some xs) (Some ys) (Some zs) s h = (s.0, s.1, s.2 ∙ ap (λ (ws : List ℕ). s.0 ++ ws) h)
 
 -- nothing is skipped where the input is the same
-pub skips_none : (before after : Option (List ℕ)) → SameInput before after → SkipsFront before after
+pub skips_none : (before after : Option (List ℕ)) → SameInput before after → StopsInLine before after
 skips_none None after h = tt
 skips_none (Some xs) None h = h
 skips_none (Some xs) (Some ys) h = ([], λ k d l. absurd (omega (arith, l)), h)
 
-pub skips_all : (before k : Option (List ℕ)) (p q : List ℕ) → SkipsFront before (prepend_known p k) → HasNoNewline p → q ≡ [] → IsAtEnd k → SkipsLine before (prepend_known q k)
+pub same_skips : (before mid after : Option (List ℕ)) → SameInput before mid → StopsInLine mid after → StopsInLine before after
+same_skips None mid after h s = tt
+same_skips (Some xs) None after h s = absurd h
+same_skips (Some xs) (Some ys) None h s = s
+same_skips (Some xs) (Some ys) (Some zs) h s = (s.0, s.1, h ∙ s.2)
+
+pub skips_all : (before k : Option (List ℕ)) (p q : List ℕ) → StopsInLine before (prepend_known p k) → HasNoNewline p → q ≡ [] → IsAtEnd k → SkipsLine before (prepend_known q k)
 skips_all None k p q s n z e = tt
 skips_all (Some xs) None p q s n z e = s
 skips_all (Some xs) (Some ys) p q s n z e =
     (s.0 ++ p, All-append IsOther s.0 p s.1 n, inl (s.2 ∙ ap (λ (ws : List ℕ). s.0 ++ (p ++ ws)) e ∙ ap (λ (ws : List ℕ). s.0 ++ ws) (append-nil p), ap (λ (ws : List ℕ). ws ++ ys) z ∙ e))
 
-pub skips_line : (before k : Option (List ℕ)) (p line q : List ℕ) → SkipsFront before (prepend_known p k) → p ≡ line ++ 10 ∷ q → HasNoNewline line → SkipsLine before (prepend_known q k)
+pub skips_line : (before k : Option (List ℕ)) (p line q : List ℕ) → StopsInLine before (prepend_known p k) → p ≡ line ++ 10 ∷ q → HasNoNewline line → SkipsLine before (prepend_known q k)
 skips_line None k p line q s e n = tt
 skips_line (Some xs) None p line q s e n = s
 skips_line (Some xs) (Some ys) p line q s e n =

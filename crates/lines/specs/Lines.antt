@@ -86,6 +86,12 @@ SkipsLine (Some xs) None = ⊥
 SkipsLine (Some xs) (Some ys) =
     (first : List ℕ) × HasNoNewline first × ((xs ≡ first) × (ys ≡ []) ⊎ (xs ≡ first ++ 10 ∷ ys))
 
+-- what is left is the input but for a first part of its first line, which is gone
+abbrev pub StopsInLine : Option (List ℕ) → Option (List ℕ) → Type 0
+StopsInLine None left = ⊤
+StopsInLine (Some xs) None = ⊥
+StopsInLine (Some xs) (Some ys) = (gone : List ℕ) × HasNoNewline gone × (xs ≡ gone ++ ys)
+
 -- no newline of the input came before its last bytes, so many, and those are followed by what is left
 abbrev pub CameWithLast : Option (List ℕ) → Option (List ℕ) → ℕ → Type 0
 CameWithLast None left count = ⊤

@@ -1,7 +1,7 @@
 ghost use Rattle.std.specs.Prelude.{◌≡◌, ◌+◌, ◌-◌, ◌^◌, ◌↔◌, ◌<◌, ◌≤◌, false, [], ◌∷◌, ◌++◌, length, IsTrue, IfOk, OnOk, OnErr, IfSome, IfNone, Ok, Some, None, vec_len, slice_range, take, drop};
 ghost use Rattle.std.specs.Bool.{OnTrue, OnFalse};
 ghost use Rattle.std.specs.Io.KnownBytes.{IsAtEnd, Consumes, Keeps};
-ghost use Rattle.lines.specs.Lines.{Reading, fresh, budget, HasLine, first_newline, input_left, SameInput, FindsLine, HasNoNewline, SkipsLine, AsksInNeed, SameCalls, HasFailed};
+ghost use Rattle.lines.specs.Lines.{Reading, fresh, budget, HasLine, first_newline, input_left, SameInput, FindsLine, HasNoNewline, SkipsLine, StopsInLine, AsksInNeed, SameCalls, HasFailed};
 
 use memchr::memchr;
 use std::alloc::{AllocError, Global};
@@ -179,6 +179,11 @@ impl LineReader {
 
         // A fault comes only where a call of `read` failed, or at the bound.
         ensures fault { OnErr result (self.new.calls < 2 ^ 32 → HasFailed self.old self.new) }
+
+        // It comes within a line: no whole line is kept, and at most a first part of the line is gone.
+        ensures kept { OnErr result (HasNoNewline self.new.pending) }
+        ensures unfinished { OnErr result (StopsInLine (input_left self.old (R.remaining reader.old))
+            (input_left self.new (R.remaining reader.new))) }
     {
         if self.cut() {
             return Ok(Some(Found::Line));
@@ -251,6 +256,7 @@ impl LineReader {
         ensures err { OnErr result (self.new.ended ≡ self.old.ended) }
         ensures asks { AsksInNeed self.old (R.remaining reader.old) self.new (R.remaining reader.new) }
         ensures untouched { self.new.calls ≡ self.old.calls → reader.new ≡ reader.old }
+        ensures kept { OnErr result (HasNoNewline self.new.pending) }
         ensures fault { OnErr result (self.new.calls < 2 ^ 32 → HasFailed self.old self.new) }
     {
         if self.calls >= MAX_CALLS {
@@ -306,6 +312,9 @@ impl LineReader {
         ensures asks { AsksInNeed self.old (R.remaining reader.old) self.new (R.remaining reader.new) }
         ensures untouched { self.new.calls ≡ self.old.calls → reader.new ≡ reader.old }
         ensures fault { OnErr result (self.new.calls < 2 ^ 32 → HasFailed self.old self.new) }
+        ensures kept { OnErr result (HasNoNewline self.new.pending) }
+        ensures unfinished { OnErr result (StopsInLine (input_left self.old (R.remaining reader.old))
+            (input_left self.new (R.remaining reader.new))) }
     {
         while !self.cut() {
             self.discard();
@@ -329,6 +338,9 @@ impl LineReader {
         ensures asks { AsksInNeed self.old (R.remaining reader.old) self.new (R.remaining reader.new) }
         ensures untouched { self.new.calls ≡ self.old.calls → reader.new ≡ reader.old }
         ensures fault { OnErr result (self.new.calls < 2 ^ 32 → HasFailed self.old self.new) }
+        ensures kept { OnErr result (HasNoNewline self.new.pending) }
+        ensures unfinished { OnErr result (StopsInLine (input_left self.old (R.remaining reader.old))
+            (input_left self.new (R.remaining reader.new))) }
     {
         loop {
             let len = self.pending_len();

@@ -1,4 +1,7 @@
-ghost use Rattle.std.specs.Prelude.{◌≡◌, ◌-◌, ◌^◌, ◌<◌, ◌≤◌, ◌⊎◌, IfOk, IfSome, OnOk, vec_len, length};
+ghost use Rattle.std.specs.Prelude.{◌≡◌, ◌+◌, ◌-◌, ◌^◌, ◌<◌, ◌≤◌, ◌⊎◌, IfOk, IfSome, IfNone, IsErrOf, IsTrue, OnOk, [], vec_len, length, take, slice_range};
+ghost use Rattle.std.specs.Io.KnownBytes.{Consumes, IsAtEnd};
+ghost use Rattle.map_store.specs.Files.{HasFailed};
+ghost use Rattle.map_store.specs.Storing.{Loads};
 
 use crate::map_store::{MapStore, StoreFault};
 use std::alloc::{AllocError, Global};
@@ -34,11 +37,19 @@ fn load_fault(kind: ErrorKind) -> StoreFault {
     }
 }
 
-// Makes room for more bytes, but for no more than the longest file has and one more.
-fn make_room(bytes: &mut Vec<u8>) -> Result<(), StoreFault>
-    ensures { OnOk result (vec_len bytes.old < vec_len bytes.new) }
+// Makes room behind a place, but for no more bytes than the longest file has and one more.
+fn make_room(bytes: &mut Vec<u8>, place: usize) -> Result<(), StoreFault>
+    requires within { place ≤ vec_len bytes.old }
+    requires limit { vec_len bytes.old ≤ LONGEST + 1 }
+    ensures room { OnOk result (place < vec_len bytes.new) }
+    ensures limit { OnOk result (vec_len bytes.new ≤ LONGEST + 1) }
+    ensures front { OnOk result (take place bytes.new.items ≡ take place bytes.old.items) }
+    ensures fault { IsErrOf result StoreFault.Missing → ⊥ }
 {
     let len = bytes.len();
+    if place < len {
+        return Ok(());
+    }
     if len > LONGEST {
         return Err(StoreFault::Device);
     }
@@ -63,7 +74,13 @@ fn read_behind<F: Read>(
     place: usize,
 ) -> Result<Option<usize>, StoreFault>
     requires { place < length bytes.old }
-    ensures { IfOk result (λ end. IfSome end (λ n. n ≤ length bytes.new)) }
+    ensures within { IfOk result (λ end. IfSome end (λ n. n ≤ length bytes.old)) }
+    ensures front { take place bytes.new ≡ take place bytes.old }
+    ensures read { IfOk result (λ end. IfSome end (λ n. (place ≤ n) × Consumes (F.remaining file.old) (F.remaining file.new)
+        (slice_range bytes.new place n))) }
+    ensures ended { IfOk result (λ end. IfNone end (Consumes (F.remaining file.old) (F.remaining file.new) []
+        × IsAtEnd (F.remaining file.new))) }
+    ensures fault { IsErrOf result StoreFault.Missing → ⊥ }
 {
     match file.read(&mut bytes[place..]) {
         Ok(0) => Ok(None),
@@ -76,15 +93,17 @@ fn read_behind<F: Read>(
 // Reads to the end. So many bytes are looked for; where they come, room was taken once.
 fn read_whole<F: Read>(alloc: Global, file: &mut F, size: usize) -> Result<Vec<u8>, StoreFault>
     requires { size ≤ LONGEST }
+    ensures whole { IfOk result (λ bytes. Consumes (F.remaining file.old) (F.remaining file.new) bytes.items
+        × IsAtEnd (F.remaining file.new)) }
+    ensures short { IfOk result (λ bytes. vec_len bytes ≤ LONGEST) }
+    ensures fault { IsErrOf result StoreFault.Missing → ⊥ }
 {
     let Ok(mut bytes) = vec![in alloc; 0; size + 1] else {
         return Err(StoreFault::Memory);
     };
     let mut end = 0;
     for _ in 0..MAX_CALLS {
-        if end >= bytes.len() {
-            make_room(&mut bytes)?;
-        }
+        make_room(&mut bytes, end)?;
         match read_behind(file, &mut bytes, end)? {
             Some(place) => end = place,
             None => {
@@ -112,11 +131,12 @@ fn replace<R: Files>(rt: &R, new_path: &str, path: &str, bytes: &[u8]) -> io::Re
 }
 
 impl<'a, R: Files> FolderStore<'a, R> {
+    ghost use Rattle.std.specs.Prelude.{false};
     ghost use Rattle.std.specs.FinMap.{empty};
 
     /// The files of a folder, which is not looked at yet. Its path is not empty.
     pub fn new(rt: &'a R, folder: &'a str) -> FolderStore<'a, R>
-        ensures { ⟦<FolderStore<'a, R> as MapStore>⟧.kept result ≡ record { files = empty; failures = 0 } }
+        ensures { ⟦<FolderStore<'a, R> as MapStore>⟧.kept result ≡ record { files = empty; failures = 0; honest = false } }
     {
         FolderStore {
             rt,
@@ -136,7 +156,9 @@ impl<'a, R: Files> FolderStore<'a, R> {
         format!(in alloc; "{folder}/.{name}.new")
     }
 
-    fn read_file(&self, alloc: Global, name: &str) -> Result<Vec<u8>, StoreFault> {
+    fn read_file(&self, alloc: Global, name: &str) -> Result<Vec<u8>, StoreFault>
+        ensures { IfOk result (λ bytes. vec_len bytes ≤ LONGEST) }
+    {
         let Ok(path) = self.path_of(alloc, name) else {
             return Err(StoreFault::Memory);
         };
@@ -169,13 +191,26 @@ impl<'a, R: Files> FolderStore<'a, R> {
 }
 
 impl<'a, R: Files> MapStore for FolderStore<'a, R> {
+    ghost use Rattle.std.specs.Prelude.{false};
     ghost use Rattle.std.specs.FinMap.{empty};
 
-    ghost kept = { λ s. record { files = empty; failures = s.failures } };
+    ghost kept = { λ s. record { files = empty; failures = s.failures; honest = false } };
 
-    ghost honest = { λ _. ⊥ };
+    /// A file of more than 67,108,864 bytes is a fault of the device.
+    fn load(&mut self, alloc: Global, name: &str) -> Result<Vec<u8>, StoreFault>
+        ensures short { IfOk result (λ bytes. vec_len bytes ≤ LONGEST) }
 
-    fn load(&mut self, alloc: Global, name: &str) -> Result<Vec<u8>, StoreFault> {
+        // The clauses of the trait.
+        ensures honest { IsTrue (⟦<FolderStore<'a, R> as MapStore>⟧.kept self.old).honest
+            → IsTrue (⟦<FolderStore<'a, R> as MapStore>⟧.kept self.new).honest }
+        ensures loads { IsTrue (⟦<FolderStore<'a, R> as MapStore>⟧.kept self.old).honest
+            → Loads name.now (⟦<FolderStore<'a, R> as MapStore>⟧.kept self.old).files result
+            (⟦<FolderStore<'a, R> as MapStore>⟧.kept self.new).files }
+        ensures device { IsErrOf result StoreFault.Device
+            → HasFailed (⟦<FolderStore<'a, R> as MapStore>⟧.kept self.old) (⟦<FolderStore<'a, R> as MapStore>⟧.kept self.new) }
+        ensures count { (⟦<FolderStore<'a, R> as MapStore>⟧.kept self.old).failures
+            ≤ (⟦<FolderStore<'a, R> as MapStore>⟧.kept self.new).failures }
+    {
         match self.read_file(alloc, name) {
             Ok(bytes) => Ok(bytes),
             Err(fault) => Err(self.counted(fault)),

@@ -1,6 +1,10 @@
+ghost use Rattle.map_store.specs.Files.{FuseParts, fuse_code, HasBurned, HasFailed};
+ghost use Rattle.map_store.specs.Kept.{files_of};
+
 use crate::map_store::{MapStore, StoreFault};
 use crate::memory_store::MemoryStore;
 use std::alloc::Global;
+use std::marker::Model;
 
 /// Files in memory, of which one call fails.
 #[derive(Drop)]
@@ -11,15 +15,21 @@ pub struct FuseStore {
     failures: u64,
 }
 
+impl Model for FuseStore {
+    ghost Value = { FuseParts };
+
+    ghost coded = { fuse_code };
+
+    ghost view = { λ s. record { files = files_of s.store.files; failures = s.failures; left = s.left } };
+}
+
 impl FuseStore {
     ghost use Rattle.std.specs.Prelude.{◌≡◌, ◌-◌, ◌^◌, ◌<◌, ◌≤◌, ◌⊎◌, ◌↔◌, IsTrue};
 
     /// The files of a store. Of the calls of `load` and `store`, the one at this place, counted from 1, will fail with
     /// `Device` and change no file. Place 0 stands for none.
     pub fn new(store: MemoryStore, place: u64) -> FuseStore
-        ensures kept { ⟦<FuseStore as MapStore>⟧.kept result
-            ≡ record { files = (⟦<MemoryStore as MapStore>⟧.kept store).files; failures = 0 } }
-        ensures honest { ⟦<FuseStore as MapStore>⟧.honest result }
+        ensures { result ≡ record { files = (⟦<MemoryStore as MapStore>⟧.kept store).files; failures = 0; left = place } }
     {
         FuseStore {
             store,
@@ -30,7 +40,7 @@ impl FuseStore {
 
     /// The files as they are now.
     pub fn into_inner(self) -> MemoryStore
-        ensures { (⟦<MemoryStore as MapStore>⟧.kept result).files ≡ (⟦<FuseStore as MapStore>⟧.kept self).files }
+        ensures { (⟦<MemoryStore as MapStore>⟧.kept result).files ≡ self.files }
     {
         self.store
     }
@@ -38,8 +48,8 @@ impl FuseStore {
     /// Counts a call, and says whether it is the one that fails, which it counts as a failure.
     fn burns(&mut self) -> bool
         ensures answer { IsTrue result ↔ (self.old.left ≡ 1) }
-        ensures store { self.new.store ≡ self.old.store }
-        ensures left { self.new.left ≡ self.old.left - 1 }
+        ensures files { self.new.files ≡ self.old.files }
+        ensures burned { HasBurned self.old self.new }
         ensures raised { IsTrue result → (self.old.failures < self.new.failures) ⊎ (self.old.failures ≡ 2 ^ 64 - 1) }
         ensures count { self.old.failures ≤ self.new.failures }
     {
@@ -56,20 +66,38 @@ impl FuseStore {
 }
 
 impl MapStore for FuseStore {
-    ghost use Rattle.map_store.specs.Kept.{files_of};
+    ghost use Rattle.std.specs.Prelude.{◌≡◌, ◌≤◌, ◌↔◌, IsErrOf, true};
+    ghost use Rattle.map_store.specs.Storing.{Loads, Stores};
 
-    ghost kept = { λ s. record { files = files_of s.store.files; failures = s.failures } };
+    ghost kept = { λ s. record { files = s.files; failures = s.failures; honest = true } };
 
-    ghost honest = { λ _. Unit {0} };
+    fn load(&mut self, alloc: Global, name: &str) -> Result<Vec<u8>, StoreFault>
+        ensures fails { IsErrOf result StoreFault.Device ↔ (self.old.left ≡ 1) }
+        ensures burned { HasBurned self.old self.new }
 
-    fn load(&mut self, alloc: Global, name: &str) -> Result<Vec<u8>, StoreFault> {
+        // The clauses of the trait.
+        ensures loads { Loads name.now self.old.files result self.new.files }
+        ensures device { IsErrOf result StoreFault.Device
+            → HasFailed (⟦<FuseStore as MapStore>⟧.kept self.old) (⟦<FuseStore as MapStore>⟧.kept self.new) }
+        ensures count { self.old.failures ≤ self.new.failures }
+    {
         if self.burns() {
             return Err(StoreFault::Device);
         }
         self.store.load(alloc, name)
     }
 
-    fn store(&mut self, alloc: Global, name: &str, bytes: &[u8]) -> Result<(), StoreFault> {
+    fn store(&mut self, alloc: Global, name: &str, bytes: &[u8]) -> Result<(), StoreFault>
+        ensures fails { IsErrOf result StoreFault.Device ↔ (self.old.left ≡ 1) }
+        ensures burned { HasBurned self.old self.new }
+
+        // The clauses of the trait.
+        ensures stores { Stores name.now bytes.now self.old.files result self.new.files }
+        ensures found { IsErrOf result StoreFault.Missing → ⊥ }
+        ensures device { IsErrOf result StoreFault.Device
+            → HasFailed (⟦<FuseStore as MapStore>⟧.kept self.old) (⟦<FuseStore as MapStore>⟧.kept self.new) }
+        ensures count { self.old.failures ≤ self.new.failures }
+    {
         if self.burns() {
             return Err(StoreFault::Device);
         }

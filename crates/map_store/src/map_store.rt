@@ -1,4 +1,4 @@
-ghost use Rattle.std.specs.Prelude.{◌≤◌, IsErrOf};
+ghost use Rattle.std.specs.Prelude.{◌≤◌, IsErrOf, IsTrue};
 ghost use Rattle.map_store.specs.Files.{StoreParts, HasFailed};
 
 use std::alloc::Global;
@@ -21,19 +21,16 @@ pub enum StoreFault {
 pub trait MapStore {
     ghost use Rattle.map_store.specs.Storing.{Loads, Stores};
 
-    /// Its files, and how often it has failed.
+    /// Its files, how often it has failed, and whether it does with its files what it says.
     ghost kept: { Self → StoreParts };
-
-    /// Whether it does with its files what it says.
-    ghost honest: { Self → Type 0 };
 
     /// The bytes of a file. No file changes.
     ///
     /// `Missing` where there is no file of that name, `Device` where the device failed and `Memory` where there was no
     /// room for the bytes.
     fn load(&mut self, alloc: Global, name: &str) -> Result<Vec<u8>, StoreFault>
-        ensures honest { honest self.old → honest self.new }
-        ensures loads { honest self.old → Loads name.now (kept self.old).files result (kept self.new).files }
+        ensures honest { IsTrue (kept self.old).honest → IsTrue (kept self.new).honest }
+        ensures loads { IsTrue (kept self.old).honest → Loads name.now (kept self.old).files result (kept self.new).files }
         ensures device { IsErrOf result StoreFault.Device → HasFailed (kept self.old) (kept self.new) }
         ensures count { (kept self.old).failures ≤ (kept self.new).failures };
 
@@ -42,8 +39,8 @@ pub trait MapStore {
     /// `Device` where the device failed: then that one file may be gone or hold anything. `Memory` where there was no
     /// memory: then no file has changed.
     fn store(&mut self, alloc: Global, name: &str, bytes: &[u8]) -> Result<(), StoreFault>
-        ensures honest { honest self.old → honest self.new }
-        ensures stores { honest self.old → Stores name.now bytes.now (kept self.old).files result (kept self.new).files }
+        ensures honest { IsTrue (kept self.old).honest → IsTrue (kept self.new).honest }
+        ensures stores { IsTrue (kept self.old).honest → Stores name.now bytes.now (kept self.old).files result (kept self.new).files }
         ensures found { IsErrOf result StoreFault.Missing → ⊥ }
         ensures device { IsErrOf result StoreFault.Device → HasFailed (kept self.old) (kept self.new) }
         ensures count { (kept self.old).failures ≤ (kept self.new).failures };

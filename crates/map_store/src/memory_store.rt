@@ -9,13 +9,12 @@ pub struct MemoryStore {
 }
 
 impl MemoryStore {
-    ghost use Rattle.std.specs.Prelude.{◌≡◌};
+    ghost use Rattle.std.specs.Prelude.{◌≡◌, true};
     ghost use Rattle.std.specs.FinMap.{empty};
 
     /// No files.
     pub fn new(alloc: Global) -> MemoryStore
-        ensures kept { ⟦<MemoryStore as MapStore>⟧.kept result ≡ record { files = empty; failures = 0 } }
-        ensures honest { ⟦<MemoryStore as MapStore>⟧.honest result }
+        ensures { ⟦<MemoryStore as MapStore>⟧.kept result ≡ record { files = empty; failures = 0; honest = true } }
     {
         MemoryStore {
             files: BTreeMap::new(alloc),
@@ -24,11 +23,10 @@ impl MemoryStore {
 }
 
 impl MapStore for MemoryStore {
+    ghost use Rattle.std.specs.Prelude.{true};
     ghost use Rattle.map_store.specs.Kept.{files_of};
 
-    ghost kept = { λ s. record { files = files_of s.files; failures = 0 } };
-
-    ghost honest = { λ _. Unit {0} };
+    ghost kept = { λ s. record { files = files_of s.files; failures = 0; honest = true } };
 
     fn load(&mut self, alloc: Global, name: &str) -> Result<Vec<u8>, StoreFault> {
         match self.files.get(name) {

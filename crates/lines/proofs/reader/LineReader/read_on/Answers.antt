@@ -1,5 +1,5 @@
 use Rattle.std.proofs.Common.{◌≡◌, ◌<◌, ◌^◌, length, IsTrue, ◌∙◌, sym, ap, arith}
-use Rattle.lines.proofs.Finding.{finds_short, finds_long, finds_last, same_trans, skips_none}
+use Rattle.lines.proofs.Finding.{on_err, finds_short, finds_long, finds_last, same_trans, skips_none, same_skips}
 use Rattle.lines.proofs.Asking.{asks_same, asks_on}
 use Rattle.lines.proofs.reader.LineReader.read_on.Goals as goal
 
@@ -21,6 +21,12 @@ returns-then-cut-clause-found g c = finds_short _ _ _ _ _ (same_trans _ _ _ c.lo
 
 pub returns-in_err-skip-clause-asks : goal.returns-in_err-skip-clause-asks
 returns-in_err-skip-clause-asks g c = asks_on c.args.self.now (g.R.Read.remaining c.args.reader.now) c.loop-self.self (g.R.Read.remaining c.loop-self.reader) c.skip.new.self (g.R.Read.remaining c.skip.new.reader) (skips_none _ _ c.loop-self.invariant.input) c.loop-self.invariant.asks c.in_err-skip.ensures.asks
+
+pub returns-in_err-skip-clause-unfinished : goal.returns-in_err-skip-clause-unfinished
+returns-in_err-skip-clause-unfinished g c = on_err c.from_residual.result (same_skips _ _ _ c.loop-self.invariant.input c.in_err-skip.ensures.unfinished)
+
+pub returns-in_err-fill-clause-unfinished : goal.returns-in_err-fill-clause-unfinished
+returns-in_err-fill-clause-unfinished g c = on_err c.from_residual-in_err-fill.result (skips_none _ _ (same_trans _ _ _ c.loop-self.invariant.input c.in_err-fill.ensures.same))
 
 pub returns-then-len-eq-CAPACITY-clause-asks : goal.returns-then-len-eq-CAPACITY-clause-asks
 returns-then-len-eq-CAPACITY-clause-asks g c = asks_on c.args.self.now (g.R.Read.remaining c.args.reader.now) c.loop-self.self (g.R.Read.remaining c.loop-self.reader) c.skip.new.self (g.R.Read.remaining c.skip.new.reader) (skips_none _ _ c.loop-self.invariant.input) c.loop-self.invariant.asks c.in_ok-skip.ensures.asks

@@ -1,5 +1,5 @@
 use Rattle.std.proofs.Common.{IsTrue, ap, ◌∙◌, sym, arith}
-use Rattle.lines.proofs.Finding.{skips_past, skips_same, skips_all, skips_line}
+use Rattle.lines.proofs.Finding.{on_err, skips_past, skips_same, skips_all, skips_line}
 use Rattle.lines.proofs.Asking.{asks_same, asks_on}
 use Rattle.lines.proofs.reader.LineReader.skip.Goals as goal
 
@@ -37,6 +37,10 @@ returns-in_err-fill-clause-asks g c =
     let last = ap (λ s. s.last_read) c.discard.ensures ∙ c.loop-self-test.ensures.others.last_read in
     let past = skips_past _ _ _ _ c.loop-self.invariant.input c.loop-self-test.ensures.none.0 (ap (λ s. s.pending) c.discard.ensures) in
     asks_on c.args.self.now (g.R.Read.remaining c.args.reader.now) c.discard.new.self (g.R.Read.remaining c.loop-self.reader) c.fill.new.self (g.R.Read.remaining c.fill.new.reader) past (asks_same c.args.self.now (g.R.Read.remaining c.args.reader.now) c.loop-self.self c.discard.new.self (g.R.Read.remaining c.loop-self.reader) c.loop-self.invariant.asks calls last) c.in_err-fill.ensures.asks
+
+pub returns-in_err-fill-clause-unfinished : goal.returns-in_err-fill-clause-unfinished
+returns-in_err-fill-clause-unfinished g c =
+    on_err c.from_residual.result (skips_same _ _ _ (skips_past _ _ _ _ c.loop-self.invariant.input c.loop-self-test.ensures.none.0 (ap (λ s. s.pending) c.discard.ensures)) c.in_err-fill.ensures.same)
 
 pub returns-clause-asks : goal.returns-clause-asks
 returns-clause-asks g c = asks_same c.args.self.now (g.R.Read.remaining c.args.reader.now) c.loop-self.self c.cut.new.self (g.R.Read.remaining c.loop-self.reader) c.loop-self.invariant.asks c.loop-self-test.ensures.others.calls c.loop-self-test.ensures.others.last_read

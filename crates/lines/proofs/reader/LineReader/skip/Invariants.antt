@@ -1,12 +1,11 @@
 use Rattle.std.proofs.Common.{◌≡◌, ◌-◌, ◌*◌, ◌^◌, ◌<◌, ◌≤◌, IsTrue}
 use Rattle.std.specs.Io.KnownBytes.{IsAtEnd}
-use Rattle.lines.specs.Lines.{input_left, budget, AsksInNeed}
-use Rattle.lines.proofs.Finding.{SkipsFront}
+use Rattle.lines.specs.Lines.{input_left, StopsInLine, budget, AsksInNeed}
 use Rattle.lines.proofs.reader.LineReader.skip.Given as goal
 
 abbrev pub invariant-loop-self : goal.invariant-loop-self
 invariant-loop-self g l = record {
-  input : SkipsFront (input_left l.fn.self (g.R.Read.remaining l.fn.reader)) (input_left l.self (g.R.Read.remaining l.reader));
+  input : StopsInLine (input_left l.fn.self (g.R.Read.remaining l.fn.reader)) (input_left l.self (g.R.Read.remaining l.reader));
   ended : IsTrue l.self.ended → IsAtEnd (g.R.Read.remaining l.reader);
   within : budget l.self ≤ budget l.fn.self;
   asks : AsksInNeed l.fn.self (g.R.Read.remaining l.fn.reader) l.self (g.R.Read.remaining l.reader);
