@@ -1,11 +1,12 @@
 -- A spelled line is read as that line, and what is read is its spelling.
-use Rattle.std.proofs.Common.{rules, ◌≡◌, ℕ, ◌^◌, ◌<◌, cond, false, true, leb, not, ltb, eqb, ◌&&◌, ◌||◌, Bool, List, [], ◌∷◌, ◌++◌, length, Ok, Err, Result, Some, refl, sym, ap, ◌∙◌, subst, lit<}
+use Rattle.std.proofs.Common.{rules, ◌≡◌, ℕ, ◌≤◌, cond, false, true, leb, not, ltb, eqb, ◌&&◌, ◌||◌, Bool, List, [], ◌∷◌, ◌++◌, length, Ok, Err, Result, Some, refl, sym, ap, ◌∙◌, subst, arith}
 use Rattle.std.specs.Prelude.{IfOk}
 use Rattle.std.specs.List.{AllByRecursion, flat_map, list_all}
 use Rattle.std.specs.Str.{is_utf8}
 use Rattle.std.proofs.lemmas.Str.{IsUtf8-nil, IsUtf8-from_is_utf8}
 use Rattle.std.proofs.lemmas.List.Splits.{join_with_byte-slice_split}
-use Rattle.std.proofs.lemmas.Bool.{le-leb, leb-false, not-true, not-false, cond_both, and_parts}
+use Rattle.std.proofs.lemmas.Bool.{lt-ltb, ltb-false, not-true, not-false, cond_both, and_parts}
+use Rattle.session.specs.declared.limits.TheConstants.{MAX_LINE}
 use Rattle.session.specs.declared.line.Line.{Line}
 use Rattle.session.specs.declared.line.Line.TheVariants.{Quiet, Stamp, Erase, Select, MoveObject, SetProperty}
 use Rattle.session.specs.declared.typed_value.TypedValue.TheVariants as typed
@@ -60,7 +61,7 @@ record Row (line : Line) : Type 0 where
   follows : follow line_form (tokens line) ≡ Some line
   plain : are_plain (tokens line) ≡ true
   loud : is_loud (tokens line) ≡ true
-  few : (has_block (tokens line) || ltb (room (tokens line)) (2 ^ 16)) ≡ true
+  few : (has_block (tokens line) || leb (room (tokens line)) MAX_LINE) ≡ true
   first : List ℕ
   more : List (List ℕ)
   words : flat_map token_words (tokens line) ≡ first ∷ more
@@ -94,7 +95,7 @@ row_is_read line r h =
     ∙ followed_is_read line_form (tokens line) line r.follows h.0
 
 pub spelled_is_read : SpelledIsRead
-spelled_is_read Quiet h = checked [] (lit< tt) IsUtf8-nil
+spelled_is_read Quiet h = checked [] (omega arith) IsUtf8-nil
 spelled_is_read (Stamp layer x y width values true) h = absurd h.0.0
 spelled_is_read (Erase layer x y width height true) h = absurd h.0.0
 spelled_is_read (MoveObject object x y true) h = absurd h.0.1.0
@@ -108,20 +109,20 @@ says : (bytes : List ℕ) (line : Line) → bytes ≡ spelling line → Says byt
 says bytes Quiet e = ap is_quiet e
 says bytes line e = e
 
-settled : (bytes : List ℕ) (r : Result Line LineFault) → length bytes < 2 ^ 16 → IfOk r (Spells (λ ts. ts) (words bytes)) → IfOk r (λ line. Says bytes line × CanBeSpelled line)
+settled : (bytes : List ℕ) (r : Result Line LineFault) → length bytes ≤ MAX_LINE → IfOk r (Spells (λ ts. ts) (words bytes)) → IfOk r (λ line. Says bytes line × CanBeSpelled line)
 settled bytes (Ok line) l h =
     let same : bytes ≡ spelling line = sym (join_with_byte-slice_split 32 bytes) ∙ ap spaced (h.words ∙ ap (flat_map token_words) (sym h.are)) in
-    (says bytes line same, (subst (AllByRecursion IsToken) (sym h.are) h.fit, λ _. subst (λ bs. length bs < 2 ^ 16) same l))
+    (says bytes line same, (subst (AllByRecursion IsToken) (sym h.are) h.fit, λ _. subst (λ bs. length bs ≤ MAX_LINE) same l))
 settled bytes (Err e) l h = tt
 
 line_says : (bytes : List ℕ) → IfOk (line_of bytes) (λ line. Says bytes line × CanBeSpelled line)
 unfolding line_of
 line_says bytes =
     let Q : Result Line LineFault → Type 0 = λ r. IfOk r (λ line. Says bytes line × CanBeSpelled line) in
-    cond_both (leb (2 ^ 16) (length bytes)) _ _ Q (λ _. tt) (λ small.
+    cond_both (ltb MAX_LINE (length bytes)) _ _ Q (λ _. tt) (λ small.
     cond_both (not (is_utf8 bytes)) _ _ Q (λ _. tt) (λ utf8.
-    cond_both (is_quiet bytes) _ _ Q (λ quiet. (quiet, (tt, λ _. lit< tt))) (λ _.
-    settled bytes (read line_form (words bytes)) (leb-false _ _ small)
+    cond_both (is_quiet bytes) _ _ Q (λ quiet. (quiet, (tt, λ _. omega arith))) (λ _.
+    settled bytes (read line_form (words bytes)) (ltb-false _ _ small)
     (forms.read_is_spelled line_form (λ ts. ts) (words bytes) agrees (clean_words bytes (IsUtf8-from_is_utf8 bytes (not-false _ utf8)))))))
 
 pub read_is_spelled : ReadIsSpelled
@@ -141,4 +142,4 @@ quiet_is_read bytes l u h = checked bytes l u ∙ ap (λ b. cond b (Ok Quiet) (r
 
 pub long_is_not_read : LongIsNotRead
 unfolding line_of
-long_is_not_read bytes h = rw (le-leb (2 ^ 16) (length bytes) h) refl
+long_is_not_read bytes h = rw (lt-ltb MAX_LINE (length bytes) h) refl

@@ -1,16 +1,17 @@
 -- How long the parts of a line are.
-use Rattle.std.proofs.Common.{◌≡◌, ℕ, suc, ◌+◌, ◌^◌, ◌<◌, ◌≤◌, Bool, true, false, ltb, eqb, List, [], ◌∷◌, ◌++◌, length, None, Some, ℤ, pos, negsuc, ap, arith, inl, inr, IsTrue, ◌||◌, ◌&&◌}
+use Rattle.std.proofs.Common.{◌≡◌, ℕ, suc, ◌+◌, ◌^◌, ◌<◌, ◌≤◌, Bool, true, false, leb, eqb, List, [], ◌∷◌, ◌++◌, length, None, Some, ℤ, pos, negsuc, ap, arith, inl, inr, IsTrue, ◌||◌, ◌&&◌}
 use Rattle.std.specs.List.{AllByRecursion, flat_map, list_all}
 use Rattle.std.specs.Fmt.{decimal, signed_decimal}
 use Rattle.std.proofs.lemmas.Int.{ints}
 use Rattle.std.proofs.lemmas.Fmt.{length-decimal-le}
 use Rattle.std.proofs.lemmas.List.{length-append}
 use Rattle.std.proofs.lemmas.List.Splits.{length-slice_split, join_with_byte-slice_split}
-use Rattle.std.proofs.lemmas.Bool.{ltb-true, eqb-true, and_parts, or_cases}
+use Rattle.std.proofs.lemmas.Bool.{leb-true, eqb-true, and_parts, or_cases}
 use Rattle.map_model.specs.declared.parts.LayerKind.{LayerKind}
 use Rattle.map_model.specs.declared.parts.LayerKind.TheVariants as kinds
 use Rattle.map_model.specs.declared.owner.Owner.{Owner}
 use Rattle.map_model.specs.declared.owner.Owner.TheVariants as owners
+use Rattle.session.specs.declared.limits.TheConstants.{MAX_LINE, MAX_DOCUMENT_NAME, MAX_FILE_NAME, MAX_TEXT, MAX_KEY}
 use Rattle.session.specs.Words.{words, is_color, is_color_digit}
 use Rattle.session.specs.Grammar.{FieldKind, Number, Coordinate, Block, Name, File, Choice, LayerSort, YesNo, Truth, Key, Color, OwnerName, FieldValue}
 use Rattle.session.specs.Spelling.{Token, Fixed, Given, Rest, Unspelled, token_words, field_words, has_block, layer_kind_word, yes_no_word, truth_word, owner_word, spaced, IsNumber, IsOwner, IsCoordinate, IsField, IsToken}
@@ -19,14 +20,14 @@ use Rattle.session.specs.Spelling.{Token, Fixed, Given, Rest, Unspelled, token_w
 abbrev field_room : FieldKind → ℕ
 field_room Number = 10
 field_room Coordinate = 11
-field_room Block = 2 ^ 16
-field_room Name = 64
-field_room File = 100
-field_room Choice = 64
+field_room Block = MAX_LINE + 1
+field_room Name = MAX_DOCUMENT_NAME
+field_room File = MAX_FILE_NAME
+field_room Choice = MAX_DOCUMENT_NAME
 field_room LayerSort = 6
 field_room YesNo = 3
 field_room Truth = 5
-field_room Key = 200
+field_room Key = MAX_KEY
 field_room Color = 9
 field_room OwnerName = 17
 
@@ -35,7 +36,7 @@ abbrev pub room : List Token → ℕ
 room [] = 0
 room (Fixed word ∷ ts) = length word + 1 + room ts
 room (Given kind value ∷ ts) = field_room kind + 1 + room ts
-room (Rest text ∷ ts) = 200 + 1 + room ts
+room (Rest text ∷ ts) = MAX_TEXT + 1 + room ts
 room (Unspelled ∷ ts) = room ts
 
 -- the bytes of words, each with a space behind it
@@ -99,7 +100,7 @@ owner_within owners.Map h = omega arith
 owner_within (owners.Layer id) h = omega (arith, number_within id h)
 owner_within (owners.Object id) h = omega (arith, number_within id h)
 
-field_within : (kind : FieldKind) (value : FieldValue kind) → IsField kind value → field_room kind < 2 ^ 16 → total (field_words kind value) ≤ field_room kind + 1
+field_within : (kind : FieldKind) (value : FieldValue kind) → IsField kind value → field_room kind ≤ MAX_LINE → total (field_words kind value) ≤ field_room kind + 1
 unfolding total
 field_within Number n h r = omega (arith, number_within n h)
 field_within Coordinate z h r = omega (arith, coordinate_within z h)
@@ -115,7 +116,7 @@ field_within Key name h r = omega (arith, h.short)
 field_within Color color h r = omega (arith, color_within color h)
 field_within OwnerName owner h r = omega (arith, owner_within owner h)
 
-tokens_within : (ts : List Token) → AllByRecursion IsToken ts → room ts < 2 ^ 16 → total (flat_map token_words ts) ≤ room ts
+tokens_within : (ts : List Token) → AllByRecursion IsToken ts → room ts ≤ MAX_LINE → total (flat_map token_words ts) ≤ room ts
 unfolding total
 tokens_within [] h r = omega arith
 tokens_within (Fixed word ∷ ts) h r = omega (arith, tokens_within ts h.1 (omega (arith, r)))
@@ -124,8 +125,8 @@ tokens_within (Rest text ∷ ts) h r = omega (arith, total-append (words text) (
 tokens_within (Unspelled ∷ ts) h r = absurd h.0
 
 -- parts without a block are short, and with one they have to be
-pub is_short : (ts : List Token) → (has_block ts || ltb (room ts) (2 ^ 16)) ≡ true → AllByRecursion IsToken ts → (IsTrue (has_block ts) → length (spaced (flat_map token_words ts)) < 2 ^ 16) → length (spaced (flat_map token_words ts)) < 2 ^ 16
+pub is_short : (ts : List Token) → (has_block ts || leb (room ts) MAX_LINE) ≡ true → AllByRecursion IsToken ts → (IsTrue (has_block ts) → length (spaced (flat_map token_words ts)) ≤ MAX_LINE) → length (spaced (flat_map token_words ts)) ≤ MAX_LINE
 is_short ts few h short = elim (or_cases _ _ few) [
   | inl block ↦ short block
-  | inr small ↦ let r = ltb-true _ _ small in omega (arith, r, spaced_within (flat_map token_words ts), tokens_within ts h r)
+  | inr small ↦ let r = leb-true _ _ small in omega (arith, r, spaced_within (flat_map token_words ts), tokens_within ts h r)
 ]

@@ -7,9 +7,10 @@ use Rattle.std.proofs.lemmas.Slice.Eq.{bytes_eq-Decides}
 use Rattle.std.proofs.lemmas.List.Sums.{AllPass-from_list_all}
 use Rattle.std.proofs.lemmas.Bool.{leb-true, eqb-true, eq-eqb, and_parts, not-true, both_ways, cond_both}
 use Rattle.map_model.specs.declared.parts.LayerKind.TheVariants as kinds
+use Rattle.session.specs.declared.limits.TheConstants.{MAX_DOCUMENT_NAME, MAX_FILE_NAME}
 use Rattle.session.specs.declared.line.LineFault.{LineFault}
 use Rattle.session.specs.declared.line.LineFault.TheVariants.{BadWord}
-use Rattle.session.specs.Words.{words, number_of, coordinate_of, numbers_of, document_name_limit, file_name_limit, is_name, is_name_byte, is_text, is_text_byte, are_rows, layer_kind_of, yes_no_of, truth_of, is_key, is_key_byte, is_color, owner_of}
+use Rattle.session.specs.Words.{words, number_of, coordinate_of, numbers_of, is_name, is_name_byte, is_text, is_text_byte, are_rows, layer_kind_of, yes_no_of, truth_of, is_key, is_key_byte, is_color, owner_of}
 use Rattle.session.specs.Grammar.{FieldKind, Number, Coordinate, Block, Name, File, Choice, LayerSort, YesNo, Truth, Key, Color, OwnerName, FieldValue, field_at, number_at, coordinate_at, rows_at, block_at, name_at, choice_at, last_text_at, layer_kind_at, yes_no_at, truth_at, key_at, color_at, owner_at, ends_at, ◌>>=◌, word_is}
 use Rattle.session.specs.Spelling.{spaced, commas, layer_kind_word, yes_no_word, truth_word, field_words, IsField, IsName, IsText, IsKey, AreRows}
 use Rattle.session.proofs.Decimals.{decimal_from}
@@ -108,7 +109,7 @@ choice_is_read [] = tt
 choice_is_read (w ∷ ws) =
     let P : Result (Option (List ℕ) × List (List ℕ)) LineFault → Type 0 = λ r. IfOk r (ReadField Choice (w ∷ ws)) in
     cond_both (bytes_eq w (codes "-")) (Ok (None, ws)) _ P (λ is. record { fits = tt; words = ap (λ v. v ∷ ws) ((bytes_eq-Decides w (codes "-")).0 is) }) (λ _.
-    cond_both (is_name document_name_limit w) (Ok (Some w, ws)) (Err BadWord) P (λ is. record { fits = is_name_from document_name_limit w is; words = refl }) (λ _. tt))
+    cond_both (is_name MAX_DOCUMENT_NAME w) (Ok (Some w, ws)) (Err BadWord) P (λ is. record { fits = is_name_from MAX_DOCUMENT_NAME w is; words = refl }) (λ _. tt))
 
 -- a choice between two words
 by_two : {A : Type 0} (word a b : List ℕ) (x y : A) (spelled : A → List ℕ) → spelled x ≡ a → spelled y ≡ b → (z : A) → cond (bytes_eq word a) (Some x) (cond (bytes_eq word b) (Some y) None) ≡ Some z → spelled z ≡ word
@@ -168,8 +169,8 @@ field_is_read Truth ws h = truth_is_read ws
 field_is_read Key ws h = key_is_read ws h
 field_is_read Color ws h = color_is_read ws
 field_is_read OwnerName ws h = owner_is_read ws
-field_is_read Name ws h = if_then (name_at document_name_limit ws) (ReadName document_name_limit ws) (ReadField Name ws) (name_is_read document_name_limit ws) (λ x r. record { fits = r.fits; words = r.words })
-field_is_read File ws h = if_then (name_at file_name_limit ws) (ReadName file_name_limit ws) (ReadField File ws) (name_is_read file_name_limit ws) (λ x r. record { fits = r.fits; words = r.words })
+field_is_read Name ws h = if_then (name_at MAX_DOCUMENT_NAME ws) (ReadName MAX_DOCUMENT_NAME ws) (ReadField Name ws) (name_is_read MAX_DOCUMENT_NAME ws) (λ x r. record { fits = r.fits; words = r.words })
+field_is_read File ws h = if_then (name_at MAX_FILE_NAME ws) (ReadName MAX_FILE_NAME ws) (ReadField File ws) (name_is_read MAX_FILE_NAME ws) (λ x r. record { fits = r.fits; words = r.words })
 field_is_read Choice ws h = choice_is_read ws
 field_is_read LayerSort ws h = layer_kind_is_read ws
 field_is_read YesNo ws h = yes_no_is_read ws

@@ -5,7 +5,8 @@ use Rattle.std.specs.Option.{option_map}
 use Rattle.std.specs.List.{onto_first}
 use Rattle.std.proofs.lemmas.Bool.{ne_eqb, cond_both}
 use Rattle.std.proofs.lemmas.Int.{ints}
-use Rattle.session.specs.Words.{words, reach, number_of, distance_of, below_zero, coordinate_of, IsFirst}
+use Rattle.session.specs.declared.limits.TheConstants.{MAX_COORDINATE}
+use Rattle.session.specs.Words.{words, number_of, distance_of, below_zero, coordinate_of, IsFirst}
 use Rattle.session.proofs.FirstNumbers.{any_pieces}
 
 pub with_minus : (word digits : List ℕ) → word ≡ 45 ∷ digits → coordinate_of word ≡ option_and_then below_zero (distance_of digits)
@@ -53,6 +54,6 @@ pub plain_found : (text : List ℕ) → ((rest : List ℕ) → text ≢ 45 ∷ r
 plain_found text h found f = plain_by (words text) (λ w ws e. without_minus w (no_minus_word text h w ws e)) found f
 
 -- a number below 0 within reach is an `i32`
-pub fits_below : (n : ℕ) (z : ℤ) → Some z ≡ below_zero n → n ≤ reach → FitsSigned w32 z
+pub fits_below : (n : ℕ) (z : ℤ) → Some z ≡ below_zero n → n ≤ MAX_COORDINATE → FitsSigned w32 z
 fits_below zero z e h = absurd cc
 fits_below (suc n) z e h = let same : negsuc n ≡ z = cc in subst (FitsSigned w32) same (omega (arith, ints))

@@ -11,7 +11,9 @@ use Rattle.std.proofs.lemmas.List.Elements.{recursion_from_All}
 use Rattle.std.specs.List.{list_all}
 use Rattle.map_model.specs.declared.parts.LayerKind.{LayerKind}
 use Rattle.map_model.specs.declared.parts.LayerKind.TheVariants as kinds
-use Rattle.session.specs.Words.{words, document_name_limit, file_name_limit, is_name, is_name_byte, is_text, is_text_byte, are_rows, layer_kind_of, yes_no_of, truth_of, is_key, is_key_byte, is_color, is_color_digit}
+use Rattle.session.specs.declared.limits.TheConstants.{MAX_DOCUMENT_NAME, MAX_FILE_NAME, MAX_TEXT, MAX_KEY}
+use Rattle.map_model.specs.declared.limits.TheConstants.{MAX_SIDE}
+use Rattle.session.specs.Words.{words, is_name, is_name_byte, is_text, is_text_byte, are_rows, layer_kind_of, yes_no_of, truth_of, is_key, is_key_byte, is_color, is_color_digit}
 use Rattle.session.specs.Grammar.{number_at, coordinate_at, rows_at, block_at, name_at, choice_at, last_text_at, layer_kind_at, yes_no_at, truth_at, key_at, color_at, owner_at, field_at, FieldKind, Number, Coordinate, Block, Name, File, Choice, LayerSort, YesNo, Truth, Key, Color, OwnerName, FieldValue}
 use Rattle.session.specs.Spelling.{commas, choice_word, layer_kind_word, yes_no_word, truth_word, owner_word, field_words, IsField, IsNumber, IsCoordinate, IsName, IsChoice, IsText, IsKey, IsOwner, AreRows}
 use Rattle.session.proofs.Decimals.{number_of-decimal}
@@ -31,7 +33,7 @@ unfolding coordinate_at
 coordinate_at-signed z ws h = rw (coordinate_of-signed z h) refl
 
 block : (width : ℕ) (values : List ℕ) → AreRows width values → are_rows width (length values) ≡ true
-block width values h = and_from _ _ (and_from _ _ (le-leb 1 width h.some) (le-leb width 4096 h.narrow)) (eq-eqb _ 0 h.rows)
+block width values h = and_from _ _ (and_from _ _ (le-leb 1 width h.some) (le-leb width MAX_SIDE h.narrow)) (eq-eqb _ 0 h.rows)
 
 rows_at-commas : (width : ℕ) (values : List ℕ) (ws : List (List ℕ)) → AreRows width values → rows_at width (commas values ∷ ws) ≡ Ok ((width, values), ws)
 unfolding rows_at
@@ -58,11 +60,11 @@ not_dash limit (b ∷ bytes) h = rw (ne_eqb b 45 h.no_dash) refl
 pub choice_at-word : (choice : Option (List ℕ)) (ws : List (List ℕ)) → IsChoice choice → choice_at (choice_word choice ∷ ws) ≡ Ok (choice, ws)
 unfolding choice_at
 choice_at-word None ws h = refl
-choice_at-word (Some bytes) ws h = rw (not_dash document_name_limit bytes h, name document_name_limit bytes h) refl
+choice_at-word (Some bytes) ws h = rw (not_dash MAX_DOCUMENT_NAME bytes h, name MAX_DOCUMENT_NAME bytes h) refl
 
 text : (bytes : List ℕ) → IsText bytes → is_text bytes ≡ true
 text bytes h =
-    and_from _ _ (and_from _ _ (le-leb 1 (length bytes) h.some) (le-leb (length bytes) 200 h.short))
+    and_from _ _ (and_from _ _ (le-leb 1 (length bytes) h.some) (le-leb (length bytes) MAX_TEXT h.short))
     (list_all-from_AllPass is_text_byte bytes (λ k d l. let at = h.bytes k d l in and_from _ _ (le-leb 32 _ at.0) (ap not (ne_eqb _ 127 at.1))))
 
 pub last_text_at-words : (bytes : List ℕ) → IsText bytes → last_text_at (words bytes) ≡ Ok bytes
@@ -94,7 +96,7 @@ truth_at-word truth ws = rw (truth_of-word truth) refl
 
 key : (bytes : List ℕ) → IsKey bytes → is_key bytes ≡ true
 key bytes h =
-    and_from _ _ (and_from _ _ (le-leb 1 (length bytes) h.some) (le-leb (length bytes) 200 h.short))
+    and_from _ _ (and_from _ _ (le-leb 1 (length bytes) h.some) (le-leb (length bytes) MAX_KEY h.short))
     (list_all-from_AllPass is_key_byte bytes (λ k d l. let at = h.bytes k d l in and_from _ _ (le-leb 33 _ at.0) (ap not (ne_eqb _ 127 at.1))))
 
 key_at-key : (bytes : List ℕ) (ws : List (List ℕ)) → IsKey bytes → key_at (bytes ∷ ws) ≡ Ok (bytes, ws)
@@ -141,15 +143,15 @@ plain_yes_no false = plain_literal (codes "no") refl
 
 pub plain_choice : (choice : Option (List ℕ)) → IsChoice choice → Plain (choice_word choice)
 plain_choice None h = plain_literal (codes "-") refl
-plain_choice (Some bytes) h = plain_name document_name_limit bytes h
+plain_choice (Some bytes) h = plain_name MAX_DOCUMENT_NAME bytes h
 
 -- a field is read from its words
 pub field_at-words : (kind : FieldKind) (value : FieldValue kind) (ws : List (List ℕ)) → IsField kind value → field_at kind (field_words kind value ++ ws) ≡ Ok (value, ws)
 field_at-words Number n ws h = number_at-decimal n ws h
 field_at-words Coordinate z ws h = coordinate_at-signed z ws h
 field_at-words Block block ws h = block_at-words block.0 block.1 ws h
-field_at-words Name bytes ws h = name_at-name document_name_limit bytes ws h
-field_at-words File bytes ws h = name_at-name file_name_limit bytes ws h
+field_at-words Name bytes ws h = name_at-name MAX_DOCUMENT_NAME bytes ws h
+field_at-words File bytes ws h = name_at-name MAX_FILE_NAME bytes ws h
 field_at-words Choice choice ws h = choice_at-word choice ws h
 field_at-words LayerSort kind ws h = layer_kind_at-word kind ws
 field_at-words YesNo answer ws h = yes_no_at-word answer ws
@@ -162,8 +164,8 @@ pub clean_field : (kind : FieldKind) (value : FieldValue kind) → IsField kind 
 clean_field Number n h = (clean _ (plain_number n h), tt)
 clean_field Coordinate z h = (clean _ (plain_coordinate z h), tt)
 clean_field Block block h = (clean _ (plain_number block.0 (omega (arith, h.narrow))), (clean _ (plain_commas block.1 h.numbers), tt))
-clean_field Name bytes h = (clean _ (plain_name document_name_limit bytes h), tt)
-clean_field File bytes h = (clean _ (plain_name file_name_limit bytes h), tt)
+clean_field Name bytes h = (clean _ (plain_name MAX_DOCUMENT_NAME bytes h), tt)
+clean_field File bytes h = (clean _ (plain_name MAX_FILE_NAME bytes h), tt)
 clean_field Choice choice h = (clean _ (plain_choice choice h), tt)
 clean_field LayerSort kind h = (clean _ (plain_kind kind), tt)
 clean_field YesNo answer h = (clean _ (plain_yes_no answer), tt)

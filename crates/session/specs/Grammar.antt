@@ -1,7 +1,8 @@
 -- Which texts are which lines.
-use Rattle.std.specs.Prelude.{◌≡◌, ℕ, ◌^◌, ℤ, Bool, true, false, not, ◌||◌, ◌==◌, nat_le, List, [], ◌∷◌, ◌++◌, length, Option, None, Some, Result, Ok, Err, codes, if◌then◌else◌}
+use Rattle.std.specs.Prelude.{◌≡◌, ℕ, ℤ, Bool, true, false, not, ◌||◌, ◌==◌, nat_lt, List, [], ◌∷◌, ◌++◌, length, Option, None, Some, Result, Ok, Err, codes, if◌then◌else◌}
 use Rattle.std.specs.List.{join_with_byte, list_all}
 use Rattle.std.specs.Str.{bytes_eq, is_utf8}
+use Rattle.session.specs.declared.limits.TheConstants.{MAX_LINE, MAX_DOCUMENT_NAME, MAX_FILE_NAME}
 use Rattle.session.specs.declared.line.Line.{Line}
 use Rattle.session.specs.declared.line.Line.TheVariants.{Quiet, New, Open, Save, Close, Discard, Use, Documents, Stamp, Erase, Fill, Select, SelectNone, Tile, AddLayer, RemoveLayer, RenameLayer, ShowLayer, MoveLayer, Resize, AddObject, MoveObject, ResizeObject, RemoveObject, SetProperty, RemoveProperty, AddTileset, RemoveTileset, Undo, Redo, Goto, Clean, Dirty, Clear, Show, Status, UndoText, RedoText, StepText}
 use Rattle.session.specs.declared.line.LineFault.{LineFault}
@@ -11,7 +12,7 @@ use Rattle.map_model.specs.declared.selection.SelectionMode.{SelectionMode}
 use Rattle.map_model.specs.declared.selection.SelectionMode.TheVariants.{Replace, Add, Subtract, Intersect}
 use Rattle.map_model.specs.declared.owner.Owner.{Owner}
 use Rattle.session.specs.declared.typed_value.TypedValue.TheVariants as typed
-use Rattle.session.specs.Words.{words, number_of, coordinate_of, numbers_of, are_rows, document_name_limit, file_name_limit, is_name, is_text, layer_kind_of, yes_no_of, truth_of, is_key, is_color, owner_of}
+use Rattle.session.specs.Words.{words, number_of, coordinate_of, numbers_of, are_rows, is_name, is_text, layer_kind_of, yes_no_of, truth_of, is_key, is_color, owner_of}
 
 infixl 10 ◌>>=◌
 abbrev pub ◌>>=◌ : {A B : Type 0} → Result A LineFault → (A → Result B LineFault) → Result B LineFault
@@ -53,7 +54,7 @@ unfoldable pub choice_at : List (List ℕ) → Result (Option (List ℕ) × List
 choice_at [] = Err BadWord
 choice_at (w ∷ ws) =
     if bytes_eq w (codes "-") then Ok (None, ws)
-    else if is_name document_name_limit w then Ok (Some w, ws)
+    else if is_name MAX_DOCUMENT_NAME w then Ok (Some w, ws)
     else Err BadWord
 
 -- the text that all further words make
@@ -136,8 +137,8 @@ abbrev pub field_at : (kind : FieldKind) → List (List ℕ) → Result (FieldVa
 field_at Number ws = number_at ws
 field_at Coordinate ws = coordinate_at ws
 field_at Block ws = block_at ws
-field_at Name ws = name_at document_name_limit ws
-field_at File ws = name_at file_name_limit ws
+field_at Name ws = name_at MAX_DOCUMENT_NAME ws
+field_at File ws = name_at MAX_FILE_NAME ws
 field_at Choice ws = choice_at ws
 field_at LayerSort ws = layer_kind_at ws
 field_at YesNo ws = yes_no_at ws
@@ -373,7 +374,7 @@ is_quiet (b ∷ bytes) = (b == 35) || list_all (λ c. c == 32) (b ∷ bytes)
 -- the line that a text is, or its fault
 unfoldable pub line_of : List ℕ → Result Line LineFault
 line_of bytes =
-    if nat_le (2 ^ 16) (length bytes) then Err TooLong
+    if nat_lt MAX_LINE (length bytes) then Err TooLong
     else if not (is_utf8 bytes) then Err NotUtf8
     else if is_quiet bytes then Ok Quiet
     else read line_form (words bytes)

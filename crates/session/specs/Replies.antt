@@ -1,5 +1,5 @@
 -- The text of each reply.
-use Rattle.std.specs.Prelude.{ℕ, ◌==◌, nat_le, List, [], ◌∷◌, ◌++◌, length, Option, None, Some, bit_and, codes, if◌then◌else◌, decimal}
+use Rattle.std.specs.Prelude.{ℕ, ◌==◌, List, [], ◌∷◌, ◌++◌, Option, None, Some, bit_and, codes, if◌then◌else◌, decimal}
 use Rattle.session.specs.declared.line.LineFault.TheVariants.{TooLong, NotUtf8, UnknownCommand, BadWord}
 use Rattle.session.specs.declared.reply.Refusal.{Refusal}
 use Rattle.session.specs.declared.reply.Refusal.TheVariants.{Line, NoActiveDocument, NameTaken, NoSuchDocument, UnsavedChanges, MacroOpen, NothingToUndo, NothingToRedo, NoSuchLayer, LayerOfAnotherKind, OutsideTheMap, UnknownTile, NoSuchObject, NoSuchProperty, NoSuchTileset, TilesetInUse, FirstIdNotAbove, OutOfRange, TooMany, NoSuchFile, StoreFailed, NotJson, Fraction, MemberMissing, MemberOfAnotherKind, Infinite, Compressed, BadData, IdUsedTwice, OverLimit, NotAMap, NoMemory}
@@ -60,14 +60,10 @@ abbrev pub local_text : Option LocalTile → List ℕ
 local_text None = codes "none"
 local_text (Some tile) = decimal tile.first_id ++ codes " " ++ decimal tile.local_id
 
--- a text that has no room in the head
-abbrev pub long_text : List ℕ → List ℕ
-long_text text = if nat_le (length text) 256 then [] else text
-
 -- what stands behind the head
 abbrev pub body_of : Reply → List ℕ
-body_of (Documents names) = long_text names
-body_of (Text text) = long_text text
+body_of (Documents names) = names
+body_of (Text text) = text
 body_of (Map text) = text
 body_of reply = []
 

@@ -3,6 +3,8 @@ use Rattle.std.specs.Prelude.{◌≡◌, ◌≢◌, ℕ, ◌^◌, ◌%◌, ◌<�
 use Rattle.std.specs.List.{join_with_byte, flat_map, AllByRecursion}
 use Rattle.std.specs.Fmt.{signed_decimal}
 use Rattle.std.specs.Str.{IsUtf8}
+use Rattle.session.specs.declared.limits.TheConstants.{MAX_LINE, MAX_DOCUMENT_NAME, MAX_FILE_NAME, MAX_TEXT, MAX_KEY, MAX_COORDINATE}
+use Rattle.map_model.specs.declared.limits.TheConstants.{MAX_SIDE}
 use Rattle.session.specs.declared.line.Line.{Line}
 use Rattle.session.specs.declared.line.Line.TheVariants.{Quiet, New, Open, Save, Close, Discard, Use, Documents, Stamp, Erase, Fill, Select, SelectNone, Tile, AddLayer, RemoveLayer, RenameLayer, ShowLayer, MoveLayer, Resize, AddObject, MoveObject, ResizeObject, RemoveObject, SetProperty, RemoveProperty, AddTileset, RemoveTileset, Undo, Redo, Goto, Clean, Dirty, Clear, Show, Status, UndoText, RedoText, StepText}
 use Rattle.session.specs.declared.line.LineFault.TheVariants.{TooLong}
@@ -14,7 +16,7 @@ use Rattle.map_model.specs.declared.owner.Owner.{Owner}
 use Rattle.map_model.specs.declared.owner.Owner.TheVariants as owners
 use Rattle.session.specs.declared.typed_value.TypedValue.{TypedValue}
 use Rattle.session.specs.declared.typed_value.TypedValue.TheVariants as typed
-use Rattle.session.specs.Words.{words, reach, document_name_limit, file_name_limit, is_name_byte, is_color}
+use Rattle.session.specs.Words.{words, is_name_byte, is_color}
 use Rattle.session.specs.Grammar.{FieldKind, Number, Coordinate, Block, Name, File, Choice, LayerSort, YesNo, Truth, Key, Color, OwnerName, FieldValue, is_quiet, line_of}
 
 -- words with one space between each two
@@ -177,8 +179,8 @@ IsNumber n = n < 2 ^ 32
 
 -- a coordinate that a word can be
 pub record IsCoordinate (z : ℤ) : Type 0 where
-  pub low : neg_ℤ (pos reach) ≤ℤ z
-  pub high : z ≤ℤ pos reach
+  pub low : neg_ℤ (pos MAX_COORDINATE) ≤ℤ z
+  pub high : z ≤ℤ pos MAX_COORDINATE
 
 -- a name up to that limit
 pub record IsName (limit : ℕ) (name : List ℕ) : Type 0 where
@@ -191,26 +193,26 @@ pub record IsName (limit : ℕ) (name : List ℕ) : Type 0 where
 -- a text of a line
 pub record IsText (text : List ℕ) : Type 0 where
   pub some : 1 ≤ length text
-  pub short : length text ≤ 200
+  pub short : length text ≤ MAX_TEXT
   pub bytes : All (λ b. (32 ≤ b) × (b ≢ 127)) text
   pub utf8 : IsUtf8 text
 
 -- the values are whole rows of a block of that width
 pub record AreRows (width : ℕ) (values : List ℕ) : Type 0 where
   pub some : 1 ≤ width
-  pub narrow : width ≤ 4096
+  pub narrow : width ≤ MAX_SIDE
   pub rows : length values % width ≡ 0
   pub filled : 1 ≤ length values
   pub numbers : All IsNumber values
 
 -- a document's name, or none
 abbrev pub IsChoice : Option (List ℕ) → Type 0
-IsChoice choice = IfSome choice (IsName document_name_limit)
+IsChoice choice = IfSome choice (IsName MAX_DOCUMENT_NAME)
 
 -- a property's name that a line can give
 pub record IsKey (name : List ℕ) : Type 0 where
   pub some : 1 ≤ length name
-  pub short : length name ≤ 200
+  pub short : length name ≤ MAX_KEY
   pub bytes : All (λ b. (33 ≤ b) × (b ≢ 127)) name
   pub utf8 : IsUtf8 name
 
@@ -225,8 +227,8 @@ abbrev pub IsField : (kind : FieldKind) → FieldValue kind → Type 0
 IsField Number n = IsNumber n
 IsField Coordinate z = IsCoordinate z
 IsField Block block = AreRows block.0 block.1
-IsField Name name = IsName document_name_limit name
-IsField File name = IsName file_name_limit name
+IsField Name name = IsName MAX_DOCUMENT_NAME name
+IsField File name = IsName MAX_FILE_NAME name
 IsField Choice choice = IsChoice choice
 IsField LayerSort kind = ⊤
 IsField YesNo answer = ⊤
@@ -255,7 +257,7 @@ has_block (t ∷ ts) = has_block ts || is_block_token t
 -- the lines that have a spelling: their parts have one, and with a block it is not too long
 abbrev pub CanBeSpelled : Line → Type 0
 CanBeSpelled line =
-    AllByRecursion IsToken (tokens line) × (IsTrue (has_block (tokens line)) → length (spelling line) < 2 ^ 16)
+    AllByRecursion IsToken (tokens line) × (IsTrue (has_block (tokens line)) → length (spelling line) ≤ MAX_LINE)
 
 -- the bytes say the line: they are its spelling, and for a quiet line nothing, spaces alone or a comment
 abbrev pub Says : List ℕ → Line → Type 0
@@ -273,9 +275,9 @@ ReadIsSpelled =
 
 -- what is too long is never read
 abbrev pub LongIsNotRead : Type 0
-LongIsNotRead = (bytes : List ℕ) → 2 ^ 16 ≤ length bytes → line_of bytes ≡ Err TooLong
+LongIsNotRead = (bytes : List ℕ) → MAX_LINE < length bytes → line_of bytes ≡ Err TooLong
 
 -- each quiet text is read as a quiet line
 abbrev pub QuietIsRead : Type 0
 QuietIsRead =
-    (bytes : List ℕ) → length bytes < 2 ^ 16 → IsUtf8 bytes → IsTrue (is_quiet bytes) → line_of bytes ≡ Ok Quiet
+    (bytes : List ℕ) → length bytes ≤ MAX_LINE → IsUtf8 bytes → IsTrue (is_quiet bytes) → line_of bytes ≡ Ok Quiet

@@ -10,6 +10,8 @@ use Rattle.map_model.specs.declared.parts.LayerKind.{LayerKind}
 use Rattle.map_model.specs.declared.parts.LayerKind.TheVariants as kinds
 use Rattle.map_model.specs.declared.owner.Owner.{Owner}
 use Rattle.map_model.specs.declared.owner.Owner.TheVariants as owners
+use Rattle.session.specs.declared.limits.TheConstants.{MAX_TEXT, MAX_KEY, MAX_COORDINATE}
+use Rattle.map_model.specs.declared.limits.TheConstants.{MAX_SIDE}
 
 -- the words of a text stand between its spaces
 abbrev pub words : List ℕ → List (List ℕ)
@@ -43,15 +45,11 @@ pub record HasLargeFront (bytes : List ℕ) : Type 0 where
   pub digits : list_all is_ascii_digit (take len bytes) ≡ true
   pub large : 2 ^ 32 ≤ digits_value 10 (take len bytes)
 
--- how far from 0 a coordinate may be
-abbrev pub reach : ℕ
-reach = 1000000000
-
--- a number up to 1,000,000,000
+-- a number that is not above the greatest distance of a coordinate
 abbrev pub within_reach : ℕ → Option ℕ
-within_reach n = if nat_le n reach then Some n else None
+within_reach n = if nat_le n MAX_COORDINATE then Some n else None
 
--- the distance that a word is: a number up to 1,000,000,000
+-- the distance that a word is: a number that is not above the greatest distance
 unfoldable pub distance_of : List ℕ → Option ℕ
 distance_of word = option_and_then within_reach (number_of word)
 
@@ -78,18 +76,11 @@ numbers_of word = all_numbers (slice_split (λ b. b == 44) word)
 
 -- so many values are the rows of a block of that width
 abbrev pub are_rows : ℕ → ℕ → Bool
-are_rows width count = nat_le 1 width && nat_le width 4096 && (count % width == 0)
+are_rows width count = nat_le 1 width && nat_le width MAX_SIDE && (count % width == 0)
 
 -- a letter, a digit, `_`, `.` or `-`
 abbrev pub is_name_byte : ℕ → Bool
 is_name_byte b = is_ascii_alphanumeric b || b == 95 || b == 46 || b == 45
-
--- the bytes of the longest name of a document, and of a file
-abbrev pub document_name_limit : ℕ
-document_name_limit = 64
-
-abbrev pub file_name_limit : ℕ
-file_name_limit = 100
 
 -- a name: from 1 such byte up to the limit, the first neither `.` nor `-`
 abbrev pub is_name : ℕ → List ℕ → Bool
@@ -101,9 +92,9 @@ is_name limit word =
 abbrev pub is_text_byte : ℕ → Bool
 is_text_byte b = nat_le 32 b && not (b == 127)
 
--- a text: 1 to 200 bytes, none of them a control
+-- a text: from 1 byte up to the most, none of them a control
 abbrev pub is_text : List ℕ → Bool
-is_text bytes = nat_le 1 (length bytes) && nat_le (length bytes) 200 && list_all is_text_byte bytes
+is_text bytes = nat_le 1 (length bytes) && nat_le (length bytes) MAX_TEXT && list_all is_text_byte bytes
 
 -- the pieces of what is left of a text
 abbrev pub pieces_left : ℕ → Option (Bor (List ℕ)) → List (List ℕ)
@@ -135,9 +126,9 @@ truth_of word =
 abbrev pub is_key_byte : ℕ → Bool
 is_key_byte b = nat_le 33 b && not (b == 127)
 
--- a property's name that a line can give: 1 to 200 such bytes
+-- a property's name that a line can give: from 1 such byte up to the most
 abbrev pub is_key : List ℕ → Bool
-is_key word = nat_le 1 (length word) && nat_le (length word) 200 && list_all is_key_byte word
+is_key word = nat_le 1 (length word) && nat_le (length word) MAX_KEY && list_all is_key_byte word
 
 -- a digit of a colour: `0` to `9` or `a` to `f`
 abbrev pub is_color_digit : ℕ → Bool

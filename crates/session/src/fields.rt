@@ -1,27 +1,21 @@
+ghost use Rattle.session.specs.declared.limits.TheConstants.{MAX_DOCUMENT_NAME, MAX_FILE_NAME};
 ghost use Rattle.session.specs.Grammar.{Gives, number_at, coordinate_at, rows_at, block_at, name_at, choice_at, last_text_at, ends_at};
 ghost use Rattle.session.specs.declared.line.LineFault.TheVariants.{BadWord};
 ghost use Rattle.std.specs.Prelude.{◌≡◌, ◌∷◌, [], IfOk, IfErr};
-ghost use Rattle.session.specs.Words.{words_left, are_rows, document_name_limit, file_name_limit};
+ghost use Rattle.session.specs.Words.{words_left, are_rows};
 
 use crate::gids::Gids;
+use crate::limits::{MAX_DOCUMENT_NAME, MAX_FILE_NAME};
 use crate::line::LineFault;
 use crate::text::Text;
 use crate::words::{coordinate_before, cut, is_name_word, is_text_here, number_before};
-
-/// The bytes of the longest name of a document.
-const DOCUMENT_NAME_LIMIT: usize = 64;
-
-/// The bytes of the longest name of a file.
-const FILE_NAME_LIMIT: usize = 100;
-
-/// The width of the widest block.
-const WIDTH_LIMIT: u32 = 4_096;
+use map_model::limits::MAX_SIDE;
 
 /// Whether so many values are the rows of a block of that width.
 fn are_rows_of(width: u32, count: usize) -> bool
     ensures { result ≡ are_rows width count }
 {
-    if width == 0 || width > WIDTH_LIMIT {
+    if width == 0 || width > MAX_SIDE {
         return false;
     }
     count % width as usize == 0
@@ -125,16 +119,16 @@ impl<'a> Fields<'a> {
 
     /// A document's name.
     pub fn document_name(&mut self) -> Result<Text<'a>, LineFault>
-        ensures { Gives (λ x. (x, words_left self.new.rest)) result (name_at document_name_limit (words_left self.old.rest)) }
+        ensures { Gives (λ x. (x, words_left self.new.rest)) result (name_at MAX_DOCUMENT_NAME (words_left self.old.rest)) }
     {
-        self.name(DOCUMENT_NAME_LIMIT)
+        self.name(MAX_DOCUMENT_NAME)
     }
 
     /// A file's name.
     pub fn file_name(&mut self) -> Result<Text<'a>, LineFault>
-        ensures { Gives (λ x. (x, words_left self.new.rest)) result (name_at file_name_limit (words_left self.old.rest)) }
+        ensures { Gives (λ x. (x, words_left self.new.rest)) result (name_at MAX_FILE_NAME (words_left self.old.rest)) }
     {
-        self.name(FILE_NAME_LIMIT)
+        self.name(MAX_FILE_NAME)
     }
 
     /// A document's name, or `-` for none.
@@ -147,7 +141,7 @@ impl<'a> Fields<'a> {
         if word == "-" {
             return Ok(None);
         }
-        if !is_name_word(DOCUMENT_NAME_LIMIT, word.as_bytes()) {
+        if !is_name_word(MAX_DOCUMENT_NAME, word.as_bytes()) {
             return Err(LineFault::BadWord);
         }
         Ok(Some(Text::new(word)))

@@ -4,6 +4,7 @@
 mod fields;
 mod gids;
 mod layer_lines;
+pub mod limits;
 mod line;
 mod object_lines;
 mod parse;

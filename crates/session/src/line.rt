@@ -193,7 +193,7 @@ pub enum Line<'a> {
 /// Why a line says nothing.
 #[derive(Clone, Copy, Debug, PartialEq, Eq)]
 pub enum LineFault {
-    /// It has 65,536 bytes or more.
+    /// It has more than `MAX_LINE` bytes.
     TooLong,
     NotUtf8,
     /// Its first word is none of the commands.

@@ -7,6 +7,7 @@ ghost use Rattle.session.specs.Words.{words_left};
 
 use crate::fields::Fields;
 use crate::layer_lines::layer;
+use crate::limits::MAX_LINE;
 use crate::line::{Line, LineFault};
 use crate::object_lines::object;
 use crate::property_lines::property;
@@ -14,9 +15,6 @@ use crate::select_lines::select;
 use crate::tileset_lines::tileset;
 use crate::words::cut;
 use tile_id::Gid;
-
-/// A line with so many bytes is too long.
-const LIMIT: usize = 65_536;
 
 fn new<'a>(fields: &mut Fields<'a>) -> Result<Line<'a>, LineFault>
     ensures { Gives (λ x. x) result (read new_form (words_left fields.old.rest)) }
@@ -256,7 +254,7 @@ pub fn parse_line(bytes: &[u8]) -> Result<Line<'_>, LineFault>
     ensures says { IfOk result (Says bytes.now) }
     ensures spelled { IfOk result CanBeSpelled }
 {
-    if bytes.len() >= LIMIT {
+    if bytes.len() > MAX_LINE {
         return Err(LineFault::TooLong);
     }
     let Ok(text) = str::from_utf8(bytes) else {

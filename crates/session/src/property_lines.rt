@@ -6,14 +6,12 @@ ghost use Rattle.session.specs.Grammar.{choose, property_lines, property_types, 
 ghost use Rattle.session.specs.Words.{is_color, is_color_digit, is_key, is_key_byte, owner_of, owner_with, truth_of, words_left};
 
 use crate::fields::Fields;
+use crate::limits::MAX_KEY;
 use crate::line::{Line, LineFault};
 use crate::text::Text;
 use crate::typed_value::TypedValue;
 use crate::words::{cut, number_before};
 use map_model::Owner;
-
-/// The bytes of the longest name of a property that a line can give.
-const KEY_LIMIT: usize = 200;
 
 fn has_only_key_bytes(bytes: &[u8]) -> bool
     ensures { result ≡ list_all is_key_byte bytes.now }
@@ -25,7 +23,7 @@ fn has_only_key_bytes(bytes: &[u8]) -> bool
 fn is_key_word(word: &[u8]) -> bool
     ensures { result ≡ is_key word.now }
 {
-    if word.is_empty() || word.len() > KEY_LIMIT {
+    if word.is_empty() || word.len() > MAX_KEY {
         return false;
     }
     has_only_key_bytes(word)

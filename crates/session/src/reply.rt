@@ -1,7 +1,7 @@
 ghost use Rattle.std.specs.Prelude.{◌≡◌, ◌++◌, ◌+◌, ◌≤◌, ◌<◌, [], Option, length, decimal};
 ghost use Rattle.arrayvec.specs.ArrayString.{array_string_len};
-ghost use Rattle.session.specs.Replies.{body_of, long_text, reply_text, refusal_text, flag_letter, flags_text, local_text, word_and};
-ghost use Rattle.session.specs.Words.{file_name_limit};
+ghost use Rattle.session.specs.declared.limits.TheConstants.{MAX_FILE_NAME};
+ghost use Rattle.session.specs.Replies.{body_of, reply_text, refusal_text, flag_letter, flags_text, local_text, word_and};
 
 use crate::line::LineFault;
 use crate::text::{FileName, MapBytes};
@@ -205,49 +205,23 @@ fn push_tile(head: &mut ArrayString<512>, value: Gid, local: Option<LocalTile>)
     push_local(head, local);
 }
 
-/// A text of at most so many bytes stands in the head.
-const SHORT_TEXT: usize = 256;
-
-// The text, where it is too long for the head.
-fn long_text(text: &str) -> &[u8]
-    ensures { result.now ≡ long_text text.now }
-{
-    if text.len() <= SHORT_TEXT {
-        return &[];
-    }
-    text.as_bytes()
-}
-
-// Writes a text where it is short enough for the head.
-fn push_short_text(head: &mut ArrayString<512>, text: &str)
-    requires { array_string_len head.old ≤ 11 }
-    ensures value { head.new.bytes ++ long_text text.now ≡ head.old.bytes ++ text.now }
-    ensures size { array_string_len head.new ≤ 300 }
-{
-    if text.len() <= SHORT_TEXT {
-        head.push_str(text);
-    }
-}
-
-// Writes a word and the text behind it, but for a text that is too long for the head; the word alone, where the text is
-// empty.
+// Writes a word, and a space where a text follows, which is no part of the head.
 fn push_word(head: &mut ArrayString<512>, word: &'static str, text: &str)
     requires empty { head.old.bytes ≡ [] }
     requires short { length word.now ≤ 10 }
-    ensures value { head.new.bytes ++ long_text text.now ≡ word_and word.now text.now }
-    ensures size { array_string_len head.new ≤ 300 }
+    ensures value { head.new.bytes ++ text.now ≡ word_and word.now text.now }
+    ensures size { array_string_len head.new ≤ 11 }
 {
     head.push_str(word);
     if !text.is_empty() {
         head.push_str(" ");
     }
-    push_short_text(head, text);
 }
 
 /// Writes how a file was saved.
 fn push_saved(head: &mut ArrayString<512>, file: &str, size: u64)
     requires empty { head.old.bytes ≡ [] }
-    requires short { length file.now ≤ file_name_limit }
+    requires short { length file.now ≤ MAX_FILE_NAME }
     ensures value { head.new.bytes ≡ reply_text (Reply.Saved file.now size) }
     ensures size { array_string_len head.new ≤ 200 }
 {
@@ -258,7 +232,7 @@ fn push_saved(head: &mut ArrayString<512>, file: &str, size: u64)
 }
 
 impl Reply {
-    /// Writes the reply's head, a text without a newline.
+    /// Writes the reply's head, a text without a newline: the whole reply, but for what follows `docs`, `text` or `map`.
     pub fn write_into(&self, head: &mut ArrayString<512>)
         requires { head.old.bytes ≡ [] }
         ensures text { head.new.bytes ++ body_of self.now ≡ reply_text self.now }
@@ -285,13 +259,13 @@ impl Reply {
         }
     }
 
-    /// What follows the head: names of documents or a text that was asked for, where they have no room in it, or the text of a
-    /// map, and nothing for the other replies.
+    /// What follows the head: the names of documents, a text that was asked for or the text of a map, and nothing for the
+    /// other replies.
     pub fn body(&self) -> &[u8]
         ensures { result.now ≡ body_of self.now }
     {
         match self {
-            Reply::Documents(text) | Reply::Text(text) => long_text(text.as_str()),
+            Reply::Documents(text) | Reply::Text(text) => text.as_str().as_bytes(),
             Reply::Map(bytes) => bytes.as_slice(),
             _ => &[],
         }

@@ -17,7 +17,7 @@ pub fn quiet_is_read()
     ensures { QuietIsRead }
 {}
 
-/// A line of 65,536 bytes or more is too long, whatever it says.
+/// A line of more than `MAX_LINE` bytes is too long, whatever it says.
 pub fn long_is_not_read()
     ensures { LongIsNotRead }
 {}

@@ -1,5 +1,5 @@
 ghost use Rattle.std.specs.Prelude.{◌≡◌, ◌≤◌, ℕ, List, length, string_bytes};
-ghost use Rattle.session.specs.Words.{file_name_limit};
+ghost use Rattle.session.specs.declared.limits.TheConstants.{MAX_FILE_NAME};
 
 use std::marker::Model;
 
@@ -29,7 +29,7 @@ impl<'a> Text<'a> {
     }
 }
 
-/// The name of a file: at most 100 bytes.
+/// The name of a file: at most `MAX_FILE_NAME` bytes.
 #[derive(Drop)]
 pub struct FileName {
     name: String,
@@ -40,13 +40,13 @@ impl Model for FileName {
 
     ghost view = { λ f. string_bytes f.name };
 
-    ghost invariant = { λ f. length (string_bytes f.name) ≤ file_name_limit };
+    ghost invariant = { λ f. length (string_bytes f.name) ≤ MAX_FILE_NAME };
 }
 
 impl FileName {
     /// The name that a string is.
     pub fn new(name: String) -> FileName
-        requires { length (string_bytes name) ≤ file_name_limit }
+        requires { length (string_bytes name) ≤ MAX_FILE_NAME }
         ensures { result ≡ string_bytes name }
     {
         FileName { name }
@@ -55,7 +55,7 @@ impl FileName {
     /// The name.
     pub fn as_str(&self) -> &str
         ensures name { result.now ≡ self.now }
-        ensures short { length result.now ≤ file_name_limit }
+        ensures short { length result.now ≤ MAX_FILE_NAME }
     {
         self.name.as_str()
     }

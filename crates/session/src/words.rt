@@ -1,16 +1,13 @@
 ghost use Rattle.std.specs.Char.{is_ascii_digit};
 ghost use Rattle.std.specs.Prelude.{◌≡◌, false, ◌<◌, ◌∷◌, ◌==◌, ◌≤◌, ◌≢◌, ◌+◌, ◌++◌, All, take, drop, length, Some, IfSome, IfNone};
 ghost use Rattle.std.specs.List.{list_all, slice_split};
-ghost use Rattle.session.specs.Words.{number_of, is_numeral_front, AreLeadingDigits, HasLargeFront, IsFirst, words, distance_of, below_zero, reach, coordinate_of, is_name, is_name_byte, is_text, is_text_byte, pieces_left, size_left};
+ghost use Rattle.session.specs.declared.limits.TheConstants.{MAX_COORDINATE};
+ghost use Rattle.session.specs.Words.{number_of, is_numeral_front, AreLeadingDigits, HasLargeFront, IsFirst, words, distance_of, below_zero, coordinate_of, is_name, is_name_byte, is_text, is_text_byte, pieces_left, size_left};
 
-/// How far from 0 a coordinate may be.
-const REACH: u32 = 1_000_000_000;
+use crate::limits::{MAX_COORDINATE, MAX_TEXT};
 
 /// The largest number.
 const MAX: u64 = 4_294_967_295;
-
-/// The bytes of the longest text.
-const TEXT_LIMIT: usize = 200;
 
 /// The place of the first separator.
 fn separator_at(bytes: &[u8], separator: u8) -> Option<usize>
@@ -86,14 +83,14 @@ pub fn number_before(text: &str, separator: u8) -> Option<(u32, Option<&str>)>
     Some((number, Some(&text[len + 1..])))
 }
 
-/// The first word's distance from 0, where it is a number up to 1,000,000,000, and what is left of the line.
+/// The first word's distance from 0, where it is a number up to `MAX_COORDINATE`, and what is left of the line.
 #[tactic(auto, unfolding(crate::specs::Words::distance_of))]
 fn distance_before(text: &str) -> Option<(u32, Option<&str>)>
     ensures distance { IsFirst distance_of (words text.now) 32 result }
-    ensures within { IfSome result (λ x. x.0 ≤ reach) }
+    ensures within { IfSome result (λ x. x.0 ≤ MAX_COORDINATE) }
 {
     let (distance, rest) = number_before(text, b' ')?;
-    if distance > REACH {
+    if distance > MAX_COORDINATE {
         return None;
     }
     Some((distance, rest))
@@ -101,7 +98,7 @@ fn distance_before(text: &str) -> Option<(u32, Option<&str>)>
 
 /// The number below 0 that is so far from it, if it is not 0.
 fn negative(distance: u32) -> Option<i32>
-    requires { distance ≤ reach }
+    requires { distance ≤ MAX_COORDINATE }
     ensures { result ≡ below_zero distance }
 {
     if distance == 0 {
@@ -110,7 +107,7 @@ fn negative(distance: u32) -> Option<i32>
     Some(-(distance as i32))
 }
 
-/// The coordinate that the first word is, from -1,000,000,000 to 1,000,000,000, and what is left of the line.
+/// The coordinate that the first word is, at most `MAX_COORDINATE` from 0, and what is left of the line.
 pub fn coordinate_before(text: &str) -> Option<(i32, Option<&str>)>
     ensures { IsFirst coordinate_of (words text.now) 32 result }
 {
@@ -155,7 +152,7 @@ fn has_only_text_bytes(bytes: &[u8]) -> bool
 pub fn is_text_here(bytes: &[u8]) -> bool
     ensures { result ≡ is_text bytes.now }
 {
-    if bytes.is_empty() || bytes.len() > TEXT_LIMIT {
+    if bytes.is_empty() || bytes.len() > MAX_TEXT {
         return false;
     }
     has_only_text_bytes(bytes)

@@ -20,14 +20,18 @@ module _ {C : Type 0} (f : C → Change) where
   abbrev pub documents_of : {Y : Type 0} → List (String Y × Stack C) → List OpenDocument
   documents_of es = map document_of es
 
--- the name at a place among the entries
-abbrev pub name_at : {C Y : Type 0} → List (String Y × Stack C) → Option ℕ → Option (List ℕ)
-name_at es None = None
-name_at es (Some at) = option_map (λ e. string_bytes e.0) (slice_get es at)
+-- the name of the document at a place
+abbrev pub name_at : List OpenDocument → Option ℕ → Option (List ℕ)
+name_at ds None = None
+name_at ds (Some at) = option_map (λ d. d.name) (slice_get ds at)
+
+-- these documents, of which the one at a place is active
+abbrev pub group_at : List OpenDocument → Option ℕ → GroupParts
+group_at ds place = record { documents = ds; active = name_at ds place }
 
 -- the group that it stands for
 abbrev pub group_of : {C : Type 0} → (C → Change) → Group C → GroupParts
-group_of f g = record { documents = documents_of f g.stacks.entries; active = name_at g.stacks.entries g.active }
+group_of f g = group_at (documents_of f g.stacks.entries) g.active
 
 -- the stacks hold, and the place of the active one is among them
 pub record AreHeld {C : Type 0} (f : C → Change) (g : Group C) : Type 0 where

@@ -92,6 +92,29 @@ impl<C: Command> Group<C> {
         }
     }
 
+    /// Puts a document last, as `add` does, and makes it the active one.
+    pub fn add_active(
+        &mut self,
+        alloc: Global,
+        name: &str,
+        stack: Stack<C>,
+    ) -> Result<(), NotAdded<C>>
+        requires sound { AreHeld C.change self.old }
+        requires held { Holds C.change stack }
+        ensures sound { AreHeld C.change self.new }
+        ensures new { OnOk result (IsNew name.now (group_of C.change self.old).documents) }
+        ensures added { OnOk result (group_of C.change self.new ≡ chosen (Some name.now) (added name.now (history C.change stack) (group_of C.change self.old))) }
+        ensures kept { IfErr result (λ _. group_of C.change self.new ≡ group_of C.change self.old) }
+        ensures stack { IfErr result (λ refused. refused.stack ≡ stack) }
+        ensures fault { IfErr result (λ refused. IsNotAdded name.now (group_of C.change self.old).documents refused.fault) }
+    {
+        if let Err(refused) = self.add(alloc, name, stack) {
+            return Err(refused);
+        }
+        self.active = Some(self.stacks.len() - 1);
+        Ok(())
+    }
+
     /// Takes a document out, and leaves the others in their order. Where it was the active one, none is active. Takes no
     /// memory.
     ///

@@ -1,4 +1,5 @@
-use Rattle.std.proofs.Common.{◌<◌, ◌^◌, ◌∷◌, length, cond, Ok, sym, ap, ◌∙◌, arith}
+use Rattle.std.proofs.Common.{◌≤◌, ◌∷◌, length, cond, Ok, sym, ap, ◌∙◌, arith}
+use Rattle.session.specs.declared.limits.TheConstants.{MAX_LINE}
 use Rattle.session.specs.declared.line.Line.TheVariants.{Quiet}
 use Rattle.session.specs.Words.{words, words_left}
 use Rattle.session.specs.Grammar.{read, line_form}
@@ -9,13 +10,13 @@ use Rattle.session.proofs.parse.parse_line.Goals as goal
 pub returns-then-is_quiet_line-clause-value : goal.returns-then-is_quiet_line-clause-value
 returns-then-is_quiet_line-clause-value c =
     let bytes = c.args.bytes.now in
-    let short : length bytes < 2 ^ 16 = omega (arith, c.if-bytes-ge-LIMIT.false) in
+    let short : length bytes ≤ MAX_LINE = omega (arith, c.if-bytes-gt-MAX_LINE.false) in
     checked bytes short c.in-Ok.ensures.cases.1 ∙ ap (λ b. cond b (Ok Quiet) (read line_form (words bytes))) (sym c.is_quiet_line.ensures ∙ c.if-is_quiet_line.true)
 
 pub returns-clause-value : goal.returns-clause-value
 returns-clause-value c =
     let bytes = c.args.bytes.now in
-    let short : length bytes < 2 ^ 16 = omega (arith, c.if-bytes-ge-LIMIT.false) in
+    let short : length bytes ≤ MAX_LINE = omega (arith, c.if-bytes-gt-MAX_LINE.false) in
     let e = checked bytes short c.in-Ok.ensures.cases.1 ∙ ap (λ b. cond b (Ok Quiet) (read line_form (words bytes))) (sym c.is_quiet_line.ensures ∙ c.if-is_quiet_line.false)
     ∙ ap (read line_form) (ap words (sym c.in-Ok.ensures.cases.0) ∙ c.cut.ensures.pieces)
     ∙ ap (λ rest. read line_form (c.cut.result.0.now ∷ words_left rest)) (sym c.new-fields.ensures) in
@@ -30,5 +31,5 @@ returns-clause-spelled c = given_spelled c.args.bytes.now c.command.result (retu
 pub returns-in_default-clause-value : goal.returns-in_default-clause-value
 returns-in_default-clause-value c =
     let bytes = c.args.bytes.now in
-    let short : length bytes < 2 ^ 16 = omega (arith, c.if-bytes-ge-LIMIT.false) in
+    let short : length bytes ≤ MAX_LINE = omega (arith, c.if-bytes-gt-MAX_LINE.false) in
     refused bytes short c.in_default.ensures.cases.0

@@ -1,5 +1,5 @@
 use Rattle.std.proofs.Common.{sym, ◌∙◌}
-use Rattle.undo_group.proofs.Wholes.{is_some-named, IsNew-absent, AreHeld-added, group_of-added, AreHeld-same}
+use Rattle.undo_group.proofs.Entries.{is_some-named, IsNew-absent, AreHeld-added, group_of-added, AreHeld-same}
 use Rattle.undo_group.proofs.group.Group.add.Goals as goal
 
 pub returns-then-contains_key-clause-fault : goal.returns-then-contains_key-clause-fault

@@ -3,7 +3,7 @@ use Rattle.std.proofs.lemmas.Map.Entries.{All-lookup}
 use Rattle.std.specs.Option.{option_map}
 use Rattle.undo_stack.specs.Stacks.{history, Holds}
 use Rattle.undo_group.proofs.Entries.{is_name, history_named-documents_of}
-use Rattle.undo_group.proofs.Places.{option_map-now, IfSome-now, IfSome-same}
+use Rattle.undo_group.proofs.Places.{option_map-now, IfSome-now}
 use Rattle.undo_group.proofs.group.Group.get.Goals as goal
 
 pub returns-clause-named : goal.returns-clause-named
@@ -14,4 +14,4 @@ returns-clause-named g c =
 pub returns-clause-held : goal.returns-clause-held
 returns-clause-held g c =
     let P = Holds g.C.Command.change in
-    IfSome-now P c.get.result (IfSome-same P _ _ c.get.ensures.value (All-lookup P (is_name c.args.name.now) c.args.self.now.stacks.entries c.requires.stacks))
+    IfSome-now P c.get.result _ c.get.ensures.value (All-lookup P (is_name c.args.name.now) c.args.self.now.stacks.entries c.requires.stacks)

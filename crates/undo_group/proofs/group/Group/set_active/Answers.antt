@@ -1,7 +1,7 @@
 use Rattle.std.proofs.Common.{sym, ◌∙◌, ap}
 use Rattle.std.specs.Option.{option_copied}
 use Rattle.undo_group.specs.Stacks.{documents_of}
-use Rattle.undo_group.proofs.Wholes.{IsNew-absent, is_some-named, name_at-found}
+use Rattle.undo_group.proofs.Entries.{IsNew-absent, is_some-named, name_at-found}
 use Rattle.undo_group.proofs.group.Group.set_active.Goals as goal
 
 pub returns-in_default-get_index_of-clause-none : goal.returns-in_default-get_index_of-clause-none
