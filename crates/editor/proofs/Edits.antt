@@ -1,5 +1,5 @@
 -- Planned edits, and the lines that ask for them.
-use Rattle.std.proofs.Common.{◌≡◌, ℕ, ◌+◌, ◌^◌, ◌<◌, ◌≤◌, List, [], ◌∷◌, length, map, Option, None, Some, Result, Ok, Err, Bool, true, false, ◌⊎◌, inl, inr, refl, sym, ap, ◌∙◌, subst, arith, length-append}
+use Rattle.std.proofs.Common.{◌≡◌, ℕ, ◌+◌, ◌^◌, ◌<◌, ◌≤◌, List, [], ◌∷◌, length, map, Result, Ok, Err, Bool, true, false, ◌⊎◌, inl, inr, refl, sym, ap, ◌∙◌, subst, arith, length-append}
 use Rattle.std.proofs.lemmas.List.{length-map}
 use Rattle.std.specs.Prelude.{ℤ, decimal, codes, IfOk, IfErr, MatchResult, IsOkAnd}
 use Rattle.std.specs.Fmt.{signed_decimal}
@@ -12,19 +12,14 @@ use Rattle.command_api.specs.declared.fault.EditFault.{EditFault}
 use Rattle.command_api.specs.declared.fault.EditFault.TheVariants.{NoSuchLayer, LayerOfAnotherKind, OutsideTheMap, UnknownTile, NoSuchObject, NoSuchProperty, NoSuchTileset, TilesetInUse, FirstIdNotAbove, OutOfRange, TooMany, NoMemory}
 use Rattle.command_api.specs.Law.{Names}
 use Rattle.command_api.specs.Making.{IsRefusalOf, Makes}
-use Rattle.undo_stack.specs.History.{History, Step, current}
-use Rattle.session.specs.declared.line.Line.{Line}
+use Rattle.session.specs.declared.limits.TheConstants.{MAX_LINE}
 use Rattle.session.specs.declared.line.Line.TheVariants.{Erase, Stamp, MoveObject, SetProperty}
-use Rattle.session.specs.declared.reply.Refusal.{Refusal}
-use Rattle.session.specs.declared.reply.Reply.{Reply}
 use Rattle.session.specs.declared.reply.Reply.TheVariants.{Refused}
 use Rattle.session.specs.declared.typed_value.TypedValue.{TypedValue}
 use Rattle.session.specs.Spelling.{AreRows, CanBeSpelled, IsCoordinate, commas, spelling}
 use Rattle.editor.specs.declared.planned.Edit.{Edit}
-use Rattle.editor.specs.declared.planned.Planned.{Planned}
-use Rattle.editor.specs.declared.planned.Planned.TheVariants as planned
-use Rattle.editor.specs.DocumentSteps.{DocumentStepBy, EditStep, answer_of, edit_of}
-use Rattle.editor.specs.Planning.{FitsDocument, IsEditBy, KeepsHistory, PlansEdit, PlansLine, PlansOn, edit_change, plan_of}
+use Rattle.editor.specs.Acts.{answer_of}
+use Rattle.editor.specs.Planning.{PlansEdit, edit_change, plan_of}
 use Rattle.editor.specs.Refusals.{refusal_of_edit}
 
 -- a refusal is want of memory, or the edit's own
@@ -122,7 +117,7 @@ values-few layer x y width values false h =
     let column = length-join_rest 32 (signed_decimal x) (signed_decimal y) (decimal width ∷ commas values ∷ []) in
     let id = length-join_rest 32 (decimal layer) (signed_decimal x) (signed_decimal y ∷ decimal width ∷ commas values ∷ []) in
     let all = length-join_rest 32 (codes "stamp") (decimal layer) (signed_decimal x ∷ signed_decimal y ∷ decimal width ∷ commas values ∷ []) in
-    let short : length (spelling (Stamp layer x y width values false)) < 2 ^ 16 = h.1 refl in
+    let short : length (spelling (Stamp layer x y width values false)) ≤ MAX_LINE = h.1 refl in
     omega (arith, short)
 
 -- its values are a block
@@ -130,34 +125,3 @@ pub stamp-IsBlock : (layer : ℕ) (x y : ℤ) (width : ℕ) (values : List ℕ) 
 stamp-IsBlock layer x y width values follows h =
     let rows : AreRows width values = h.0.1.1.1.1.0 in
     record { wide = rows.some; narrow = rows.narrow; whole = rows.rows; few = values-few layer x y width values follows h }
-
--- ---- over the active document
-keeps_same : (reply : Reply) (h : History) → KeepsHistory reply h h
-keeps_same (Refused refusal) h = refl
-keeps_same reply h = tt
-
-quiet_edit : (edit : Option (DocumentParts → Result Step Refusal)) (d : DocumentParts) → PlansLine edit d (Some planned.Quiet) → ⊥
-quiet_edit None d p = p
-quiet_edit (Some edit) d p = p
-
-reply_edit : (edit : Option (DocumentParts → Result Step Refusal)) (line : Line) (h : History) (reply : Reply) → PlansLine edit (current h) (Some (planned.Reply reply)) → DocumentStepBy edit line h reply h
-reply_edit None line h reply p = absurd p
-reply_edit (Some edit) line h reply (inl e) = inr (tt, (e, refl))
-reply_edit (Some edit) line h reply (inr p) =
-    let Q : Result Step Refusal → Type 0 = λ a. EditStep a h reply h in
-    inl (subst Q (sym p.1) (p.2, refl))
-
-push_edit : (edit : Option (DocumentParts → Result Step Refusal)) (h : History) (e : Edit) → PlansLine edit (current h) (Some (planned.Push e)) → IsEditBy edit (Some h) (edit_change e) × FitsDocument (current h) (edit_change e)
-push_edit None h e p = absurd p
-push_edit (Some edit) h e p = p
-
-plan-PlansOn : (line : Line) (h : History) (plan : Planned) → PlansLine (edit_of line) (current h) (Some plan) → PlansOn line h plan h
-plan-PlansOn line h planned.Quiet p = quiet_edit (edit_of line) (current h) p
-plan-PlansOn line h (planned.Reply reply) p = (reply_edit (edit_of line) line h reply p, keeps_same reply h)
-plan-PlansOn line h (planned.Push e) p = let is = push_edit (edit_of line) h e p in (refl, is.0, is.1)
-
--- an edit of the current document is planned over it, and the history is as it was
-pub line-PlansOn : (line : Line) (h : History) (d : DocumentParts) (plan : Planned) → d ≡ current h → PlansLine (edit_of line) d (Some plan) → PlansOn line h plan h
-line-PlansOn line h d plan e p =
-    let Q : DocumentParts → Type 0 = λ k. PlansLine (edit_of line) k (Some plan) in
-    plan-PlansOn line h plan (subst Q e p)

@@ -1,19 +1,22 @@
 -- From what a line does with the active history to what it does with the machine.
-use Rattle.std.proofs.Common.{◌≡◌, ℕ, List, Option, Some, None, refl, sym, ap, ◌∙◌, subst}
+use Rattle.std.proofs.Common.{◌≡◌, ℕ, Option, Some, None, Result, refl, sym, ap, ◌∙◌, subst, inl, inr}
 use Rattle.map_store.specs.Files.{StoreParts}
-use Rattle.undo_stack.specs.History.{History}
+use Rattle.undo_stack.specs.History.{History, Step, current}
 use Rattle.undo_group.specs.Groups.{GroupParts, IsGroup, active_history}
 use Rattle.undo_group.specs.Groups as groups
 use Rattle.undo_group.proofs.Documents.{with_active-same}
-use Rattle.session.specs.declared.line.Line.{Line}
+use Rattle.session.specs.declared.reply.Refusal.{Refusal}
 use Rattle.session.specs.declared.reply.Refusal.TheVariants.{NoActiveDocument}
 use Rattle.session.specs.declared.reply.Reply.{Reply}
 use Rattle.session.specs.declared.reply.Reply.TheVariants.{Refused}
+use Rattle.session.specs.declared.line.Line.{Line}
+use Rattle.editor.specs.declared.planned.Edit.{Edit}
 use Rattle.editor.specs.declared.planned.Planned.{Planned}
 use Rattle.editor.specs.declared.planned.Planned.TheVariants as planned
-use Rattle.editor.specs.DocumentSteps.{DocumentStep, SavesDocument}
-use Rattle.editor.specs.Machine.{Machine, OneDocument, OverActive, OverHistory, SaveStep, Scope, StepBy, active_of, moved_to, scope_of, with_active}
-use Rattle.editor.specs.Planning.{FitsActive, FitsPlan, IsEditOf, KeepsHistory, KeepsPlan, KeepsReply, Plans, PlansOn, edit_change, refused}
+use Rattle.editor.specs.Acts.{Act, FileAct, IfActive, OfActive, OrNoMemory, Pushes, WithActive, answer_of, moved_to}
+use Rattle.editor.specs.Machine.{Machine, active_of, with_active, workspace}
+use Rattle.editor.specs.Planning.{FitsActive, FitsDocument, FitsPlan, IsEditOf, IsOfActive, KeepsPlan, KeepsReply, Plans, PlansEdit, PlansOn, edit_change, refused}
+use Rattle.editor.specs.Steps.{Allows, Edits, OnActive, OnDocuments, OnFiles, Rule, rule_of}
 
 -- a machine with this group
 abbrev pub machine_at : ℕ → GroupParts → Machine
@@ -24,60 +27,95 @@ pub with_active-kept : (h n : History) (old : Machine) → IsGroup old.group →
 with_active-kept h n old w e k =
     ap (machine_at old.limit) (ap (λ x. groups.with_active x old.group) k ∙ with_active-same h old.group w e)
 
-pub with_active-moved_to : (reply : Reply) (h n : History) (old : Machine) → IsGroup old.group → active_of old ≡ Some h → KeepsHistory reply h n → with_active n old ≡ moved_to reply n old
+pub with_active-moved_to : (reply : Reply) (h n : History) (old : Machine) → IsGroup old.group → active_of old ≡ Some h → KeepsReply reply h n → with_active n old ≡ moved_to (Some reply) n old
 with_active-moved_to (Refused refusal) h n old w e k = with_active-kept h n old w e k
 with_active-moved_to reply h n old w e k = refl
 
 -- what was done with the active history was done with the machine
-pub over_history : (P : History → Reply → History → Type 0) (h n : History) (reply : Reply) (old : Machine) → IsGroup old.group → active_of old ≡ Some h → P h reply n → KeepsHistory reply h n
-    → OverHistory P h old (Some reply) (with_active n old)
-over_history P h n reply old w e p k = (reply, n, p, refl, with_active-moved_to reply h n old w e k)
+with_active-done : (act : Act History) (h n : History) (reply : Reply) (old : Machine) → IsGroup old.group → active_of old ≡ Some h → act h (Some reply) n → KeepsReply reply h n
+    → WithActive act (active_of old) old (Some reply) (with_active n old)
+with_active-done act h n reply old w e p k =
+    let Q : Option History → Type 0 = λ o. WithActive act o old (Some reply) (with_active n old) in
+    subst Q (sym e) (n, p, with_active-moved_to reply h n old w e k)
 
-over_active : (P : History → Reply → History → Type 0) (h n : History) (reply : Reply) (old : Machine) → IsGroup old.group → active_of old ≡ Some h → P h reply n → KeepsHistory reply h n
-    → OverActive P (active_of old) old (Some reply) (with_active n old)
-over_active P h n reply old w e p k =
-    let Q : Option History → Type 0 = λ o. OverActive P o old (Some reply) (with_active n old) in
-    subst Q (sym e) (over_history P h n reply old w e p k)
+-- ---- plans
+-- an edit that is refused was done so
+refused_edit : (answer : Result Step Refusal) (h : History) (reply : Reply) → PlansEdit answer (current h) (planned.Reply reply) → OrNoMemory (Pushes answer) h (Some reply) h × KeepsReply reply h h
+refused_edit answer h reply (inl e) = rw e (inr (refl, refl), refl)
+refused_edit answer h reply (inr p) = rw (p.1, p.2) (inl (refl, refl), refl)
 
-pub on-Plans : (line : Line) (h n : History) (plan : Planned) (old : Machine) (kept : StoreParts) → scope_of line ≡ OneDocument → IsGroup old.group → active_of old ≡ Some h
-    → PlansOn line h plan n → Plans line old kept plan (with_active n old) kept
-on-Plans line h n planned.Quiet old kept s w e p = absurd p
-on-Plans line h n (planned.Reply reply) old kept s w e p =
-    let Q : Scope → Type 0 = λ scope. StepBy scope line old kept (Some reply) (with_active n old) kept in
-    subst Q (sym s) (over_active (DocumentStep line) h n reply old w e p.0 p.1, refl)
-on-Plans line h n (planned.Push edit) old kept s w e p =
-    let Q : Option History → Type 0 = λ o. IsEditOf line o (edit_change edit) in
-    (with_active-kept h n old w e p.0, refl, subst Q (sym e) p.1)
+-- a refusal has left the history as it was
+replied-kept : (rule : Rule) (h n : History) (reply : Reply) → PlansOn rule h (planned.Reply reply) n → KeepsReply reply h n
+replied-kept (OnFiles act) h n reply p = absurd p
+replied-kept (OnDocuments act) h n reply p = absurd p
+replied-kept (OnActive act) h n reply p = p.1
+replied-kept (Edits names edit) h n reply p =
+    let R : History → Type 0 = λ k. KeepsReply reply h k in
+    subst R (sym p.1) (refused_edit (answer_of names (edit (current h))) h reply p.0).1
 
--- a refusal has left the machine as it was
-pub on-KeepsReply : (reply : Reply) (h n : History) (old : Machine) → IsGroup old.group → active_of old ≡ Some h → KeepsHistory reply h n → KeepsReply reply old (with_active n old)
-on-KeepsReply (Refused refusal) h n old w e k = with_active-kept h n old w e k
-on-KeepsReply reply h n old w e k = tt
+-- what a plan says of the active document, it says of the machine
+module _ (h n : History) (old : Machine) (whole : IsGroup old.group) (active : active_of old ≡ Some h) where
+  replied : (rule : Rule) (reply : Reply) (kept : StoreParts) → PlansOn rule h (planned.Reply reply) n → Allows rule (workspace old kept) (Some reply) (workspace (with_active n old) kept)
+  replied (OnFiles act) reply kept p = absurd p
+  replied (OnDocuments act) reply kept p = absurd p
+  replied (OnActive act) reply kept p = (with_active-done act h n reply old whole active p.0 p.1, refl)
+  replied (Edits names edit) reply kept p =
+      let act : Act History = OrNoMemory (λ k. Pushes (answer_of names (edit (current k))) k) in
+      let R : History → Type 0 = λ k. act h (Some reply) k in
+      let done = refused_edit (answer_of names (edit (current h))) h reply p.0 in
+      (with_active-done act h n reply old whole active (subst R (sym p.1) done.0) (replied-kept (Edits names edit) h n reply p), refl)
 
-pub on-KeepsPlan : (line : Line) (h n : History) (plan : Planned) (old : Machine) → IsGroup old.group → active_of old ≡ Some h → PlansOn line h plan n → KeepsPlan plan old (with_active n old)
-on-KeepsPlan line h n planned.Quiet old w e p = absurd p
-on-KeepsPlan line h n (planned.Reply reply) old w e p = on-KeepsReply reply h n old w e p.1
-on-KeepsPlan line h n (planned.Push edit) old w e p = with_active-kept h n old w e p.0
+  pushed : (rule : Rule) (e : Edit) → PlansOn rule h (planned.Push e) n → (n ≡ h) × IsEditOf rule (Some h) (edit_change e) × FitsDocument (current h) (edit_change e)
+  pushed (OnFiles act) e p = absurd p
+  pushed (OnDocuments act) e p = absurd p
+  pushed (OnActive act) e p = absurd p
+  pushed (Edits names edit) e p = (p.1, p.0.0, p.0.1)
 
-pub on-FitsPlan : (line : Line) (h n : History) (plan : Planned) (old : Machine) → IsGroup old.group → active_of old ≡ Some h → PlansOn line h plan n → FitsPlan (with_active n old) plan
-on-FitsPlan line h n planned.Quiet old w e p = tt
-on-FitsPlan line h n (planned.Reply reply) old w e p = tt
-on-FitsPlan line h n (planned.Push edit) old w e p =
-    let Q : Machine → Type 0 = λ m. FitsActive (active_of m) (edit_change edit) in
-    let R : Option History → Type 0 = λ o. FitsActive o (edit_change edit) in
-    subst Q (sym (with_active-kept h n old w e p.0)) (subst R (sym e) p.2)
+  quiet : (rule : Rule) → PlansOn rule h planned.Quiet n → ⊥
+  quiet (OnFiles act) p = p
+  quiet (OnDocuments act) p = p
+  quiet (OnActive act) p = p
+  quiet (Edits names edit) p = p.0
+
+  pub on-Plans : (line : Line) (plan : Planned) (kept : StoreParts) → PlansOn (rule_of line) h plan n → Plans line (workspace old kept) plan (workspace (with_active n old) kept)
+  on-Plans line planned.Quiet kept p = absurd (quiet (rule_of line) p)
+  on-Plans line (planned.Reply reply) kept p = replied (rule_of line) reply kept p
+  on-Plans line (planned.Push e) kept p =
+      let is = pushed (rule_of line) e p in
+      let Q : Option History → Type 0 = λ o. IsEditOf (rule_of line) o (edit_change e) in
+      (ap (λ m. workspace m kept) (with_active-kept h n old whole active is.0), subst Q (sym active) is.1)
+
+  pub on-KeepsReply : (reply : Reply) → KeepsReply reply h n → KeepsReply reply old (with_active n old)
+  on-KeepsReply (Refused refusal) k = with_active-kept h n old whole active k
+  on-KeepsReply reply k = tt
+
+  pub on-KeepsPlan : (rule : Rule) (plan : Planned) → PlansOn rule h plan n → KeepsPlan plan old (with_active n old)
+  on-KeepsPlan rule planned.Quiet p = absurd (quiet rule p)
+  on-KeepsPlan rule (planned.Reply reply) p = on-KeepsReply reply (replied-kept rule h n reply p)
+  on-KeepsPlan rule (planned.Push e) p = with_active-kept h n old whole active (pushed rule e p).0
+
+  pub on-FitsPlan : (rule : Rule) (plan : Planned) → PlansOn rule h plan n → FitsPlan (with_active n old) plan
+  on-FitsPlan rule planned.Quiet p = tt
+  on-FitsPlan rule (planned.Reply reply) p = tt
+  on-FitsPlan rule (planned.Push e) p =
+      let is = pushed rule e p in
+      let Q : Machine → Type 0 = λ m. FitsActive (active_of m) (edit_change e) in
+      let R : Option History → Type 0 = λ o. FitsActive o (edit_change e) in
+      subst Q (sym (with_active-kept h n old whole active is.0)) (subst R (sym active) is.2)
 
 -- a line about the active document, where none is active
-pub none-Plans : (line : Line) (old : Machine) (kept : StoreParts) → scope_of line ≡ OneDocument → active_of old ≡ None → Plans line old kept (refused NoActiveDocument) old kept
-none-Plans line old kept s e =
-    let Q : Scope → Type 0 = λ scope. StepBy scope line old kept (Some (Refused NoActiveDocument)) old kept in
-    let R : Option History → Type 0 = λ o. OverActive (DocumentStep line) o old (Some (Refused NoActiveDocument)) old in
-    subst Q (sym s) (subst R (sym e) (refl, refl), refl)
+none-Allows : (rule : Rule) (old : Machine) (kept : StoreParts) → IsOfActive rule → active_of old ≡ None → Allows rule (workspace old kept) (Some (Refused NoActiveDocument)) (workspace old kept)
+none-Allows (OnFiles act) old kept s e = absurd s
+none-Allows (OnDocuments act) old kept s e = absurd s
+none-Allows (OnActive act) old kept s e = rw e ((refl, refl), refl)
+none-Allows (Edits names edit) old kept s e = rw e ((refl, refl), refl)
+
+pub none-Plans : (line : Line) (old : Machine) (kept : StoreParts) → IsOfActive (rule_of line) → active_of old ≡ None → Plans line (workspace old kept) (refused NoActiveDocument) (workspace old kept)
+none-Plans line old kept s e = none-Allows (rule_of line) old kept s e
 
 -- a document was saved, or not
-pub saves : (file : List ℕ) (h n : History) (reply : Reply) (old new : Machine) (before after : StoreParts) → IsGroup old.group → active_of old ≡ Some h → SavesDocument file h before reply n after
-    → KeepsHistory reply h n → new ≡ with_active n old → SaveStep (active_of old) file old before (Some reply) new after
-saves file h n reply old new before after w e p k left =
-    let Q : Option History → Type 0 = λ o. SaveStep o file old before (Some reply) new after in
-    let R : Machine → Type 0 = λ m. SaveStep (Some h) file old before (Some reply) m after in
-    subst Q (sym e) (subst R (sym left) (over_history (λ i answer m. SavesDocument file i before answer m after) h n reply old w e p k))
+pub saves : (act : FileAct History) (h n : History) (reply : Reply) (old new : Machine) (before after : StoreParts) → IsGroup old.group → active_of old ≡ Some h → act before after h (Some reply) n
+    → KeepsReply reply h n → new ≡ with_active n old → OfActive act before after old (Some reply) new
+saves act h n reply old new before after w e p k left =
+    let Q : Option History → Type 0 = λ o. IfActive act o before after old (Some reply) new in
+    subst Q (sym e) (n, p, left ∙ with_active-moved_to reply h n old w e k)

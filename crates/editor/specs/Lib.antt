@@ -1,5 +1,7 @@
 pub mod Refusals
-pub mod DocumentSteps
 pub mod Machine
+pub mod Answers
+pub mod Acts
+pub mod Steps
 pub mod Editors
 pub mod Planning

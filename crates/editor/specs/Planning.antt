@@ -1,7 +1,6 @@
 -- What planning a line and committing an edit say of each other.
 use Rattle.std.specs.Prelude.{◌≡◌, Option, None, Some, Result, Ok, Err, false, ◌⊎◌, ⊤}
 use Rattle.map_model.specs.Document.{DocumentParts}
-use Rattle.map_store.specs.Files.{StoreParts}
 use Rattle.command_api.specs.declared.fault.EditFault.{EditFault}
 use Rattle.command_api.specs.Law.{Change}
 use Rattle.layer_commands.specs.Changes.{add_change, remove_change, rename_change, show_change, move_change, resize_change}
@@ -10,7 +9,8 @@ use Rattle.property_commands.specs.PropertyChanges.{set_property_change, remove_
 use Rattle.property_commands.specs.TilesetChanges.{add_tileset_change, remove_tileset_change}
 use Rattle.paint_commands.specs.Painting.{paint_change}
 use Rattle.paint_commands.specs.Selection.{select_change}
-use Rattle.undo_stack.specs.History.{Step, History, current}
+use Rattle.undo_stack.specs.History.{History, current}
+use Rattle.undo_stack.specs.History as histories
 use Rattle.undo_stack.specs.Pushing.{IsPushed, step_of}
 use Rattle.session.specs.declared.line.Line.{Line}
 use Rattle.session.specs.declared.reply.Refusal.{Refusal}
@@ -21,9 +21,11 @@ use Rattle.editor.specs.declared.planned.Edit.{Edit}
 use Rattle.editor.specs.declared.planned.Edit.TheVariants.{Paint, AddLayer, RemoveLayer, RenameLayer, ShowLayer, MoveLayer, Select, ResizeMap, AddObject, RemoveObject, PlaceObject, SetProperty, RemoveProperty, AddTileset, RemoveTileset}
 use Rattle.editor.specs.declared.planned.Planned.{Planned}
 use Rattle.editor.specs.declared.planned.Planned.TheVariants as planned
-use Rattle.editor.specs.DocumentSteps.{DocumentStep, edit_of, state_reply}
+use Rattle.editor.specs.Acts.{Refuses, answer_of}
+use Rattle.editor.specs.Answers.{state_reply}
 use Rattle.editor.specs.Refusals.{refusal_of_edit}
-use Rattle.editor.specs.Machine.{Machine, active_of, with_active, Refuses, StepOfLine}
+use Rattle.editor.specs.Machine.{Machine, Workspace, active_of, with_active}
+use Rattle.editor.specs.Steps.{Rule, OnFiles, OnDocuments, OnActive, Edits, rule_of, Step}
 
 -- what a planned edit does
 abbrev pub edit_change : Edit → Change
@@ -59,11 +61,10 @@ FitsPlan m planned.Quiet = ⊤
 FitsPlan m (planned.Reply reply) = ⊤
 FitsPlan m (planned.Push edit) = FitsActive (active_of m) (edit_change edit)
 
--- ---- over one document
--- a refusal has left the history as it was
-abbrev pub KeepsHistory : Reply → History → History → Type 0
-KeepsHistory (replies.Refused refusal) h n = n ≡ h
-KeepsHistory reply h n = ⊤
+-- a refusal has left all as it was
+abbrev pub KeepsReply : {S : Type 0} → Reply → S → S → Type 0
+KeepsReply (replies.Refused refusal) old new = new ≡ old
+KeepsReply reply old new = ⊤
 
 -- the plan of a line that is refused
 abbrev pub refused : Refusal → Planned
@@ -74,47 +75,40 @@ abbrev pub plan_of : Result Edit EditFault → Planned
 plan_of (Ok edit) = planned.Push edit
 plan_of (Err fault) = refused (refusal_of_edit fault)
 
+-- ---- over one document
 -- the plan of an edit: its command, whose step is the answer, or its refusal, or want of memory
-abbrev pub PlansEdit : Result Step Refusal → DocumentParts → Planned → Type 0
+abbrev pub PlansEdit : Result histories.Step Refusal → DocumentParts → Planned → Type 0
 PlansEdit answer d planned.Quiet = ⊥
 PlansEdit answer d (planned.Reply reply) =
     (reply ≡ replies.Refused refusals.NoMemory) ⊎ ((refusal : Refusal) × (answer ≡ Err refusal) × (reply ≡ replies.Refused refusal))
 PlansEdit answer d (planned.Push edit) = (answer ≡ Ok (step_of (edit_change edit) d)) × FitsDocument d (edit_change edit)
 
--- the plan of a line that is an edit, and none of another
-abbrev pub PlansLine : Option (DocumentParts → Result Step Refusal) → DocumentParts → Option Planned → Type 0
-PlansLine None d None = ⊤
-PlansLine None d (Some plan) = ⊥
-PlansLine (Some edit) d None = ⊥
-PlansLine (Some edit) d (Some plan) = PlansEdit (edit d) d plan
+-- a line about the active document
+abbrev pub IsOfActive : Rule → Type 0
+IsOfActive (OnFiles act) = ⊥
+IsOfActive (OnDocuments act) = ⊥
+IsOfActive (OnActive act) = ⊤
+IsOfActive (Edits names edit) = ⊤
 
--- the command's step is that of the line
-abbrev pub IsEditBy : Option (DocumentParts → Result Step Refusal) → Option History → Change → Type 0
-IsEditBy None active c = ⊥
-IsEditBy (Some edit) None c = ⊥
-IsEditBy (Some edit) (Some h) c = edit (current h) ≡ Ok (step_of c (current h))
-
-abbrev pub IsEditOf : Line → Option History → Change → Type 0
-IsEditOf line active c = IsEditBy (edit_of line) active c
-
--- what a plan over the active document says: the whole step of the line, or its edit, with nothing changed yet
-abbrev pub PlansOn : Line → History → Planned → History → Type 0
-PlansOn line h planned.Quiet n = ⊥
-PlansOn line h (planned.Reply reply) n = DocumentStep line h reply n × KeepsHistory reply h n
-PlansOn line h (planned.Push edit) n = (n ≡ h) × IsEditBy (edit_of line) (Some h) (edit_change edit) × FitsDocument (current h) (edit_change edit)
+-- what a plan says of the active document: its line is done, or it is an edit, with nothing changed yet
+abbrev pub PlansOn : Rule → History → Planned → History → Type 0
+PlansOn (OnActive act) h (planned.Reply reply) n = act h (Some reply) n × KeepsReply reply h n
+PlansOn (Edits names edit) h plan n = PlansEdit (answer_of names (edit (current h))) (current h) plan × (n ≡ h)
+PlansOn rule h plan n = ⊥
 
 -- ---- over the machine
+-- the line is an edit of the active document, and its step is the command's
+abbrev pub IsEditOf : Rule → Option History → Change → Type 0
+IsEditOf (Edits names edit) (Some h) c = answer_of names (edit (current h)) ≡ Ok (step_of c (current h))
+IsEditOf rule active c = ⊥
+
 -- what a plan says: the whole step of the line, or its edit, with nothing changed yet
-abbrev pub Plans : Line → Machine → StoreParts → Planned → Machine → StoreParts → Type 0
-Plans line old before planned.Quiet new after = StepOfLine line old before None new after
-Plans line old before (planned.Reply reply) new after = StepOfLine line old before (Some reply) new after
-Plans line old before (planned.Push edit) new after = (new ≡ old) × (after ≡ before) × IsEditOf line (active_of old) (edit_change edit)
+abbrev pub Plans : Line → Workspace → Planned → Workspace → Type 0
+Plans line old planned.Quiet new = Step line old None new
+Plans line old (planned.Reply reply) new = Step line old (Some reply) new
+Plans line old (planned.Push edit) new = (new ≡ old) × IsEditOf (rule_of line) (active_of old.machine) (edit_change edit)
 
 -- an edit or a refusal has left the machine as it was
-abbrev pub KeepsReply : Reply → Machine → Machine → Type 0
-KeepsReply (replies.Refused refusal) old new = new ≡ old
-KeepsReply reply old new = ⊤
-
 abbrev pub KeepsPlan : Planned → Machine → Machine → Type 0
 KeepsPlan planned.Quiet old new = new ≡ old
 KeepsPlan (planned.Reply reply) old new = KeepsReply reply old new

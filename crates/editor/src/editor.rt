@@ -3,8 +3,9 @@ ghost use Rattle.map_store.specs.Files.{StoreParts};
 ghost use Rattle.session.specs.Spelling.{CanBeSpelled};
 ghost use Rattle.undo_group.specs.Stacks.{group_of, AreHeld};
 ghost use Rattle.editor.specs.Editors.{machine_of, IsSound};
-ghost use Rattle.editor.specs.Machine.{OneDocument, active_of, scope_of, started_machine};
-ghost use Rattle.editor.specs.Planning.{Commits, FitsActive, FitsPlan, KeepsPlan, Plans};
+ghost use Rattle.editor.specs.Machine.{active_of, started_machine, workspace};
+ghost use Rattle.editor.specs.Steps.{rule_of};
+ghost use Rattle.editor.specs.Planning.{Commits, FitsActive, FitsPlan, IsOfActive, KeepsPlan, Plans};
 
 mod documents;
 mod files;
@@ -57,9 +58,7 @@ impl<C: Command> Editor<C> {
         requires sound { IsSound C.change self.old }
         requires spelled { CanBeSpelled line.now }
         ensures sound { IsSound C.change self.new }
-        ensures honest { S.honest store.old → S.honest store.new }
-        ensures plans { S.honest store.old → Plans line.now
-            (machine_of C.change self.old) (S.kept store.old) result (machine_of C.change self.new) (S.kept store.new) }
+        ensures plans { Plans line.now (workspace (machine_of C.change self.old) (S.kept store.old)) result (workspace (machine_of C.change self.new) (S.kept store.new)) }
         ensures kept { KeepsPlan result (machine_of C.change self.old) (machine_of C.change self.new) }
         ensures fits { FitsPlan (machine_of C.change self.new) result }
     {
@@ -100,9 +99,9 @@ impl<C: Command> Editor<C> {
     fn plan_on_active(&mut self, alloc: Global, line: &Line<'_>) -> Planned
         requires sound { IsSound C.change self.old }
         requires spelled { CanBeSpelled line.now }
-        requires scope { scope_of line.now ≡ OneDocument }
+        requires about { IsOfActive (rule_of line.now) }
         ensures sound { IsSound C.change self.new }
-        ensures plans { (kept : StoreParts) → Plans line.now (machine_of C.change self.old) kept result (machine_of C.change self.new) kept }
+        ensures plans { (kept : StoreParts) → Plans line.now (workspace (machine_of C.change self.old) kept) result (workspace (machine_of C.change self.new) kept) }
         ensures kept { KeepsPlan result (machine_of C.change self.old) (machine_of C.change self.new) }
         ensures fits { FitsPlan (machine_of C.change self.new) result }
     {

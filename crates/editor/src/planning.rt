@@ -1,30 +1,26 @@
 // The lines about the active document: those that are edits plan their command, and change nothing.
-ghost use Rattle.std.specs.Prelude.{◌≡◌, IfOk, Some};
+ghost use Rattle.std.specs.Prelude.{◌≡◌};
 ghost use Rattle.undo_stack.specs.Stacks.{history};
 ghost use Rattle.session.specs.Spelling.{CanBeSpelled};
-ghost use Rattle.session.specs.declared.line.Line.TheVariants as lines;
-ghost use Rattle.editor.specs.DocumentSteps.{cells_edit_of, edit_of};
 ghost use Rattle.editor.specs.Editors.{IsUnlimited};
-ghost use Rattle.editor.specs.Machine.{OneDocument, scope_of};
-ghost use Rattle.editor.specs.Planning.{PlansEdit, PlansLine, PlansOn, plan_of, refused};
+ghost use Rattle.editor.specs.Steps.{rule_of};
+ghost use Rattle.editor.specs.Planning.{IsOfActive, PlansOn, plan_of, refused};
 
-mod layers;
-mod objects;
-mod properties;
+mod edit_plans;
 
 use crate::planned::{Edit, Planned};
-use crate::planning::layers::plan_layers;
-use crate::planning::objects::plan_objects;
-use crate::planning::properties::plan_properties;
-use crate::refusal;
-use crate::steps::step;
+use crate::planning::edit_plans::{
+    SpelledBlock, plan_add_layer, plan_add_object, plan_add_tileset, plan_erase, plan_fill,
+    plan_move_layer, plan_move_object, plan_remove_layer, plan_remove_object, plan_remove_property,
+    plan_remove_tileset, plan_rename_layer, plan_resize, plan_resize_object, plan_select,
+    plan_set_property, plan_show_layer, plan_stamp,
+};
+use crate::steps::{moved, show, state_of, step_text};
+use crate::{refusal, tile};
 use command_api::{Command, EditFault};
-use edits::{Area, Block, Selecting};
-use map_model::Document;
-use paint_commands::{PaintCommand, SelectCommand};
-use session::{Gids, Line, Refusal, Reply};
-use std::alloc::{AllocError, Global};
-use tile_id::Gid;
+use edits::{Area, Selecting};
+use session::{Line, Refusal, Reply};
+use std::alloc::Global;
 use undo_stack::Stack;
 
 /// The plan of a line that is refused.
@@ -44,49 +40,45 @@ pub fn planned(edit: Result<Edit, EditFault>) -> Planned
     }
 }
 
-// The values of a line, one after another, for which room is taken once.
-fn collected(alloc: Global, values: &Gids<'_>) -> Result<Vec<Gid>, AllocError>
-    ensures { IfOk result (λ v. v.items ≡ values.now) }
+/// Plans a line about a document, the active one: an edit is left to be committed, and any other line is done.
+pub fn on_document<C: Command>(alloc: Global, stack: &mut Stack<C>, line: &Line<'_>) -> Planned
+    requires sound { IsUnlimited C.change stack.old }
+    requires spelled { CanBeSpelled line.now }
+    requires about { IsOfActive (rule_of line.now) }
+    ensures sound { IsUnlimited C.change stack.new }
+    ensures plans { PlansOn (rule_of line.now) (history C.change stack.old) result (history C.change stack.new) }
 {
-    let mut collected = Vec::with_capacity(alloc, values.len())?;
-    for value in values.values() {
-        collected.push(value)?;
-    }
-    Ok(collected)
-}
-
-// A stamp.
-fn plan_stamp(
-    alloc: Global,
-    document: &Document,
-    layer: u32,
-    x: i32,
-    y: i32,
-    width: u32,
-    values: &Gids<'_>,
-    follows: bool,
-) -> Planned
-    requires { CanBeSpelled (lines.Stamp layer x y width values.now follows) }
-    ensures { PlansLine (cells_edit_of (lines.Stamp layer x y width values.now follows)) document.now (Some result) }
-{
-    let Ok(values) = collected(alloc, values) else {
-        return refused(Refusal::NoMemory);
-    };
-    let block = Block {
-        x,
-        y,
-        width,
-        values: values.as_slice(),
-    };
-    planned(PaintCommand::stamp(alloc, document, layer, &block, follows).map(Edit::Paint))
-}
-
-// The plan of a line that edits cells or the selection, and none of another.
-fn plan_cells(alloc: Global, document: &Document, line: &Line<'_>) -> Option<Planned>
-    requires { CanBeSpelled line.now }
-    ensures { PlansLine (cells_edit_of line.now) document.now result }
-{
+    let document = stack.document();
     match line {
+        // Its history, and what it is.
+        Line::Undo => {
+            let answer = stack.undo();
+            Planned::Reply(moved(stack, answer))
+        }
+        Line::Redo => {
+            let answer = stack.redo();
+            Planned::Reply(moved(stack, answer))
+        }
+        Line::Goto { index } => {
+            let answer = stack.set_index(*index as usize);
+            Planned::Reply(moved(stack, answer))
+        }
+        Line::Clean => {
+            let answer = stack.set_clean();
+            Planned::Reply(moved(stack, answer))
+        }
+        Line::Dirty => {
+            stack.reset_clean();
+            Planned::Reply(state_of(stack))
+        }
+        Line::Clear => {
+            stack.clear();
+            Planned::Reply(state_of(stack))
+        }
+        Line::Show => Planned::Reply(show(alloc, document)),
+        Line::StepText { place } => Planned::Reply(step_text(alloc, stack, *place)),
+        Line::Tile { layer, x, y } => Planned::Reply(tile::reply(document.map(), *layer, *x, *y)),
+        // Cells and the selection.
         Line::Stamp {
             layer,
             x,
@@ -94,7 +86,21 @@ fn plan_cells(alloc: Global, document: &Document, line: &Line<'_>) -> Option<Pla
             width,
             values,
             follows,
-        } => Some(plan_stamp(alloc, document, *layer, *x, *y, *width, values, *follows)),
+        } => {
+            let (x, y, width) = (*x, *y, *width);
+            plan_stamp(
+                alloc,
+                document,
+                *layer,
+                &SpelledBlock {
+                    x,
+                    y,
+                    width,
+                    values,
+                },
+                *follows,
+            )
+        }
         Line::Erase {
             layer,
             x,
@@ -103,19 +109,21 @@ fn plan_cells(alloc: Global, document: &Document, line: &Line<'_>) -> Option<Pla
             height,
             follows,
         } => {
-            let area = Area {
-                x: *x,
-                y: *y,
-                width: *width,
-                height: *height,
-            };
-            let edit = PaintCommand::erase(alloc, document, *layer, &area, *follows);
-            Some(planned(edit.map(Edit::Paint)))
+            let (x, y, width, height) = (*x, *y, *width, *height);
+            plan_erase(
+                alloc,
+                document,
+                *layer,
+                &Area {
+                    x,
+                    y,
+                    width,
+                    height,
+                },
+                *follows,
+            )
         }
-        Line::Fill { layer, x, y, value } => {
-            let edit = PaintCommand::fill(alloc, document, *layer, *x, *y, *value);
-            Some(planned(edit.map(Edit::Paint)))
-        }
+        Line::Fill { layer, x, y, value } => plan_fill(alloc, document, *layer, *x, *y, *value),
         Line::Select {
             mode,
             x,
@@ -123,57 +131,75 @@ fn plan_cells(alloc: Global, document: &Document, line: &Line<'_>) -> Option<Pla
             width,
             height,
         } => {
+            let (mode, x, y, width, height) = (*mode, *x, *y, *width, *height);
             let area = Area {
-                x: *x,
-                y: *y,
-                width: *width,
-                height: *height,
+                x,
+                y,
+                width,
+                height,
             };
-            let selecting = Selecting::Rectangle { mode: *mode, area };
-            let edit = SelectCommand::new(alloc, document, selecting);
-            Some(planned(edit.map(Edit::Select)))
+            plan_select(alloc, document, Selecting::Rectangle { mode, area })
         }
-        Line::SelectNone => {
-            let edit = SelectCommand::new(alloc, document, Selecting::Nothing);
-            Some(planned(edit.map(Edit::Select)))
+        Line::SelectNone => plan_select(alloc, document, Selecting::Nothing),
+        // Layers and the map's size.
+        Line::AddLayer { kind, name } => plan_add_layer(alloc, document, *kind, name),
+        Line::RemoveLayer { layer } => plan_remove_layer(document, *layer),
+        Line::RenameLayer { layer, name } => plan_rename_layer(alloc, document, *layer, name),
+        Line::ShowLayer { layer, visible } => plan_show_layer(document, *layer, *visible),
+        Line::MoveLayer { layer, place } => plan_move_layer(document, *layer, *place),
+        Line::Resize {
+            width,
+            height,
+            dx,
+            dy,
+        } => plan_resize(alloc, document, *width, *height, *dx, *dy),
+        // Objects.
+        Line::AddObject {
+            layer,
+            x,
+            y,
+            width,
+            height,
+            name,
+        } => {
+            let (x, y, width, height) = (*x, *y, *width, *height);
+            plan_add_object(
+                alloc,
+                document,
+                *layer,
+                &Area {
+                    x,
+                    y,
+                    width,
+                    height,
+                },
+                name,
+            )
         }
-        _ => None,
-    }
-}
-
-/// The plan of a line that is an edit, and none of another.
-fn plan_edit(alloc: Global, document: &Document, line: &Line<'_>) -> Option<Planned>
-    requires { CanBeSpelled line.now }
-    ensures { PlansLine (edit_of line.now) document.now result }
-{
-    if let Some(plan) = plan_cells(alloc, document, line) {
-        return Some(plan);
-    }
-    if let Some(plan) = plan_layers(alloc, document, line) {
-        return Some(plan);
-    }
-    if let Some(plan) = plan_objects(alloc, document, line) {
-        return Some(plan);
-    }
-    plan_properties(alloc, document, line)
-}
-
-/// Plans a line about a document, the active one: an edit is left to be committed, and any other line is done.
-pub fn on_document<C: Command>(alloc: Global, stack: &mut Stack<C>, line: &Line<'_>) -> Planned
-    requires sound { IsUnlimited C.change stack.old }
-    requires spelled { CanBeSpelled line.now }
-    requires scope { scope_of line.now ≡ OneDocument }
-    ensures sound { IsUnlimited C.change stack.new }
-    ensures plans { PlansOn line.now (history C.change stack.old) result (history C.change stack.new) }
-{
-    match line {
-        // Those of most sessions, which are no edits.
-        Line::Tile { .. } | Line::Undo | Line::Redo | Line::Goto { .. } => {
-            Planned::Reply(step(alloc, stack, line))
+        Line::MoveObject {
+            object,
+            x,
+            y,
+            follows,
+        } => plan_move_object(document, *object, *x, *y, *follows),
+        Line::ResizeObject {
+            object,
+            width,
+            height,
+        } => plan_resize_object(document, *object, *width, *height),
+        Line::RemoveObject { object } => plan_remove_object(document, *object),
+        // Properties and tilesets.
+        Line::SetProperty {
+            owner,
+            name,
+            value,
+            follows,
+        } => plan_set_property(alloc, document, *owner, name, value, *follows),
+        Line::RemoveProperty { owner, name } => plan_remove_property(document, *owner, name),
+        Line::AddTileset { first_id, source } => {
+            plan_add_tileset(alloc, document, *first_id, source)
         }
-        _ => match plan_edit(alloc, stack.document(), line) {
-            Some(plan) => plan,
-            None => Planned::Reply(step(alloc, stack, line)),
-        },
+        Line::RemoveTileset { first_id } => plan_remove_tileset(document, *first_id),
+        _ => unreachable!(),
     }
 }

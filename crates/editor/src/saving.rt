@@ -1,9 +1,10 @@
-ghost use Rattle.std.specs.Prelude.{◌≡◌, ◌≤◌, length};
+ghost use Rattle.std.specs.Prelude.{◌≡◌, ◌≤◌, length, Some};
 ghost use Rattle.undo_stack.specs.Stacks.{history};
-ghost use Rattle.session.specs.Words.{file_name_limit};
+ghost use Rattle.session.specs.declared.limits.TheConstants.{MAX_FILE_NAME};
 ghost use Rattle.editor.specs.Editors.{IsUnlimited};
-ghost use Rattle.editor.specs.DocumentSteps.{SavesDocument};
-ghost use Rattle.editor.specs.Planning.{KeepsHistory};
+ghost use Rattle.map_store.specs.Files.{SameOthers};
+ghost use Rattle.editor.specs.Acts.{OrNoMemoryForFile, OrStoreFails, OutsideMacros, Saves};
+ghost use Rattle.editor.specs.Planning.{KeepsReply};
 
 use crate::refusal;
 use command_api::Command;
@@ -21,11 +22,11 @@ pub fn save_document<C: Command, S: MapStore>(
     file: &Text<'_>,
 ) -> Reply
     requires sound { IsUnlimited C.change stack.old }
-    requires short { length file.now ≤ file_name_limit }
+    requires short { length file.now ≤ MAX_FILE_NAME }
     ensures sound { IsUnlimited C.change stack.new }
-    ensures honest { S.honest store.old → S.honest store.new }
-    ensures saves { S.honest store.old → SavesDocument file.now (history C.change stack.old) (S.kept store.old) result (history C.change stack.new) (S.kept store.new) }
-    ensures kept { KeepsHistory result (history C.change stack.old) (history C.change stack.new) }
+    ensures saves { OutsideMacros (OrStoreFails (SameOthers file.now) (OrNoMemoryForFile (Saves file.now)))
+        (S.kept store.old) (S.kept store.new) (history C.change stack.old) (Some result) (history C.change stack.new) }
+    ensures kept { KeepsReply result (history C.change stack.old) (history C.change stack.new) }
 {
     if stack.depth() > 0 {
         return Reply::Refused(Refusal::MacroOpen);

@@ -1,6 +1,6 @@
 // The reply to a look at a cell.
 ghost use Rattle.std.specs.Prelude.{◌≡◌};
-ghost use Rattle.editor.specs.DocumentSteps.{local_tile, tile_reply};
+ghost use Rattle.editor.specs.Answers.{cell_value, local_tile, tile_reply};
 
 use crate::refusal;
 use edits::tiles_of_layer;
@@ -19,18 +19,31 @@ fn local_tile(map: &Map, value: Gid) -> Option<LocalTile>
     })
 }
 
+// The value of a cell, where these are the values of its layer.
+fn cell_value(map: &Map, tiles: &[Gid], x: i32, y: i32) -> Option<Gid>
+    ensures { result ≡ cell_value map.now tiles.now x y }
+{
+    let parts = map.parts();
+    let x = u32::try_from(x).ok()?;
+    let y = u32::try_from(y).ok()?;
+    if x >= parts.width || y >= parts.height {
+        return None;
+    }
+    tiles
+        .get(y as usize * parts.width as usize + x as usize)
+        .copied()
+}
+
 /// The value of a cell, its flags and its tileset; refused where there is no such layer, where it is not a tile
 /// layer, and where the cell lies outside the map.
 pub fn reply(map: &Map, layer: u32, x: i32, y: i32) -> Reply
     ensures { result ≡ tile_reply map.now layer x y }
 {
-    if let Err(fault) = tiles_of_layer(map, layer) {
-        return Reply::Refused(refusal::of_edit(fault));
-    }
-    let (Ok(x), Ok(y)) = (u32::try_from(x), u32::try_from(y)) else {
-        return Reply::Refused(Refusal::OutsideTheMap);
+    let tiles = match tiles_of_layer(map, layer) {
+        Ok(tiles) => tiles,
+        Err(fault) => return Reply::Refused(refusal::of_edit(fault)),
     };
-    let Some(value) = map.cell(layer, x, y) else {
+    let Some(value) = cell_value(map, tiles, x, y) else {
         return Reply::Refused(Refusal::OutsideTheMap);
     };
     if value.is_empty() {

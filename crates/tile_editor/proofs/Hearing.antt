@@ -1,23 +1,26 @@
 -- How a run goes on.
-use Rattle.std.proofs.Common.{◌≡◌, ℕ, ◌+◌, ◌^◌, ◌≤◌, List, [], ◌∷◌, ◌++◌, length, Option, Some, None, Err, refl, sym, ap, subst, ◌∙◌, inl, inr, ◌⊎◌, append_assoc, arith}
+use Rattle.std.proofs.Common.{◌≡◌, ◌≢◌, ℕ, ◌+◌, ◌^◌, ◌≤◌, List, [], ◌∷◌, ◌++◌, length, Option, Some, None, Err, refl, sym, ap, subst, ◌∙◌, inl, inr, ◌⊎◌, append_assoc, arith}
 use Rattle.std.specs.Prelude.{option_to_list, IfSome}
-use Rattle.std.specs.Io.KnownBytes.{Appends, Keeps}
-use Rattle.std.proofs.lemmas.Bool.{le-leb}
+use Rattle.std.specs.Io.KnownBytes.{Appends, Keeps, prepend_known}
+use Rattle.std.proofs.lemmas.Bool.{lt-ltb}
 use Rattle.std.proofs.lemmas.List.{append-nil, length-append}
+use Rattle.std.proofs.lemmas.List.Elements.{All-append}
 use Rattle.std.proofs.lemmas.Grind.{flat_map-append}
 use Rattle.lines.specs.declared.reader.Found.{Found}
 use Rattle.lines.specs.declared.reader.Found.TheVariants as found
-use Rattle.lines.specs.Lines.{lines_of, FindsLine}
+use Rattle.lines.specs.Lines.{lines_of, FindsLine, HasNoNewline, StopsInLine}
+use Rattle.session.specs.declared.limits.TheConstants.{MAX_LINE}
 use Rattle.session.specs.declared.line.LineFault.TheVariants.{TooLong}
 use Rattle.session.specs.declared.reply.Reply.{Reply}
 use Rattle.session.specs.Grammar.{line_of}
-use Rattle.editor.specs.Machine.{StepIn, Workspace}
-use Rattle.tile_editor.specs.Runs.{Run, Told, Goes, StepFound, Partly, RunsAll, RunsSome, RunsToWrite, output, reply_line}
+use Rattle.editor.specs.Machine.{Workspace}
+use Rattle.editor.specs.Steps.{StepIn}
+use Rattle.tile_editor.specs.Runs.{Run, Told, Goes, StepFound, TakesPart, RunsAll, RunsSome, RunsToRead, RunsToWrite, output, reply_line}
 use Rattle.tile_editor.proofs.Appending.{appends_more, appends_nothing}
 
 pub too_long : (long : List ℕ) → 2 ^ 16 ≤ length long → line_of long ≡ Err TooLong
 unfolding line_of
-too_long long h = rw (le-leb (2 ^ 16) (length long) h) refl
+too_long long h = rw (lt-ltb MAX_LINE (length long) (omega (arith, h))) refl
 
 run_more : (heard : List (List ℕ)) (line : List ℕ) (from now mid : Workspace) (replies : List Reply) (reply : Option Reply) → Run from heard replies now → StepIn line now reply mid
     → Run from (heard ++ line ∷ []) (replies ++ option_to_list reply) mid
@@ -88,14 +91,32 @@ module _ (start : Workspace) where
   goes_all (Some input) (Some xs) None line now before after n k g l = absurd l
   goes_all (Some input) (Some xs) (Some ys) line now before after n k g l = record { now = now.machine; told = retold input _ _ now before after n k l.0 g }
 
-  pub goes_read : (known left : Option (List ℕ)) (now : Workspace) (before after : Option (List ℕ)) (n k : ℕ) → Goes start known left now before after n k
+  -- a part of a line had come, and the reader has the rest
+  pub goes_read : (known left left' reader : Option (List ℕ)) (pending : List ℕ) (now : Workspace) (before after : Option (List ℕ)) (n k : ℕ) → Goes start known left now before after n k
+      → StopsInLine left left' → left' ≡ prepend_known pending reader → HasNoNewline pending → IfSome known (λ input. RunsToRead start input reader before after now.kept)
+  goes_read None left left' reader pending now before after n k g l e h = tt
+  goes_read (Some input) None left' reader pending now before after n k g l e h = absurd g
+  goes_read (Some input) (Some xs) None reader pending now before after n k g l e h = absurd l
+  goes_read (Some input) (Some xs) (Some ys) None pending now before after n k g l e h = absurd cc
+  goes_read (Some input) (Some xs) (Some ys) (Some rest) pending now before after n k g l e h =
+      let same : ys ≡ pending ++ rest = cc in
+      let whole : xs ≡ (l.0 ++ pending) ++ rest = l.2 ∙ ap (λ zs. l.0 ++ zs) same ∙ sym (append_assoc l.0 pending rest) in
+      record {
+        part = l.0 ++ pending;
+        rest = rest;
+        unfinished = All-append (λ b. b ≢ 10) l.0 pending l.1 h;
+        unread = refl;
+        runs = record { now = now.machine; lines = n; replied = k; told = retold input _ _ now before after n k (ap lines_of whole) g };
+      }
+
+  goes_some : (known left : Option (List ℕ)) (now : Workspace) (before after : Option (List ℕ)) (n k : ℕ) → Goes start known left now before after n k
       → IfSome known (λ input. RunsSome start input before after now.kept)
-  goes_read None left now before after n k g = tt
-  goes_read (Some input) None now before after n k g = absurd g
-  goes_read (Some input) (Some xs) now before after n k g = record { now = now.machine; left = lines_of xs; lines = n; replied = k; told = g }
+  goes_some None left now before after n k g = tt
+  goes_some (Some input) None now before after n k g = absurd g
+  goes_some (Some input) (Some xs) now before after n k g = record { left = lines_of xs; runs = record { now = now.machine; lines = n; replied = k; told = g } }
 
   goes_write : (known left left' : Option (List ℕ)) (f : Found) (line : List ℕ) (mid now : Workspace) (reply : Reply) (before after after' : Option (List ℕ)) (n k : ℕ)
-      → Goes start known left mid before after n k → FindsLine left left' (Some f) line → StepFound f line mid (Some reply) now → Partly after after'
+      → Goes start known left mid before after n k → FindsLine left left' (Some f) line → StepFound f line mid (Some reply) now → TakesPart (reply_line reply) after after'
       → IfSome known (λ input. RunsToWrite start input before after' now.kept)
   goes_write None left left' f line mid now reply before after after' n k g l s w = tt
   goes_write (Some input) None left' f line mid now reply before after after' n k g l s w = absurd g
@@ -137,7 +158,7 @@ module _ (start : Workspace) where
 
   -- the reply to a line could not be written
   pub goes_unwritten : (known left left' : Option (List ℕ)) (f : Found) (line : List ℕ) (mid now : Workspace) (reply : Reply) (before after after' : Option (List ℕ)) (n k : ℕ)
-      → Goes start known left mid before after n k → FindsLine left left' (Some f) line → StepFound f line mid (Some reply) now → Partly after after'
+      → Goes start known left mid before after n k → FindsLine left left' (Some f) line → StepFound f line mid (Some reply) now → TakesPart (reply_line reply) after after'
       → IfSome known (λ input. RunsSome start input before after' now.kept ⊎ RunsToWrite start input before after' now.kept)
   goes_unwritten known left left' f line mid now reply before after after' n k g l s w =
       or_right _ _ known (goes_write known left left' f line mid now reply before after after' n k g l s w)
@@ -145,7 +166,7 @@ module _ (start : Workspace) where
   -- the replies could not be flushed
   pub goes_unflushed : (known left : Option (List ℕ)) (now : Workspace) (before after : Option (List ℕ)) (n k : ℕ) → Goes start known left now before after n k
       → IfSome known (λ input. RunsSome start input before after now.kept ⊎ RunsToWrite start input before after now.kept)
-  goes_unflushed known left now before after n k g = or_left _ _ known (goes_read known left now before after n k g)
+  goes_unflushed known left now before after n k g = or_left _ _ known (goes_some known left now before after n k g)
 
   kept_appends : (a b c : Option (List ℕ)) (xs : List ℕ) → Appends a b xs → Keeps b c → Appends a c xs
   kept_appends None b c xs h k = tt

@@ -5,7 +5,7 @@ use Rattle.std.specs.Io.KnownBytes.{Appends}
 use Rattle.command_api.specs.Law.{Change, IsSame}
 use Rattle.lines.specs.declared.reader.Found.{Found}
 use Rattle.lines.specs.declared.reader.Found.TheVariants as found
-use Rattle.lines.specs.Lines.{lines_of}
+use Rattle.lines.specs.Lines.{lines_of, HasNoNewline}
 use Rattle.session.specs.declared.line.Line.{Line}
 use Rattle.session.specs.declared.line.LineFault.{LineFault}
 use Rattle.session.specs.declared.reply.Reply.{Reply}
@@ -15,9 +15,11 @@ use Rattle.session.specs.Replies.{reply_text}
 use Rattle.editor.specs.declared.planned.Planned.{Planned}
 use Rattle.editor.specs.declared.planned.Planned.TheVariants as planned
 use Rattle.editor.specs.declared.planned.Edit.{Edit}
-use Rattle.editor.specs.Machine.{Machine, Refuses, StepIn, Workspace, workspace}
+use Rattle.editor.specs.Acts.{Refuses}
+use Rattle.editor.specs.Machine.{Machine, Workspace, workspace}
 use Rattle.map_store.specs.Files.{StoreParts}
 use Rattle.editor.specs.Planning.{Plans, edit_change}
+use Rattle.editor.specs.Steps.{StepIn}
 
 -- what may be replied to lines, one after another, and where they lead
 abbrev pub Run : Workspace → List (List ℕ) → List Reply → Workspace → Type 0
@@ -32,9 +34,9 @@ reply_line reply = reply_text reply ++ 10 ∷ []
 abbrev pub output : List Reply → List ℕ
 output replies = flat_map reply_line replies
 
--- the writer took some bytes
-abbrev pub Partly : Option (List ℕ) → Option (List ℕ) → Type 0
-Partly before after = (part : List ℕ) × Appends before after part
+-- the writer took a first part of the bytes, and not the rest
+abbrev pub TakesPart : List ℕ → Option (List ℕ) → Option (List ℕ) → Type 0
+TakesPart bytes before after = (part : List ℕ) × (rest : List ℕ) × (bytes ≡ part ++ rest) × Appends before after part
 
 -- Some lines of the input were heard, and these are left. The run began at `start` and stands at `now`, and the writer, whose
 -- contents went from `before` to `after`, has the replies to the lines that were heard.
@@ -52,15 +54,28 @@ pub record RunsAll (start : Workspace) (input : List ℕ) (before after : Option
   pub now : Machine
   pub told : Told start input [] (workspace now kept) before after lines replied
 
--- some lines were heard, each is done, files and all, and each reply is written whole
-pub record RunsSome (start : Workspace) (input : List ℕ) (before after : Option (List ℕ)) (kept : StoreParts) : Type 0 where
+-- the lines were heard but for these, each is done, files and all, and each reply is written whole
+pub record RunsUpTo (left : List (List ℕ)) (start : Workspace) (input : List ℕ) (before after : Option (List ℕ)) (kept : StoreParts) : Type 0 where
   pub now : Machine
-  pub left : List (List ℕ)
   pub lines : ℕ
   pub replied : ℕ
   pub told : Told start input left (workspace now kept) before after lines replied
 
--- some lines were heard, and one more, whose step is done, files and all, and to which the reply is not whole
+-- some lines were heard
+pub record RunsSome (start : Workspace) (input : List ℕ) (before after : Option (List ℕ)) (kept : StoreParts) : Type 0 where
+  pub left : List (List ℕ)
+  pub runs : RunsUpTo left start input before after kept
+
+-- All lines were heard before the one that had not come whole: what came of that one has no newline, and the rest of the input the
+-- reader still has.
+pub record RunsToRead (start : Workspace) (input : List ℕ) (reader : Option (List ℕ)) (before after : Option (List ℕ)) (kept : StoreParts) : Type 0 where
+  pub part : List ℕ
+  pub rest : List ℕ
+  pub unfinished : HasNoNewline part
+  pub unread : reader ≡ Some rest
+  pub runs : RunsUpTo (lines_of (part ++ rest)) start input before after kept
+
+-- some lines were heard, and one more, whose step is done, files and all, and of the reply to which a first part is written
 pub record RunsToWrite (start : Workspace) (input : List ℕ) (before after : Option (List ℕ)) (kept : StoreParts) : Type 0 where
   pub mid : Workspace
   pub line : List ℕ
@@ -72,7 +87,7 @@ pub record RunsToWrite (start : Workspace) (input : List ℕ) (before after : Op
   pub reply : Reply
   pub now : Machine
   pub step : StepIn line mid (Some reply) (workspace now kept)
-  pub part : Partly written after
+  pub part : TakesPart (reply_line reply) written after
 
 -- ---- within a run
 -- where the input is known, some lines of it were heard, and those of `left` are left
@@ -83,9 +98,9 @@ Goes start (Some input) (Some left) now before after lines replied = Told start 
 
 -- what the bytes of a line may do, where an edit is only planned
 abbrev pub PlansRead : Result Line LineFault → Workspace → Planned → Workspace → Type 0
-PlansRead (Ok line) old plan new = Plans line old.machine old.kept plan new.machine new.kept
+PlansRead (Ok line) old plan new = Plans line old plan new
 PlansRead (Err fault) old planned.Quiet new = ⊥
-PlansRead (Err fault) old (planned.Reply reply) new = Refuses (refusals.Line fault) old.machine (Some reply) new.machine × (new.kept ≡ old.kept)
+PlansRead (Err fault) old (planned.Reply reply) new = Refuses (refusals.Line fault) old (Some reply) new
 PlansRead (Err fault) old (planned.Push edit) new = ⊥
 
 -- a fact on the bytes of the line that was found; of a long one only its length is known

@@ -1,10 +1,9 @@
 ghost use Rattle.std.specs.Prelude.{◌≡◌, Option, IsErrOf, IfOk, IfSome, ◌⊎◌};
-ghost use Rattle.lines.specs.Lines.{lines_of};
 ghost use Rattle.editor.specs.declared.planned.Edit.{Edit};
 ghost use Rattle.editor.specs.Editors.{IsSound, machine_of};
 ghost use Rattle.editor.specs.Machine.{started_machine, workspace};
 ghost use Rattle.editor.specs.Planning.{FitsPlan};
-ghost use Rattle.tile_editor.specs.Runs.{PlansFound, PutsSame, RunsAll, RunsSome, RunsToWrite, StepFound};
+ghost use Rattle.tile_editor.specs.Runs.{PlansFound, PutsSame, RunsAll, RunsSome, RunsToRead, RunsToWrite, StepFound};
 
 use crate::writing::{flush_if, write_reply};
 use arrayvec::ArrayString;
@@ -48,8 +47,7 @@ fn plan_found<C: Command, S: MapStore>(
 ) -> Planned
     requires { IsSound C.change editor.old }
     ensures sound { IsSound C.change editor.new }
-    ensures honest { S.honest store.old → S.honest store.new }
-    ensures plans { S.honest store.old → PlansFound found line.now
+    ensures plans { PlansFound found line.now
         (workspace (machine_of C.change editor.old) (S.kept store.old)) result (workspace (machine_of C.change editor.new) (S.kept store.new)) }
     ensures fits { FitsPlan (machine_of C.change editor.new) result }
 {
@@ -71,20 +69,19 @@ fn boxed<K: Command>(alloc: Global, command: K) -> Option<Box<K>>
 
 // Hears a line that was found: the reply to it, and none to a quiet one. What it plans is put into a command and
 // committed.
-fn hear<C: Command, S: MapStore, F: FnOnce(Edit) -> Option<C>>(
+fn hear<C: Command, S: MapStore, F: Fn(Edit) -> Option<C>>(
     alloc: Global,
     editor: &mut Editor<C>,
     store: &mut S,
     found: Found,
     line: &[u8],
-    put: F,
+    put: &F,
 ) -> Option<Reply>
     requires sound { IsSound C.change editor.old }
-    requires callable { F.IsAlwaysCallable put }
-    requires same { (edit : Edit) (command : Option C) → F.post put edit command → PutsSame C.change edit command }
+    requires callable { F.IsAlwaysCallable put.now }
+    requires same { (edit : Edit) (command : Option C) → F.post put.now edit command → PutsSame C.change edit command }
     ensures sound { IsSound C.change editor.new }
-    ensures honest { S.honest store.old → S.honest store.new }
-    ensures step { S.honest store.old → StepFound found line.now
+    ensures step { StepFound found line.now
         (workspace (machine_of C.change editor.old) (S.kept store.old)) result (workspace (machine_of C.change editor.new) (S.kept store.new)) }
 {
     match plan_found(alloc, editor, store, found, line) {
@@ -97,11 +94,63 @@ fn hear<C: Command, S: MapStore, F: FnOnce(Edit) -> Option<C>>(
     }
 }
 
+// Hears all lines and writes the replies, from how an editor stands on. What a line plans is put into a command by `put`.
+fn hear_all<C: Command, R: Read, W: Write, S: MapStore, F: Fn(Edit) -> Option<C>>(
+    alloc: Global,
+    mut editor: Editor<C>,
+    reader: &mut R,
+    writer: &mut W,
+    store: &mut S,
+    put: F,
+) -> Result<Summary, RunFault>
+    requires sound { IsSound C.change editor }
+    requires callable { F.IsAlwaysCallable put }
+    requires same { (edit : Edit) (command : Option C) → F.post put edit command → PutsSame C.change edit command }
+    ensures ok { IfOk result (λ summary. IfSome (R.remaining reader.old) (λ input.
+        RunsAll (workspace (machine_of C.change editor) (S.kept store.old)) input (W.contents writer.old) (W.contents writer.new) (S.kept store.new)
+        summary.lines summary.replies)) }
+    ensures read { IsErrOf result RunFault.Read → IfSome (R.remaining reader.old) (λ input.
+        RunsToRead (workspace (machine_of C.change editor) (S.kept store.old)) input (R.remaining reader.new) (W.contents writer.old) (W.contents writer.new) (S.kept store.new)) }
+    ensures write { IsErrOf result RunFault.Write → IfSome (R.remaining reader.old) (λ input.
+        RunsSome (workspace (machine_of C.change editor) (S.kept store.old)) input (W.contents writer.old) (W.contents writer.new) (S.kept store.new)
+        ⊎ RunsToWrite (workspace (machine_of C.change editor) (S.kept store.old)) input (W.contents writer.old) (W.contents writer.new) (S.kept store.new)) }
+    ensures memory { IsErrOf result RunFault.Memory → (writer.new ≡ writer.old) × (reader.new ≡ reader.old) × (store.new ≡ store.old) }
+{
+    let Ok(mut lines) = LineReader::new(alloc) else {
+        return Err(RunFault::Memory);
+    };
+    let mut head = ArrayString::<512>::new();
+    let mut summary = Summary {
+        lines: 0,
+        replies: 0,
+    };
+    'session: loop {
+        // What was written is shown before a read may wait.
+        if flush_if(writer, !lines.has_line()).is_err() {
+            return Err(RunFault::Write);
+        }
+        let found = match lines.next(reader) {
+            Ok(Some(found)) => found,
+            Ok(None) => return Ok(summary),
+            Err(_) => return Err(RunFault::Read),
+        };
+        summary.lines += 1;
+        let Some(reply) = hear(alloc, &mut editor, store, found, lines.line(), &put) else {
+            continue 'session;
+        };
+        if write_reply(writer, &mut head, reply).is_err() {
+            return Err(RunFault::Write);
+        }
+        summary.replies += 1;
+    }
+}
+
 /// Reads session lines to the end of the input, and writes a reply to each but the quiet ones. The maps that lines open
 /// and save are files of the store. The limit is the undo limit of each document when it is made: 0, for none.
 ///
-/// Of a store that is honest, the replies and the files are those of the machine that keeps, for each open document, a
-/// history of whole documents. The writer is flushed before each read that may wait, and before an `Ok`.
+/// The replies are those of the machine that keeps, for each open document, a history of whole documents, and so are the
+/// files where the store is honest. Where it is not, it may find any bytes at an `open`, and nothing is said of its files.
+/// The writer is flushed before each read that may wait, and before an `Ok`.
 pub fn run<R: Read, W: Write, S: MapStore>(
     alloc: Global,
     reader: &mut R,
@@ -112,74 +161,47 @@ pub fn run<R: Read, W: Write, S: MapStore>(
     requires { limit ≡ 0 }
 
     // All lines of the input were heard, and the replies and the files are those of the machine.
-    ensures ok { S.honest store.old → IfOk result (λ summary. IfSome (R.remaining reader.old) (λ input.
+    ensures ok { IfOk result (λ summary. IfSome (R.remaining reader.old) (λ input.
         RunsAll (workspace (started_machine limit) (S.kept store.old)) input (W.contents writer.old) (W.contents writer.new) (S.kept store.new)
         summary.lines summary.replies)) }
 
-    // The lines that were heard before the fault are done, files and all, and the replies to them were written whole.
-    ensures read { S.honest store.old → IsErrOf result RunFault.Read → IfSome (R.remaining reader.old) (λ input.
-        RunsSome (workspace (started_machine limit) (S.kept store.old)) input (W.contents writer.old) (W.contents writer.new) (S.kept store.new)) }
+    // All lines before the one that had not come whole are done, files and all, and the replies to them were written whole.
+    // What came of that one and what the reader still has are the rest of the input.
+    ensures read { IsErrOf result RunFault.Read → IfSome (R.remaining reader.old) (λ input.
+        RunsToRead (workspace (started_machine limit) (S.kept store.old)) input (R.remaining reader.new) (W.contents writer.old) (W.contents writer.new) (S.kept store.new)) }
 
     // All lines that were heard are done, files and all, and all replies were written whole and could not be flushed; or all
-    // replies before the one that could not be written were written whole, and its line is done too.
-    ensures write { S.honest store.old → IsErrOf result RunFault.Write → IfSome (R.remaining reader.old) (λ input.
+    // replies before the one that could not be written were written whole, its line is done too, and of it a first part was
+    // written.
+    ensures write { IsErrOf result RunFault.Write → IfSome (R.remaining reader.old) (λ input.
         RunsSome (workspace (started_machine limit) (S.kept store.old)) input (W.contents writer.old) (W.contents writer.new) (S.kept store.new)
         ⊎ RunsToWrite (workspace (started_machine limit) (S.kept store.old)) input (W.contents writer.old) (W.contents writer.new) (S.kept store.new)) }
 
     // For the line buffer alone, and before anything was read or written.
     ensures memory { IsErrOf result RunFault.Memory → (writer.new ≡ writer.old) × (reader.new ≡ reader.old) × (store.new ≡ store.old) }
 {
-    let Ok(mut lines) = LineReader::new(alloc) else {
-        return Err(RunFault::Memory);
+    let editor: Editor<Box<dyn Command>> = Editor::new(alloc, limit);
+    // Each kind of command is boxed by its own type.
+    let put = |edit: Edit| -> Option<Box<dyn Command>>
+        ensures { PutsSame (λ command. change command) edit result }
+    {
+        match edit {
+            Edit::Paint(command) => Some(boxed(alloc, command)?),
+            Edit::AddLayer(command) => Some(boxed(alloc, command)?),
+            Edit::RemoveLayer(command) => Some(boxed(alloc, command)?),
+            Edit::RenameLayer(command) => Some(boxed(alloc, command)?),
+            Edit::ShowLayer(command) => Some(boxed(alloc, command)?),
+            Edit::MoveLayer(command) => Some(boxed(alloc, command)?),
+            Edit::Select(command) => Some(boxed(alloc, command)?),
+            Edit::ResizeMap(command) => Some(boxed(alloc, command)?),
+            Edit::AddObject(command) => Some(boxed(alloc, command)?),
+            Edit::RemoveObject(command) => Some(boxed(alloc, command)?),
+            Edit::PlaceObject(command) => Some(boxed(alloc, command)?),
+            Edit::SetProperty(command) => Some(boxed(alloc, command)?),
+            Edit::RemoveProperty(command) => Some(boxed(alloc, command)?),
+            Edit::AddTileset(command) => Some(boxed(alloc, command)?),
+            Edit::RemoveTileset(command) => Some(boxed(alloc, command)?),
+        }
     };
-    let mut editor: Editor<Box<dyn Command>> = Editor::new(alloc, limit);
-    let mut head = ArrayString::<512>::new();
-    let mut heard = 0u64;
-    let mut replies = 0u64;
-    'session: loop {
-        // What was written is shown before a read may wait.
-        if flush_if(writer, !lines.has_line()).is_err() {
-            return Err(RunFault::Write);
-        }
-        let found = match lines.next(reader) {
-            Ok(Some(found)) => found,
-            Ok(None) => {
-                return Ok(Summary {
-                    lines: heard,
-                    replies,
-                });
-            }
-            Err(_) => return Err(RunFault::Read),
-        };
-        heard += 1;
-        // Each kind of command is boxed by its own type.
-        let put = |edit: Edit| -> Option<Box<dyn Command>>
-            ensures { PutsSame (λ command. change command) edit result }
-        {
-            match edit {
-                Edit::Paint(command) => Some(boxed(alloc, command)?),
-                Edit::AddLayer(command) => Some(boxed(alloc, command)?),
-                Edit::RemoveLayer(command) => Some(boxed(alloc, command)?),
-                Edit::RenameLayer(command) => Some(boxed(alloc, command)?),
-                Edit::ShowLayer(command) => Some(boxed(alloc, command)?),
-                Edit::MoveLayer(command) => Some(boxed(alloc, command)?),
-                Edit::Select(command) => Some(boxed(alloc, command)?),
-                Edit::ResizeMap(command) => Some(boxed(alloc, command)?),
-                Edit::AddObject(command) => Some(boxed(alloc, command)?),
-                Edit::RemoveObject(command) => Some(boxed(alloc, command)?),
-                Edit::PlaceObject(command) => Some(boxed(alloc, command)?),
-                Edit::SetProperty(command) => Some(boxed(alloc, command)?),
-                Edit::RemoveProperty(command) => Some(boxed(alloc, command)?),
-                Edit::AddTileset(command) => Some(boxed(alloc, command)?),
-                Edit::RemoveTileset(command) => Some(boxed(alloc, command)?),
-            }
-        };
-        let Some(reply) = hear(alloc, &mut editor, store, found, lines.line(), put) else {
-            continue 'session;
-        };
-        if write_reply(writer, &mut head, reply).is_err() {
-            return Err(RunFault::Write);
-        }
-        replies += 1;
-    }
+    hear_all(alloc, editor, reader, writer, store, put)
 }

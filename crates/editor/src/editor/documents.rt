@@ -1,23 +1,24 @@
 // The lines about the open documents: a new one, one that goes or becomes the active one, and what stands open.
-ghost use Rattle.std.specs.Prelude.{◌≡◌, ◌↔◌, ◌⊎◌, ◌++◌, ◌∷◌, [], if◌then◌else◌, IsTrue, IsSome, IfOk, OnOk, Some, string_bytes};
+ghost use Rattle.std.specs.Prelude.{◌≡◌, ◌↔◌, ◌++◌, ◌∷◌, [], if◌then◌else◌, IsTrue, IfOk, OnOk, Some, string_bytes};
 ghost use Rattle.std.specs.Option.{option_copied};
 ghost use Rattle.map_model.specs.Document.{document_of};
 ghost use Rattle.map_model.specs.NewMap.{new_map};
 ghost use Rattle.map_model.specs.WellFormed.{IsSize, IsTileSize};
-ghost use Rattle.undo_group.specs.Groups.{IsNew, history_named, text_of_active};
+ghost use Rattle.undo_group.specs.Groups.{IsNew, removed};
 ghost use Rattle.undo_group.specs.Stacks.{group_of, AreHeld};
 ghost use Rattle.undo_stack.specs.History.{new_history};
 ghost use Rattle.undo_stack.specs.Reading.{redo_text_of, undo_text_of};
-ghost use Rattle.session.specs.declared.reply.Refusal.TheVariants as refusals;
 ghost use Rattle.session.specs.declared.reply.Reply.TheVariants as replies;
 ghost use Rattle.editor.specs.Editors.{machine_of, IsSound};
-ghost use Rattle.editor.specs.Machine.{active_of, documents_text, is_active, starred, status_reply, CloseStep, DiscardStep, NewStep, Opens, Refuses, UseStep};
+ghost use Rattle.editor.specs.Acts.{Answers, Closes, Creates, NotTaken, GoesOn, Named, OrNoMemory, Opens, TellsText, Uses};
+ghost use Rattle.editor.specs.Answers.{documents_text, is_active, starred, status_reply};
+ghost use Rattle.editor.specs.Machine.{active_of};
 ghost use Rattle.editor.specs.Planning.{KeepsReply};
 
 use crate::editor::Editor;
 use crate::steps::{state_of, text_reply};
 use command_api::Command;
-use map_model::{Document, Map, MapText};
+use map_model::{Document, Map, MapText, is_size, is_tile_size};
 use session::{Refusal, Reply, Text};
 use std::alloc::{AllocError, Global};
 use undo_group::Group;
@@ -37,11 +38,7 @@ impl Sizes {
     fn are_within_limits(self) -> bool
         ensures { IsTrue result ↔ (IsSize self.width self.height × IsTileSize self.tile_width self.tile_height) }
     {
-        (1..=4096).contains(&self.width)
-            && (1..=4096).contains(&self.height)
-            && self.width * self.height <= 1_048_576
-            && (1..=65_535).contains(&self.tile_width)
-            && (1..=65_535).contains(&self.tile_height)
+        is_size(self.width, self.height) && is_tile_size(self.tile_width, self.tile_height)
     }
 }
 
@@ -118,10 +115,8 @@ impl<C: Command> Editor<C> {
     ) -> Reply
         requires { IsSound C.change self.old }
         ensures sound { IsSound C.change self.new }
-        ensures step { NewStep (history_named name.now (machine_of C.change self.old).group.documents) name.now
-            sizes.width sizes.height sizes.tile_width sizes.tile_height source.now
-            (machine_of C.change self.old) (Some result) (machine_of C.change self.new)
-            ⊎ (IsNew name.now (machine_of C.change self.old).group.documents × Refuses refusals.NoMemory (machine_of C.change self.old) (Some result) (machine_of C.change self.new)) }
+        ensures step { NotTaken name.now (OrNoMemory (Creates name.now sizes.width sizes.height sizes.tile_width sizes.tile_height source.now))
+            (machine_of C.change self.old) (Some result) (machine_of C.change self.new) }
         ensures kept { KeepsReply result (machine_of C.change self.old) (machine_of C.change self.new) }
     {
         if self.group.get(name.as_str()).is_some() {
@@ -146,18 +141,15 @@ impl<C: Command> Editor<C> {
         requires sound { IsSound C.change self.old }
         requires new { IsNew name.now (machine_of C.change self.old).group.documents }
         ensures sound { IsSound C.change self.new }
-        ensures step { Opens name.now (new_history document (machine_of C.change self.old).limit) (machine_of C.change self.old) (Some result) (machine_of C.change self.new)
-            ⊎ Refuses refusals.NoMemory (machine_of C.change self.old) (Some result) (machine_of C.change self.new) }
+        ensures step { OrNoMemory (Opens name.now (new_history document (machine_of C.change self.old).limit))
+            (machine_of C.change self.old) (Some result) (machine_of C.change self.new) }
         ensures kept { KeepsReply result (machine_of C.change self.old) (machine_of C.change self.new) }
     {
         let stack = Stack::new(alloc, document, self.limit);
         let reply = state_of(&stack);
-        let Ok(()) = self.group.add(alloc, name.as_str(), stack) else {
-            return Reply::Refused(Refusal::NoMemory);
-        };
-        match self.group.set_active(Some(name.as_str())) {
+        match self.group.add_active(alloc, name.as_str(), stack) {
             Ok(()) => reply,
-            Err(_) => unreachable!(),
+            Err(_) => Reply::Refused(Refusal::NoMemory),
         }
     }
 
@@ -165,8 +157,7 @@ impl<C: Command> Editor<C> {
     pub(crate) fn close(&mut self, name: &Text<'_>) -> Reply
         requires { IsSound C.change self.old }
         ensures sound { IsSound C.change self.new }
-        ensures step { CloseStep (history_named name.now (machine_of C.change self.old).group.documents) name.now
-            (machine_of C.change self.old) (Some result) (machine_of C.change self.new) }
+        ensures step { Named name.now (Closes name.now) (machine_of C.change self.old) (Some result) (machine_of C.change self.new) }
         ensures kept { KeepsReply result (machine_of C.change self.old) (machine_of C.change self.new) }
     {
         if let Some(stack) = self.group.get(name.as_str()) {
@@ -181,8 +172,7 @@ impl<C: Command> Editor<C> {
     pub(crate) fn discard(&mut self, name: &Text<'_>) -> Reply
         requires { IsSound C.change self.old }
         ensures sound { IsSound C.change self.new }
-        ensures step { DiscardStep (history_named name.now (machine_of C.change self.old).group.documents) name.now
-            (machine_of C.change self.old) (Some result) (machine_of C.change self.new) }
+        ensures step { Named name.now (λ h. GoesOn (removed name.now)) (machine_of C.change self.old) (Some result) (machine_of C.change self.new) }
         ensures kept { KeepsReply result (machine_of C.change self.old) (machine_of C.change self.new) }
     {
         let Ok(_) = self.group.remove(name.as_str()) else {
@@ -195,7 +185,7 @@ impl<C: Command> Editor<C> {
     pub(crate) fn choose(&mut self, choice: &Option<Text<'_>>) -> Reply
         requires { IsSound C.change self.old }
         ensures sound { IsSound C.change self.new }
-        ensures step { UseStep choice.now (machine_of C.change self.old) (Some result) (machine_of C.change self.new) }
+        ensures step { Uses choice.now (machine_of C.change self.old) (Some result) (machine_of C.change self.new) }
         ensures kept { KeepsReply result (machine_of C.change self.old) (machine_of C.change self.new) }
     {
         let name = match choice {
@@ -212,7 +202,7 @@ impl<C: Command> Editor<C> {
     #[inline(never)]
     pub(crate) fn list(&self, alloc: Global) -> Reply
         requires { IsSound C.change self.now }
-        ensures { (result ≡ replies.Documents (documents_text (machine_of C.change self.now).group)) ⊎ (result ≡ replies.Refused refusals.NoMemory) }
+        ensures { OrNoMemory (Answers λ m. replies.Documents (documents_text m.group)) (machine_of C.change self.now) (Some result) (machine_of C.change self.now) }
     {
         match documents_text(alloc, &self.group) {
             Ok(text) => Reply::Documents(MapText::new(text)),
@@ -234,8 +224,7 @@ impl<C: Command> Editor<C> {
     // The text for undo.
     pub(crate) fn undo_text(&self, alloc: Global) -> Reply
         requires { IsSound C.change self.now }
-        ensures { (result ≡ replies.Text (text_of_active undo_text_of (active_of (machine_of C.change self.now))))
-            ⊎ (IsSome (active_of (machine_of C.change self.now)) × (result ≡ replies.Refused refusals.NoMemory)) }
+        ensures { TellsText undo_text_of (machine_of C.change self.now) (Some result) (machine_of C.change self.now) }
     {
         match self.group.active() {
             Some(stack) => text_reply(alloc, stack.undo_text()),
@@ -246,8 +235,7 @@ impl<C: Command> Editor<C> {
     // The text for redo.
     pub(crate) fn redo_text(&self, alloc: Global) -> Reply
         requires { IsSound C.change self.now }
-        ensures { (result ≡ replies.Text (text_of_active redo_text_of (active_of (machine_of C.change self.now))))
-            ⊎ (IsSome (active_of (machine_of C.change self.now)) × (result ≡ replies.Refused refusals.NoMemory)) }
+        ensures { TellsText redo_text_of (machine_of C.change self.now) (Some result) (machine_of C.change self.now) }
     {
         match self.group.active() {
             Some(stack) => text_reply(alloc, stack.redo_text()),

@@ -1,9 +1,9 @@
 // The lines about files.
 ghost use Rattle.std.specs.Prelude.{◌≡◌, ◌≤◌, length, Some};
-ghost use Rattle.undo_group.specs.Groups.{history_named};
-ghost use Rattle.session.specs.Words.{file_name_limit};
+ghost use Rattle.session.specs.declared.limits.TheConstants.{MAX_FILE_NAME};
 ghost use Rattle.editor.specs.Editors.{machine_of, IsSound};
-ghost use Rattle.editor.specs.Machine.{active_of, OpenStep, SaveStep};
+ghost use Rattle.map_store.specs.Files.{SameOthers};
+ghost use Rattle.editor.specs.Acts.{FilesStay, Loads, NewName, OfActive, OrNoMemoryForFile, OrStoreFails, OutsideMacros, Saves};
 ghost use Rattle.editor.specs.Planning.{KeepsReply};
 
 use crate::editor::Editor;
@@ -28,9 +28,8 @@ impl<C: Command> Editor<C> {
     ) -> Reply
         requires { IsSound C.change self.old }
         ensures sound { IsSound C.change self.new }
-        ensures honest { S.honest store.old → S.honest store.new }
-        ensures step { S.honest store.old → OpenStep (history_named name.now (machine_of C.change self.old).group.documents) name.now file.now
-            (machine_of C.change self.old) (S.kept store.old) (Some result) (machine_of C.change self.new) (S.kept store.new) }
+        ensures step { NewName name.now (OrStoreFails FilesStay (OrNoMemoryForFile (Loads name.now file.now)))
+            (S.kept store.old) (S.kept store.new) (machine_of C.change self.old) (Some result) (machine_of C.change self.new) }
         ensures kept { KeepsReply result (machine_of C.change self.old) (machine_of C.change self.new) }
     {
         if self.group.get(name.as_str()).is_some() {
@@ -55,11 +54,10 @@ impl<C: Command> Editor<C> {
         file: &Text<'_>,
     ) -> Reply
         requires sound { IsSound C.change self.old }
-        requires short { length file.now ≤ file_name_limit }
+        requires short { length file.now ≤ MAX_FILE_NAME }
         ensures sound { IsSound C.change self.new }
-        ensures honest { S.honest store.old → S.honest store.new }
-        ensures step { S.honest store.old → SaveStep (active_of (machine_of C.change self.old)) file.now
-            (machine_of C.change self.old) (S.kept store.old) (Some result) (machine_of C.change self.new) (S.kept store.new) }
+        ensures step { OfActive (OutsideMacros (OrStoreFails (SameOthers file.now) (OrNoMemoryForFile (Saves file.now))))
+            (S.kept store.old) (S.kept store.new) (machine_of C.change self.old) (Some result) (machine_of C.change self.new) }
         ensures kept { KeepsReply result (machine_of C.change self.old) (machine_of C.change self.new) }
     {
         match self.group.active_mut() {

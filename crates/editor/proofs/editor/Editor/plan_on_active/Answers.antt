@@ -2,8 +2,9 @@ use Rattle.std.proofs.Common.{◌≡◌, refl, sym, subst}
 use Rattle.undo_stack.specs.Stacks.{history}
 use Rattle.undo_group.specs.Stacks.{group_of}
 use Rattle.editor.specs.Editors.{machine_of}
-use Rattle.editor.specs.Machine.{Machine}
+use Rattle.editor.specs.Machine.{Machine, workspace}
 use Rattle.editor.specs.Planning.{FitsPlan, KeepsPlan, Plans}
+use Rattle.editor.specs.Steps.{rule_of}
 use Rattle.editor.proofs.Unlimited.{active-unlimited, left-IsSound, left-machine}
 use Rattle.editor.proofs.Lifting.{on-FitsPlan, on-KeepsPlan, on-Plans}
 use Rattle.editor.proofs.editor.Editor.plan_on_active.Goals as goal
@@ -24,9 +25,9 @@ returns-in-Some-clause-plans g c = λ kept.
     let change = g.C.Command.change in
     let stack = c.on_document.new.stack in
     let old = machine_of change c.args.self.now in
-    let P : Machine → Type 0 = λ m. Plans c.args.line.now old kept c.on_document.result m kept in
+    let P : Machine → Type 0 = λ m. Plans c.args.line.now (workspace old kept) c.on_document.result (workspace m kept) in
     subst P (sym (left-machine change c.args.self.now _ stack refl (c.active_mut.follows.holds stack c.on_document.ensures.sound.holds)))
-    (on-Plans c.args.line.now (history change c.in-Some.stack.now) (history change stack) c.on_document.result old kept c.requires.scope c.in-Some.ensures.whole (sym c.in-Some.ensures.active) c.on_document.ensures.plans)
+    (on-Plans (history change c.in-Some.stack.now) (history change stack) old c.in-Some.ensures.whole (sym c.in-Some.ensures.active) c.args.line.now c.on_document.result kept c.on_document.ensures.plans)
 
 pub returns-in-Some-clause-kept : goal.returns-in-Some-clause-kept
 returns-in-Some-clause-kept g c =
@@ -35,7 +36,7 @@ returns-in-Some-clause-kept g c =
     let old = machine_of change c.args.self.now in
     let P : Machine → Type 0 = λ m. KeepsPlan c.on_document.result old m in
     subst P (sym (left-machine change c.args.self.now _ stack refl (c.active_mut.follows.holds stack c.on_document.ensures.sound.holds)))
-    (on-KeepsPlan c.args.line.now (history change c.in-Some.stack.now) (history change stack) c.on_document.result old c.in-Some.ensures.whole (sym c.in-Some.ensures.active) c.on_document.ensures.plans)
+    (on-KeepsPlan (history change c.in-Some.stack.now) (history change stack) old c.in-Some.ensures.whole (sym c.in-Some.ensures.active) (rule_of c.args.line.now) c.on_document.result c.on_document.ensures.plans)
 
 pub returns-in-Some-clause-fits : goal.returns-in-Some-clause-fits
 returns-in-Some-clause-fits g c =
@@ -44,4 +45,4 @@ returns-in-Some-clause-fits g c =
     let old = machine_of change c.args.self.now in
     let P : Machine → Type 0 = λ m. FitsPlan m c.on_document.result in
     subst P (sym (left-machine change c.args.self.now _ stack refl (c.active_mut.follows.holds stack c.on_document.ensures.sound.holds)))
-    (on-FitsPlan c.args.line.now (history change c.in-Some.stack.now) (history change stack) c.on_document.result old c.in-Some.ensures.whole (sym c.in-Some.ensures.active) c.on_document.ensures.plans)
+    (on-FitsPlan (history change c.in-Some.stack.now) (history change stack) old c.in-Some.ensures.whole (sym c.in-Some.ensures.active) (rule_of c.args.line.now) c.on_document.result c.on_document.ensures.plans)

@@ -20,12 +20,12 @@ returns-in-Some-clause-sound g c =
     left-IsSound g.C.Command.change c.args.self.now _ stack c.requires.sound refl (c.active_mut.follows.holds stack c.save_document.ensures.sound.holds) c.save_document.ensures.sound.unlimited
 
 pub returns-in-Some-clause-step : goal.returns-in-Some-clause-step
-returns-in-Some-clause-step g c = λ honest.
+returns-in-Some-clause-step g c =
     let change = g.C.Command.change in
     let stack = c.save_document.new.stack in
     let old = machine_of change c.args.self.now in
-    saves c.args.file.now (history change c.in-Some.stack.now) (history change stack) c.save_document.result old _ _ _ c.in-Some.ensures.whole (sym c.in-Some.ensures.active)
-    (c.save_document.ensures.saves honest) c.save_document.ensures.kept (left-machine change c.args.self.now _ stack refl (c.active_mut.follows.holds stack c.save_document.ensures.sound.holds))
+    saves _ (history change c.in-Some.stack.now) (history change stack) c.save_document.result old _ _ _ c.in-Some.ensures.whole (sym c.in-Some.ensures.active)
+    c.save_document.ensures.saves c.save_document.ensures.kept (left-machine change c.args.self.now _ stack refl (c.active_mut.follows.holds stack c.save_document.ensures.sound.holds))
 
 pub returns-in-Some-clause-kept : goal.returns-in-Some-clause-kept
 returns-in-Some-clause-kept g c =
@@ -34,4 +34,4 @@ returns-in-Some-clause-kept g c =
     let old = machine_of change c.args.self.now in
     let P : Machine → Type 0 = λ m. KeepsReply c.save_document.result old m in
     subst P (sym (left-machine change c.args.self.now _ stack refl (c.active_mut.follows.holds stack c.save_document.ensures.sound.holds)))
-    (on-KeepsReply c.save_document.result (history change c.in-Some.stack.now) (history change stack) old c.in-Some.ensures.whole (sym c.in-Some.ensures.active) c.save_document.ensures.kept)
+    (on-KeepsReply (history change c.in-Some.stack.now) (history change stack) old c.in-Some.ensures.whole (sym c.in-Some.ensures.active) c.save_document.result c.save_document.ensures.kept)
