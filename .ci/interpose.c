@@ -2,9 +2,11 @@
 //
 // It refuses the growth of memory (`malloc` or `realloc`) whose number, from one, is in REFUSED_GROWTH, and writes on
 // standard error how many growths were asked for, how many bytes they asked for together, and how many writes there
-// were. Where READ_STEP is set, no read gives more bytes than that.
+// were. Where READ_STEP is set, no read gives more bytes than that, and no counts are written. A file that takes another's
+// place by `rename` without an `fsync` behind its last write is told of on standard error.
 #include <stdio.h>
 #include <stdlib.h>
+#include <sys/stat.h>
 #include <sys/syscall.h>
 #include <unistd.h>
 
@@ -46,7 +48,31 @@ ssize_t read(int file, void *buffer, size_t size) {
     return syscall(SYS_read, file, buffer, step && step < size ? step : size);
 }
 
+// The file that was synced last, where it was not written since.
+static struct stat synced;
+static int has_synced;
+
+static int is_synced(const struct stat *file) {
+    return has_synced && file->st_dev == synced.st_dev && file->st_ino == synced.st_ino;
+}
+
 ssize_t write(int file, const void *buffer, size_t size) {
+    struct stat written;
     ++writes;
+    if (has_synced && fstat(file, &written) == 0 && is_synced(&written))
+        has_synced = 0;
     return syscall(SYS_write, file, buffer, size);
+}
+
+int fsync(int file) {
+    int result = syscall(SYS_fsync, file);
+    has_synced = result == 0 && fstat(file, &synced) == 0;
+    return result;
+}
+
+int rename(const char *from, const char *to) {
+    struct stat moved;
+    if (stat(from, &moved) == 0 && !is_synced(&moved))
+        dprintf(2, "%s: it takes the place of another file, and is not synced\n", from);
+    return syscall(SYS_rename, from, to);
 }

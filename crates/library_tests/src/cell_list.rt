@@ -1,8 +1,8 @@
 // Sets of cells as plain lists of columns and rows, in row order and each cell once: slow, and easy to
 // see through. Only the tests use it, to compare regions with. Its clauses are those of `Region`.
-ghost use Rattle.std.specs.Prelude.{◌≡◌, ℕ, ◌+◌, ◌≤◌, ◌<◌, ◌++◌, ◌||◌, pos, ◌+ℤ◌, IfOk, IfSome, IfNone, OnOk, if◌then◌else◌, ◌∷◌, []};
+ghost use Rattle.std.specs.Prelude.{◌≡◌, ℕ, ◌+◌, ◌<◌, ◌++◌, pos, ◌+ℤ◌, IfOk, IfSome, IfNone, OnOk, if◌then◌else◌, ◌∷◌, []};
 ghost use Rattle.std.specs.FinSet as set;
-ghost use Rattle.region.specs.Cells.{in_rectangle, in_moved_cut, listed};
+ghost use Rattle.region.specs.Cells.{in_moved_cut, listed};
 ghost use Rattle.library_tests.specs.Lists.{is_moved, is_some_cell};
 
 use region::Run;
@@ -14,37 +14,6 @@ fn push_if(cells: &mut Vec<(u32, u32)>, cell: (u32, u32), keep: bool) -> Result<
 {
     if keep {
         cells.push(cell)?;
-    }
-    Ok(())
-}
-
-// The cells of a rectangle.
-pub(crate) fn rectangle(
-    alloc: Global,
-    x: u32,
-    y: u32,
-    w: u32,
-    h: u32,
-) -> Result<Vec<(u32, u32)>, AllocError>
-    requires columns { x + w ≤ 4096 }
-    requires rows { y + h ≤ 4096 }
-    ensures { IfOk result (λ v. (q : ℕ × ℕ) → set.contains (listed v.items) q ≡ in_rectangle x y w h q) }
-{
-    let mut cells = Vec::new(alloc);
-    for row in 0..h {
-        push_row(&mut cells, x, y + row, w)?;
-    }
-    Ok(cells)
-}
-
-// Puts the cells of a row at the end, from a column on.
-fn push_row(cells: &mut Vec<(u32, u32)>, x: u32, y: u32, w: u32) -> Result<(), AllocError>
-    requires { x + w ≤ 4096 }
-    ensures { OnOk result ((q : ℕ × ℕ) → set.contains (listed cells.new.items) q
-        ≡ (set.contains (listed cells.old.items) q || in_rectangle x y w 1 q)) }
-{
-    for column in 0..w {
-        cells.push((x + column, y))?;
     }
     Ok(())
 }

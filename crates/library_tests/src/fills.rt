@@ -291,18 +291,34 @@ fn is_right(
     Ok(change.layer == 1 && change.cells.as_slice() == wanted.as_slice())
 }
 
-// How many fills of a map are right, of one from each cell. About one map in three has no selection.
-fn right_fills(alloc: Global, width: u32, height: u32, state: &mut u32) -> Result<u32, AllocError>
+// A map of these values. About one in three has no selection.
+fn some_map(
+    alloc: Global,
+    width: u32,
+    height: u32,
+    tiles: &[Gid],
+    state: &mut u32,
+) -> Result<Document, AllocError>
     requires columns { (1 ≤ width) × (width ≤ 6) }
     requires rows { (1 ≤ height) × (height ≤ 5) }
+    requires size { length tiles.now ≡ height * width }
 {
-    let tiles = some_tiles(alloc, height * width, state)?;
-    let mut document = map_of(alloc, width, height, &tiles)?;
+    let mut document = map_of(alloc, width, height, tiles)?;
     if number(state, 3) > 0 {
         select(alloc, &mut document, SelectionMode::Add, state)?;
         select(alloc, &mut document, SelectionMode::Add, state)?;
         select(alloc, &mut document, SelectionMode::Subtract, state)?;
     }
+    Ok(document)
+}
+
+// How many fills of a map are right, of one from each cell.
+fn right_fills(alloc: Global, width: u32, height: u32, state: &mut u32) -> Result<u32, AllocError>
+    requires columns { (1 ≤ width) × (width ≤ 6) }
+    requires rows { (1 ≤ height) × (height ≤ 5) }
+{
+    let tiles = some_tiles(alloc, height * width, state)?;
+    let document = some_map(alloc, width, height, &tiles, state)?;
     let mut right: u32 = 0;
     for place in 0..height * width {
         let value = some_value(state);

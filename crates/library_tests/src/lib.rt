@@ -11,8 +11,6 @@ mod closing;
 #[cfg(test)]
 mod fills;
 #[cfg(test)]
-mod paints;
-#[cfg(test)]
 mod regions;
 #[cfg(test)]
 mod stacks;

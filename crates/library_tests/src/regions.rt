@@ -74,54 +74,6 @@ fn assert_pair(
 }
 
 #[test]
-fn rectangle_has_a_run_a_row(rt: HostRuntime) -> Result<(), Fail> {
-    let band = Region::rect(rt.alloc(), 0, 0, 4096, 256)?;
-    assert_eq!(rt; band.rows().count(), 256);
-
-    let column = Region::rect(rt.alloc(), 2048, 0, 1, 256)?;
-    let rest = band.without(rt.alloc(), &column)?;
-    assert_eq!(rt; rest.rows().count(), 512);
-    assert!(rt; rest.contains(2047, 255));
-    assert!(rt; !rest.contains(2048, 255));
-    assert!(rt; rest.contains(2049, 255));
-    Ok(())
-}
-
-// A checkerboard of 512 columns and 512 rows, built from halves: a cell, a pair of cells, and so on up to a
-// row, and then a pair of rows, and so on up to the board.
-fn checkerboard(alloc: Global) -> Result<Region, AllocError> {
-    let mut row = Region::rect(alloc, 0, 0, 1, 1)?;
-    for columns in [2, 4, 8, 16, 32, 64, 128, 256] {
-        let half = row.moved_cut(alloc, columns, 0, 512, 512)?;
-        row = row.united(alloc, &half)?;
-    }
-    let second = row.moved_cut(alloc, 1, 1, 512, 512)?;
-    let mut board = row.united(alloc, &second)?;
-    for rows in [2, 4, 8, 16, 32, 64, 128, 256] {
-        let half = board.moved_cut(alloc, 0, rows, 512, 512)?;
-        board = board.united(alloc, &half)?;
-    }
-    Ok(board)
-}
-
-#[test]
-fn checkerboard_is_built_from_halves(rt: HostRuntime) -> Result<(), Fail> {
-    let board = checkerboard(rt.alloc())?;
-    assert_eq!(rt; board.rows().count(), 131_072);
-    assert!(rt; board.contains(0, 0));
-    assert!(rt; !board.contains(1, 0));
-    assert!(rt; board.contains(511, 511));
-
-    // The other colour is what the board lacks, and both together are the whole.
-    let whole = Region::rect(rt.alloc(), 0, 0, 512, 512)?;
-    let other = whole.without(rt.alloc(), &board)?;
-    assert_eq!(rt; other.rows().count(), 131_072);
-    assert!(rt; board.united(rt.alloc(), &other)? == whole);
-    assert!(rt; board.met(rt.alloc(), &other)?.is_empty());
-    Ok(())
-}
-
-#[test]
 fn pairs_of_small_sets_agree_with_lists(rt: HostRuntime) -> Result<(), Fail> {
     let alloc = rt.alloc();
     for first in 0..64 {
@@ -161,52 +113,6 @@ fn moved_small_sets_agree_with_lists(rt: HostRuntime) -> Result<(), Fail> {
                 assert_eq!(rt; region.contains(x, y), listed.as_slice().contains(&(x, y)));
             }
         }
-    }
-    Ok(())
-}
-
-#[test]
-fn moves_reach_the_ends(rt: HostRuntime) -> Result<(), Fail> {
-    let alloc = rt.alloc();
-    let region = Region::rect(alloc, 4000, 4000, 96, 96)?;
-    let far = region.moved_cut(alloc, 1_000_000_000, 1_000_000_000, u32::MAX, u32::MAX)?;
-    assert!(rt; far.contains(1_000_004_000, 1_000_004_000));
-    assert!(rt; far.contains(1_000_004_095, 1_000_004_095));
-    assert!(rt; !far.contains(1_000_004_096, 1_000_004_095));
-    let back = far.moved_cut(alloc, -1_000_000_000, -1_000_000_000, 4096, 4096)?;
-    assert!(rt; back == region);
-    assert_eq!(rt;
-        region
-            .moved_cut(alloc, -1_000_000_000, 0, 4096, 4096)?
-            .is_empty(),
-        true
-    );
-    assert_eq!(rt;
-        region.moved_cut(alloc, 0, 0, 0, 4096)? == Region::empty(alloc),
-        true
-    );
-    Ok(())
-}
-
-#[test]
-fn rectangles_agree_with_lists(rt: HostRuntime) -> Result<(), Fail> {
-    let alloc = rt.alloc();
-    for (x, y, w, h) in [
-        (0, 0, 0, 0),
-        (5, 6, 0, 7),
-        (5, 6, 7, 0),
-        (3, 2, 1, 4),
-        (4095, 4095, 1, 1),
-        (7, 9, 5, 3),
-    ] {
-        let region = Region::rect(alloc, x, y, w, h)?;
-        assert_cells(
-            &rt,
-            alloc,
-            &region,
-            &cell_list::rectangle(alloc, x, y, w, h)?,
-        )?;
-        assert_eq!(rt; region.is_empty(), w == 0 || h == 0);
     }
     Ok(())
 }

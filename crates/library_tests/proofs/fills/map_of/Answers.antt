@@ -1,13 +1,10 @@
 use Rattle.std.proofs.Common.{◌≡◌, ◌+◌, ◌*◌, ◌%◌, List, length, sym, ap, ◌∙◌, subst, arith}
-use Rattle.std.specs.Prelude.{pos}
 use Rattle.std.proofs.Math.Nat.{mul-le-mul_left}
 use Rattle.std.proofs.lemmas.Nat.{mod-mul-add}
 use Rattle.map_model.specs.declared.edit.CellEdit.{CellEdit}
 use Rattle.map_model.specs.Lists.{Each}
 use Rattle.map_model.specs.Parts.{IsWithin}
-use Rattle.edits.specs.Blocks.{ValueBlock}
-use Rattle.edits.specs.Painting.{painted_map}
-use Rattle.edits.specs.Stamping.{stamp_painting}
+use Rattle.edits.specs.Covering.{covered_map}
 use Rattle.edits.proofs.Turns.{difference_in-within}
 use Rattle.library_tests.proofs.fills.map_of.Goals as goal
 
@@ -25,7 +22,6 @@ stamp_change-requires c =
 pub put_edits-requires-clause-inside : goal.put_edits-requires-clause-inside
 put_edits-requires-clause-inside c =
     let d = c.new-document.result in
-    let block : ValueBlock = record { x = pos 0; y = pos 0; width = c.args.width; values = c.args.tiles.now } in
     let is = c.in-Ok.ensures.change in
     let P : List CellEdit → Type 0 = λ es. Each (IsWithin d.map) es in
-    subst P (sym (c.as_slice.ensures.cells ∙ is.exact.cells)) (difference_in-within d.map (painted_map (stamp_painting d 1 block) d.map) 1 is.well_formed.size)
+    subst P (sym (c.as_slice.ensures.cells ∙ is.exact.cells)) (difference_in-within d.map (covered_map 1 is.over d.map) 1 is.well_formed.size)
