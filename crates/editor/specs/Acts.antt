@@ -1,4 +1,4 @@
--- Acts: what may be done, from one state, with this reply or none, on to another.
+-- Acts: what may be done, from one state to another, with this reply or none.
 use Rattle.std.specs.Prelude.{◌≡◌, ℕ, List, length, Bool, true, false, IsTrue, Option, None, Some, IsSome, Result, Ok, Err, ◌⊎◌}
 use Rattle.std.specs.FinMap.{get, insert}
 use Rattle.map_model.specs.Document.{DocumentParts, document_of}
@@ -38,7 +38,7 @@ Answers answer old reply new = (reply ≡ Some (answer old)) × (new ≡ old)
 abbrev pub Passes : {S : Type 0} → Act S
 Passes old reply new = (reply ≡ None) × (new ≡ old)
 
--- that, or want of memory
+-- an act, or want of memory
 abbrev pub OrNoMemory : {S : Type 0} → Act S → Act S
 OrNoMemory act old reply new = act old reply new ⊎ Refuses refusals.NoMemory old reply new
 
@@ -157,13 +157,13 @@ OutsideMacros act before after h reply n = IfOutside act (clean_answer h) before
 abbrev pub FilesStay : Files → Files → Type 0
 FilesStay before after = after ≡ before
 
--- that, or the store failed
+-- an act, or the store failed
 abbrev pub OrStoreFails : {S : Type 0} → (Files → Files → Type 0) → FileAct S → FileAct S
 OrStoreFails Leaves act before after old reply new =
     act before after old reply new
     ⊎ (HasFailed before after × IsCalled Leaves before after × Refuses refusals.StoreFailed old reply new)
 
--- that, or want of memory, whether the store was called or not
+-- an act, or want of memory, whether the store was called or not
 abbrev pub OrNoMemoryForFile : {S : Type 0} → FileAct S → FileAct S
 OrNoMemoryForFile act before after old reply new =
     act before after old reply new

@@ -108,7 +108,7 @@ Plans line old planned.Quiet new = Step line old None new
 Plans line old (planned.Reply reply) new = Step line old (Some reply) new
 Plans line old (planned.Push edit) new = (new ≡ old) × IsEditOf (rule_of line) (active_of old.machine) (edit_change edit)
 
--- an edit or a refusal has left the machine as it was
+-- a quiet line, an edit or a refusal has left the machine as it was
 abbrev pub KeepsPlan : Planned → Machine → Machine → Type 0
 KeepsPlan planned.Quiet old new = new ≡ old
 KeepsPlan (planned.Reply reply) old new = KeepsReply reply old new

@@ -9,7 +9,7 @@ use Rattle.std.specs.Coded.{Coded, code_by, coded×, coded_ℕ, coded_list}
 abbrev pub Files : Type 0
 Files = FinMap (slice_cmp nat_cmp) (List ℕ)
 
--- what a store keeps: its files, how often it has failed, at most 2 ^ 64 - 1 times, and whether it does with its files what it says
+-- what a store keeps: its files, how often it has failed, and whether it does with its files what it says
 pub record StoreParts : Type 0 where
   pub files : Files
   pub failures : ℕ
@@ -22,12 +22,12 @@ pub record FuseParts : Type 0 where
   pub failures : ℕ
   pub left : ℕ
 
--- the type of these parts is stored as the tuple of its fields
+-- these parts are coded as the tuple of their fields
 abbrev pub fuse_code : Coded FuseParts
 fuse_code =
     code_by (Files × (ℕ × ℕ)) (coded× (code {R = slice_cmp nat_cmp} (coded_list coded_ℕ) (coded_list coded_ℕ)) (coded× coded_ℕ coded_ℕ)) (λ p. (p.files, (p.failures, p.left))) (λ t. record { files = t.0; failures = t.1.0; left = t.1.1 }) (λ _. refl)
 
--- a call was made: the one that fails is a call nearer, and only where this was it the count of failures changes
+-- a call was made: the one that fails is a call nearer. At that one no file changes; at any other the count of failures stays.
 pub record HasBurned (before after : FuseParts) : Type 0 where
   pub left : after.left ≡ before.left - 1
   pub failures : before.left ≢ 1 → after.failures ≡ before.failures
@@ -41,8 +41,8 @@ SameOthers name old new = (other : List ℕ) → other ≢ name → get new othe
 abbrev pub HasFailed : StoreParts → StoreParts → Type 0
 HasFailed old new = (old.failures < new.failures) ⊎ (old.failures ≡ 2 ^ 64 - 1)
 
--- The store was called. The count of failures has not fallen; a store that is honest stays so, and this holds of its files before
--- and after.
+-- The store may have been called. The count of failures has not fallen; a store that is honest stays so, and this holds of its files
+-- before and after.
 pub record IsCalled (Leaves : Files → Files → Type 0) (before after : StoreParts) : Type 0 where
   pub count : before.failures ≤ after.failures
   pub honest : IsTrue before.honest → IsTrue after.honest
