@@ -1,4 +1,4 @@
--- Steps of which the first that refuses decides: the ? of the logic.
+-- Steps of which the first that refuses decides, as a question mark does in Rust.
 use Rattle.std.specs.Prelude.{Bool, Result, Ok, Err, ⊤, if◌then◌else◌}
 
 infixl 10 ◌>>=◌
