@@ -1,11 +1,9 @@
 ghost use Rattle.std.specs.Prelude.{◌≡◌};
-ghost use Rattle.map_store.specs.Files.{StoreParts};
 ghost use Rattle.session.specs.Spelling.{CanBeSpelled};
 ghost use Rattle.undo_group.specs.Stacks.{group_of, AreHeld};
 ghost use Rattle.editor.specs.Editors.{machine_of, IsSound};
 ghost use Rattle.editor.specs.Machine.{active_of, started_machine, workspace};
-ghost use Rattle.editor.specs.Steps.{rule_of};
-ghost use Rattle.editor.specs.Planning.{Commits, FitsActive, FitsPlan, IsOfActive, KeepsPlan, Plans};
+ghost use Rattle.editor.specs.Planning.{Commits, FitsActive, FitsPlan, KeepsPlan, Plans};
 
 mod documents;
 mod files;
@@ -80,9 +78,7 @@ impl<C: Command> Editor<C> {
                 };
                 Planned::Reply(self.open_new(alloc, name, sizes, source))
             }
-            Line::Open { name, file } => {
-                Planned::Reply(self.open_file(alloc, store, name, file))
-            }
+            Line::Open { name, file } => Planned::Reply(self.open_file(alloc, store, name, file)),
             Line::Save { file } => Planned::Reply(self.save(alloc, store, file)),
             Line::Close { name } => Planned::Reply(self.close(name)),
             Line::Discard { name } => Planned::Reply(self.discard(name)),
@@ -91,23 +87,10 @@ impl<C: Command> Editor<C> {
             Line::Status => Planned::Reply(self.status()),
             Line::UndoText => Planned::Reply(self.undo_text(alloc)),
             Line::RedoText => Planned::Reply(self.redo_text(alloc)),
-            _ => self.plan_on_active(alloc, line),
-        }
-    }
-
-    // Plans a line about the active document.
-    fn plan_on_active(&mut self, alloc: Global, line: &Line<'_>) -> Planned
-        requires sound { IsSound C.change self.old }
-        requires spelled { CanBeSpelled line.now }
-        requires about { IsOfActive (rule_of line.now) }
-        ensures sound { IsSound C.change self.new }
-        ensures plans { (kept : StoreParts) → Plans line.now (workspace (machine_of C.change self.old) kept) result (workspace (machine_of C.change self.new) kept) }
-        ensures kept { KeepsPlan result (machine_of C.change self.old) (machine_of C.change self.new) }
-        ensures fits { FitsPlan (machine_of C.change self.new) result }
-    {
-        match self.group.active_mut() {
-            Some(stack) => on_document(alloc, stack, line),
-            None => refused(Refusal::NoActiveDocument),
+            _ => match self.group.active_mut() {
+                Some(stack) => on_document(alloc, stack, line),
+                None => refused(Refusal::NoActiveDocument),
+            },
         }
     }
 

@@ -15,7 +15,7 @@ use crate::planning::edit_plans::{
     plan_remove_tileset, plan_rename_layer, plan_resize, plan_resize_object, plan_select,
     plan_set_property, plan_show_layer, plan_stamp,
 };
-use crate::steps::{moved, show, state_of, step_text};
+use crate::steps::{moved, plan_show, plan_step_text, state_of};
 use crate::{refusal, tile};
 use command_api::{Command, EditFault};
 use edits::{Area, Selecting};
@@ -75,8 +75,8 @@ pub fn on_document<C: Command>(alloc: Global, stack: &mut Stack<C>, line: &Line<
             stack.clear();
             Planned::Reply(state_of(stack))
         }
-        Line::Show => Planned::Reply(show(alloc, document)),
-        Line::StepText { place } => Planned::Reply(step_text(alloc, stack, *place)),
+        Line::Show => plan_show(alloc, document),
+        Line::StepText { place } => plan_step_text(alloc, stack, *place),
         Line::Tile { layer, x, y } => Planned::Reply(tile::reply(document.map(), *layer, *x, *y)),
         // Cells and the selection.
         Line::Stamp {

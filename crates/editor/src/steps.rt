@@ -6,7 +6,11 @@ ghost use Rattle.map_json.specs.Trees.{text_of};
 ghost use Rattle.undo_stack.specs.Reading.{text_at};
 ghost use Rattle.undo_stack.specs.Stacks.{history};
 ghost use Rattle.editor.specs.Answers.{moved_reply, state_reply, step_text_reply};
+ghost use Rattle.editor.specs.Planning.{refused};
+ghost use Rattle.editor.specs.declared.planned.Planned.TheVariants as planned;
 
+use crate::planned::Planned;
+use crate::planning::refused;
 use crate::refusal;
 use command_api::Command;
 use map_json::write_map;
@@ -47,23 +51,24 @@ pub fn moved<C: Command>(stack: &Stack<C>, answer: Result<(), StackFault>) -> Re
     }
 }
 
-/// The text of the document's map, where there is memory for it.
+/// Plans the text of the document's map, where there is memory for it.
 #[inline(never)]
-pub fn show(alloc: Global, document: &Document) -> Reply
-    ensures { (result ≡ replies.Map (text_of document.now.map)) ⊎ (result ≡ replies.Refused refusals.NoMemory) }
+pub fn plan_show(alloc: Global, document: &Document) -> Planned
+    ensures { (result ≡ planned.Reply (replies.Map (text_of document.now.map))) ⊎ (result ≡ refused refusals.NoMemory) }
 {
     match write_map(alloc, document.map()) {
-        Ok(bytes) => Reply::Map(MapBytes::new(bytes)),
-        Err(_) => Reply::Refused(Refusal::NoMemory),
+        Ok(bytes) => Planned::Reply(Reply::Map(MapBytes::new(bytes))),
+        Err(_) => refused(Refusal::NoMemory),
     }
 }
 
-/// The text for lists of the step at a place.
-pub fn step_text<C: Command>(alloc: Global, stack: &Stack<C>, place: u32) -> Reply
-    ensures { (result ≡ step_text_reply (text_at (history C.change stack.now) place)) ⊎ (result ≡ replies.Refused refusals.NoMemory) }
+/// Plans the text for lists of the step at a place.
+#[inline(never)]
+pub fn plan_step_text<C: Command>(alloc: Global, stack: &Stack<C>, place: u32) -> Planned
+    ensures { (result ≡ planned.Reply (step_text_reply (text_at (history C.change stack.now) place))) ⊎ (result ≡ refused refusals.NoMemory) }
 {
     match stack.text(place as usize) {
-        Some(text) => text_reply(alloc, text),
-        None => Reply::Refused(Refusal::OutOfRange),
+        Some(text) => Planned::Reply(text_reply(alloc, text)),
+        None => refused(Refusal::OutOfRange),
     }
 }

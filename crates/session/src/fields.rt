@@ -50,7 +50,7 @@ impl<'a> Fields<'a> {
     }
 
     /// A number.
-    #[inline(never)]
+    #[inline(always)]
     #[tactic(auto, unfolding(crate::specs::Grammar::number_at))]
     pub fn number(&mut self) -> Result<u32, LineFault>
         ensures { Gives (λ x. (x, words_left self.new.rest)) result (number_at (words_left self.old.rest)) }

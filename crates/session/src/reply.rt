@@ -131,6 +131,8 @@ fn refusal_words(refusal: Refusal) -> &'static str
     }
 }
 
+// Three numbers stand in most replies, and a call for each costs more than its text.
+#[inline(always)]
 fn push_number(head: &mut ArrayString<512>, number: u64)
     requires { array_string_len head.old ≤ 150 }
     ensures value { head.new.bytes ≡ head.old.bytes ++ decimal number }

@@ -1,24 +1,17 @@
 -- Whole runs of the machine.
-use Rattle.std.specs.Prelude.{◌≡◌, ℕ, ◌^◌, ◌≤◌, List, [], ◌∷◌, ◌++◌, length, Option, None, Some, Result, Ok, Err, ⊤, option_to_list}
+use Rattle.std.specs.Prelude.{◌≡◌, ℕ, ◌^◌, ◌≤◌, List, [], ◌∷◌, ◌++◌, length, Option, None, Some, ⊤, option_to_list}
 use Rattle.std.specs.List.{flat_map}
 use Rattle.std.specs.Io.KnownBytes.{Appends}
 use Rattle.command_api.specs.Law.{Change, IsSame}
 use Rattle.lines.specs.declared.reader.Found.{Found}
 use Rattle.lines.specs.declared.reader.Found.TheVariants as found
 use Rattle.lines.specs.Lines.{lines_of, HasNoNewline}
-use Rattle.session.specs.declared.line.Line.{Line}
-use Rattle.session.specs.declared.line.LineFault.{LineFault}
 use Rattle.session.specs.declared.reply.Reply.{Reply}
-use Rattle.session.specs.declared.reply.Refusal.TheVariants as refusals
-use Rattle.session.specs.Grammar.{line_of}
 use Rattle.session.specs.Replies.{reply_text}
-use Rattle.editor.specs.declared.planned.Planned.{Planned}
-use Rattle.editor.specs.declared.planned.Planned.TheVariants as planned
 use Rattle.editor.specs.declared.planned.Edit.{Edit}
-use Rattle.editor.specs.Acts.{Refuses}
 use Rattle.editor.specs.Machine.{Machine, Workspace, workspace}
 use Rattle.map_store.specs.Files.{StoreParts}
-use Rattle.editor.specs.Planning.{Plans, edit_change}
+use Rattle.editor.specs.Planning.{edit_change}
 use Rattle.editor.specs.Steps.{StepIn}
 
 -- what may be replied to lines, one after another, and where they lead
@@ -96,20 +89,10 @@ Goes start None left now before after lines replied = ⊤
 Goes start (Some input) None now before after lines replied = ⊥
 Goes start (Some input) (Some left) now before after lines replied = Told start input (lines_of left) now before after lines replied
 
--- what the bytes of a line may do, where an edit is only planned
-abbrev pub PlansRead : Result Line LineFault → Workspace → Planned → Workspace → Type 0
-PlansRead (Ok line) old plan new = Plans line old plan new
-PlansRead (Err fault) old planned.Quiet new = ⊥
-PlansRead (Err fault) old (planned.Reply reply) new = Refuses (refusals.Line fault) old (Some reply) new
-PlansRead (Err fault) old (planned.Push edit) new = ⊥
-
 -- a fact on the bytes of the line that was found; of a long one only its length is known
 abbrev pub OfFound : Found → List ℕ → (List ℕ → Type 0) → Type 0
 OfFound found.Line line P = P line
 OfFound found.TooLong line P = (long : List ℕ) → 2 ^ 16 ≤ length long → P long
-
-abbrev pub PlansFound : Found → List ℕ → Workspace → Planned → Workspace → Type 0
-PlansFound found line old plan new = OfFound found line (λ bytes. PlansRead (line_of bytes) old plan new)
 
 -- the command that an edit was put into, where there is one, does what the edit does
 abbrev pub PutsSame : {C : Type 0} → (C → Change) → Edit → Option C → Type 0

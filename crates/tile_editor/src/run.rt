@@ -2,8 +2,9 @@ ghost use Rattle.std.specs.Prelude.{◌≡◌, Option, IsErrOf, IfOk, IfSome, �
 ghost use Rattle.editor.specs.declared.planned.Edit.{Edit};
 ghost use Rattle.editor.specs.Editors.{IsSound, machine_of};
 ghost use Rattle.editor.specs.Machine.{started_machine, workspace};
-ghost use Rattle.editor.specs.Planning.{FitsPlan};
-ghost use Rattle.tile_editor.specs.Runs.{PlansFound, PutsSame, RunsAll, RunsSome, RunsToRead, RunsToWrite, StepFound};
+ghost use Rattle.editor.specs.Steps.{Step};
+ghost use Rattle.session.specs.Spelling.{CanBeSpelled};
+ghost use Rattle.tile_editor.specs.Runs.{PutsSame, RunsAll, RunsSome, RunsToRead, RunsToWrite, StepFound};
 
 use crate::writing::{flush_if, write_reply};
 use arrayvec::ArrayString;
@@ -11,7 +12,7 @@ use command_api::Command;
 use editor::{Edit, Editor, Planned};
 use lines::{Found, LineReader};
 use map_store::MapStore;
-use session::{LineFault, Refusal, Reply, parse_line};
+use session::{Line, LineFault, Refusal, Reply, parse_line};
 use std::alloc::Global;
 use std::io::{Read, Write};
 use thiserror::Error;
@@ -37,29 +38,6 @@ pub enum RunFault {
     Memory,
 }
 
-// Plans what a line that was found asks for.
-fn plan_found<C: Command, S: MapStore>(
-    alloc: Global,
-    editor: &mut Editor<C>,
-    store: &mut S,
-    found: Found,
-    line: &[u8],
-) -> Planned
-    requires { IsSound C.change editor.old }
-    ensures sound { IsSound C.change editor.new }
-    ensures plans { PlansFound found line.now
-        (workspace (machine_of C.change editor.old) (S.kept store.old)) result (workspace (machine_of C.change editor.new) (S.kept store.new)) }
-    ensures fits { FitsPlan (machine_of C.change editor.new) result }
-{
-    match found {
-        Found::TooLong => Planned::Reply(Reply::Refused(Refusal::Line(LineFault::TooLong))),
-        Found::Line => match &parse_line(line) {
-            Ok(line) => editor.plan(alloc, store, line),
-            Err(fault) => Planned::Reply(Reply::Refused(Refusal::Line(*fault))),
-        },
-    }
-}
-
 // A command in a box, where there is memory.
 fn boxed<K: Command>(alloc: Global, command: K) -> Option<Box<K>>
     ensures { IfSome result (λ b. b.value ≡ command) }
@@ -67,8 +45,34 @@ fn boxed<K: Command>(alloc: Global, command: K) -> Option<Box<K>>
     Box::new(alloc, command).ok()
 }
 
-// Hears a line that was found: the reply to it, and none to a quiet one. What it plans is put into a command and
+// Hears a line that was read: the reply to it, and none to a quiet one. What it plans is put into a command and
 // committed.
+fn hear_line<C: Command, S: MapStore, F: Fn(Edit) -> Option<C>>(
+    alloc: Global,
+    editor: &mut Editor<C>,
+    store: &mut S,
+    line: &Line<'_>,
+    put: &F,
+) -> Option<Reply>
+    requires sound { IsSound C.change editor.old }
+    requires spelled { CanBeSpelled line.now }
+    requires callable { F.IsAlwaysCallable put.now }
+    requires same { (edit : Edit) (command : Option C) → F.post put.now edit command → PutsSame C.change edit command }
+    ensures sound { IsSound C.change editor.new }
+    ensures step { Step line.now
+        (workspace (machine_of C.change editor.old) (S.kept store.old)) result (workspace (machine_of C.change editor.new) (S.kept store.new)) }
+{
+    match editor.plan(alloc, store, line) {
+        Planned::Quiet => None,
+        Planned::Reply(reply) => Some(reply),
+        Planned::Push(edit) => match put(edit) {
+            Some(command) => Some(editor.commit(command)),
+            None => Some(Reply::Refused(Refusal::NoMemory)),
+        },
+    }
+}
+
+// Hears a line that was found.
 fn hear<C: Command, S: MapStore, F: Fn(Edit) -> Option<C>>(
     alloc: Global,
     editor: &mut Editor<C>,
@@ -84,12 +88,11 @@ fn hear<C: Command, S: MapStore, F: Fn(Edit) -> Option<C>>(
     ensures step { StepFound found line.now
         (workspace (machine_of C.change editor.old) (S.kept store.old)) result (workspace (machine_of C.change editor.new) (S.kept store.new)) }
 {
-    match plan_found(alloc, editor, store, found, line) {
-        Planned::Quiet => None,
-        Planned::Reply(reply) => Some(reply),
-        Planned::Push(edit) => match put(edit) {
-            Some(command) => Some(editor.commit(command)),
-            None => Some(Reply::Refused(Refusal::NoMemory)),
+    match found {
+        Found::TooLong => Some(Reply::Refused(Refusal::Line(LineFault::TooLong))),
+        Found::Line => match &parse_line(line) {
+            Ok(line) => hear_line(alloc, editor, store, line, put),
+            Err(fault) => Some(Reply::Refused(Refusal::Line(*fault))),
         },
     }
 }

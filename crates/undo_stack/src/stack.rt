@@ -214,6 +214,7 @@ impl<C: Command> Stack<C> {
     }
 
     // The entries above the index go, and a clean index above it is lost.
+    #[inline(always)]
     fn cut(&mut self)
         ensures entries { self.new.entries.items ≡ take self.old.index self.old.entries.items }
         ensures clean { self.new.clean ≡ up_to self.old.index self.old.clean }

@@ -1,14 +1,17 @@
-use Rattle.std.proofs.Common.{Some}
-use Rattle.editor.specs.Editors.{machine_of}
-use Rattle.editor.specs.Machine.{workspace}
-use Rattle.tile_editor.proofs.Planned.{push_step, unput_step}
+use Rattle.std.proofs.Common.{◌≡◌, Ok, Err, refl}
+use Rattle.session.specs.Grammar.{line_of}
+use Rattle.tile_editor.proofs.Hearing.{too_long}
 use Rattle.tile_editor.proofs.run.hear.Goals as goal
 
-pub returns-in-Some-clause-step : goal.returns-in-Some-clause-step
-returns-in-Some-clause-step g c =
-    push_step c.args.found c.args.line.now _ (workspace (machine_of g.C.Command.change c.plan_found.new.editor) (g.S.MapStore.kept c.plan_found.new.store)) _ c.in-Push.edit (g.C.Command.change c.in-Some.command) c.commit.result
-    c.in-Push.ensures.plans (c.requires.same c.in-Push.edit (Some c.in-Some.command) c.in-Some.ensures) c.commit.ensures.commits
+pub returns-in-TooLong-clause-step : goal.returns-in-TooLong-clause-step
+returns-in-TooLong-clause-step g c = rw c.in-TooLong.is (λ long size. rw (too_long long size) (refl, refl))
 
-pub returns-in-None-clause-step : goal.returns-in-None-clause-step
-returns-in-None-clause-step g c =
-    unput_step c.args.found c.args.line.now _ (workspace (machine_of g.C.Command.change c.plan_found.new.editor) (g.S.MapStore.kept c.plan_found.new.store)) c.in-Push.edit c.in-Push.ensures.plans
+pub returns-in-Ok-clause-step : goal.returns-in-Ok-clause-step
+returns-in-Ok-clause-step g c =
+    let read : line_of c.args.line.now ≡ Ok c.in-Ok.line = rw c.in-Ok.is at c.parse_line.ensures.value in
+    rw (c.in-Line.is, read) c.hear_line.ensures.step
+
+pub returns-in-Err-clause-step : goal.returns-in-Err-clause-step
+returns-in-Err-clause-step g c =
+    let read : line_of c.args.line.now ≡ Err c.in-Err.fault = rw c.in-Err.is at c.parse_line.ensures.value in
+    rw (c.in-Line.is, read) (refl, refl)
