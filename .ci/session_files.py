@@ -47,8 +47,8 @@ def times(rows, count):
 
 
 class Run:
-    """One run of the program: the bytes that it hears and those that it replies, and the files of its folder by their
-    names, as they are before it and after it."""
+    """One run of the program: the words of its command line beside the folder, the bytes that it hears and those that it
+    replies, and the files of its folder by their names, as they are before it and after it."""
 
     def __init__(self, name):
         self.name = name
@@ -56,6 +56,7 @@ class Run:
         self.before, self.after = {}, {}
         self.has_last_newline = True
         self.refuses_growths = False
+        self.options = []
 
     def add(self, rows, count):
         """Adds these rows, pairs of a line and its reply or None, so many times."""
@@ -88,6 +89,8 @@ def runs_of(file):
             repeated = None
         elif text == b'@no last newline':
             runs[-1].has_last_newline = False
+        elif text.startswith(b'@limit '):
+            runs[-1].options = ['--limit', text[7:].decode()]
         elif text == b'@growths':
             runs[-1].refuses_growths = True
         elif text.startswith(b'@before '):
@@ -118,14 +121,14 @@ def files_in(folder):
     return {path.name: path.read_bytes() for path in folder.iterdir()}
 
 
-def heard(program, session, before, env=None):
+def heard(program, session, before, options=(), env=None):
     """What a program does with a session over a folder of these files, and the files that stand there behind it."""
     with tempfile.TemporaryDirectory() as top:
         folder = Path(top) / 'maps'
         folder.mkdir()
         for name, data in before.items():
             (folder / name).write_bytes(data)
-        words = [program, '--folder', 'maps']
+        words = [program, '--folder', 'maps', *options]
         done = subprocess.run(words, input=session, capture_output=True, timeout=120, env=env, cwd=top)
         return done, files_in(folder)
 
@@ -147,7 +150,7 @@ def fault_of_files(wanted, given):
 
 def fault_of(program, run, env=None):
     """How a run of a program differs from its file, or None."""
-    done, files = heard(program, run.session, run.before, env)
+    done, files = heard(program, run.session, run.before, run.options, env)
     if done.returncode != 0 or done.stderr:
         return f'exit status {done.returncode}, {done.stderr.decode()}'
     return fault_of_replies(run.replies, done.stdout) or fault_of_files(run.after, files)

@@ -1,5 +1,5 @@
 -- Acts: what may be done, from one state to another, with this reply or none.
-use Rattle.std.specs.Prelude.{◌≡◌, ℕ, List, length, Bool, true, false, IsTrue, Option, None, Some, IsSome, Result, Ok, Err, ◌⊎◌}
+use Rattle.std.specs.Prelude.{◌≡◌, ℕ, zero, suc, leb, List, length, Bool, true, false, IsTrue, Option, None, Some, IsSome, Result, Ok, Err, ◌⊎◌}
 use Rattle.std.specs.FinMap.{get, insert}
 use Rattle.map_model.specs.Document.{DocumentParts, document_of}
 use Rattle.map_model.specs.declared.parts.MapParts.{MapParts}
@@ -11,15 +11,16 @@ use Rattle.map_json.specs.declared.fault.MapRefusal.{MapRefusal}
 use Rattle.map_store.specs.Files.{Files, StoreParts, IsCalled, HasFailed}
 use Rattle.command_api.specs.declared.fault.EditFault.{EditFault}
 use Rattle.command_api.specs.Law.{Names}
-use Rattle.undo_stack.specs.History.{Step, History, step_named, current, new_history, is_clean}
-use Rattle.undo_stack.specs.Moving.{Answer, clean_answer}
+use Rattle.undo_stack.specs.History.{Step, History, step_named, current, new_history, is_clean, count}
+use Rattle.undo_stack.specs.Moving.{Answer, clean_answer, SetsLimit}
+use Rattle.undo_stack.specs.declared.limits.TheConstants.{MAX_LIMIT}
 use Rattle.undo_stack.specs.Pushing.{IsPushed}
 use Rattle.undo_group.specs.Groups.{GroupParts, active_history, chosen, history_named, removed, text_of_active}
 use Rattle.session.specs.declared.reply.Refusal.{Refusal}
 use Rattle.session.specs.declared.reply.Refusal.TheVariants as refusals
 use Rattle.session.specs.declared.reply.Reply.{Reply}
 use Rattle.session.specs.declared.reply.Reply.TheVariants as replies
-use Rattle.editor.specs.Answers.{state_reply, status_reply, moved_reply}
+use Rattle.editor.specs.Answers.{state_reply, status_reply, call_reply}
 use Rattle.editor.specs.Machine.{Machine, Workspace, active_of, with_active, opened, started}
 use Rattle.editor.specs.Refusals.{refusal_of_edit, refusal_of_map, refusal_of_stack}
 
@@ -44,8 +45,22 @@ OrNoMemory act old reply new = act old reply new ⊎ Refuses refusals.NoMemory o
 
 -- ---- over the active document
 -- a call of the stack that may be refused, and then leaves the history as it was
-abbrev pub Moves : (History → Answer → History → Type 0) → Act History
-Moves Call h reply n = (answer : Answer) × Call h answer n × (reply ≡ Some (moved_reply answer n))
+abbrev pub Calls : (History → Answer → History → Type 0) → Act History
+Calls Call h reply n = (answer : Answer) × Call h answer n × (reply ≡ Some (call_reply answer n))
+
+-- the action text of a macro: the one that was given, or else its text
+abbrev pub action_or : List ℕ → Option (List ℕ) → List ℕ
+action_or text None = text
+action_or text (Some action) = action
+
+-- the undo limit is set: where there are steps that is the refusal, and else the limit must be in its range
+abbrev pub LimitsAt : ℕ → Bool → ℕ → Act History
+LimitsAt (suc steps) within limit h reply n = Refuses refusals.StackNotEmpty h reply n
+LimitsAt zero true limit h reply n = Calls (SetsLimit limit) h reply n
+LimitsAt zero false limit h reply n = Refuses refusals.OutOfRange h reply n
+
+abbrev pub LimitsTo : ℕ → Act History
+LimitsTo limit h reply n = LimitsAt (count h) (leb limit MAX_LIMIT) limit h reply n
 
 -- a call of the stack that nothing refuses
 abbrev pub Becomes : (History → History → Type 0) → Act History

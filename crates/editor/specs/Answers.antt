@@ -30,9 +30,9 @@ status_reply None = replies.NoDocument
 status_reply (Some h) = state_reply h
 
 -- the reply to a call of the stack that may be refused
-abbrev pub moved_reply : Answer → History → Reply
-moved_reply (Ok done) n = state_reply n
-moved_reply (Err fault) n = replies.Refused (refusal_of_stack fault)
+abbrev pub call_reply : Answer → History → Reply
+call_reply (Ok done) n = state_reply n
+call_reply (Err fault) n = replies.Refused (refusal_of_stack fault)
 
 -- the text for lists of a step, where there is one
 abbrev pub step_text_reply : Option (List ℕ) → Reply

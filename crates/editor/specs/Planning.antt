@@ -21,7 +21,7 @@ use Rattle.editor.specs.declared.planned.Edit.{Edit}
 use Rattle.editor.specs.declared.planned.Edit.TheVariants.{Paint, AddLayer, RemoveLayer, RenameLayer, ShowLayer, MoveLayer, Select, ResizeMap, AddObject, RemoveObject, PlaceObject, SetProperty, RemoveProperty, AddTileset, RemoveTileset}
 use Rattle.editor.specs.declared.planned.Planned.{Planned}
 use Rattle.editor.specs.declared.planned.Planned.TheVariants as planned
-use Rattle.editor.specs.Acts.{Refuses, answer_of}
+use Rattle.editor.specs.Acts.{Act, Refuses, answer_of}
 use Rattle.editor.specs.Answers.{state_reply}
 use Rattle.editor.specs.Refusals.{refusal_of_edit}
 use Rattle.editor.specs.Machine.{Machine, Workspace, active_of, with_active}
@@ -90,9 +90,14 @@ IsOfActive (OnDocuments act) = ⊥
 IsOfActive (OnActive act) = ⊤
 IsOfActive (Edits names edit) = ⊤
 
+-- the plan of a line that is done: its reply
+abbrev pub IsDone : Act History → History → Planned → History → Type 0
+IsDone act h (planned.Reply reply) n = act h (Some reply) n × KeepsReply reply h n
+IsDone act h plan n = ⊥
+
 -- what a plan says of the active document: its line is done, or it is an edit, with nothing changed yet
 abbrev pub PlansOn : Rule → History → Planned → History → Type 0
-PlansOn (OnActive act) h (planned.Reply reply) n = act h (Some reply) n × KeepsReply reply h n
+PlansOn (OnActive act) h plan n = IsDone act h plan n
 PlansOn (Edits names edit) h plan n = PlansEdit (answer_of names (edit (current h))) (current h) plan × (n ≡ h)
 PlansOn rule h plan n = ⊥
 

@@ -30,6 +30,10 @@ abbrev pub refusal_of_stack : StackFault → Refusal
 refusal_of_stack stack_faults.MacroOpen = refusals.MacroOpen
 refusal_of_stack stack_faults.NothingToUndo = refusals.NothingToUndo
 refusal_of_stack stack_faults.NothingToRedo = refusals.NothingToRedo
+refusal_of_stack stack_faults.NoMacroOpen = refusals.NoMacroOpen
+refusal_of_stack stack_faults.TooDeep = refusals.TooDeep
+refusal_of_stack stack_faults.NotEmpty = refusals.StackNotEmpty
+refusal_of_stack stack_faults.NoMemory = refusals.NoMemory
 
 abbrev pub refusal_of_map : MapRefusal → Refusal
 refusal_of_map map_refusals.NotJson = refusals.NotJson

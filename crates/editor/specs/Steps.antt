@@ -21,17 +21,18 @@ use Rattle.property_commands.specs.TilesetChanges.{add_tileset_names, remove_til
 use Rattle.paint_commands.specs.Painting.{erase_names, fill_names, stamp_names}
 use Rattle.paint_commands.specs.Selection.{select_names}
 use Rattle.undo_stack.specs.History.{History, current}
+use Rattle.undo_stack.specs.Macros.{Begins, Ends}
 use Rattle.undo_stack.specs.Moving.{StepsBack, StepsOn, GoesTo, MarksClean, UnmarksClean, Clears}
 use Rattle.undo_stack.specs.Reading.{text_at, undo_text_of, redo_text_of}
 use Rattle.undo_group.specs.Groups.{removed}
 use Rattle.session.specs.declared.line.Line.{Line}
-use Rattle.session.specs.declared.line.Line.TheVariants.{Quiet, New, Open, Save, Close, Discard, Use, Documents, Stamp, Erase, Fill, Select, SelectNone, Tile, AddLayer, RemoveLayer, RenameLayer, ShowLayer, MoveLayer, Resize, AddObject, MoveObject, ResizeObject, RemoveObject, SetProperty, RemoveProperty, AddTileset, RemoveTileset, Undo, Redo, Goto, Clean, Dirty, Clear, Show, Status, UndoText, RedoText, StepText}
+use Rattle.session.specs.declared.line.Line.TheVariants.{Quiet, New, Open, Save, Close, Discard, Use, Documents, Stamp, Erase, Fill, Select, SelectNone, Tile, AddLayer, RemoveLayer, RenameLayer, ShowLayer, MoveLayer, Resize, AddObject, MoveObject, ResizeObject, RemoveObject, SetProperty, RemoveProperty, AddTileset, RemoveTileset, Undo, Redo, Goto, Clean, Begin, End, Limit, Dirty, Clear, Show, Status, UndoText, RedoText, StepText}
 use Rattle.session.specs.declared.line.LineFault.{LineFault}
 use Rattle.session.specs.declared.reply.Refusal.TheVariants as refusals
 use Rattle.session.specs.declared.reply.Reply.TheVariants as replies
 use Rattle.session.specs.Grammar.{line_of}
 use Rattle.session.specs.TypedValues.{property_value, type_name}
-use Rattle.editor.specs.Acts.{Act, Refuses, Answers, Passes, OrNoMemory, Moves, Becomes, Pushes, WithActive, answer_of, GoesOn, Named, Closes, NotTaken, Creates, Uses, TellsText, FileAct, Alone, NewName, OfActive, OutsideMacros, FilesStay, OrStoreFails, OrNoMemoryForFile, Loads, Saves}
+use Rattle.editor.specs.Acts.{Act, Refuses, Answers, Passes, OrNoMemory, action_or, LimitsTo, Calls, Becomes, Pushes, WithActive, answer_of, GoesOn, Named, Closes, NotTaken, Creates, Uses, TellsText, FileAct, Alone, NewName, OfActive, OutsideMacros, FilesStay, OrStoreFails, OrNoMemoryForFile, Loads, Saves}
 use Rattle.editor.specs.Answers.{documents_text, status_reply, step_text_reply, tile_reply}
 use Rattle.editor.specs.Machine.{Machine, Workspace, active_of}
 
@@ -88,10 +89,13 @@ rule_of (RemoveProperty owner name) = Edits remove_property_names (λ d. after_r
 rule_of (AddTileset first_id source) = Edits add_tileset_names (λ d. after_add_tileset d first_id source)
 rule_of (RemoveTileset first_id) = Edits remove_tileset_names (λ d. after_remove_tileset d first_id)
 -- the active document's history
-rule_of Undo = OnActive (Moves StepsBack)
-rule_of Redo = OnActive (Moves StepsOn)
-rule_of (Goto index) = OnActive (Moves (GoesTo index))
-rule_of Clean = OnActive (Moves MarksClean)
+rule_of Undo = OnActive (Calls StepsBack)
+rule_of Redo = OnActive (Calls StepsOn)
+rule_of (Goto index) = OnActive (Calls (GoesTo index))
+rule_of Clean = OnActive (Calls MarksClean)
+rule_of (Begin text action) = OnActive (Calls (Begins text (action_or text action)))
+rule_of End = OnActive (Calls Ends)
+rule_of (Limit limit) = OnActive (LimitsTo limit)
 rule_of Dirty = OnActive (Becomes UnmarksClean)
 rule_of Clear = OnActive (Becomes Clears)
 rule_of Show = OnActive (OrNoMemory (Answers λ h. replies.Map (text_of (current h).map)))

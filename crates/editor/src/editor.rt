@@ -1,5 +1,6 @@
-ghost use Rattle.std.specs.Prelude.{◌≡◌};
+ghost use Rattle.std.specs.Prelude.{◌≡◌, ◌≤◌};
 ghost use Rattle.session.specs.Spelling.{CanBeSpelled};
+ghost use Rattle.undo_stack.specs.declared.limits.TheConstants.{MAX_LIMIT};
 ghost use Rattle.undo_group.specs.Stacks.{group_of, AreHeld};
 ghost use Rattle.editor.specs.Editors.{machine_of, IsSound};
 ghost use Rattle.editor.specs.Machine.{active_of, started_machine, workspace};
@@ -27,9 +28,10 @@ pub struct Editor<C> {
 }
 
 impl<C: Command> Editor<C> {
-    /// An editor with no document. The limit is the undo limit of each document when it is made: 0, for none.
+    /// An editor with no document. The limit is the undo limit of each document when it is made, at most 1,000,000, where
+    /// 0 stands for none.
     pub fn new(alloc: Global, limit: usize) -> Editor<C>
-        requires { limit ≡ 0 }
+        requires { limit ≤ MAX_LIMIT }
         ensures sound { IsSound C.change result }
         ensures machine { machine_of C.change result ≡ started_machine limit }
     {

@@ -1,8 +1,7 @@
 // The lines about the active document: those that are edits plan their command, and change nothing.
 ghost use Rattle.std.specs.Prelude.{◌≡◌};
-ghost use Rattle.undo_stack.specs.Stacks.{history};
+ghost use Rattle.undo_stack.specs.Stacks.{history, Holds};
 ghost use Rattle.session.specs.Spelling.{CanBeSpelled};
-ghost use Rattle.editor.specs.Editors.{IsUnlimited};
 ghost use Rattle.editor.specs.Steps.{rule_of};
 ghost use Rattle.editor.specs.Planning.{IsOfActive, PlansOn, plan_of, refused};
 
@@ -15,7 +14,7 @@ use crate::planning::edit_plans::{
     plan_remove_tileset, plan_rename_layer, plan_resize, plan_resize_object, plan_select,
     plan_set_property, plan_show_layer, plan_stamp,
 };
-use crate::steps::{moved, plan_show, plan_step_text, state_of};
+use crate::steps::{answered, plan_begin, plan_limit, plan_show, plan_step_text, state_of};
 use crate::{refusal, tile};
 use command_api::{Command, EditFault};
 use edits::{Area, Selecting};
@@ -42,10 +41,10 @@ pub fn planned(edit: Result<Edit, EditFault>) -> Planned
 
 /// Plans a line about a document, the active one: an edit is left to be committed, and any other line is done.
 pub fn on_document<C: Command>(alloc: Global, stack: &mut Stack<C>, line: &Line<'_>) -> Planned
-    requires sound { IsUnlimited C.change stack.old }
+    requires sound { Holds C.change stack.old }
     requires spelled { CanBeSpelled line.now }
     requires about { IsOfActive (rule_of line.now) }
-    ensures sound { IsUnlimited C.change stack.new }
+    ensures sound { Holds C.change stack.new }
     ensures plans { PlansOn (rule_of line.now) (history C.change stack.old) result (history C.change stack.new) }
 {
     let document = stack.document();
@@ -53,20 +52,26 @@ pub fn on_document<C: Command>(alloc: Global, stack: &mut Stack<C>, line: &Line<
         // Its history, and what it is.
         Line::Undo => {
             let answer = stack.undo();
-            Planned::Reply(moved(stack, answer))
+            Planned::Reply(answered(stack, answer))
         }
         Line::Redo => {
             let answer = stack.redo();
-            Planned::Reply(moved(stack, answer))
+            Planned::Reply(answered(stack, answer))
         }
         Line::Goto { index } => {
             let answer = stack.set_index(*index as usize);
-            Planned::Reply(moved(stack, answer))
+            Planned::Reply(answered(stack, answer))
         }
         Line::Clean => {
             let answer = stack.set_clean();
-            Planned::Reply(moved(stack, answer))
+            Planned::Reply(answered(stack, answer))
         }
+        Line::Begin { text, action } => plan_begin(stack, text, action),
+        Line::End => {
+            let answer = stack.end_macro();
+            Planned::Reply(answered(stack, answer))
+        }
+        Line::Limit { limit } => plan_limit(stack, *limit),
         Line::Dirty => {
             stack.reset_clean();
             Planned::Reply(state_of(stack))

@@ -36,6 +36,10 @@ pub fn of_stack(fault: StackFault) -> Refusal
         StackFault::MacroOpen => Refusal::MacroOpen,
         StackFault::NothingToUndo => Refusal::NothingToUndo,
         StackFault::NothingToRedo => Refusal::NothingToRedo,
+        StackFault::NoMacroOpen => Refusal::NoMacroOpen,
+        StackFault::TooDeep => Refusal::TooDeep,
+        StackFault::NotEmpty => Refusal::StackNotEmpty,
+        StackFault::NoMemory => Refusal::NoMemory,
     }
 }
 

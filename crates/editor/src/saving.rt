@@ -1,7 +1,6 @@
 ghost use Rattle.std.specs.Prelude.{◌≡◌, ◌≤◌, length, Some};
-ghost use Rattle.undo_stack.specs.Stacks.{history};
+ghost use Rattle.undo_stack.specs.Stacks.{history, Holds};
 ghost use Rattle.session.specs.declared.limits.TheConstants.{MAX_FILE_NAME};
-ghost use Rattle.editor.specs.Editors.{IsUnlimited};
 ghost use Rattle.map_store.specs.Files.{SameOthers};
 ghost use Rattle.editor.specs.Acts.{OrNoMemoryForFile, OrStoreFails, OutsideMacros, Saves};
 ghost use Rattle.editor.specs.Planning.{KeepsReply};
@@ -21,9 +20,9 @@ pub fn save_document<C: Command, S: MapStore>(
     stack: &mut Stack<C>,
     file: &Text<'_>,
 ) -> Reply
-    requires sound { IsUnlimited C.change stack.old }
+    requires sound { Holds C.change stack.old }
     requires short { length file.now ≤ MAX_FILE_NAME }
-    ensures sound { IsUnlimited C.change stack.new }
+    ensures sound { Holds C.change stack.new }
     ensures saves { OutsideMacros (OrStoreFails (SameOthers file.now) (OrNoMemoryForFile (Saves file.now)))
         (S.kept store.old) (S.kept store.new) (history C.change stack.old) (Some result) (history C.change stack.new) }
     ensures kept { KeepsReply result (history C.change stack.old) (history C.change stack.new) }

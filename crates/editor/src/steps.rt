@@ -1,12 +1,14 @@
-// What is told of the active document and of its history.
-ghost use Rattle.std.specs.Prelude.{◌≡◌, ◌⊎◌};
+// Lines about the active document's history, and the replies that tell how it stands.
+ghost use Rattle.std.specs.Prelude.{◌≡◌, ◌⊎◌, Some};
 ghost use Rattle.session.specs.declared.reply.Refusal.TheVariants as refusals;
 ghost use Rattle.session.specs.declared.reply.Reply.TheVariants as replies;
 ghost use Rattle.map_json.specs.Trees.{text_of};
 ghost use Rattle.undo_stack.specs.Reading.{text_at};
-ghost use Rattle.undo_stack.specs.Stacks.{history};
-ghost use Rattle.editor.specs.Answers.{moved_reply, state_reply, step_text_reply};
-ghost use Rattle.editor.specs.Planning.{refused};
+ghost use Rattle.undo_stack.specs.Macros.{Begins};
+ghost use Rattle.undo_stack.specs.Stacks.{history, Holds};
+ghost use Rattle.editor.specs.Acts.{LimitsTo, Calls, action_or};
+ghost use Rattle.editor.specs.Answers.{call_reply, state_reply, step_text_reply};
+ghost use Rattle.editor.specs.Planning.{KeepsReply, IsDone, refused};
 ghost use Rattle.editor.specs.declared.planned.Planned.TheVariants as planned;
 
 use crate::planned::Planned;
@@ -15,8 +17,9 @@ use crate::refusal;
 use command_api::Command;
 use map_json::write_map;
 use map_model::{Document, MapText};
-use session::{MapBytes, Refusal, Reply};
+use session::{MapBytes, Refusal, Reply, Text};
 use std::alloc::Global;
+use undo_stack::limits::MAX_LIMIT;
 use undo_stack::{Stack, StackFault};
 
 /// How a stack stands.
@@ -42,8 +45,8 @@ pub fn text_reply(alloc: Global, text: &str) -> Reply
 }
 
 /// The reply to a call of the stack that has been answered so: how the stack stands, or the refusal.
-pub fn moved<C: Command>(stack: &Stack<C>, answer: Result<(), StackFault>) -> Reply
-    ensures { result ≡ moved_reply answer (history C.change stack.now) }
+pub fn answered<C: Command>(stack: &Stack<C>, answer: Result<(), StackFault>) -> Reply
+    ensures { result ≡ call_reply answer (history C.change stack.now) }
 {
     match answer {
         Ok(()) => state_of(stack),
@@ -71,4 +74,42 @@ pub fn plan_step_text<C: Command>(alloc: Global, stack: &Stack<C>, place: u32) -
         Some(text) => Planned::Reply(text_reply(alloc, text)),
         None => refused(Refusal::OutOfRange),
     }
+}
+
+/// Begins a macro. Where the line has no action of its own, its text is that too.
+#[inline(never)]
+pub fn plan_begin<C: Command>(
+    stack: &mut Stack<C>,
+    text: &Text<'_>,
+    action: &Option<Text<'_>>,
+) -> Planned
+    requires { Holds C.change stack.old }
+    ensures sound { Holds C.change stack.new }
+    ensures plans { IsDone (Calls (Begins text.now (action_or text.now action.now))) (history C.change stack.old) result (history C.change stack.new) }
+{
+    let text = text.as_str();
+    let action = match action {
+        Some(action) => action.as_str(),
+        None => text,
+    };
+    let answer = stack.begin_macro(text, action);
+    Planned::Reply(answered(stack, answer))
+}
+
+/// Sets the undo limit of a document.
+#[inline(never)]
+pub fn plan_limit<C: Command>(stack: &mut Stack<C>, limit: u32) -> Planned
+    requires { Holds C.change stack.old }
+    ensures sound { Holds C.change stack.new }
+    ensures plans { IsDone (LimitsTo limit) (history C.change stack.old) result (history C.change stack.new) }
+{
+    let limit = limit as usize;
+    if stack.count() > 0 {
+        return refused(Refusal::StackNotEmpty);
+    }
+    if limit > MAX_LIMIT {
+        return refused(Refusal::OutOfRange);
+    }
+    let answer = stack.set_undo_limit(limit);
+    Planned::Reply(answered(stack, answer))
 }

@@ -165,20 +165,16 @@ impl Command for Idle {
 // The calls below are those of a stack. Of what they do the proofs of the tests need only that the stack stays whole.
 fn push<C: Command>(stack: &mut Stack<C>, command: C) -> Result<(), AllocError>
     requires sound { Holds C.change stack.old }
-    requires unlimited { (history C.change stack.old).limit ≡ 0 }
     requires fits { (C.change command).fits_redo (current (history C.change stack.old)) }
     requires straight { (C.change command).names.follows ≡ false }
     ensures sound { Holds C.change stack.new }
-    ensures unlimited { (history C.change stack.new).limit ≡ 0 }
 {
     stack.push(command)
 }
 
 fn undo<C: Command>(stack: &mut Stack<C>) -> Result<(), StackFault>
-    requires sound { Holds C.change stack.old }
-    requires unlimited { (history C.change stack.old).limit ≡ 0 }
-    ensures sound { Holds C.change stack.new }
-    ensures unlimited { (history C.change stack.new).limit ≡ 0 }
+    requires { Holds C.change stack.old }
+    ensures { Holds C.change stack.new }
 {
     // Taken apart here, the two answers need not be in each test's proof.
     stack.undo()?;
@@ -186,10 +182,8 @@ fn undo<C: Command>(stack: &mut Stack<C>) -> Result<(), StackFault>
 }
 
 fn redo<C: Command>(stack: &mut Stack<C>) -> Result<(), StackFault>
-    requires sound { Holds C.change stack.old }
-    requires unlimited { (history C.change stack.old).limit ≡ 0 }
-    ensures sound { Holds C.change stack.new }
-    ensures unlimited { (history C.change stack.new).limit ≡ 0 }
+    requires { Holds C.change stack.old }
+    ensures { Holds C.change stack.new }
 {
     // As at `undo`.
     stack.redo()?;
@@ -197,13 +191,29 @@ fn redo<C: Command>(stack: &mut Stack<C>) -> Result<(), StackFault>
 }
 
 fn set_index<C: Command>(stack: &mut Stack<C>, index: usize) -> Result<(), StackFault>
-    requires sound { Holds C.change stack.old }
-    requires unlimited { (history C.change stack.old).limit ≡ 0 }
-    ensures sound { Holds C.change stack.new }
-    ensures unlimited { (history C.change stack.new).limit ≡ 0 }
+    requires { Holds C.change stack.old }
+    ensures { Holds C.change stack.new }
 {
     // As at `undo`.
     stack.set_index(index)?;
+    Ok(())
+}
+
+fn begin_macro<C: Command>(stack: &mut Stack<C>) -> Result<(), StackFault>
+    requires { Holds C.change stack.old }
+    ensures { Holds C.change stack.new }
+{
+    // As at `undo`.
+    stack.begin_macro("fence", "build fence")?;
+    Ok(())
+}
+
+fn end_macro<C: Command>(stack: &mut Stack<C>) -> Result<(), StackFault>
+    requires { Holds C.change stack.old }
+    ensures { Holds C.change stack.new }
+{
+    // As at `undo`.
+    stack.end_macro()?;
     Ok(())
 }
 
@@ -361,4 +371,66 @@ fn clear_lets_go_of_each_box_and_undoes_none(rt: HostRuntime) -> Result<(), Fail
     assert_eq!(rt; counts, [(1, 0, 1), (1, 1, 1)]);
     assert_eq!(rt; counts, [below.all(), above.all()]);
     Ok(())
+}
+
+// Three macros, each in the one before: the inner one with a command, the next with one too, the outer one with no other.
+#[test]
+fn each_box_in_a_macro_is_let_go_of_once(rt: HostRuntime) -> Result<(), Fail> {
+    let alloc = rt.alloc();
+    let inner = Counts::new(alloc)?;
+    let next = Counts::new(alloc)?;
+    let first: Box<dyn Command> = new_probe(alloc, &inner)?;
+    let second: Box<dyn Command> = new_probe(alloc, &next)?;
+    let mut stack: Stack<Box<dyn Command>> = Stack::new(alloc, blank(alloc)?, 0);
+    let are_begun = [
+        begin_macro(&mut stack).is_ok(),
+        begin_macro(&mut stack).is_ok(),
+        begin_macro(&mut stack).is_ok(),
+    ];
+    let is_first = push(&mut stack, first).is_ok() && end_macro(&mut stack).is_ok();
+    let is_second = push(&mut stack, second).is_ok() && end_macro(&mut stack).is_ok();
+    let are_ended = (end_macro(&mut stack).is_ok(), end_macro(&mut stack).is_ok());
+    let is_turned = undo(&mut stack).is_ok() && redo(&mut stack).is_ok();
+    let stands = (stack.index(), stack.count(), stack.depth());
+    let before = [inner.all(), next.all()];
+    drop(stack);
+    let behind = [inner.all(), next.all()];
+    assert_eq!(rt; (are_begun, is_first, is_second), ([true; 3], true, true));
+    assert_eq!(rt;
+        (are_ended, is_turned, stands),
+        ((true, false), true, (1, 1, 0))
+    );
+    assert_eq!(rt; before, [(2, 1, 0); 2]);
+    assert_eq!(rt; behind, [(2, 1, 1); 2]);
+    Ok(())
+}
+
+// Each macro that began ends, whichever growth is refused: the end takes no memory. The one without a command too.
+#[test]
+fn refused_growth_leaves_macros_that_end(rt: HostRuntime) {
+    let alloc = rt.alloc();
+    let (Ok(counts), Ok(document)) = (Counts::new(alloc), blank(alloc)) else {
+        return;
+    };
+    let Ok(command) = new_probe(alloc, &counts) else {
+        return;
+    };
+    let command: Box<dyn Command> = command;
+    let mut stack: Stack<Box<dyn Command>> = Stack::new(alloc, document, 0);
+    let is_outer = begin_macro(&mut stack).is_ok();
+    let is_inner = begin_macro(&mut stack).is_ok();
+    let is_pushed = push(&mut stack, command).is_ok();
+    let is_last = begin_macro(&mut stack).is_ok();
+    let depth = stack.depth();
+    let ends = [
+        end_macro(&mut stack).is_ok(),
+        end_macro(&mut stack).is_ok(),
+        end_macro(&mut stack).is_ok(),
+    ];
+    let wanted = [depth > 0, depth > 1, depth > 2];
+    assert_eq!(rt; ends, wanted);
+    assert_eq!(rt; stack.depth(), 0);
+    // One step, unless nothing began and the command was refused too.
+    let is_step = is_outer || is_inner || is_pushed || is_last;
+    assert_eq!(rt; stack.count() > 0, is_step);
 }

@@ -8,11 +8,11 @@ use Rattle.std.proofs.lemmas.Bool.{cond_both}
 use Rattle.std.proofs.lemmas.Slice.Eq.{bytes_eq-Decides}
 use Rattle.session.specs.declared.line.Line.{Line}
 use Rattle.session.specs.declared.line.LineFault.{LineFault}
-use Rattle.session.specs.Grammar.{FieldKind, Number, Coordinate, Block, Name, File, Choice, LayerSort, YesNo, Truth, Key, Color, OwnerName, FieldValue, LineForm, Ends, Text, Field, Word, Fails, choose, read, field_at, ends_at, last_text_at, ◌>>=◌}
-use Rattle.session.specs.Spelling.{Token, Fixed, Given, Rest, tokens, token_words, field_words, IsToken}
+use Rattle.session.specs.Grammar.{FieldKind, Number, Coordinate, Block, Name, File, Choice, LayerSort, YesNo, Truth, Key, Color, OwnerName, FieldValue, LineForm, Ends, Text, Texts, Field, Word, Fails, choose, read, field_at, ends_at, last_text_at, last_texts_at, ◌>>=◌}
+use Rattle.session.specs.Spelling.{Token, Fixed, Given, Rest, RestTexts, tokens, token_words, field_words, IsToken}
 use Rattle.session.proofs.Coordinates.{and_then_from}
-use Rattle.session.proofs.SpelledFields.{field_at-words, last_text_at-words}
-use Rattle.session.proofs.ReadFields.{if_bind, if_then, ReadField, field_is_read, ReadText, text_is_read, end_is_read}
+use Rattle.session.proofs.SpelledFields.{field_at-words, last_text_at-words, last_texts_at-words}
+use Rattle.session.proofs.ReadFields.{if_bind, if_then, ReadField, field_is_read, ReadText, text_is_read, ReadTexts, texts_are_read, end_is_read}
 use Rattle.session.proofs.SpacedWords.{Clean}
 
 abbrev value_of : (kind : FieldKind) → Token → Option (FieldValue kind)
@@ -34,6 +34,7 @@ value_of kind token = None
 abbrev pub follow : LineForm → List Token → Option Line
 follow (Ends line) [] = Some line
 follow (Text line) (Rest text ∷ []) = Some (line text)
+follow (Texts line) (RestTexts text action ∷ []) = Some (line text action)
 follow (Field kind form) (token ∷ ts) = option_and_then (λ value. follow (form value) ts) (value_of kind token)
 follow (Word word form other) (Fixed w ∷ ts) = cond (bytes_eq w word) (follow form ts) (follow other (Fixed w ∷ ts))
 follow form ts = None
@@ -58,6 +59,7 @@ pub followed_is_read : (form : LineForm) (ts : List Token) (line : Line) → fol
 unfolding ends_at
 followed_is_read (Ends l) [] line e h = ap Ok cc
 followed_is_read (Text l) (Rest text ∷ []) line e h = ap (λ r. r >>= λ t. Ok (l t)) (ap last_text_at (append-nil _) ∙ last_text_at-words text h.0) ∙ ap Ok cc
+followed_is_read (Texts l) (RestTexts text action ∷ []) line e h = ap (λ r. r >>= λ t. Ok (l t.0 t.1)) (ap last_texts_at (append-nil _) ∙ last_texts_at-words text action h.0) ∙ ap Ok cc
 followed_is_read (Field kind form) (token ∷ ts) line e h =
     let inner = and_then_from (λ value. follow (form value) ts) (value_of kind token) line e in
     let same = given kind token inner.0 inner.1 in
@@ -76,6 +78,7 @@ followed_is_read form ts line e h = absurd cc
 abbrev pub Agrees : LineForm → (List Token → List Token) → Type 0
 Agrees (Ends line) front = tokens line ≡ front []
 Agrees (Text line) front = (text : List ℕ) → tokens (line text) ≡ front (Rest text ∷ [])
+Agrees (Texts line) front = (text : List ℕ) (action : Option (List ℕ)) → tokens (line text action) ≡ front (RestTexts text action ∷ [])
 Agrees (Field kind form) front = (value : FieldValue kind) → Agrees (form value) (λ ts. front (Given kind value ∷ ts))
 Agrees (Word word form other) front = Agrees form (λ ts. front (Fixed word ∷ ts)) × Agrees other front
 Agrees (Fails fault) front = Unit {0}
@@ -94,6 +97,7 @@ clean_rest (u ∷ us) ws h = clean_rest us ws h.1
 pub read_is_spelled : (form : LineForm) (front : List Token → List Token) (ws : List (List ℕ)) → Agrees form front → AllByRecursion Clean ws → IfOk (read form ws) (Spells front ws)
 read_is_spelled (Ends line) front ws a h = if_bind (ends_at ws) _ (λ _. ws ≡ []) (Spells front ws) (end_is_read ws) (λ end e. record { ts = []; are = a; words = e; fit = tt })
 read_is_spelled (Text line) front ws a h = if_bind (last_text_at ws) _ (ReadText ws) (Spells front ws) (text_is_read ws h) (λ t s. record { ts = Rest t ∷ []; are = a t; words = s.words ∙ sym (append-nil _); fit = (s.fits, tt) })
+read_is_spelled (Texts line) front ws a h = if_bind (last_texts_at ws) _ (ReadTexts ws) (Spells front ws) (texts_are_read ws h) (λ t s. record { ts = RestTexts t.0 t.1 ∷ []; are = a t.0 t.1; words = s.words ∙ sym (append-nil _); fit = (s.fits, tt) })
 read_is_spelled (Field kind form) front ws a h =
     if_bind (field_at kind ws) _ (ReadField kind ws) (Spells front ws) (field_is_read kind ws h) (λ x t.
     if_then (read (form x.0) x.1) (Spells (λ ts. front (Given kind x.0 ∷ ts)) x.1) (Spells front ws)

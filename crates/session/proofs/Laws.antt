@@ -14,8 +14,8 @@ use Rattle.map_model.specs.declared.selection.SelectionMode.TheVariants.{Replace
 use Rattle.session.specs.declared.line.LineFault.{LineFault}
 use Rattle.session.specs.Words.{words}
 use Rattle.session.specs.Grammar.{Gives, read, line_form, is_quiet, line_of}
-use Rattle.session.specs.Spelling.{Token, Fixed, Given, Rest, Unspelled, tokens, has_block, token_words, spaced, spelling, IsToken, Says, CanBeSpelled, SpelledIsRead, ReadIsSpelled, QuietIsRead, LongIsNotRead}
-use Rattle.session.proofs.SpacedWords.{Clean, clean, clean_words, plain_literal, words-spaced, utf8-spaced}
+use Rattle.session.specs.Spelling.{joined_by_bars, Token, Fixed, Given, Rest, RestTexts, Unspelled, tokens, has_block, token_words, spaced, spelling, IsToken, Says, CanBeSpelled, SpelledIsRead, ReadIsSpelled, QuietIsRead, LongIsNotRead}
+use Rattle.session.proofs.SpacedWords.{Clean, clean, clean_words, utf8-joined, plain_literal, words-spaced, utf8-spaced}
 use Rattle.session.proofs.SpelledFields.{clean_field}
 use Rattle.session.proofs.Lengths.{room, is_short}
 use Rattle.session.proofs.FirstChecks.{checked}
@@ -37,6 +37,7 @@ clean_tokens [] e h = tt
 clean_tokens (Fixed word ∷ ts) e h = let both = and_parts _ _ e in (clean word (plain_literal word both.0), clean_tokens ts both.1 h.1)
 clean_tokens (Given kind value ∷ ts) e h = clean_append _ (flat_map token_words ts) (clean_field kind value h.0) (clean_tokens ts e h.1)
 clean_tokens (Rest text ∷ ts) e h = clean_append _ (flat_map token_words ts) (clean_words text h.0.utf8) (clean_tokens ts e h.1)
+clean_tokens (RestTexts text action ∷ ts) e h = clean_append _ (flat_map token_words ts) (clean_words (joined_by_bars text action) (utf8-joined text action h.0)) (clean_tokens ts e h.1)
 clean_tokens (Unspelled ∷ ts) e h = absurd h.0
 
 -- the parts begin with a word that neither a blank line nor a comment begins with
@@ -54,6 +55,7 @@ loud (Fixed [] ∷ ts) h = absurd cc
 loud (Fixed (b ∷ word) ∷ ts) h = not_quiet b word (flat_map token_words ts) h
 loud (Given kind value ∷ ts) h = absurd cc
 loud (Rest text ∷ ts) h = absurd cc
+loud (RestTexts text action ∷ ts) h = absurd cc
 loud (Unspelled ∷ ts) h = absurd cc
 
 -- what is found of each line by computing

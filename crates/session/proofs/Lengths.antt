@@ -1,5 +1,5 @@
 -- How long the parts of a line are.
-use Rattle.std.proofs.Common.{◌≡◌, ℕ, suc, ◌+◌, ◌^◌, ◌<◌, ◌≤◌, Bool, true, false, leb, eqb, List, [], ◌∷◌, ◌++◌, length, None, Some, ℤ, pos, negsuc, ap, arith, inl, inr, IsTrue, ◌||◌, ◌&&◌}
+use Rattle.std.proofs.Common.{◌≡◌, ℕ, suc, ◌+◌, ◌^◌, ◌<◌, ◌≤◌, Bool, true, false, leb, eqb, List, [], ◌∷◌, ◌++◌, length, None, Some, ℤ, pos, negsuc, ap, arith, inl, inr, IsTrue, ◌||◌, ◌&&◌, Option}
 use Rattle.std.specs.List.{AllByRecursion, flat_map, list_all}
 use Rattle.std.specs.Fmt.{decimal, signed_decimal}
 use Rattle.std.proofs.lemmas.Int.{ints}
@@ -12,9 +12,9 @@ use Rattle.map_model.specs.declared.parts.LayerKind.TheVariants as kinds
 use Rattle.map_model.specs.declared.owner.Owner.{Owner}
 use Rattle.map_model.specs.declared.owner.Owner.TheVariants as owners
 use Rattle.session.specs.declared.limits.TheConstants.{MAX_LINE, MAX_DOCUMENT_NAME, MAX_FILE_NAME, MAX_TEXT, MAX_KEY}
-use Rattle.session.specs.Words.{words, is_color, is_color_digit}
+use Rattle.session.specs.Words.{words, bars, is_color, is_color_digit}
 use Rattle.session.specs.Grammar.{FieldKind, Number, Coordinate, Block, Name, File, Choice, LayerSort, YesNo, Truth, Key, Color, OwnerName, FieldValue}
-use Rattle.session.specs.Spelling.{Token, Fixed, Given, Rest, Unspelled, token_words, field_words, has_block, layer_kind_word, yes_no_word, truth_word, owner_word, spaced, IsNumber, IsOwner, IsCoordinate, IsField, IsToken}
+use Rattle.session.specs.Spelling.{Token, Fixed, Given, Rest, RestTexts, Unspelled, token_words, field_words, has_block, layer_kind_word, yes_no_word, truth_word, owner_word, spaced, joined_by_bars, AreTexts, IsNumber, IsOwner, IsCoordinate, IsField, IsToken}
 
 -- no fewer than the bytes of a field's words
 abbrev field_room : FieldKind → ℕ
@@ -37,6 +37,7 @@ room [] = 0
 room (Fixed word ∷ ts) = length word + 1 + room ts
 room (Given kind value ∷ ts) = field_room kind + 1 + room ts
 room (Rest text ∷ ts) = MAX_TEXT + 1 + room ts
+room (RestTexts text action ∷ ts) = MAX_TEXT + length bars + MAX_TEXT + 1 + room ts
 room (Unspelled ∷ ts) = room ts
 
 -- the bytes of words, each with a space behind it
@@ -116,12 +117,17 @@ field_within Key name h r = omega (arith, h.short)
 field_within Color color h r = omega (arith, color_within color h)
 field_within OwnerName owner h r = omega (arith, owner_within owner h)
 
+joined_within : (text : List ℕ) (action : Option (List ℕ)) → AreTexts text action → length (joined_by_bars text action) ≤ MAX_TEXT + length bars + MAX_TEXT
+joined_within text None h = omega (arith, h.first.short)
+joined_within text (Some action) h = omega (arith, h.first.short, h.second.short, length-append text (bars ++ action), length-append bars action)
+
 tokens_within : (ts : List Token) → AllByRecursion IsToken ts → room ts ≤ MAX_LINE → total (flat_map token_words ts) ≤ room ts
 unfolding total
 tokens_within [] h r = omega arith
 tokens_within (Fixed word ∷ ts) h r = omega (arith, tokens_within ts h.1 (omega (arith, r)))
 tokens_within (Given kind value ∷ ts) h r = omega (arith, total-append (field_words kind value) (flat_map token_words ts), field_within kind value h.0 (omega (arith, r)), tokens_within ts h.1 (omega (arith, r)))
 tokens_within (Rest text ∷ ts) h r = omega (arith, total-append (words text) (flat_map token_words ts), total-words text, h.0.short, tokens_within ts h.1 (omega (arith, r)))
+tokens_within (RestTexts text action ∷ ts) h r = omega (arith, total-append (words (joined_by_bars text action)) (flat_map token_words ts), total-words (joined_by_bars text action), joined_within text action h.0, tokens_within ts h.1 (omega (arith, r)))
 tokens_within (Unspelled ∷ ts) h r = absurd h.0
 
 -- parts without a block are short, and with one they have to be

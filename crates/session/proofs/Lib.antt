@@ -6,6 +6,7 @@ pub mod Coordinates
 pub mod SpacedWords
 pub mod Commas
 pub mod Cutting
+pub mod Bars
 pub mod Counting
 pub mod FirstChecks
 pub mod SpelledFields

@@ -10,14 +10,15 @@ use Rattle.map_model.specs.declared.parts.LayerKind.TheVariants as kinds
 use Rattle.session.specs.declared.limits.TheConstants.{MAX_DOCUMENT_NAME, MAX_FILE_NAME}
 use Rattle.session.specs.declared.line.LineFault.{LineFault}
 use Rattle.session.specs.declared.line.LineFault.TheVariants.{BadWord}
-use Rattle.session.specs.Words.{words, number_of, coordinate_of, numbers_of, is_name, is_name_byte, is_text, is_text_byte, are_rows, layer_kind_of, yes_no_of, truth_of, is_key, is_key_byte, is_color, owner_of}
-use Rattle.session.specs.Grammar.{FieldKind, Number, Coordinate, Block, Name, File, Choice, LayerSort, YesNo, Truth, Key, Color, OwnerName, FieldValue, field_at, number_at, coordinate_at, rows_at, block_at, name_at, choice_at, last_text_at, layer_kind_at, yes_no_at, truth_at, key_at, color_at, owner_at, ends_at, ◌>>=◌, word_is}
-use Rattle.session.specs.Spelling.{spaced, commas, layer_kind_word, yes_no_word, truth_word, field_words, IsField, IsName, IsText, IsKey, AreRows}
+use Rattle.session.specs.Words.{words, number_of, coordinate_of, numbers_of, is_name, is_name_byte, is_text, is_text_byte, cut_at_bars, are_texts, are_rows, layer_kind_of, yes_no_of, truth_of, is_key, is_key_byte, is_color, owner_of}
+use Rattle.session.specs.Grammar.{FieldKind, Number, Coordinate, Block, Name, File, Choice, LayerSort, YesNo, Truth, Key, Color, OwnerName, FieldValue, field_at, number_at, coordinate_at, rows_at, block_at, name_at, choice_at, last_text_at, last_texts_at, layer_kind_at, yes_no_at, truth_at, key_at, color_at, owner_at, ends_at, ◌>>=◌, word_is}
+use Rattle.session.specs.Spelling.{joined_by_bars, HasNoBars, AreTexts, spaced, commas, layer_kind_word, yes_no_word, truth_word, field_words, IsField, IsName, IsText, IsKey, AreRows}
 use Rattle.session.proofs.Decimals.{decimal_from}
 use Rattle.session.proofs.Coordinates.{signed_from}
 use Rattle.session.proofs.Commas.{commas_from}
 use Rattle.session.proofs.Owners.{owner_from}
-use Rattle.session.proofs.SpacedWords.{Clean, words-spaced, utf8-spaced}
+use Rattle.session.proofs.SpacedWords.{Clean, words-spaced, utf8-spaced, utf8_before, utf8_after}
+use Rattle.session.proofs.Bars.{joined-cut_at_bars, no_bars_cut}
 use Rattle.std.specs.List.{AllByRecursion}
 
 pub if_bind : {A B : Type 0} (r : Result A LineFault) (f : A → Result B LineFault) (P : A → Type 0) (Q : B → Type 0) → IfOk r P → ((a : A) → P a → IfOk (f a) Q) → IfOk (r >>= f) Q
@@ -195,6 +196,32 @@ pub text_is_read : (ws : List (List ℕ)) → AllByRecursion Clean ws → IfOk (
 unfolding last_text_at
 text_is_read [] h = tt
 text_is_read (w ∷ ws) h = cond_both (is_text (spaced (w ∷ ws))) (Ok (spaced (w ∷ ws))) (Err BadWord) (λ r. IfOk r (ReadText (w ∷ ws))) (λ is. record { fits = is_text_from (spaced (w ∷ ws)) is (utf8-spaced (w ∷ ws) h); words = sym (words-spaced w ws h) }) (λ is. tt)
+
+texts_from : (text : List ℕ) (action : Option (List ℕ)) → are_texts text action ≡ true → HasNoBars text action → IsUtf8 (joined_by_bars text action) → AreTexts text action
+texts_from text None is h u = record { first = is_text_from text is u; second = tt; no_bars = h }
+texts_from text (Some action) is h u =
+    let both = and_parts _ _ is in
+    let behind : IsUtf8 action = utf8_after (codes "||") action (utf8_after text (codes "|| " ++ action) u) in
+    record { first = is_text_from text both.0 (utf8_before text (codes "|| " ++ action) u); second = is_text_from action both.1 behind; no_bars = h }
+
+-- the words are those of a macro's texts
+pub record ReadTexts (ws : List (List ℕ)) (x : List ℕ × Option (List ℕ)) : Type 0 where
+  pub fits : AreTexts x.0 x.1
+  pub words : ws ≡ words (joined_by_bars x.0 x.1)
+
+pub texts_are_read : (ws : List (List ℕ)) → AllByRecursion Clean ws → IfOk (last_texts_at ws) (ReadTexts ws)
+unfolding last_texts_at
+texts_are_read [] h = tt
+texts_are_read (w ∷ ws) h =
+    let bytes = spaced (w ∷ ws) in
+    let cut = cut_at_bars bytes in
+    let whole = joined-cut_at_bars bytes in
+    cond_both (are_texts cut.0 cut.1) (Ok cut) (Err BadWord) (λ r. IfOk r (ReadTexts (w ∷ ws)))
+    (λ is. record {
+      fits = texts_from cut.0 cut.1 is (no_bars_cut bytes) (subst IsUtf8 (sym whole) (utf8-spaced (w ∷ ws) h));
+      words = sym (words-spaced w ws h) ∙ ap words (sym whole);
+    })
+    (λ is. tt)
 
 pub end_is_read : (ws : List (List ℕ)) → IfOk (ends_at ws) (λ _. ws ≡ [])
 unfolding ends_at

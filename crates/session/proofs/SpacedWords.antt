@@ -1,5 +1,6 @@
 -- Words without a space, and the words of what is spelled with them.
-use Rattle.std.proofs.Common.{◌≡◌, ℕ, suc, ◌+◌, ◌^◌, ◌<◌, true, false, eqb, ltb, ◌&&◌, List, [], ◌∷◌, ◌++◌, length, get_or, ℤ, pos, negsuc, refl, sym, ap, ◌∙◌, subst, arith, lit<}
+use Rattle.std.proofs.Common.{◌≡◌, ℕ, suc, ◌+◌, ◌^◌, ◌<◌, true, false, eqb, ltb, ◌&&◌, List, [], ◌∷◌, ◌++◌, length, get_or, Option, None, Some, ℤ, pos, negsuc, refl, sym, ap, ◌∙◌, subst, arith, lit<}
+use Rattle.std.specs.Prelude.{codes}
 use Rattle.std.specs.List.{AllByRecursion, list_all, onto_first}
 use Rattle.std.specs.Fmt.{decimal, signed_decimal}
 use Rattle.std.specs.Char.{is_ascii_digit}
@@ -15,7 +16,7 @@ use Rattle.std.proofs.lemmas.Bool.{ne_eqb, and_parts, ltb-true, cond_both}
 use Rattle.std.proofs.Math.Seq.{take-append_seam, drop-append-add, get_or-append_seam}
 use Rattle.std.proofs.lemmas.Bool.Decides.{nat_tests}
 use Rattle.session.specs.Words.{words, is_name_byte}
-use Rattle.session.specs.Spelling.{spaced, IsCoordinate, IsName}
+use Rattle.session.specs.Spelling.{spaced, joined_by_bars, IsCoordinate, IsName, AreTexts}
 use Rattle.session.proofs.Digits.{digits_test, decimal_numerals}
 
 -- an ASCII byte that is neither a control nor a space
@@ -93,15 +94,22 @@ utf8-spaced [] h = IsUtf8-nil
 utf8-spaced (word ∷ []) h = h.0.utf8
 utf8-spaced (word ∷ next ∷ more) h = IsUtf8-append word (32 ∷ spaced (next ∷ more)) h.0.utf8 (IsUtf8-append (32 ∷ []) (spaced (next ∷ more)) space (utf8-spaced (next ∷ more) h.1))
 
+barred : IsUtf8 (codes " || ")
+barred = IsUtf8-from_ascii (codes " || ") (IsAscii-from_all (codes " || ") (All-from_recursion (λ b. b < 128) (codes " || ") (lit< tt, (lit< tt, (lit< tt, (lit< tt, tt))))))
+
+pub utf8-joined : (text : List ℕ) (action : Option (List ℕ)) → AreTexts text action → IsUtf8 (joined_by_bars text action)
+utf8-joined text None h = h.first.utf8
+utf8-joined text (Some action) h = IsUtf8-append text (codes " || " ++ action) h.first.utf8 (IsUtf8-append (codes " || ") action barred h.second.utf8)
+
 -- what stands before a space, and behind it
-utf8_before : (word rest : List ℕ) → IsUtf8 (word ++ 32 ∷ rest) → IsUtf8 word
+pub utf8_before : (word rest : List ℕ) → IsUtf8 (word ++ 32 ∷ rest) → IsUtf8 word
 utf8_before word rest u =
     let bs = word ++ 32 ∷ rest in
     let inside : length word < length bs = omega (arith, length-append word (32 ∷ rest)) in
     let ascii : get_or bs (length word) 0 < 128 = omega (arith, get_or-append_seam word 32 rest 0) in
     subst IsUtf8 (take-append_seam word (32 ∷ rest)) (IsUtf8-take bs (length word) u (IsCharBoundary-before_ascii bs (length word) inside ascii))
 
-utf8_after : (word rest : List ℕ) → IsUtf8 (word ++ 32 ∷ rest) → IsUtf8 rest
+pub utf8_after : (word rest : List ℕ) → IsUtf8 (word ++ 32 ∷ rest) → IsUtf8 rest
 utf8_after word rest u =
     let bs = word ++ 32 ∷ rest in
     let inside : length word < length bs = omega (arith, length-append word (32 ∷ rest)) in

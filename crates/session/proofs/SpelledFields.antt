@@ -13,14 +13,15 @@ use Rattle.map_model.specs.declared.parts.LayerKind.{LayerKind}
 use Rattle.map_model.specs.declared.parts.LayerKind.TheVariants as kinds
 use Rattle.session.specs.declared.limits.TheConstants.{MAX_DOCUMENT_NAME, MAX_FILE_NAME, MAX_TEXT, MAX_KEY}
 use Rattle.map_model.specs.declared.limits.TheConstants.{MAX_SIDE}
-use Rattle.session.specs.Words.{words, is_name, is_name_byte, is_text, is_text_byte, are_rows, layer_kind_of, yes_no_of, truth_of, is_key, is_key_byte, is_color, is_color_digit}
-use Rattle.session.specs.Grammar.{number_at, coordinate_at, rows_at, block_at, name_at, choice_at, last_text_at, layer_kind_at, yes_no_at, truth_at, key_at, color_at, owner_at, field_at, FieldKind, Number, Coordinate, Block, Name, File, Choice, LayerSort, YesNo, Truth, Key, Color, OwnerName, FieldValue}
-use Rattle.session.specs.Spelling.{commas, choice_word, layer_kind_word, yes_no_word, truth_word, owner_word, field_words, IsField, IsNumber, IsCoordinate, IsName, IsChoice, IsText, IsKey, IsOwner, AreRows}
+use Rattle.session.specs.Words.{words, is_name, is_name_byte, is_text, is_text_byte, are_texts, are_rows, layer_kind_of, yes_no_of, truth_of, is_key, is_key_byte, is_color, is_color_digit}
+use Rattle.session.specs.Grammar.{number_at, coordinate_at, rows_at, block_at, name_at, choice_at, last_text_at, last_texts_at, layer_kind_at, yes_no_at, truth_at, key_at, color_at, owner_at, field_at, FieldKind, Number, Coordinate, Block, Name, File, Choice, LayerSort, YesNo, Truth, Key, Color, OwnerName, FieldValue}
+use Rattle.session.specs.Spelling.{joined_by_bars, AreTexts, commas, choice_word, layer_kind_word, yes_no_word, truth_word, owner_word, field_words, IsField, IsNumber, IsCoordinate, IsName, IsChoice, IsText, IsKey, IsOwner, AreRows}
 use Rattle.session.proofs.Decimals.{number_of-decimal}
 use Rattle.session.proofs.Coordinates.{coordinate_of-signed}
 use Rattle.session.proofs.Commas.{numbers_of-commas, plain_commas}
 use Rattle.session.proofs.SpacedWords.{IsPlain, Plain, Clean, clean, plain_literal, plain_number, plain_coordinate, plain_name}
-use Rattle.session.proofs.Cutting.{text_of_words}
+use Rattle.session.proofs.Cutting.{text_of_words, texts_of_words}
+use Rattle.session.proofs.Bars.{cut_at_bars-joined}
 use Rattle.session.proofs.Owners.{owner_of-word, plain_owner}
 use Rattle.map_model.specs.declared.owner.Owner.{Owner}
 
@@ -69,6 +70,13 @@ text bytes h =
 
 pub last_text_at-words : (bytes : List ℕ) → IsText bytes → last_text_at (words bytes) ≡ Ok bytes
 last_text_at-words bytes h = rw (text_of_words bytes, text bytes h) refl
+
+texts : (first : List ℕ) (action : Option (List ℕ)) → AreTexts first action → are_texts first action ≡ true
+texts first None h = text first h.first
+texts first (Some action) h = and_from _ _ (text first h.first) (text action h.second)
+
+pub last_texts_at-words : (first : List ℕ) (action : Option (List ℕ)) → AreTexts first action → last_texts_at (words (joined_by_bars first action)) ≡ Ok (first, action)
+last_texts_at-words first action h = rw (texts_of_words (joined_by_bars first action), cut_at_bars-joined first action h.no_bars, texts first action h) refl
 
 layer_kind_of-word : (kind : LayerKind) → layer_kind_of (layer_kind_word kind) ≡ Some kind
 layer_kind_of-word kinds.Tile = refl

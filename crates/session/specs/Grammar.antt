@@ -4,7 +4,7 @@ use Rattle.std.specs.List.{join_with_byte, list_all}
 use Rattle.std.specs.Str.{bytes_eq, is_utf8}
 use Rattle.session.specs.declared.limits.TheConstants.{MAX_LINE, MAX_DOCUMENT_NAME, MAX_FILE_NAME}
 use Rattle.session.specs.declared.line.Line.{Line}
-use Rattle.session.specs.declared.line.Line.TheVariants.{Quiet, New, Open, Save, Close, Discard, Use, Documents, Stamp, Erase, Fill, Select, SelectNone, Tile, AddLayer, RemoveLayer, RenameLayer, ShowLayer, MoveLayer, Resize, AddObject, MoveObject, ResizeObject, RemoveObject, SetProperty, RemoveProperty, AddTileset, RemoveTileset, Undo, Redo, Goto, Clean, Dirty, Clear, Show, Status, UndoText, RedoText, StepText}
+use Rattle.session.specs.declared.line.Line.TheVariants.{Quiet, New, Open, Save, Close, Discard, Use, Documents, Stamp, Erase, Fill, Select, SelectNone, Tile, AddLayer, RemoveLayer, RenameLayer, ShowLayer, MoveLayer, Resize, AddObject, MoveObject, ResizeObject, RemoveObject, SetProperty, RemoveProperty, AddTileset, RemoveTileset, Undo, Redo, Goto, Clean, Dirty, Clear, Begin, End, Limit, Show, Status, UndoText, RedoText, StepText}
 use Rattle.session.specs.declared.line.LineFault.{LineFault}
 use Rattle.session.specs.declared.line.LineFault.TheVariants.{TooLong, NotUtf8, UnknownCommand, BadWord}
 use Rattle.map_model.specs.declared.parts.LayerKind.{LayerKind}
@@ -12,7 +12,7 @@ use Rattle.map_model.specs.declared.selection.SelectionMode.{SelectionMode}
 use Rattle.map_model.specs.declared.selection.SelectionMode.TheVariants.{Replace, Add, Subtract, Intersect}
 use Rattle.map_model.specs.declared.owner.Owner.{Owner}
 use Rattle.session.specs.declared.typed_value.TypedValue.TheVariants as typed
-use Rattle.session.specs.Words.{words, number_of, coordinate_of, numbers_of, are_rows, is_name, is_text, layer_kind_of, yes_no_of, truth_of, is_key, is_color, owner_of}
+use Rattle.session.specs.Words.{words, number_of, coordinate_of, numbers_of, are_rows, is_name, is_text, cut_at_bars, are_texts, layer_kind_of, yes_no_of, truth_of, is_key, is_color, owner_of}
 
 infixl 10 ◌>>=◌
 abbrev pub ◌>>=◌ : {A B : Type 0} → Result A LineFault → (A → Result B LineFault) → Result B LineFault
@@ -62,6 +62,14 @@ unfoldable pub last_text_at : List (List ℕ) → Result (List ℕ) LineFault
 last_text_at [] = Err BadWord
 last_text_at (w ∷ ws) =
     if is_text (join_with_byte 32 (w ∷ ws)) then Ok (join_with_byte 32 (w ∷ ws)) else Err BadWord
+
+-- the text that all further words make, as it is cut at its first bars
+unfoldable pub last_texts_at : List (List ℕ) → Result (List ℕ × Option (List ℕ)) LineFault
+last_texts_at [] = Err BadWord
+last_texts_at (w ∷ ws) =
+    if are_texts (cut_at_bars (join_with_byte 32 (w ∷ ws))).0 (cut_at_bars (join_with_byte 32 (w ∷ ws))).1
+    then Ok (cut_at_bars (join_with_byte 32 (w ∷ ws)))
+    else Err BadWord
 
 -- a kind of layer, and the words after it
 unfoldable pub layer_kind_at : List (List ℕ) → Result (LayerKind × List (List ℕ)) LineFault
@@ -147,11 +155,12 @@ field_at Key ws = key_at ws
 field_at Color ws = color_at ws
 field_at OwnerName ws = owner_at ws
 
--- what may follow some words: no further word, a text that all further words make, a field and what its value leads
--- to, that word and what it leads to or else the other form, or nothing
+-- what may follow some words: no further word, a text that all further words make, such a text and perhaps another one
+-- behind its bars, a field and what its value leads to, that word and what it leads to or else the other form, or nothing
 pub data LineForm : Type 0 where
   Ends : Line → LineForm
   Text : (List ℕ → Line) → LineForm
+  Texts : (List ℕ → Option (List ℕ) → Line) → LineForm
   Field : (kind : FieldKind) → (FieldValue kind → LineForm) → LineForm
   Word : List ℕ → LineForm → LineForm → LineForm
   Fails : LineFault → LineForm
@@ -160,6 +169,7 @@ pub data LineForm : Type 0 where
 abbrev pub read : LineForm → List (List ℕ) → Result Line LineFault
 read (Ends line) ws = ends_at ws >>= λ end. Ok line
 read (Text line) ws = last_text_at ws >>= λ text. Ok (line text)
+read (Texts line) ws = last_texts_at ws >>= λ texts. Ok (line texts.0 texts.1)
 read (Field kind form) ws = field_at kind ws >>= λ value. read (form value.0) value.1
 read (Word word form other) [] = Err BadWord
 read (Word word form other) (w ∷ ws) = if bytes_eq w word then read form ws else read other (w ∷ ws)
@@ -284,6 +294,12 @@ remove_tileset_form = Field Number λ first_id. Ends (RemoveTileset first_id)
 abbrev pub goto_form : LineForm
 goto_form = Field Number λ index. Ends (Goto index)
 
+abbrev pub begin_form : LineForm
+begin_form = Texts Begin
+
+abbrev pub limit_form : LineForm
+limit_form = Field Number λ limit. Ends (Limit limit)
+
 abbrev pub step_text_form : LineForm
 step_text_form = Field Number λ place. Ends (StepText place)
 
@@ -343,7 +359,9 @@ common_commands =
 -- the commands of the others
 abbrev pub rare_commands : List (List ℕ × LineForm)
 rare_commands =
-    (codes "select", choose select_lines BadWord)
+    (codes "begin", begin_form)
+    ∷ (codes "end", Ends End)
+    ∷ (codes "select", choose select_lines BadWord)
     ∷ (codes "layer", choose layer_lines BadWord)
     ∷ (codes "object", choose object_lines BadWord)
     ∷ (codes "prop", choose property_lines BadWord)
@@ -353,6 +371,7 @@ rare_commands =
     ∷ (codes "clean", Ends Clean)
     ∷ (codes "dirty", Ends Dirty)
     ∷ (codes "clear", Ends Clear)
+    ∷ (codes "limit", limit_form)
     ∷ (codes "show", Ends Show)
     ∷ (codes "new", new_form)
     ∷ (codes "open", open_form)

@@ -2,7 +2,7 @@
 use Rattle.std.specs.Prelude.{ℕ, ◌==◌, List, [], ◌∷◌, ◌++◌, Option, None, Some, bit_and, codes, if◌then◌else◌, decimal}
 use Rattle.session.specs.declared.line.LineFault.TheVariants.{TooLong, NotUtf8, UnknownCommand, BadWord}
 use Rattle.session.specs.declared.reply.Refusal.{Refusal}
-use Rattle.session.specs.declared.reply.Refusal.TheVariants.{Line, NoActiveDocument, NameTaken, NoSuchDocument, UnsavedChanges, MacroOpen, NothingToUndo, NothingToRedo, NoSuchLayer, LayerOfAnotherKind, OutsideTheMap, UnknownTile, NoSuchObject, NoSuchProperty, NoSuchTileset, TilesetInUse, FirstIdNotAbove, OutOfRange, TooMany, NoSuchFile, StoreFailed, NotJson, Fraction, MemberMissing, MemberOfAnotherKind, Infinite, Compressed, BadData, IdUsedTwice, OverLimit, NotAMap, NoMemory}
+use Rattle.session.specs.declared.reply.Refusal.TheVariants.{Line, NoActiveDocument, NameTaken, NoSuchDocument, UnsavedChanges, MacroOpen, NothingToUndo, NothingToRedo, NoMacroOpen, TooDeep, StackNotEmpty, NoSuchLayer, LayerOfAnotherKind, OutsideTheMap, UnknownTile, NoSuchObject, NoSuchProperty, NoSuchTileset, TilesetInUse, FirstIdNotAbove, OutOfRange, TooMany, NoSuchFile, StoreFailed, NotJson, Fraction, MemberMissing, MemberOfAnotherKind, Infinite, Compressed, BadData, IdUsedTwice, OverLimit, NotAMap, NoMemory}
 use Rattle.session.specs.declared.reply.LocalTile.{LocalTile}
 use Rattle.session.specs.declared.reply.Reply.{Reply}
 use Rattle.session.specs.declared.reply.Reply.TheVariants.{State, NoDocument, Documents, Saved, Text, Map, EmptyTile, Tile, Refused}
@@ -20,6 +20,9 @@ refusal_text UnsavedChanges = codes "13 unsaved changes"
 refusal_text MacroOpen = codes "20 macro open"
 refusal_text NothingToUndo = codes "21 nothing to undo"
 refusal_text NothingToRedo = codes "22 nothing to redo"
+refusal_text NoMacroOpen = codes "23 no macro open"
+refusal_text TooDeep = codes "24 too deep"
+refusal_text StackNotEmpty = codes "25 stack not empty"
 refusal_text NoSuchLayer = codes "30 no such layer"
 refusal_text LayerOfAnotherKind = codes "31 layer of another kind"
 refusal_text OutsideTheMap = codes "32 outside the map"

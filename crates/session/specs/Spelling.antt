@@ -1,12 +1,12 @@
 -- How a line is spelled, and that this spelling is read.
-use Rattle.std.specs.Prelude.{◌≡◌, ◌≢◌, ℕ, ◌^◌, ◌%◌, ◌<◌, ◌≤◌, ℤ, pos, neg_ℤ, ◌≤ℤ◌, Bool, true, false, List, [], ◌∷◌, length, map, All, slice_index, IsTrue, Option, None, Some, IfSome, Ok, Err, codes, decimal, ⊤, ◌||◌}
+use Rattle.std.specs.Prelude.{◌≡◌, ◌≢◌, ℕ, ◌^◌, ◌%◌, ◌<◌, ◌≤◌, ℤ, pos, neg_ℤ, ◌≤ℤ◌, Bool, true, false, List, [], ◌∷◌, ◌++◌, length, map, All, slice_index, IsTrue, Option, None, Some, IfSome, Ok, Err, codes, decimal, ⊤, ◌||◌}
 use Rattle.std.specs.List.{join_with_byte, flat_map, AllByRecursion}
 use Rattle.std.specs.Fmt.{signed_decimal}
 use Rattle.std.specs.Str.{IsUtf8}
 use Rattle.session.specs.declared.limits.TheConstants.{MAX_LINE, MAX_DOCUMENT_NAME, MAX_FILE_NAME, MAX_TEXT, MAX_KEY, MAX_COORDINATE}
 use Rattle.map_model.specs.declared.limits.TheConstants.{MAX_SIDE}
 use Rattle.session.specs.declared.line.Line.{Line}
-use Rattle.session.specs.declared.line.Line.TheVariants.{Quiet, New, Open, Save, Close, Discard, Use, Documents, Stamp, Erase, Fill, Select, SelectNone, Tile, AddLayer, RemoveLayer, RenameLayer, ShowLayer, MoveLayer, Resize, AddObject, MoveObject, ResizeObject, RemoveObject, SetProperty, RemoveProperty, AddTileset, RemoveTileset, Undo, Redo, Goto, Clean, Dirty, Clear, Show, Status, UndoText, RedoText, StepText}
+use Rattle.session.specs.declared.line.Line.TheVariants.{Quiet, New, Open, Save, Close, Discard, Use, Documents, Stamp, Erase, Fill, Select, SelectNone, Tile, AddLayer, RemoveLayer, RenameLayer, ShowLayer, MoveLayer, Resize, AddObject, MoveObject, ResizeObject, RemoveObject, SetProperty, RemoveProperty, AddTileset, RemoveTileset, Undo, Redo, Goto, Clean, Dirty, Clear, Begin, End, Limit, Show, Status, UndoText, RedoText, StepText}
 use Rattle.session.specs.declared.line.LineFault.TheVariants.{TooLong}
 use Rattle.map_model.specs.declared.parts.LayerKind.{LayerKind}
 use Rattle.map_model.specs.declared.parts.LayerKind.TheVariants as kinds
@@ -16,7 +16,7 @@ use Rattle.map_model.specs.declared.owner.Owner.{Owner}
 use Rattle.map_model.specs.declared.owner.Owner.TheVariants as owners
 use Rattle.session.specs.declared.typed_value.TypedValue.{TypedValue}
 use Rattle.session.specs.declared.typed_value.TypedValue.TheVariants as typed
-use Rattle.session.specs.Words.{words, is_name_byte, is_color}
+use Rattle.session.specs.Words.{words, bars, is_name_byte, is_color}
 use Rattle.session.specs.Grammar.{FieldKind, Number, Coordinate, Block, Name, File, Choice, LayerSort, YesNo, Truth, Key, Color, OwnerName, FieldValue, is_quiet, line_of}
 
 -- words with one space between each two
@@ -52,12 +52,18 @@ owner_word owners.Map = codes "map"
 owner_word (owners.Layer id) = colons (codes "layer" ∷ decimal id ∷ [])
 owner_word (owners.Object id) = colons (codes "object" ∷ decimal id ∷ [])
 
--- a part of a spelled line: a word that is written out, a field with its value, a text that goes to the end, or one
--- that no spelling has
+-- the text of a macro, and the text of its action behind bars, where it is given
+abbrev pub joined_by_bars : List ℕ → Option (List ℕ) → List ℕ
+joined_by_bars text None = text
+joined_by_bars text (Some action) = text ++ (bars ++ action)
+
+-- a part of a spelled line: a word that is written out, a field with its value, a text that goes to the end, the texts of
+-- a macro, which go there too, or one that no spelling has
 pub data Token : Type 0 where
   Fixed : List ℕ → Token
   Given : (kind : FieldKind) → FieldValue kind → Token
   Rest : List ℕ → Token
+  RestTexts : List ℕ → Option (List ℕ) → Token
   Unspelled : Token
 
 -- the word of a line that may follow; there is none yet for one that does
@@ -136,6 +142,9 @@ tokens (Goto index) = Fixed (codes "goto") ∷ Given Number index ∷ []
 tokens Clean = Fixed (codes "clean") ∷ []
 tokens Dirty = Fixed (codes "dirty") ∷ []
 tokens Clear = Fixed (codes "clear") ∷ []
+tokens (Begin text action) = Fixed (codes "begin") ∷ RestTexts text action ∷ []
+tokens End = Fixed (codes "end") ∷ []
+tokens (Limit limit) = Fixed (codes "limit") ∷ Given Number limit ∷ []
 tokens Show = Fixed (codes "show") ∷ []
 tokens Status = Fixed (codes "status") ∷ []
 tokens UndoText = Fixed (codes "undotext") ∷ []
@@ -167,6 +176,7 @@ abbrev pub token_words : Token → List (List ℕ)
 token_words (Fixed word) = word ∷ []
 token_words (Given kind value) = field_words kind value
 token_words (Rest text) = words text
+token_words (RestTexts text action) = words (joined_by_bars text action)
 token_words Unspelled = []
 
 -- the spelling of a line; a quiet one has others too
@@ -196,6 +206,25 @@ pub record IsText (text : List ℕ) : Type 0 where
   pub short : length text ≤ MAX_TEXT
   pub bytes : All (λ b. (32 ≤ b) × (b ≢ 127)) text
   pub utf8 : IsUtf8 text
+
+-- a part stands nowhere in the bytes
+abbrev pub IsNotIn : List ℕ → List ℕ → Type 0
+IsNotIn part bytes = (front back : List ℕ) → bytes ≢ front ++ (part ++ back)
+
+-- a part does not stand at the end of the bytes
+abbrev pub IsNotEndOf : List ℕ → List ℕ → Type 0
+IsNotEndOf part bytes = (front : List ℕ) → bytes ≢ front ++ part
+
+-- the text holds no bars, and in front of an action its end makes none with the bars behind it
+abbrev pub HasNoBars : List ℕ → Option (List ℕ) → Type 0
+HasNoBars text None = IsNotIn bars text
+HasNoBars text (Some action) = IsNotIn bars text × IsNotEndOf (codes " ||") text
+
+-- the texts of a macro
+pub record AreTexts (text : List ℕ) (action : Option (List ℕ)) : Type 0 where
+  pub first : IsText text
+  pub second : IfSome action IsText
+  pub no_bars : HasNoBars text action
 
 -- the values are whole rows of a block of that width
 pub record AreRows (width : ℕ) (values : List ℕ) : Type 0 where
@@ -242,6 +271,7 @@ abbrev pub IsToken : Token → Type 0
 IsToken (Fixed word) = ⊤
 IsToken (Given kind value) = IsField kind value
 IsToken (Rest text) = IsText text
+IsToken (RestTexts text action) = AreTexts text action
 IsToken Unspelled = ⊥
 
 -- whether a part is a block

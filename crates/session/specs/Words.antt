@@ -1,5 +1,5 @@
 -- The words of a line, and what a word can be.
-use Rattle.std.specs.Prelude.{◌≡◌, ◌<◌, ◌≤◌, take, ℕ, ◌+◌, ◌%◌, ◌^◌, Bool, true, false, not, ◌&&◌, ◌||◌, ◌==◌, nat_lt, nat_le, List, [], ◌∷◌, length, Option, None, Some, ℤ, pos, negsuc, zero, suc, option_and_then, slice_index, codes, if◌then◌else◌}
+use Rattle.std.specs.Prelude.{◌≡◌, ◌<◌, ◌≤◌, take, drop, ℕ, ◌+◌, ◌%◌, ◌^◌, Bool, true, false, not, ◌&&◌, ◌||◌, ◌==◌, nat_lt, nat_le, List, [], ◌∷◌, length, Option, None, Some, ℤ, pos, negsuc, zero, suc, option_and_then, slice_index, codes, if◌then◌else◌}
 use Rattle.std.specs.Option.{option_map}
 use Rattle.std.specs.Borrow.{Bor}
 use Rattle.std.specs.List.{slice_split, list_all}
@@ -95,6 +95,22 @@ is_text_byte b = nat_le 32 b && not (b == 127)
 -- a text: from 1 byte up to the most, none of them a control
 abbrev pub is_text : List ℕ → Bool
 is_text bytes = nat_le 1 (length bytes) && nat_le (length bytes) MAX_TEXT && list_all is_text_byte bytes
+
+-- what stands between the text of a macro and the text of its action
+abbrev pub bars : List ℕ
+bars = codes " || "
+
+-- a text is cut at its first bars: what stands in front of them and what stands behind, or all of it and nothing
+abbrev pub cut_at_bars : List ℕ → List ℕ × Option (List ℕ)
+cut_at_bars [] = ([], None)
+cut_at_bars (b ∷ bytes) =
+    if bytes_eq (take (length bars) (b ∷ bytes)) bars then ([], Some (drop (length bars) (b ∷ bytes)))
+    else (b ∷ (cut_at_bars bytes).0, (cut_at_bars bytes).1)
+
+-- a text, and another one where it is given
+abbrev pub are_texts : List ℕ → Option (List ℕ) → Bool
+are_texts text None = is_text text
+are_texts text (Some action) = is_text text && is_text action
 
 -- the pieces of what is left of a text
 abbrev pub pieces_left : ℕ → Option (Bor (List ℕ)) → List (List ℕ)

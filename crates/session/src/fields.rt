@@ -1,5 +1,5 @@
 ghost use Rattle.session.specs.declared.limits.TheConstants.{MAX_DOCUMENT_NAME, MAX_FILE_NAME};
-ghost use Rattle.session.specs.Grammar.{Gives, number_at, coordinate_at, rows_at, block_at, name_at, choice_at, last_text_at, ends_at};
+ghost use Rattle.session.specs.Grammar.{Gives, number_at, coordinate_at, rows_at, block_at, name_at, choice_at, last_text_at, last_texts_at, ends_at};
 ghost use Rattle.session.specs.declared.line.LineFault.TheVariants.{BadWord};
 ghost use Rattle.std.specs.Prelude.{◌≡◌, ◌∷◌, [], IfOk, IfErr};
 ghost use Rattle.session.specs.Words.{words_left, are_rows};
@@ -8,7 +8,9 @@ use crate::gids::Gids;
 use crate::limits::{MAX_DOCUMENT_NAME, MAX_FILE_NAME};
 use crate::line::LineFault;
 use crate::text::Text;
-use crate::words::{coordinate_before, cut, is_name_word, is_text_here, number_before};
+use crate::words::{
+    are_texts_here, coordinate_before, cut, cut_at_bars, is_name_word, is_text_here, number_before,
+};
 use map_model::limits::MAX_SIDE;
 
 /// Whether so many values are the rows of a block of that width.
@@ -158,6 +160,24 @@ impl<'a> Fields<'a> {
             return Err(LineFault::BadWord);
         }
         Ok(Text::new(text))
+    }
+
+    /// The text that is left, or, where it has bars, the one in front of the first of them and the one behind.
+    #[tactic(auto, unfolding(crate::specs::Grammar::last_texts_at))]
+    pub fn texts(&mut self) -> Result<(Text<'a>, Option<Text<'a>>), LineFault>
+        ensures { Gives (λ x. x) result (last_texts_at (words_left self.old.rest)) }
+    {
+        let Some(rest) = self.rest else {
+            return Err(LineFault::BadWord);
+        };
+        let (text, action) = cut_at_bars(rest);
+        if !are_texts_here(text, action) {
+            return Err(LineFault::BadWord);
+        }
+        match action {
+            Some(action) => Ok((Text::new(text), Some(Text::new(action)))),
+            None => Ok((Text::new(text), None)),
+        }
     }
 
     /// Nothing is left.

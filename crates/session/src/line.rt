@@ -176,6 +176,17 @@ pub enum Line<'a> {
     Dirty,
     /// The undo stack lets go of its steps.
     Clear,
+    /// A macro begins, with its text, and with the text of its action, where one was given.
+    Begin {
+        text: Text<'a>,
+        action: Option<Text<'a>>,
+    },
+    /// The innermost macro ends.
+    End,
+    /// The active document's undo stack keeps at most so many steps; 0 is no limit.
+    Limit {
+        limit: u32,
+    },
     /// The text of the active document's map.
     Show,
     /// How the active document stands.

@@ -1,4 +1,4 @@
-ghost use Rattle.session.specs.Grammar.{Gives, read, choose, Ends, line_form, rare_commands, is_quiet, line_of, erase_form, fill_form, close_form, discard_form, goto_form, new_form, open_form, resize_form, save_form, stamp_form, step_text_form, tile_form, use_form};
+ghost use Rattle.session.specs.Grammar.{Gives, read, choose, Ends, line_form, rare_commands, is_quiet, line_of, begin_form, erase_form, fill_form, close_form, discard_form, goto_form, limit_form, new_form, open_form, resize_form, save_form, stamp_form, step_text_form, tile_form, use_form};
 ghost use Rattle.session.specs.Spelling.{Says, CanBeSpelled};
 ghost use Rattle.session.specs.declared.line.LineFault.TheVariants.{UnknownCommand};
 ghost use Rattle.std.specs.Prelude.{◌≡◌, ◌==◌, ◌∷◌, IfOk};
@@ -171,6 +171,21 @@ fn goto<'a>(fields: &mut Fields<'a>) -> Result<Line<'a>, LineFault>
     Ok(Line::Goto { index })
 }
 
+fn begin<'a>(fields: &mut Fields<'a>) -> Result<Line<'a>, LineFault>
+    ensures { Gives (λ x. x) result (read begin_form (words_left fields.old.rest)) }
+{
+    let (text, action) = fields.texts()?;
+    Ok(Line::Begin { text, action })
+}
+
+fn limit<'a>(fields: &mut Fields<'a>) -> Result<Line<'a>, LineFault>
+    ensures { Gives (λ x. x) result (read limit_form (words_left fields.old.rest)) }
+{
+    let limit = fields.number()?;
+    fields.end()?;
+    Ok(Line::Limit { limit })
+}
+
 fn step_text<'a>(fields: &mut Fields<'a>) -> Result<Line<'a>, LineFault>
     ensures { Gives (λ x. x) result (read step_text_form (words_left fields.old.rest)) }
 {
@@ -186,6 +201,8 @@ fn rare_command<'a>(name: &str, fields: &mut Fields<'a>) -> Result<Line<'a>, Lin
     ensures { Gives (λ x. x) result (read (choose rare_commands UnknownCommand) (name.now ∷ words_left fields.old.rest)) }
 {
     match name {
+        "begin" => begin(fields),
+        "end" => bare(Line::End, fields),
         "select" => select(fields),
         "layer" => layer(fields),
         "object" => object(fields),
@@ -196,6 +213,7 @@ fn rare_command<'a>(name: &str, fields: &mut Fields<'a>) -> Result<Line<'a>, Lin
         "clean" => bare(Line::Clean, fields),
         "dirty" => bare(Line::Dirty, fields),
         "clear" => bare(Line::Clear, fields),
+        "limit" => limit(fields),
         "show" => bare(Line::Show, fields),
         "new" => new(fields),
         "open" => open_file(fields),

@@ -1,8 +1,8 @@
 ghost use Rattle.std.specs.Char.{is_ascii_digit};
-ghost use Rattle.std.specs.Prelude.{◌≡◌, false, ◌<◌, ◌∷◌, ◌==◌, ◌≤◌, ◌≢◌, ◌+◌, ◌++◌, All, take, drop, length, Some, IfSome, IfNone};
+ghost use Rattle.std.specs.Prelude.{◌≡◌, false, ◌<◌, ◌∷◌, ◌==◌, ◌≤◌, ◌≢◌, ◌+◌, ◌++◌, All, take, drop, length, Some, IfSome, IfNone, option_map};
 ghost use Rattle.std.specs.List.{list_all, slice_split};
 ghost use Rattle.session.specs.declared.limits.TheConstants.{MAX_COORDINATE};
-ghost use Rattle.session.specs.Words.{number_of, is_numeral_front, AreLeadingDigits, HasLargeFront, IsFirst, words, distance_of, below_zero, coordinate_of, is_name, is_name_byte, is_text, is_text_byte, pieces_left, size_left};
+ghost use Rattle.session.specs.Words.{number_of, is_numeral_front, AreLeadingDigits, HasLargeFront, IsFirst, words, distance_of, below_zero, coordinate_of, is_name, is_name_byte, is_text, is_text_byte, cut_at_bars, are_texts, pieces_left, size_left};
 
 use crate::limits::{MAX_COORDINATE, MAX_TEXT};
 
@@ -28,6 +28,17 @@ pub fn cut(text: &str, separator: u8) -> (&str, Option<&str>)
 {
     match separator_at(text.as_bytes(), separator) {
         Some(n) => (&text[..n], Some(&text[n + 1..])),
+        None => (text, None),
+    }
+}
+
+/// What stands in front of the first bars and what stands behind, or the whole text and nothing.
+pub fn cut_at_bars(text: &str) -> (&str, Option<&str>)
+    ensures front { result.0.now ≡ (cut_at_bars text.now).0 }
+    ensures behind { option_map (λ s. s.now) result.1 ≡ (cut_at_bars text.now).1 }
+{
+    match text.split_once(" || ") {
+        Some((front, behind)) => (front, Some(behind)),
         None => (text, None),
     }
 }
@@ -156,4 +167,14 @@ pub fn is_text_here(bytes: &[u8]) -> bool
         return false;
     }
     has_only_text_bytes(bytes)
+}
+
+/// Whether what is left of a line can be a text, and another one where it is given.
+pub fn are_texts_here(text: &str, action: Option<&str>) -> bool
+    ensures { result ≡ are_texts text.now (option_map (λ s. s.now) action.entry) }
+{
+    match action {
+        Some(action) => is_text_here(text.as_bytes()) && is_text_here(action.as_bytes()),
+        None => is_text_here(text.as_bytes()),
+    }
 }

@@ -1,8 +1,8 @@
 -- What a parse gives of an option that may be left out.
-use Rattle.std.proofs.Common.{◌≡◌, ◌∙◌, ◌++◌, ◌||◌, ◌<◌, ℕ, Bool, true, false, List, [], ◌∷◌, length, Option, Some, None, refl, sym, ap, subst, inl, inr, arith}
+use Rattle.std.proofs.Common.{◌≡◌, ◌∙◌, ◌++◌, ◌||◌, ◌<◌, ℕ, suc, zero, Bool, true, false, List, [], ◌∷◌, length, Option, Some, None, refl, sym, ap, subst, inl, inr, arith}
 use Rattle.std.specs.List.{All, slice_index_or}
 use Rattle.std.specs.Str.{bytes_eq}
-use Rattle.std.specs.Prelude.{option_map, slice_get, unwrap_or}
+use Rattle.std.specs.Prelude.{option_map, slice_get, unwrap_or, Result, Ok, Err, IfOk}
 use Rattle.std.specs.Borrow.{Bor}
 use Rattle.std.proofs.lemmas.List.Elements.{All-get_or, All-nil}
 use Rattle.std.proofs.lemmas.Slice.Eq.{bytes_eq-Decides}
@@ -81,29 +81,66 @@ value_passes c f id t Q no_groups named values reads given = go (matched_of f id
         cc
     go (Some x) found h = step x (rw found at h) (entry_by_id (EntryPasses c) f.entries.items id x values found)
 
--- a value that was given to the one option of a command passed the option's parser
-pub one_option_passes : (start cmd : Command) (a : Arg) (m : ArgMatches) → AddsArg start a cmd
-    → args_of start ≡ [] → groups_of start ≡ [] → (out-Command start).has_globals ≡ false
-    → IsPlainArg a → a.global ≡ false → (a.id.now ≡ [] → ⊥) → (IsAuto a → ⊥)
-    → (q : ValueParser) → a.value_parser ≡ Some q → IsParsedFrom cmd m
+-- a value that was given to an option of a command passed the option's parser
+listed_option_passes : (cmd : Command) (k : ℕ) (a x : Arg) (m : ArgMatches) → IsPlain cmd → (out-Command cmd).has_globals ≡ false
+    → k < length (args_of cmd) → slice_index_or (args_of cmd) k a ≡ x → SameRules a x
+    → ((j : ℕ) (e : Arg) → j < length (args_of cmd) → bytes_eq (slice_index_or (args_of cmd) j e).id.now (slice_index_or (args_of cmd) k a).id.now ≡ true → j ≡ k)
+    → (a.id.now ≡ [] → ⊥) → (IsAuto a → ⊥) → (q : ValueParser) → a.value_parser ≡ Some q → IsParsedFrom cmd m
     → (t : List ℕ) → first_value (found_of m) a.id.now ≡ Some t → Accepts a.ignore_case q t
-one_option_passes start cmd a m added args groups globals plain global named own q parser p t given =
-    let list : args_of cmd ≡ added.arg ∷ [] = added.args ∙ ap (λ l. l ++ added.arg ∷ []) args in
-    let start-plain : IsPlain start = (subst (All IsPlainArg) (sym args) (All-nil IsPlainArg), groups) in
-    let plain2 : IsPlain cmd = added_plain start cmd a added start-plain plain in
-    let elem : slice_index_or (args_of cmd) 0 a ≡ added.arg = ap (λ l. slice_index_or l 0 a) list in
-    let lt : 0 < length (args_of cmd) = subst (λ l. 0 < length l) (sym list) (omega arith) in
-    let no-globals : (out-Command cmd).has_globals ≡ false = added.globals ∙ (ap (λ b. b || a.global) globals ∙ ap (λ b. false || b) global) in
-    let same-id : (slice_index_or (args_of cmd) 0 a).id.now ≡ a.id.now = ap (λ (x : Arg). x.id.now) elem ∙ ap (λ (x : Bor (List ℕ)). x.now) added.rules.id in
-    let is-q : (slice_index_or (args_of cmd) 0 a).value_parser ≡ Some q = ap (λ (x : Arg). x.value_parser) elem ∙ added.rules.parser q parser in
-    let only : (j : ℕ) (e : Arg) → j < length (args_of cmd) → bytes_eq (slice_index_or (args_of cmd) j e).id.now (slice_index_or (args_of cmd) 0 a).id.now ≡ true → j ≡ 0 =
-    λ j e low same. let one : j < 1 = subst (λ l. j < length l) list low in omega arith in
-    let auto : IsAuto (slice_index_or (args_of cmd) 0 a) → ⊥ = λ h. own (elim h [ inl w ↦ inl (sym same-id ∙ w) | inr w ↦ inr (sym same-id ∙ w) ]) in
+listed_option_passes cmd k a x m plain no-globals lt elem rules only named own q parser p t given =
+    let same-id : (slice_index_or (args_of cmd) k a).id.now ≡ a.id.now = ap (λ (y : Arg). y.id.now) elem ∙ ap (λ (y : Bor (List ℕ)). y.now) rules.id in
+    let is-q : (slice_index_or (args_of cmd) k a).value_parser ≡ Some q = ap (λ (y : Arg). y.value_parser) elem ∙ rules.parser q parser in
+    let auto : IsAuto (slice_index_or (args_of cmd) k a) → ⊥ = λ h. own (elim h [ inl w ↦ inl (sym same-id ∙ w) | inr w ↦ inr (sym same-id ∙ w) ]) in
     let parsed = p.parsed (p.from.globals ∙ no-globals) in
-    let accepts = value_passes p.built (found_of m) a.id.now t (λ (w : List ℕ). Accepts (slice_index_or (args_of cmd) 0 a).ignore_case q w)
-    (p.from.plain plain2).1 named parsed.values
-    (λ v pass. passes_read cmd m p 0 a lt only auto q is-q a.id.now v (sym same-id) pass) given in
-    subst (λ (b : Bool). Accepts b q t) (ap (λ (x : Arg). x.ignore_case) elem ∙ added.rules.ignore_case) accepts
+    let accepts = value_passes p.built (found_of m) a.id.now t (λ (w : List ℕ). Accepts (slice_index_or (args_of cmd) k a).ignore_case q w)
+    (p.from.plain plain).1 named parsed.values
+    (λ v pass. passes_read cmd m p k a lt only auto q is-q a.id.now v (sym same-id) pass) given in
+    subst (λ (b : Bool). Accepts b q t) (ap (λ (y : Arg). y.ignore_case) elem ∙ rules.ignore_case) accepts
+
+-- of two arguments with different ids each is the only one with its id
+first_of_two : (x y d : Arg) → (x.id.now ≡ y.id.now → ⊥) → (j : ℕ) (e : Arg) → j < length (x ∷ y ∷ [])
+    → bytes_eq (slice_index_or (x ∷ y ∷ []) j e).id.now x.id.now ≡ true → j ≡ 0
+first_of_two x y d differ zero e lt same = refl
+first_of_two x y d differ (suc zero) e lt same = absurd (differ (sym ((bytes_eq-Decides y.id.now x.id.now).0 same)))
+first_of_two x y d differ (suc (suc n)) e lt same = absurd (omega (arith, lt))
+
+second_of_two : (x y d : Arg) → (x.id.now ≡ y.id.now → ⊥) → (j : ℕ) (e : Arg) → j < length (x ∷ y ∷ [])
+    → bytes_eq (slice_index_or (x ∷ y ∷ []) j e).id.now y.id.now ≡ true → j ≡ 1
+second_of_two x y d differ zero e lt same = absurd (differ ((bytes_eq-Decides x.id.now y.id.now).0 same))
+second_of_two x y d differ (suc zero) e lt same = refl
+second_of_two x y d differ (suc (suc n)) e lt same = absurd (omega (arith, lt))
+
+-- what an option must be, so that its values are known to have passed its parser
+pub record IsOption (a : Arg) (q : ValueParser) : Type 0 where
+  pub plain : IsPlainArg a
+  pub local : a.global ≡ false
+  pub named : a.id.now ≡ [] → ⊥
+  pub own : IsAuto a → ⊥
+  pub parser : a.value_parser ≡ Some q
+
+-- each value that was given to one of the two options of a command passed its parser
+pub two_options_pass : (start mid cmd : Command) (a b : Arg) (q r : ValueParser) → AddsArg start a mid → AddsArg mid b cmd
+    → args_of start ≡ [] → groups_of start ≡ [] → (out-Command start).has_globals ≡ false → IsOption a q → IsOption b r → (a.id.now ≡ b.id.now → ⊥)
+    → (m : ArgMatches) (t : List ℕ) → IsParsedFrom cmd m
+    → (first_value (found_of m) a.id.now ≡ Some t → Accepts a.ignore_case q t) × (first_value (found_of m) b.id.now ≡ Some t → Accepts b.ignore_case r t)
+two_options_pass start mid cmd a b q r one two args groups globals is-a is-b differ m t p =
+    let list : args_of cmd ≡ one.arg ∷ two.arg ∷ [] = two.args ∙ ap (λ l. l ++ two.arg ∷ []) (one.args ∙ ap (λ l. l ++ one.arg ∷ []) args) in
+    let start-plain : IsPlain start = (subst (All IsPlainArg) (sym args) (All-nil IsPlainArg), groups) in
+    let plain : IsPlain cmd = added_plain mid cmd b two (added_plain start mid a one start-plain is-a.plain) is-b.plain in
+    let no-global : (out-Command mid).has_globals ≡ false = one.globals ∙ (ap (λ g. g || a.global) globals ∙ ap (λ g. false || g) is-a.local) in
+    let no-globals : (out-Command cmd).has_globals ≡ false = two.globals ∙ (ap (λ g. g || b.global) no-global ∙ ap (λ g. false || g) is-b.local) in
+    let apart : one.arg.id.now ≡ two.arg.id.now → ⊥ = λ e. differ (sym (ap (λ (y : Bor (List ℕ)). y.now) one.rules.id) ∙ e ∙ ap (λ (y : Bor (List ℕ)). y.now) two.rules.id) in
+    let only-a = subst (λ l. (j : ℕ) (e : Arg) → j < length l → bytes_eq (slice_index_or l j e).id.now (slice_index_or l 0 a).id.now ≡ true → j ≡ 0) (sym list) (first_of_two one.arg two.arg a apart) in
+    let only-b = subst (λ l. (j : ℕ) (e : Arg) → j < length l → bytes_eq (slice_index_or l j e).id.now (slice_index_or l 1 b).id.now ≡ true → j ≡ 1) (sym list) (second_of_two one.arg two.arg b apart) in
+    let two-long : length (args_of cmd) ≡ 2 = ap length list in (
+      listed_option_passes cmd 0 a one.arg m plain no-globals (omega (arith, two-long)) (ap (λ l. slice_index_or l 0 a) list) one.rules only-a is-a.named is-a.own q is-a.parser p t,
+      listed_option_passes cmd 1 b two.arg m plain no-globals (omega (arith, two-long)) (ap (λ l. slice_index_or l 1 b) list) two.rules only-b is-b.named is-b.own r is-b.parser p t,
+    )
+
+-- what holds of each value of an `Ok`
+pub if_ok : {A E : Type 0} (r : Result A E) (P Q : A → Type 0) → IfOk r P → ((a : A) → P a → Q a) → IfOk r Q
+if_ok (Ok a) P Q h k = k a h
+if_ok (Err e) P Q h k = tt
 
 -- what a text that may be missing comes to
 pub unwrapped_text : (o : Option (Bor (List ℕ))) (d : Bor (List ℕ)) → (unwrap_or o d).now ≡ unwrap_or (option_map (λ s. s.now) o) d.now

@@ -75,7 +75,13 @@ fn main(rt: HostRuntime) -> ExitCode {
         return ends(&rt, RunFault::Memory, FAILED);
     };
     let mut store = FolderStore::new(&rt, options.folder);
-    match run(rt.alloc(), &mut rt.stdin(), &mut writer, &mut store, 0) {
+    match run(
+        rt.alloc(),
+        &mut rt.stdin(),
+        &mut writer,
+        &mut store,
+        options.limit,
+    ) {
         Ok(_) => ExitCode::SUCCESS,
         Err(fault) => ends(&rt, fault, FAILED),
     }

@@ -1,11 +1,13 @@
-ghost use Rattle.std.specs.Prelude.{◌≡◌, ◌<◌, IfOk, false, length, map};
-ghost use Rattle.clap.specs.Words.{FailsBy, IsPlainArg, fault_of, rule_of};
-ghost use Rattle.tile_editor.specs.Options.{command, folder_of, folder_option};
+ghost use Rattle.std.specs.Prelude.{◌≡◌, ◌<◌, ◌≤◌, IfOk, IfSome, false, codes, length, map, option_map};
+ghost use Rattle.clap.specs.Words.{FailsBy, IsPlainArg, IsUnsignedIn, app_of, fault_of, rule_of};
+ghost use Rattle.tile_editor.specs.Options.{command, folder_of, folder_option, limit_of, limit_option, value_or_zero, GivesOnly};
+ghost use Rattle.undo_stack.specs.declared.limits.TheConstants.{MAX_LIMIT};
 
 use clap::builder::ValueParser;
 use clap::{Arg, Command, Error};
-use std::alloc::Global;
+use std::alloc::{AllocError, Global};
 use std::convert::AsStr;
+use undo_stack::limits::MAX_LIMIT;
 
 /// What stands before the options in the help.
 const ABOUT: &str =
@@ -31,6 +33,8 @@ All lines and their replies are in docs/session-lines.md.";
 pub struct Options<'a> {
     /// The folder of the files, as it was given; not empty.
     pub folder: &'a str,
+    /// The undo limit of each document when it is made; 0 is no limit.
+    pub limit: usize,
 }
 
 // The option that names the folder.
@@ -46,6 +50,45 @@ fn folder_arg<'a>(alloc: Global) -> Arg<'a>
         .help("The folder of the maps that are loaded and saved [default: .]")
 }
 
+// The option that names the undo limit.
+fn limit_arg<'a>(alloc: Global) -> Arg<'a>
+    ensures rule { rule_of result ≡ limit_option }
+    ensures plain { IsPlainArg result }
+    ensures local { result.global ≡ false }
+{
+    Arg::new(alloc, "limit")
+        .long("limit")
+        .value_name("N")
+        .value_parser(ValueParser::unsigned(0, MAX_LIMIT as u64))
+        .help("The most steps that a document keeps, up to 1000000; 0 is no limit [default: 0]")
+}
+
+// The command with its options.
+fn whole_command<'a>(alloc: Global) -> Result<Command<'a>, AllocError>
+    ensures app { IfOk result (λ c. app_of c ≡ command) }
+    ensures folder { IfOk result (λ c. GivesOnly c (codes "folder") (λ text. 0 < length text)) }
+    ensures limit { IfOk result (λ c. GivesOnly c (codes "limit") (IsUnsignedIn 0 MAX_LIMIT)) }
+{
+    let with_folder = Command::new(alloc, "tile_editor")
+        .version("0.1.0")
+        .about(ABOUT)
+        .after_help(AFTER_HELP)
+        .arg(folder_arg(alloc))?;
+    with_folder.arg(limit_arg(alloc))
+}
+
+// The number that the value of `--limit` writes, and 0 where none is given.
+fn limit_in(text: Option<&str>) -> usize
+    requires { IfSome text (λ t. IsUnsignedIn 0 MAX_LIMIT t.now) }
+    ensures value { result ≡ value_or_zero (option_map (λ t. t.now) text.entry) }
+    ensures within { result ≤ MAX_LIMIT }
+{
+    match text {
+        Some(text) => text.parse::<usize>().unwrap_or(0),
+        None => 0,
+    }
+}
+
 /// Reads a command line, whose first word is the program's name.
 ///
 /// An error is a command line that is refused, a request for help or for the version, or want of memory.
@@ -54,16 +97,32 @@ pub fn parse_options<'a, S: AsStr>(alloc: Global, words: &'a [S]) -> Result<Opti
     ensures answer { FailsBy (fault_of command (map S.text words.entry.now)) result }
     ensures folder { IfOk result (λ o. o.folder.now ≡ folder_of (map S.text words.entry.now)) }
     ensures some { IfOk result (λ o. 0 < length o.folder.now) }
+    ensures limit { IfOk result (λ o. o.limit ≡ limit_of (map S.text words.entry.now)) }
+    ensures within { IfOk result (λ o. o.limit ≤ MAX_LIMIT) }
 {
-    let command = Command::new(alloc, "tile_editor")
-        .version("0.1.0")
-        .about(ABOUT)
-        .after_help(AFTER_HELP)
-        .arg(folder_arg(alloc))?;
+    let command = whole_command(alloc)?;
     match command.try_get_matches_from(words) {
         Ok(matches) => Ok(Options {
             folder: matches.get_str("folder").unwrap_or("."),
+            limit: limit_in(matches.get_str("limit")),
         }),
         Err(error) => Err(error),
+    }
+}
+
+#[cfg(test)]
+mod tests {
+    use super::parse_options;
+
+    #[test]
+    fn reads_limit_and_folder(rt: HostRuntime) {
+        let words = ["tile_editor", "--limit", "3", "--folder", "maps"];
+        match parse_options(rt.alloc(), words.as_slice()) {
+            Ok(options) => {
+                assert_eq!(rt; options.limit, 3);
+                assert_eq!(rt; options.folder, "maps");
+            }
+            Err(_) => assert!(rt; false),
+        }
     }
 }

@@ -1,4 +1,5 @@
-ghost use Rattle.std.specs.Prelude.{◌≡◌, Option, IsErrOf, IfOk, IfSome, ◌⊎◌};
+ghost use Rattle.std.specs.Prelude.{◌≡◌, ◌≤◌, Option, IsErrOf, IfOk, IfSome, ◌⊎◌};
+ghost use Rattle.undo_stack.specs.declared.limits.TheConstants.{MAX_LIMIT};
 ghost use Rattle.editor.specs.declared.planned.Edit.{Edit};
 ghost use Rattle.editor.specs.Editors.{IsSound, machine_of};
 ghost use Rattle.editor.specs.Machine.{started_machine, workspace};
@@ -149,7 +150,8 @@ fn hear_all<C: Command, R: Read, W: Write, S: MapStore, F: Fn(Edit) -> Option<C>
 }
 
 /// Reads session lines to the end of the input, and writes a reply to each but the quiet ones. The maps that lines open
-/// and save are files of the store. The limit is the undo limit of each document when it is made: 0, for none.
+/// and save are files of the store. The limit is the undo limit of each document when it is made, at most 1,000,000, where 0
+/// stands for none.
 ///
 /// The replies are those of the machine that keeps, for each open document, a history of whole documents, and so are the
 /// files where the store is honest. Where it is not, it may find any bytes at an `open`, and nothing is said of its files.
@@ -161,7 +163,7 @@ pub fn run<R: Read, W: Write, S: MapStore>(
     store: &mut S,
     limit: usize,
 ) -> Result<Summary, RunFault>
-    requires { limit ≡ 0 }
+    requires { limit ≤ MAX_LIMIT }
 
     // All lines of the input were heard, and the replies and the files are those of the machine.
     ensures ok { IfOk result (λ summary. IfSome (R.remaining reader.old) (λ input.

@@ -1,5 +1,9 @@
+pub mod EntryChanges
 pub mod Rows
 pub mod Turns
 pub mod Views
 pub mod Texts
 pub mod Pushes
+pub mod Levels
+pub mod Stacks
+pub mod Macros

@@ -1,16 +1,16 @@
--- A push outside levels, of an edit that does not follow, seen on entries.
-use Rattle.std.proofs.Common.{◌≡◌, ℕ, ◌+◌, ◌≤◌, List, [], ◌∷◌, ◌++◌, Option, Some, None, take, length, refl, sym, ◌∙◌, ap, arith, Bool, true, false, leb, leb-true}
+-- A push outside levels, of an edit that does not follow, seen on entries; and the limit.
+use Rattle.std.proofs.Common.{◌≡◌, ℕ, ◌+◌, ◌-◌, ◌<◌, ◌≤◌, max, zero, suc, List, [], ◌∷◌, ◌++◌, Option, Some, None, take, drop, length, map, refl, sym, ◌∙◌, ap, arith, Bool, true, false, leb, leb-true}
 use Rattle.std.specs.Prelude.{if◌then◌else◌, ◌↔◌}
-use Rattle.std.proofs.lemmas.List.{append-nil, length-take-le, take_all, drop_all, length-append}
+use Rattle.std.proofs.lemmas.List.{append-nil, length-take-le, length-drop, take_all, drop_all, length-append, map-append}
 use Rattle.map_model.specs.Document.{DocumentParts}
 use Rattle.command_api.specs.Law.{Change, IsLawful, IsSettled, Vanishing, Never, WhenEqual, IsRedone}
-use Rattle.undo_stack.specs.History.{Step, step_named, History, current}
-use Rattle.undo_stack.specs.Pushing.{step_of, up_to, cut, Continues, Merges, IsPushed, next_of}
+use Rattle.undo_stack.specs.History.{Step, step_named, History, last_after, current}
+use Rattle.undo_stack.specs.Pushing.{step_of, up_to, lowered, limited_to, with_added, dropped, cut, Continues, Merges, IsPushed}
 use Rattle.undo_stack.specs.Row.{before, steps_down, FitsDown}
-use Rattle.undo_stack.specs.Entries.{entry_change}
-use Rattle.undo_stack.specs.Sound.{history_of, IsTurnable, IsAtMost}
+use Rattle.undo_stack.specs.Entries.{entry_change, nesting, greatest}
+use Rattle.undo_stack.specs.Sound.{history_of, IsTurnable, IsAtMost, row_nesting}
 use Rattle.undo_stack.specs.declared.entry.Entry.{Entry}
-use Rattle.undo_stack.proofs.Rows.{before-append, steps_down-append, FitsDown-push, last_after-down, length-down, take-steps}
+use Rattle.undo_stack.proofs.Rows.{before-append, steps_down-append, FitsDown-push, last_after-down, length-down, take-steps, last_after-take, drop-steps_down, FitsDown-drop}
 
 -- an obsolete change leaves the document as it is
 pub settled-same : (v : Vanishing) (d e : DocumentParts) → IsSettled v true d e → e ≡ d
@@ -42,13 +42,39 @@ pub at_most-more : (clean : Option ℕ) (n : ℕ) → IsAtMost clean n → IsAtM
 at_most-more None n h = tt
 at_most-more (Some k) n h = omega arith
 
+at_most_lowered_if : (b : Bool) (k n m : ℕ) → m ≤ n → IsAtMost (if b then Some (m - k) else None) (n - k)
+at_most_lowered_if true k n m h = omega arith
+at_most_lowered_if false k n m h = tt
+
+pub at_most-lowered : (k : ℕ) (clean : Option ℕ) (n : ℕ) → IsAtMost clean n → IsAtMost (lowered k clean) (n - k)
+at_most-lowered k None n h = tt
+at_most-lowered k (Some m) n h = at_most_lowered_if (leb k m) k n m h
+
+-- the nesting of some of the entries, and of more
+pub greatest-append : (ns ms : List ℕ) → greatest (ns ++ ms) ≡ max (greatest ns) (greatest ms)
+greatest-append [] ms = omega arith
+greatest-append (n ∷ ns) ms = let h = greatest-append ns ms in omega arith
+
+pub row_nesting-append : {C : Type 0} (es : List (Entry C)) (x : Entry C) → row_nesting (es ++ x ∷ []) ≡ max (row_nesting es) (nesting x)
+row_nesting-append es x = let h = greatest-append (map nesting es) (nesting x ∷ []) in rw (map-append nesting es (x ∷ [])) (omega arith)
+
+pub row_nesting-take : {C : Type 0} (k : ℕ) (es : List (Entry C)) → row_nesting (take k es) ≤ row_nesting es
+row_nesting-take zero es = omega arith
+row_nesting-take (suc k) [] = omega arith
+row_nesting-take (suc k) (x ∷ es) = let h = row_nesting-take k es in omega arith
+
+pub row_nesting-drop : {C : Type 0} (k : ℕ) (es : List (Entry C)) → row_nesting (drop k es) ≤ row_nesting es
+row_nesting-drop zero es = omega arith
+row_nesting-drop (suc k) [] = omega arith
+row_nesting-drop (suc k) (x ∷ es) = let h = row_nesting-drop k es in omega arith
+
 -- entries that are all done
-pub done_view : {C : Type 0} (f : C → Change) (d : DocumentParts) (es : List (Entry C)) (n : ℕ) (clean : Option ℕ) (limit : ℕ) → length es ≡ n → history_of f d es n clean limit ≡ record { base = before (entry_change f) es d; steps = steps_down (entry_change f) es d; position = n; clean = clean; limit = limit; levels = [] }
+pub done_view : {C : Type 0} (f : C → Change) (d : DocumentParts) (es : List (Entry C)) (n : ℕ) (clean : Option ℕ) (limit : ℕ) → length es ≡ n → history_of f d es n clean limit [] ≡ record { base = before (entry_change f) es d; steps = steps_down (entry_change f) es d; position = n; clean = clean; limit = limit; levels = [] }
 done_view f d es n clean limit h =
     let all : length es ≤ n = omega arith in
     rw (take_all n es all, drop_all n es all, append-nil (steps_down (entry_change f) es d)) refl
 
-pub done_sound : {C : Type 0} (f : C → Change) (d : DocumentParts) (es : List (Entry C)) (n : ℕ) (clean : Option ℕ) → length es ≡ n → FitsDown (entry_change f) es d → IsAtMost clean n → IsTurnable f d es n clean
+pub done_sound : {C : Type 0} (f : C → Change) (d : DocumentParts) (es : List (Entry C)) (n : ℕ) (clean : Option ℕ) → length es ≡ n → FitsDown (entry_change f) es d → IsAtMost clean n → IsTurnable f d es n clean []
 done_sound f d es n clean h p q =
     let all : length es ≤ n = omega arith in
     record {
@@ -56,6 +82,7 @@ done_sound f d es n clean h p q =
       clean_within = rw h q;
       down = rw (take_all n es all) p;
       up = rw (drop_all n es all) tt;
+      inner = tt;
     }
 
 -- the steps that are done are no more than the entries
@@ -63,58 +90,81 @@ all_done : {C : Type 0} (f : C → Change) (d : DocumentParts) (es : List (Entry
 all_done f d es n h = let steps = length-down (entry_change f) (take n es) d in let most = length-take-le n es h in omega arith
 
 -- the history once it was cut, and its current document
-pub cut_view : {C : Type 0} (f : C → Change) (d : DocumentParts) (es : List (Entry C)) (n : ℕ) (clean : Option ℕ) (limit : ℕ) → n ≤ length es → cut (history_of f d es n clean limit) ≡ record { base = before (entry_change f) (take n es) d; steps = steps_down (entry_change f) (take n es) d; position = n; clean = up_to n clean; limit = limit; levels = [] }
-cut_view f d es n clean limit h = rw (take-steps (entry_change f) es n d h) refl
+cut_done : {C : Type 0} (f : C → Change) (d : DocumentParts) (es : List (Entry C)) (n : ℕ) (clean : Option ℕ) (limit : ℕ) → n ≤ length es → cut (history_of f d es n clean limit []) ≡ record { base = before (entry_change f) (take n es) d; steps = steps_down (entry_change f) (take n es) d; position = n; clean = up_to n clean; limit = limit; levels = [] }
+cut_done f d es n clean limit h = rw (take-steps (entry_change f) es n d h) refl
 
-pub cut_current : {C : Type 0} (f : C → Change) (d : DocumentParts) (es : List (Entry C)) (n : ℕ) (clean : Option ℕ) (limit : ℕ) → n ≤ length es → current (cut (history_of f d es n clean limit)) ≡ d
+pub cut_view : {C : Type 0} (f : C → Change) (d : DocumentParts) (es : List (Entry C)) (n : ℕ) (clean : Option ℕ) (limit : ℕ) → n ≤ length es → cut (history_of f d es n clean limit []) ≡ history_of f d (take n es) n (up_to n clean) limit []
+cut_view f d es n clean limit h = cut_done f d es n clean limit h ∙ sym (done_view f d (take n es) n (up_to n clean) limit (length-take-le n es h))
+
+pub cut_sound : {C : Type 0} (f : C → Change) (d : DocumentParts) (es : List (Entry C)) (n : ℕ) (clean : Option ℕ) → IsTurnable f d es n clean [] → IsTurnable f d (take n es) n (up_to n clean) []
+cut_sound f d es n clean s = done_sound f d (take n es) n (up_to n clean) (length-take-le n es s.within) s.down (at_most-up_to n clean)
+
+cut_current : {C : Type 0} (f : C → Change) (d : DocumentParts) (es : List (Entry C)) (n : ℕ) (clean : Option ℕ) (limit : ℕ) → n ≤ length es → current (cut (history_of f d es n clean limit [])) ≡ d
 cut_current f d es n clean limit h =
     let row = steps_down (entry_change f) (take n es) d in
-    ap current (cut_view f d es n clean limit h) ∙ rw (take_all n row (all_done f d es n h)) (last_after-down (entry_change f) (take n es) d)
+    ap current (cut_done f d es n clean limit h) ∙ rw (take_all n row (all_done f d es n h)) (last_after-down (entry_change f) (take n es) d)
 
 -- an edit that left the document as it is
-pub pushed_gone : {C : Type 0} (f : C → Change) (d e : DocumentParts) (es : List (Entry C)) (n : ℕ) (clean : Option ℕ) (limit : ℕ) (s : Step) → n ≤ length es → s.names.follows ≡ false → e ≡ d → IsSettled s.names.vanishing true d s.after → IsPushed (history_of f d es n clean limit) s (history_of f e (take n es) n (up_to n clean) limit)
-pushed_gone f d e es n clean limit s within follows same settled =
-    let len : length (take n es) ≡ n = length-take-le n es within in
-    record {
-      merged = false;
-      gone = true;
-      merged_where = merges-not (cut (history_of f d es n clean limit)) s follows;
-      gone_where = rw (cut_current f d es n clean limit within) settled;
-      next = rw same (done_view f d (take n es) n (up_to n clean) limit len ∙ sym (cut_view f d es n clean limit within));
-    }
+pub pushed_gone : {C : Type 0} (f : C → Change) (d e : DocumentParts) (es : List (Entry C)) (n : ℕ) (clean : Option ℕ) (limit : ℕ) (s : Step) → n ≤ length es → s.names.follows ≡ false → e ≡ d → IsSettled s.names.vanishing true d s.after → IsPushed (history_of f d es n clean limit []) s (history_of f e (take n es) n (up_to n clean) limit [])
+pushed_gone f d e es n clean limit s within follows same settled = record {
+  merged = false;
+  gone = true;
+  merged_where = merges-not (cut (history_of f d es n clean limit [])) s follows;
+  gone_where = rw (cut_current f d es n clean limit within) settled;
+  next = rw same (sym (cut_view f d es n clean limit within));
+}
 
--- an edit whose command x led from d to e
-pub pushed_added : {C : Type 0} (f : C → Change) (d e : DocumentParts) (es : List (Entry C)) (x : Entry C) (n : ℕ) (clean : Option ℕ) (s : Step) → n ≤ length es → s.names.follows ≡ false → (entry_change f x).undone e ≡ d → step_named (entry_change f x).names e ≡ s → IsSettled s.names.vanishing false d s.after → IsPushed (history_of f d es n clean 0) s (history_of f e (take n es ++ x ∷ []) (n + 1) (up_to n clean) 0)
-pushed_added f d e es x n clean s within follows back is settled =
+-- an edit that became a step
+pub pushed_added : {C : Type 0} (f : C → Change) (d : DocumentParts) (es : List (Entry C)) (n : ℕ) (clean : Option ℕ) (limit : ℕ) (s : Step) (next : History) → n ≤ length es → s.names.follows ≡ false → IsSettled s.names.vanishing false d s.after → next ≡ with_added s [] (history_of f d (take n es) n (up_to n clean) limit []) → IsPushed (history_of f d es n clean limit []) s next
+pushed_added f d es n clean limit s next within follows settled added = record {
+  merged = false;
+  gone = false;
+  merged_where = merges-not (cut (history_of f d es n clean limit [])) s follows;
+  gone_where = rw (cut_current f d es n clean limit within) settled;
+  next = added ∙ ap (with_added s []) (sym (cut_view f d es n clean limit within));
+}
+
+-- an entry x above the others, which are all done, led to e
+pub added_view : {C : Type 0} (f : C → Change) (e : DocumentParts) (es : List (Entry C)) (x : Entry C) (n : ℕ) (clean : Option ℕ) (limit : ℕ) → length es ≡ n → history_of f e (es ++ x ∷ []) (n + 1) clean limit [] ≡ (let h = history_of f ((entry_change f x).undone e) es n clean limit [] in record h { steps = h.steps ++ step_named (entry_change f x).names e ∷ []; position = h.position + 1 })
+added_view f e es x n clean limit len =
     let k = entry_change f in
-    let row = take n es ++ x ∷ [] in
-    let len : length (take n es) ≡ n = length-take-le n es within in
-    let more : length row ≡ n + 1 = length-append (take n es) (x ∷ []) ∙ ap (λ (m : ℕ). m + 1) len in
-    let make : DocumentParts → List Step → History = λ b ss. record { base = b; steps = ss; position = n + 1; clean = up_to n clean; limit = 0; levels = [] } in
-    let base : before k row e ≡ before k (take n es) d = before-append k (take n es) x e ∙ ap (before k (take n es)) back in
-    let steps : steps_down k row e ≡ steps_down k (take n es) d ++ s ∷ [] = rw (steps_down-append k (take n es) x e, back, is) refl in
-    record {
-      merged = false;
-      gone = false;
-      merged_where = merges-not (cut (history_of f d es n clean 0)) s follows;
-      gone_where = rw (cut_current f d es n clean 0 within) settled;
-      next = done_view f e row (n + 1) (up_to n clean) 0 more ∙ ap (λ (b : DocumentParts). make b (steps_down k row e)) base ∙ ap (make (before k (take n es) d)) steps
-          ∙ sym (ap (next_of false false s) (cut_view f d es n clean 0 within));
-    }
+    let row = es ++ x ∷ [] in
+    let d = (k x).undone e in
+    let more : length row ≡ n + 1 = length-append es (x ∷ []) ∙ ap (λ (m : ℕ). m + 1) len in
+    let make : DocumentParts → List Step → History = λ b ss. record { base = b; steps = ss; position = n + 1; clean = clean; limit = limit; levels = [] } in
+    let grown : History → History = λ h. record h { steps = h.steps ++ step_named (k x).names e ∷ []; position = h.position + 1 } in
+    done_view f e row (n + 1) clean limit more
+    ∙ ap (λ (b : DocumentParts). make b (steps_down k row e)) (before-append k es x e)
+    ∙ ap (make (before k es d)) (steps_down-append k es x e)
+    ∙ sym (ap grown (done_view f d es n clean limit len))
 
--- what an edit that left the document as it is, and one that did not, leave sound
-pub gone_sound : {C : Type 0} (f : C → Change) (d e : DocumentParts) (es : List (Entry C)) (n : ℕ) (clean : Option ℕ) → IsTurnable f d es n clean → e ≡ d → IsTurnable f e (take n es) n (up_to n clean)
-gone_sound f d e es n clean sound same =
-    let len : length (take n es) ≡ n = length-take-le n es sound.within in
-    done_sound f e (take n es) n (up_to n clean) len (rw same sound.down) (at_most-up_to n clean)
+pub added_fits : {C : Type 0} (f : C → Change) (e : DocumentParts) (es : List (Entry C)) (x : Entry C) (n : ℕ) (clean : Option ℕ) → length es ≡ n → IsTurnable f ((entry_change f x).undone e) es n clean [] → (entry_change f x).fits_undo e → FitsDown (entry_change f) (es ++ x ∷ []) e
+added_fits f e es x n clean len s fits =
+    let all : length es ≤ n = omega arith in
+    FitsDown-push (entry_change f) es x e (rw (take_all n es all) at s.down) fits
 
-pub added_sound : {C : Type 0} (f : C → Change) (d e : DocumentParts) (es : List (Entry C)) (x : Entry C) (n : ℕ) (clean : Option ℕ) → IsTurnable f d es n clean → (entry_change f x).undone e ≡ d → (entry_change f x).fits_undo e → IsTurnable f e (take n es ++ x ∷ []) (n + 1) (up_to n clean)
-added_sound f d e es x n clean sound back fits =
-    let len : length (take n es) ≡ n = length-take-le n es sound.within in
-    let more : length (take n es ++ x ∷ []) ≡ n + 1 = length-append (take n es) (x ∷ []) ∙ ap (λ (m : ℕ). m + 1) len in
-    done_sound f e (take n es ++ x ∷ []) (n + 1) (up_to n clean) more
-    (FitsDown-push (entry_change f) (take n es) x e (rw back sound.down) fits)
-    (at_most-more (up_to n clean) n (at_most-up_to n clean))
+-- entries that are all done, without those that are more than the limit
+pub limited_view : {C : Type 0} (f : C → Change) (e : DocumentParts) (es : List (Entry C)) (n : ℕ) (clean : Option ℕ) (limit : ℕ) → length es ≡ n → 0 < limit → history_of f e (drop (n - limit) es) (n - (n - limit)) (lowered (n - limit) clean) limit [] ≡ limited_to limit (history_of f e es n clean limit [])
+limited_view f e es n clean zero len h = absurd (omega arith)
+limited_view f e es n clean (suc m) len h =
+    let k = entry_change f in
+    let over = n - suc m in
+    let left : length (drop over es) ≡ n - over = omega (arith, length-drop over es) in
+    let steps = steps_down k es e in
+    let whole : History = record { base = before k es e; steps = steps; position = n; clean = clean; limit = suc m; levels = [] } in
+    let same : length steps - suc m ≡ over = omega (arith, length-down k es e) in
+    let make : DocumentParts → List Step → History = λ b ss. record { base = b; steps = ss; position = n - over; clean = lowered over clean; limit = suc m; levels = [] } in
+    let gone : ℕ → History = λ j. dropped j whole in
+    done_view f e (drop over es) (n - over) (lowered over clean) (suc m) left
+    ∙ ap (λ (b : DocumentParts). make b (steps_down k (drop over es) e)) (sym (last_after-take k over es e))
+    ∙ ap (make (last_after (before k es e) (take over steps))) (sym (drop-steps_down k over es e))
+    ∙ sym (ap gone same)
+    ∙ sym (ap (limited_to (suc m)) (done_view f e es n clean (suc m) len))
+
+pub limited_sound : {C : Type 0} (f : C → Change) (e : DocumentParts) (es : List (Entry C)) (n : ℕ) (clean : Option ℕ) (k : ℕ) → length es ≡ n → FitsDown (entry_change f) es e → IsAtMost clean n → IsTurnable f e (drop k es) (n - k) (lowered k clean) []
+limited_sound f e es n clean k len fits most =
+    let left : length (drop k es) ≡ n - k = omega (arith, length-drop k es) in
+    done_sound f e (drop k es) (n - k) (lowered k clean) left (FitsDown-drop (entry_change f) k es e fits) (at_most-lowered k clean n most)
 
 -- the step of a command, by what became of the command when it was redone
 pub redone_step : (v w : Change) (d e k : DocumentParts) → IsRedone v w d e → k ≡ d → step_of v k ≡ step_named w.names e
@@ -126,18 +176,5 @@ redone_settled v w d e b r law is =
     let one = law.undo e r.fits in
     settled-back w.names.vanishing b e d (rw (is, r.back) at one)
 
-pub pushed_as : (h k : History) (s t : Step) (n m : History) → IsPushed h s n → k ≡ h → t ≡ s → m ≡ n → IsPushed k t m
-pushed_as h k s t n m p e q r = rw (e, q, r) p
-
-pub sound_at : {C : Type 0} (f : C → Change) (d e : DocumentParts) (es ts : List (Entry C)) (n m : ℕ) (clean mark : Option ℕ) → IsTurnable f d es n clean → e ≡ d → ts ≡ es → m ≡ n → mark ≡ clean → IsTurnable f e ts m mark
-sound_at f d e es ts n m clean mark h p q r t = rw (p, q, r, t) h
-
-pub view_at : {C : Type 0} (f : C → Change) (d e : DocumentParts) (es ts : List (Entry C)) (n m : ℕ) (clean mark : Option ℕ) (limit most : ℕ) → e ≡ d → ts ≡ es → m ≡ n → mark ≡ clean → most ≡ limit → history_of f e ts m mark most ≡ history_of f d es n clean limit
-view_at f d e es ts n m clean mark limit most p q r t u = rw (p, q, r, t, u) refl
-
--- entries that were taken from others, and an entry that was put behind them
-pub taken_from : {B : Type 0} (n : ℕ) (es ts us : List B) → us ≡ take n ts → ts ≡ es → us ≡ take n es
-taken_from n es ts us p q = rw q at p
-
-pub put_behind : {B : Type 0} (x : B) (es ts us : List B) → us ≡ ts ++ x ∷ [] → ts ≡ es → us ≡ es ++ x ∷ []
-put_behind x es ts us p q = rw q at p
+pub pushed_as : (h : History) (s t : Step) (n : History) → IsPushed h s n → t ≡ s → IsPushed h t n
+pushed_as h s t n p q = rw q p

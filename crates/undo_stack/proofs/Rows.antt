@@ -1,5 +1,5 @@
 -- Rows of changes that grow and shrink at their end.
-use Rattle.std.proofs.Common.{◌≡◌, ℕ, ◌+◌, ◌<◌, ◌≤◌, List, [], ◌∷◌, ◌++◌, take, drop, length, set, get_or, refl, sym, ◌∙◌, ap, arith}
+use Rattle.std.proofs.Common.{◌≡◌, ℕ, ◌+◌, ◌<◌, ◌≤◌, List, [], ◌∷◌, ◌++◌, take, drop, length, map, set, get_or, zero, suc, refl, sym, ◌∙◌, ap, arith}
 use Rattle.std.proofs.lemmas.List.{take_more, drop-set-lt, drop_more, length-append, length-take-le, take_at, take-append-drop}
 use Rattle.map_model.specs.Document.{DocumentParts}
 use Rattle.command_api.specs.Law.{Change}
@@ -54,3 +54,25 @@ drop_first xs v j h k = drop_more xs j v h ∙ ap (λ x. x ∷ drop (j + 1) xs) 
 
 pub drop_past : {B : Type 0} (xs : List B) (w : B) (j : ℕ) → drop (j + 1) (set xs j w) ≡ drop (j + 1) xs
 drop_past xs w j = drop-set-lt (j + 1) xs j w (omega arith)
+
+-- what k reads of a list in which a thing was put in the place of one of which k reads the same
+pub map-set_same : {A B : Type 0} (k : B → A) (xs : List B) (v w : B) (j : ℕ) → v ≡ get_or xs j v → k w ≡ k v → map k (set xs j w) ≡ map k xs
+map-set_same k [] v w j h e = refl
+map-set_same k (x ∷ xs) v w zero h e = ap (λ a. a ∷ map k xs) (e ∙ ap k h)
+map-set_same k (x ∷ xs) v w (suc j) h e = ap (λ rest. k x ∷ rest) (map-set_same k xs v w j h e)
+
+-- a row without its first changes: the document before it, its steps, and that it fits
+pub last_after-take : {B : Type 0} (f : B → Change) (k : ℕ) (xs : List B) (d : DocumentParts) → last_after (before f xs d) (take k (steps_down f xs d)) ≡ before f (drop k xs) d
+last_after-take f zero xs d = refl
+last_after-take f (suc k) [] d = refl
+last_after-take f (suc k) (x ∷ xs) d = last_after-take f k xs d
+
+pub drop-steps_down : {B : Type 0} (f : B → Change) (k : ℕ) (xs : List B) (d : DocumentParts) → drop k (steps_down f xs d) ≡ steps_down f (drop k xs) d
+drop-steps_down f zero xs d = refl
+drop-steps_down f (suc k) [] d = refl
+drop-steps_down f (suc k) (x ∷ xs) d = drop-steps_down f k xs d
+
+pub FitsDown-drop : {B : Type 0} (f : B → Change) (k : ℕ) (xs : List B) (d : DocumentParts) → FitsDown f xs d → FitsDown f (drop k xs) d
+FitsDown-drop f zero xs d h = h
+FitsDown-drop f (suc k) [] d h = tt
+FitsDown-drop f (suc k) (x ∷ xs) d h = FitsDown-drop f k xs d h.1

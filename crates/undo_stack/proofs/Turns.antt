@@ -1,9 +1,9 @@
 -- Rows of changes of which one is turned.
-use Rattle.std.proofs.Common.{◌≡◌, ℕ, ◌+◌, ◌-◌, ◌<◌, ◌≤◌, List, take, drop, length, set, get_or, refl, sym, ◌∙◌, subst, arith, append_assoc, length-set}
+use Rattle.std.proofs.Common.{◌≡◌, ℕ, ◌+◌, ◌-◌, ◌<◌, ◌≤◌, List, [], take, drop, length, set, get_or, refl, sym, ◌∙◌, ap, subst, arith, append_assoc, length-set}
 use Rattle.std.proofs.lemmas.List.{take-set, drop-set, take_more_set}
 use Rattle.map_model.specs.Document.{DocumentParts}
 use Rattle.command_api.specs.Law.{Change, IsRedone, IsUndone}
-use Rattle.undo_stack.specs.Row.{FitsDown, FitsUp, IsMoved}
+use Rattle.undo_stack.specs.Row.{FitsDown, FitsUp, IsMoved, Between, after, row_change}
 use Rattle.undo_stack.proofs.Rows.{before-append, steps_down-append, FitsDown-pop, FitsDown-push, take_last, drop_first, drop_past}
 
 -- the change below the place fits, and so does the one at it
@@ -38,6 +38,41 @@ moved_on f xs v w j d e p q h k t =
       base = rw (take_more_set xs j w h, before-append f (take j xs) w e, t.back) refl;
       steps = rw (take_more_set xs j w h, drop_past xs w j, first, steps_down-append f (take j xs) w e, t.names, t.back, t.document, append_assoc) refl;
     }
+
+-- the change below the place is undone, and the one at it is redone, in a row between two documents
+pub between_back : {B : Type 0} (f : B → Change) (xs : List B) (v w : B) (j : ℕ) (d e first last : DocumentParts) → Between f xs (j + 1) d first last → j < length xs → v ≡ get_or xs j v → IsUndone (f v) (f w) d e → Between f (set xs j w) j e first last
+between_back f xs v w j d e first last b h k t =
+    let took = take_last xs v j h k in
+    let down = FitsDown-pop f (take j xs) v d (rw took at b.down) in
+    let one = before-append f (take j xs) v d in
+    record {
+      down = rw (take-set xs j w, t.document) down.0;
+      up = rw (drop-set xs j w h) (t.fits, rw t.back b.up);
+      starts = rw (take-set xs j w, t.document) (sym one ∙ rw took at b.starts);
+      ends = rw (drop-set xs j w h) (ap (after f (drop (j + 1) xs)) t.back ∙ b.ends);
+    }
+
+pub between_on : {B : Type 0} (f : B → Change) (xs : List B) (v w : B) (j : ℕ) (d e first last : DocumentParts) → Between f xs j d first last → j < length xs → v ≡ get_or xs j v → IsRedone (f v) (f w) d e → Between f (set xs j w) (j + 1) e first last
+between_on f xs v w j d e first last b h k t =
+    let first_is = drop_first xs v j h k in
+    let up = rw first_is at b.up in
+    record {
+      down = rw (take_more_set xs j w h) (FitsDown-push f (take j xs) w e (rw t.back b.down) t.fits);
+      up = rw (drop_past xs w j, t.document) up.1;
+      starts = rw (take_more_set xs j w h, before-append f (take j xs) w e, t.back) b.starts;
+      ends = rw (drop_past xs w j, t.document) (rw first_is at b.ends);
+    }
+
+-- the change below the place fits
+pub between_last : {B : Type 0} (f : B → Change) (xs : List B) (v : B) (j : ℕ) (d first last : DocumentParts) → Between f xs (j + 1) d first last → j < length xs → v ≡ get_or xs j v → (f v).fits_undo d
+between_last f xs v j d first last b h k = fits_last f xs v j d b.down h k
+
+-- the texts of a row say nothing of how it is turned
+pub redone_named : {B : Type 0} (f : B → Change) (t a : List ℕ) (xs ys : List B) (d e : DocumentParts) → IsRedone (row_change [] [] f xs) (row_change [] [] f ys) d e → IsRedone (row_change t a f xs) (row_change t a f ys) d e
+redone_named f t a xs ys d e r = record { document = r.document; fits = r.fits; back = r.back; names = refl }
+
+pub undone_named : {B : Type 0} (f : B → Change) (t a : List ℕ) (xs ys : List B) (d e : DocumentParts) → IsUndone (row_change [] [] f xs) (row_change [] [] f ys) d e → IsUndone (row_change t a f xs) (row_change t a f ys) d e
+undone_named f t a xs ys d e r = record { document = r.document; fits = r.fits; back = r.back; names = refl }
 
 -- the same by the place above the change
 pub fits_below : {B : Type 0} (f : B → Change) (xs : List B) (v : B) (i : ℕ) (d : DocumentParts) → 0 < i → i ≤ length xs → v ≡ get_or xs (i - 1) v → FitsDown f (take i xs) d → (f v).fits_undo d

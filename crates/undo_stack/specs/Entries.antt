@@ -1,8 +1,29 @@
--- What an entry does.
+-- What an entry does, and how deep macros stand in one another.
+use Rattle.std.specs.Prelude.{ℕ, ◌+◌, max, List, [], ◌∷◌}
 use Rattle.command_api.specs.Law.{Change}
-use Rattle.undo_stack.specs.declared.entry.Entry.{Entry}
-use Rattle.undo_stack.specs.declared.entry.Entry.TheVariants.{Command}
+use Rattle.undo_stack.specs.Row.{row_change}
+use Rattle.undo_stack.specs.declared.entry.Entry.{Entry, rec-Entry, fold-Entry}
+use Rattle.undo_stack.specs.declared.entry.Entry.TheOpen.{Entry-F, Command, Macro}
 
--- an entry does what its command does, where f says what a command does
+-- one layer of an entry, where f says what a command does, and k what an entry of a macro does
+abbrev pub layer_change : {C X : Type 0} → (C → Change) → (X → Change) → Entry-F C X → Change
+layer_change f k (Command c) = f c
+layer_change f k (Macro body) = row_change body.value.text body.value.action k body.value.children.items
+
+-- an entry does what its command does, where f says what a command does, and a macro what its entries do in turn
 abbrev pub entry_change : {C : Type 0} → (C → Change) → Entry C → Change
-entry_change f (Command c) = f c
+entry_change f = rec-Entry _ Change (λ X v k e. layer_change f k e)
+
+-- the greatest of some numbers, and 0 where there is none
+abbrev pub greatest : List ℕ → ℕ
+greatest [] = 0
+greatest (n ∷ ns) = max n (greatest ns)
+
+-- one layer of an entry whose entries have these nestings
+abbrev pub layer_nesting : {C : Type 0} → Entry-F C ℕ → ℕ
+layer_nesting (Command c) = 0
+layer_nesting (Macro body) = greatest body.value.children.items + 1
+
+-- how many macros stand in one another in an entry
+abbrev pub nesting : {C : Type 0} → Entry C → ℕ
+nesting {C} = fold-Entry C ℕ layer_nesting

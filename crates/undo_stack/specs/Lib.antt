@@ -1,6 +1,7 @@
 pub mod History
 pub mod Pushing
 pub mod Moving
+pub mod Macros
 pub mod Reading
 pub mod Row
 pub mod Entries

@@ -1,9 +1,9 @@
--- The calls that move in a history, mark its position as the clean one, and clear it, as relations between the history
--- before, the answer and the history after. All but clearing and unmarking are refused while a level is open.
+-- The calls that move in a history, mark its position as the clean one, set its limit, and clear it, as relations between
+-- the history before, the answer and the history after. All but clearing and unmarking are refused while a level is open.
 use Rattle.std.specs.Prelude.{◌≡◌, ℕ, ◌+◌, ◌-◌, min, length, List, [], ◌∷◌, Some, None, Result, Ok, Err, zero, suc, nat_lt, if◌then◌else◌}
-use Rattle.undo_stack.specs.History.{History, Open, current}
+use Rattle.undo_stack.specs.History.{History, Open, current, count}
 use Rattle.undo_stack.specs.declared.stack.StackFault.{StackFault}
-use Rattle.undo_stack.specs.declared.stack.StackFault.TheVariants.{MacroOpen, NothingToUndo, NothingToRedo}
+use Rattle.undo_stack.specs.declared.stack.StackFault.TheVariants.{MacroOpen, NothingToUndo, NothingToRedo, NotEmpty}
 
 -- done, or refused
 abbrev pub Answer : Type 0
@@ -64,6 +64,15 @@ pub record MarksClean (h : History) (answer : Answer) (n : History) : Type 0 whe
 -- reset clean: no position is the clean one
 abbrev pub UnmarksClean : History → History → Type 0
 UnmarksClean h n = n ≡ record h { clean = None }
+
+-- set the undo limit: it is refused where there are steps, of which an open level is one
+abbrev pub limit_answer_at : ℕ → Answer
+limit_answer_at zero = Ok tt
+limit_answer_at (suc n) = Err NotEmpty
+
+pub record SetsLimit (limit : ℕ) (h : History) (answer : Answer) (n : History) : Type 0 where
+  pub answered : answer ≡ limit_answer_at (count h)
+  pub leads : Leads answer h (record h { limit = limit }) n
 
 -- clear: the current document becomes the base, with no steps and no levels, and is clean; the limit stays
 abbrev pub cleared : History → History

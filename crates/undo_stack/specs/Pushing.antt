@@ -44,8 +44,8 @@ last_step [] = None
 last_step (s ∷ []) = Some s
 last_step (s ∷ t ∷ ss) = last_step (t ∷ ss)
 
--- the steps before the last one
-abbrev pub front : List Step → List Step
+-- the things before the last one
+abbrev pub front : {A : Type 0} → List A → List A
 front [] = []
 front (s ∷ []) = []
 front (s ∷ t ∷ ss) = s ∷ front (t ∷ ss)

@@ -1,14 +1,19 @@
 -- What a row of changes means at a document: the documents before it, its steps, and where it fits.
 -- A row is a list of things x, of which f x is the change.
-use Rattle.std.specs.Prelude.{◌≡◌, ℕ, List, [], ◌∷◌, ◌++◌, take, drop, length}
+use Rattle.std.specs.Prelude.{◌≡◌, ℕ, List, [], ◌∷◌, ◌++◌, take, drop, length, false}
 use Rattle.map_model.specs.Document.{DocumentParts}
-use Rattle.command_api.specs.Law.{Change}
+use Rattle.command_api.specs.Law.{Change, untagged, Never}
 use Rattle.undo_stack.specs.History.{Step, step_named}
 
 -- the document before a row that led to d
 abbrev pub before : {B : Type 0} → (B → Change) → List B → DocumentParts → DocumentParts
-before f [] d = d
-before f (x ∷ xs) d = (f x).undone (before f xs d)
+before f [] = λ d. d
+before f (x ∷ xs) = λ d. (f x).undone (before f xs d)
+
+-- the document after a row that leads on from d
+abbrev pub after : {B : Type 0} → (B → Change) → List B → DocumentParts → DocumentParts
+after f [] = λ d. d
+after f (x ∷ xs) = λ d. after f xs ((f x).redone d)
 
 -- the steps of a row that led to d
 abbrev pub steps_down : {B : Type 0} → (B → Change) → List B → DocumentParts → List Step
@@ -22,13 +27,32 @@ steps_up f (x ∷ xs) d = step_named (f x).names ((f x).redone d) ∷ steps_up f
 
 -- each change of a row that led to d fits for undo
 abbrev pub FitsDown : {B : Type 0} → (B → Change) → List B → DocumentParts → Type 0
-FitsDown f [] d = Unit {0}
-FitsDown f (x ∷ xs) d = (f x).fits_undo (before f xs d) × FitsDown f xs d
+FitsDown f [] = λ d. Unit {0}
+FitsDown f (x ∷ xs) = λ d. (f x).fits_undo (before f xs d) × FitsDown f xs d
 
 -- each change of a row that leads on from d fits for redo
 abbrev pub FitsUp : {B : Type 0} → (B → Change) → List B → DocumentParts → Type 0
-FitsUp f [] d = Unit {0}
-FitsUp f (x ∷ xs) d = (f x).fits_redo d × FitsUp f xs ((f x).redone d)
+FitsUp f [] = λ d. Unit {0}
+FitsUp f (x ∷ xs) = λ d. (f x).fits_redo d × FitsUp f xs ((f x).redone d)
+
+-- a row as one change, with these texts: redone first to last, undone last to first. It has no tag, follows nothing, and
+-- never vanishes
+abbrev pub row_change : {B : Type 0} → List ℕ → List ℕ → (B → Change) → List B → Change
+row_change text action f xs = record {
+  names = untagged text action Never;
+  obsolete = false;
+  redone = after f xs;
+  undone = before f xs;
+  fits_redo = FitsUp f xs;
+  fits_undo = FitsDown f xs;
+}
+
+-- a row of which the first n changes led to d: it fits, and stands between these two documents
+pub record Between {B : Type 0} (f : B → Change) (xs : List B) (n : ℕ) (d first last : DocumentParts) : Type 0 where
+  pub down : FitsDown f (take n xs) d
+  pub up : FitsUp f (drop n xs) d
+  pub starts : before f (take n xs) d ≡ first
+  pub ends : after f (drop n xs) d ≡ last
 
 -- the steps of a row of which the first n led to d
 abbrev pub steps_of : {B : Type 0} → (B → Change) → List B → ℕ → DocumentParts → List Step

@@ -1,30 +1,72 @@
--- Entries, a position among them and the document there, as a history.
-use Rattle.std.specs.Prelude.{ℕ, ◌≤◌, List, [], Option, Some, None, take, drop, length}
+-- Entries, open levels, a position among the entries and the current document, as a history.
+use Rattle.std.specs.Prelude.{ℕ, ◌+◌, ◌≤◌, max, List, [], ◌∷◌, ◌++◌, Option, Some, None, take, drop, length, map}
 use Rattle.map_model.specs.Document.{DocumentParts}
 use Rattle.command_api.specs.Law.{Change}
-use Rattle.undo_stack.specs.History.{History}
-use Rattle.undo_stack.specs.Row.{before, steps_of, FitsDown, FitsUp}
-use Rattle.undo_stack.specs.Entries.{entry_change}
+use Rattle.undo_stack.specs.History.{Open, History}
+use Rattle.undo_stack.specs.Row.{before, steps_down, steps_of, FitsDown, FitsUp}
+use Rattle.undo_stack.specs.Entries.{entry_change, nesting, greatest}
 use Rattle.undo_stack.specs.declared.entry.Entry.{Entry}
 
--- the history of these entries, of which the first n led to the document d
-abbrev pub history_of : {C : Type 0} → (C → Change) → DocumentParts → List (Entry C) → ℕ → Option ℕ → ℕ → History
-history_of f d es n clean limit = record {
-  base = before (entry_change f) (take n es) d;
-  steps = steps_of (entry_change f) es n d;
+-- an open level: its two texts, and its entries
+pub record Inner (C : Type 0) : Type 0 where
+  pub text : List ℕ
+  pub action : List ℕ
+  pub row : List (Entry C)
+
+-- the document where these levels begin, which led to d
+abbrev pub start_of : {C : Type 0} → (C → Change) → List (Inner C) → DocumentParts → DocumentParts
+start_of f [] d = d
+start_of f (l ∷ ls) d = before (entry_change f) l.row (start_of f ls d)
+
+-- these levels, which led to d, in a history
+abbrev pub opens : {C : Type 0} → (C → Change) → List (Inner C) → DocumentParts → List Open
+opens f [] d = []
+opens f (l ∷ ls) d = record {
+  text = l.text;
+  action = l.action;
+  start = before (entry_change f) l.row (start_of f ls d);
+  steps = steps_down (entry_change f) l.row (start_of f ls d);
+} ∷ opens f ls d
+
+-- each entry of these levels, which led to d, fits for undo
+abbrev pub FitsOpens : {C : Type 0} → (C → Change) → List (Inner C) → DocumentParts → Type 0
+FitsOpens f [] d = Unit {0}
+FitsOpens f (l ∷ ls) d = FitsDown (entry_change f) l.row (start_of f ls d) × FitsOpens f ls d
+
+-- the history of these entries and levels, which led to the document d, where n entries are below the levels
+abbrev pub history_of : {C : Type 0} → (C → Change) → DocumentParts → List (Entry C) → ℕ → Option ℕ → ℕ → List (Inner C) → History
+history_of f d es n clean limit ls = record {
+  base = before (entry_change f) (take n es) (start_of f ls d);
+  steps = steps_of (entry_change f) es n (start_of f ls d);
   position = n;
   clean = clean;
   limit = limit;
-  levels = [];
+  levels = opens f ls d;
 }
 
 abbrev pub IsAtMost : Option ℕ → ℕ → Type 0
 IsAtMost None n = Unit {0}
 IsAtMost (Some k) n = k ≤ n
 
--- the positions are among the entries, and the first n entries fit for undo, the others for redo
-pub record IsTurnable {C : Type 0} (f : C → Change) (d : DocumentParts) (es : List (Entry C)) (n : ℕ) (clean : Option ℕ) : Type 0 where
+-- the positions are among the entries; the entries of the levels and the first n entries fit for undo, the others for redo
+pub record IsTurnable {C : Type 0} (f : C → Change) (d : DocumentParts) (es : List (Entry C)) (n : ℕ) (clean : Option ℕ) (ls : List (Inner C)) : Type 0 where
   pub within : n ≤ length es
   pub clean_within : IsAtMost clean (length es)
-  pub down : FitsDown (entry_change f) (take n es) d
-  pub up : FitsUp (entry_change f) (drop n es) d
+  pub down : FitsDown (entry_change f) (take n es) (start_of f ls d)
+  pub up : FitsUp (entry_change f) (drop n es) (start_of f ls d)
+  pub inner : FitsOpens f ls d
+
+-- the same levels, with an entry behind those of the last one
+abbrev pub with_child : {C : Type 0} → Entry C → List (Inner C) → List (Inner C)
+with_child e [] = []
+with_child e (l ∷ []) = record l { row = l.row ++ e ∷ [] } ∷ []
+with_child e (l ∷ m ∷ ls) = l ∷ with_child e (m ∷ ls)
+
+-- how many macros stand in one another in these entries
+abbrev pub row_nesting : {C : Type 0} → List (Entry C) → ℕ
+row_nesting es = greatest (map nesting es)
+
+-- how deep the first of these levels is as an entry, once all are closed
+abbrev pub level_nesting : {C : Type 0} → List (Inner C) → ℕ
+level_nesting [] = 0
+level_nesting (l ∷ ls) = max (row_nesting l.row) (level_nesting ls) + 1

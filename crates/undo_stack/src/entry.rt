@@ -1,15 +1,26 @@
-ghost use Rattle.std.specs.Prelude.{◌≡◌, ◌≤◌, length, take, drop};
+ghost use Rattle.std.specs.Prelude.{◌≡◌, ◌≤◌, [], length, take, drop, map};
 ghost use Rattle.command_api.specs.Law.{IsRedone, IsUndone};
-ghost use Rattle.undo_stack.specs.Entries.{entry_change};
-ghost use Rattle.undo_stack.specs.Row.{FitsDown, FitsUp, IsMoved};
+ghost use Rattle.undo_stack.specs.Entries.{entry_change, nesting};
+ghost use Rattle.undo_stack.specs.Row.{row_change, FitsDown, FitsUp, IsMoved};
 
 use command_api::Command;
-use map_model::Document;
+use map_model::{Document, MapText};
+use std::collections::VecDeque;
 
-/// What a stack turns as one step.
+/// What a stack turns as one step: a command, or a macro of entries.
 #[derive(Drop)]
 pub enum Entry<C> {
     Command(C),
+    // In a box, so that an entry is not made larger by the macros.
+    Macro(Box<MacroBody<Entry<C>>>),
+}
+
+/// What a macro holds: the text that stands for it in a list of steps, the text that names its action, and its entries.
+#[derive(Drop)]
+pub struct MacroBody<E> {
+    pub text: MapText,
+    pub action: MapText,
+    pub children: Vec<E>,
 }
 
 impl<C: Command> Entry<C> {
@@ -19,6 +30,7 @@ impl<C: Command> Entry<C> {
     {
         match self {
             Entry::Command(command) => command.text(),
+            Entry::Macro(body) => body.text.as_str(),
         }
     }
 
@@ -28,56 +40,138 @@ impl<C: Command> Entry<C> {
     {
         match self {
             Entry::Command(command) => command.action_text(),
+            Entry::Macro(body) => body.action.as_str(),
         }
     }
 
     /// Makes the change again.
+    #[inline(always)]
+    #[cycle(redo)]
     pub fn redo(&mut self, document: &mut Document)
         requires { (entry_change C.change self.old).fits_redo document.old }
-        ensures { IsRedone (entry_change C.change self.old) (entry_change C.change self.new) document.old document.new }
+        ensures turned { IsRedone (entry_change C.change self.old) (entry_change C.change self.new) document.old document.new }
+        ensures nesting { nesting self.new ≡ nesting self.old }
     {
         match self {
             Entry::Command(command) => command.redo(document),
+            Entry::Macro(body) => redo_all(&mut body.children, document),
         }
     }
 
     /// Turns the change back.
+    #[inline(always)]
+    #[cycle(undo)]
     pub fn undo(&mut self, document: &mut Document)
         requires { (entry_change C.change self.old).fits_undo document.old }
-        ensures { IsUndone (entry_change C.change self.old) (entry_change C.change self.new) document.old document.new }
+        ensures turned { IsUndone (entry_change C.change self.old) (entry_change C.change self.new) document.old document.new }
+        ensures nesting { nesting self.new ≡ nesting self.old }
     {
         match self {
             Entry::Command(command) => command.undo(document),
+            Entry::Macro(body) => undo_all(&mut body.children, document),
         }
     }
 }
 
-/// Turns the entries of a row back that stand below one place and not below another one.
+// Makes the entries of a macro again, first to last.
+#[cycle(redo)]
+fn redo_all<C: Command>(children: &mut Vec<Entry<C>>, document: &mut Document)
+    requires { FitsUp (entry_change C.change) children.old.items document.old }
+    ensures turned { IsRedone
+        (row_change [] [] (entry_change C.change) children.old.items)
+        (row_change [] [] (entry_change C.change) children.new.items) document.old document.new }
+    ensures nesting { map nesting children.new.items ≡ map nesting children.old.items }
+{
+    for i in 0..children.len() {
+        children[i].redo(document);
+    }
+}
+
+// Turns the entries of a macro back, last to first.
+#[cycle(undo)]
+fn undo_all<C: Command>(children: &mut Vec<Entry<C>>, document: &mut Document)
+    requires { FitsDown (entry_change C.change) children.old.items document.old }
+    ensures turned { IsUndone
+        (row_change [] [] (entry_change C.change) children.old.items)
+        (row_change [] [] (entry_change C.change) children.new.items) document.old document.new }
+    ensures nesting { map nesting children.new.items ≡ map nesting children.old.items }
+{
+    for i in (0..children.len()).rev() {
+        children[i].undo(document);
+    }
+}
+
+/// Turns back the entries of a row from the place `to` up to `from`, last to first.
 pub fn undo_down<C: Command>(row: &mut [Entry<C>], document: &mut Document, from: usize, to: usize)
     requires order { to ≤ from }
     requires within { from ≤ length row.old }
     requires down { FitsDown (entry_change C.change) (take from row.old) document.old }
     requires up { FitsUp (entry_change C.change) (drop from row.old) document.old }
-    ensures { IsMoved (entry_change C.change) row.old from document.old row.new to document.new }
+    ensures moved { IsMoved (entry_change C.change) row.old from document.old row.new to document.new }
+    ensures nesting { map nesting row.new ≡ map nesting row.old }
 {
-    let mut at = from;
-    while at > to {
-        at -= 1;
-        row[at].undo(document);
+    // Counted by the turns that are left: a loop over the place takes more instructions a turn.
+    let mut left = from - to;
+    while left > 0 {
+        left -= 1;
+        row[to + left].undo(document);
     }
 }
 
-/// Makes the entries of a row again that do not stand below one place, and do below another one.
+/// Makes the entries of a row from the place `from` up to `to` again, first to last.
 pub fn redo_up<C: Command>(row: &mut [Entry<C>], document: &mut Document, from: usize, to: usize)
     requires order { from ≤ to }
     requires within { to ≤ length row.old }
     requires down { FitsDown (entry_change C.change) (take from row.old) document.old }
     requires up { FitsUp (entry_change C.change) (drop from row.old) document.old }
-    ensures { IsMoved (entry_change C.change) row.old from document.old row.new to document.new }
+    ensures moved { IsMoved (entry_change C.change) row.old from document.old row.new to document.new }
+    ensures nesting { map nesting row.new ≡ map nesting row.old }
 {
     let mut at = from;
     while at < to {
         row[at].redo(document);
+        at += 1;
+    }
+}
+
+/// The same as `undo_down`, of entries that need not lie in one row.
+pub fn undo_each<C: Command>(
+    entries: &mut VecDeque<Entry<C>>,
+    document: &mut Document,
+    from: usize,
+    to: usize,
+)
+    requires order { to ≤ from }
+    requires within { from ≤ length entries.old.items }
+    requires down { FitsDown (entry_change C.change) (take from entries.old.items) document.old }
+    requires up { FitsUp (entry_change C.change) (drop from entries.old.items) document.old }
+    ensures moved { IsMoved (entry_change C.change) entries.old.items from document.old entries.new.items to document.new }
+    ensures nesting { map nesting entries.new.items ≡ map nesting entries.old.items }
+{
+    let mut at = from;
+    while at > to {
+        at -= 1;
+        entries[at].undo(document);
+    }
+}
+
+/// The same as `redo_up`, of entries that need not lie in one row.
+pub fn redo_each<C: Command>(
+    entries: &mut VecDeque<Entry<C>>,
+    document: &mut Document,
+    from: usize,
+    to: usize,
+)
+    requires order { from ≤ to }
+    requires within { to ≤ length entries.old.items }
+    requires down { FitsDown (entry_change C.change) (take from entries.old.items) document.old }
+    requires up { FitsUp (entry_change C.change) (drop from entries.old.items) document.old }
+    ensures moved { IsMoved (entry_change C.change) entries.old.items from document.old entries.new.items to document.new }
+    ensures nesting { map nesting entries.new.items ≡ map nesting entries.old.items }
+{
+    let mut at = from;
+    while at < to {
+        entries[at].redo(document);
         at += 1;
     }
 }

@@ -5,6 +5,8 @@
 #![tactic(auto)]
 
 mod entry;
+mod level;
+pub mod limits;
 mod stack;
 
 pub use stack::{Stack, StackFault};

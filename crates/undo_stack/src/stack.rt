@@ -1,12 +1,18 @@
-ghost use Rattle.std.specs.Prelude.{◌≡◌, ◌≤◌, ◌<◌, ◌+◌, ◌-◌, min, max, length, take, false, IfOk, IfErr, slice_get, option_copied};
-ghost use Rattle.std.specs.VecDeque.{deque_capacity};
-ghost use Rattle.undo_stack.specs.History.{new_history, current, count, is_clean};
-ghost use Rattle.undo_stack.specs.Pushing.{IsPushed, step_of, up_to};
-ghost use Rattle.undo_stack.specs.Moving.{positioned, StepsBack, StepsOn, GoesTo, MarksClean, UnmarksClean, Clears};
+ghost use Rattle.std.specs.Prelude.{◌≡◌, ◌≤◌, ◌<◌, ◌+◌, ◌-◌, ◌++◌, ◌∷◌, [], min, max, length, map, take, drop, false, Some, IfOk, IfErr, MatchBool, slice_get, option_copied, vec_len, vec_capacity};
+ghost use Rattle.std.specs.VecDeque.{deque_len, deque_capacity};
+ghost use Rattle.undo_stack.specs.History.{new_history, current, count, is_clean, step_named};
+ghost use Rattle.undo_stack.specs.Pushing.{IsPushed, step_of, up_to, lowered, limited, with_added};
+ghost use Rattle.undo_stack.specs.Moving.{positioned, StepsBack, StepsOn, GoesTo, MarksClean, UnmarksClean, SetsLimit, Clears};
 ghost use Rattle.undo_stack.specs.Reading.{text_at, action_of, undo_text_of, redo_text_of};
-ghost use Rattle.undo_stack.specs.Stacks.{history, Holds};
+ghost use Rattle.undo_stack.specs.Entries.{entry_change, nesting};
+ghost use Rattle.undo_stack.specs.Sound.{history_of, opens, with_child, IsTurnable, level_nesting};
+ghost use Rattle.undo_stack.specs.Stacks.{history, inners, inner_of, Holds, IsBounded, HaveRoom, LastHasRoom};
+ghost use Rattle.undo_stack.specs.declared.limits.TheConstants.{MAX_DEPTH, MAX_LIMIT};
 
-use crate::entry::{Entry, redo_up, undo_down};
+mod macros;
+
+use crate::entry::{Entry, redo_each, redo_up, undo_down, undo_each};
+use crate::level::Level;
 use command_api::Command;
 use map_model::Document;
 use std::alloc::{AllocError, Global};
@@ -21,6 +27,14 @@ pub enum StackFault {
     NothingToUndo,
     /// The index is the count: no step is above it.
     NothingToRedo,
+    /// No macro is open that could end.
+    NoMacroOpen,
+    /// As many macros are open as can be, and a further one was to begin. No memory was asked for.
+    TooDeep,
+    /// There are steps, or a macro is open: a limit can be set only before either.
+    NotEmpty,
+    /// There was no memory for a macro that was to begin. The steps above the index are kept too.
+    NoMemory,
 }
 
 /// A document and its history, over commands of one type, which may be `Box<dyn Command>`.
@@ -29,7 +43,7 @@ pub enum StackFault {
 /// each of them keeps.
 #[derive(Drop)]
 pub struct Stack<C> {
-    // The document after the entries below the index.
+    // The document after the entries below the index, and those of the open macros.
     document: Document,
     entries: VecDeque<Entry<C>>,
     // The number of entries that are done, at most all of them.
@@ -38,14 +52,19 @@ pub struct Stack<C> {
     clean: Option<usize>,
     // The most entries that are kept, or 0 for any number.
     limit: usize,
+    // The open macros, outermost first. While there are any, no entry stands above the index, and there is a free place
+    // for what each of them becomes: among the entries, or in the macro around it.
+    levels: Vec<Level<C>>,
+    // The allocator by which a macro takes its memory when it begins.
+    alloc: Global,
 }
 
 impl<C: Command> Stack<C> {
     /// A stack with no steps, at index 0, which is clean.
     ///
-    /// The limit is the most steps that the stack keeps, where 0 stands for any number. No other is taken yet.
+    /// The limit is the most steps that the stack keeps, where 0 stands for any number.
     pub fn new(alloc: Global, document: Document, limit: usize) -> Stack<C>
-        requires { limit ≡ 0 }
+        requires { limit ≤ MAX_LIMIT }
         ensures sound { Holds C.change result }
         ensures history { history C.change result ≡ new_history document limit }
     {
@@ -55,6 +74,8 @@ impl<C: Command> Stack<C> {
             index: 0,
             clean: Some(0),
             limit,
+            levels: Vec::new(alloc),
+            alloc,
         }
     }
 
@@ -65,28 +86,41 @@ impl<C: Command> Stack<C> {
         self.index
     }
 
-    /// How many steps there are, those done and those undone.
+    /// How many steps there are, those done and those undone. While a macro is open, one more.
     pub fn count(&self) -> usize
         ensures { result ≡ count (history C.change self.now) }
     {
+        if self.is_open() {
+            return self.entries.len() + 1;
+        }
         self.entries.len()
     }
 
-    /// How many macros are open, which is 0: a stack takes no macros yet.
+    /// How many macros are open, each but the first in another one.
     pub fn depth(&self) -> usize
         ensures { result ≡ length (history C.change self.now).levels }
     {
-        0
+        self.levels.len()
     }
 
-    /// Whether the document is the clean one, as when the stack was new.
+    // Whether a macro is open.
+    fn is_open(&self) -> bool
+        ensures { MatchBool result (0 < length self.now.levels.items) (self.now.levels.items ≡ []) }
+    {
+        !self.levels.is_empty()
+    }
+
+    /// Whether the document is the clean one, as when the stack was new. It is not while a macro is open.
     pub fn is_clean(&self) -> bool
         ensures { result ≡ is_clean (history C.change self.now) }
     {
+        if self.is_open() {
+            return false;
+        }
         self.clean == Some(self.index)
     }
 
-    /// The document at the index.
+    /// The document at the index, and within an open macro the one after what was pushed last.
     pub fn document(&self) -> &Document
         requires { Holds C.change self.now }
         ensures { result.now ≡ current (history C.change self.now) }
@@ -94,29 +128,50 @@ impl<C: Command> Stack<C> {
         &self.document
     }
 
-    /// The text for undo: the action text of the step below the index, and empty where there is none.
+    /// The text for undo: the action text of the step below the index, and empty where there is none or a macro is open.
     pub fn undo_text(&self) -> &str
         ensures { result.now ≡ undo_text_of (history C.change self.now) }
     {
+        if self.is_open() {
+            return "";
+        }
         if self.index == 0 {
             return "";
         }
         self.action_text(self.index - 1)
     }
 
-    /// The text for redo: the action text of the step above the index, and empty where there is none.
+    /// The text for redo: the action text of the step above the index, and empty where there is none or a macro is open.
     pub fn redo_text(&self) -> &str
         ensures { result.now ≡ redo_text_of (history C.change self.now) }
     {
+        if self.is_open() {
+            return "";
+        }
         self.action_text(self.index)
     }
 
-    /// The text for lists of the step at this place, where the first step is at 0, and `None` past the last one.
+    /// The text for lists of the step at this place, where the first step is at 0, and `None` past the last one. An open
+    /// macro stands last, with the text of the outermost one.
     pub fn text(&self, at: usize) -> Option<&str>
         ensures { option_copied result ≡ text_at (history C.change self.now) at }
     {
         match self.entries.get(at) {
             Some(entry) => Some(entry.text()),
+            None => self.open_text(at),
+        }
+    }
+
+    // The text of the outermost open macro, at the place behind the entries.
+    fn open_text(&self, at: usize) -> Option<&str>
+        requires { length self.now.entries.items ≤ at }
+        ensures { option_copied result ≡ text_at (history C.change self.now) at }
+    {
+        if at != self.entries.len() {
+            return None;
+        }
+        match self.levels.first() {
+            Some(level) => Some(level.text()),
             None => None,
         }
     }
@@ -134,17 +189,37 @@ impl<C: Command> Stack<C> {
 
 impl<C: Command> Stack<C> {
     /// Makes the change of a command, which becomes the step below the index. The steps above the index go, and with
-    /// them a clean index among them.
+    /// them a clean index among them. With a limit other than 0, the first step goes where there are more than that then.
+    ///
+    /// While a macro is open, the command becomes the innermost one's last entry.
     ///
     /// An obsolete command becomes no step, and the steps above the index go all the same. The command is one that does
     /// not follow the step before it.
     ///
     /// Where there is no memory the command is let go of, and the stack is as it was, with the steps above the index.
-    pub fn push(&mut self, mut command: C) -> Result<(), AllocError>
+    pub fn push(&mut self, command: C) -> Result<(), AllocError>
         requires sound { Holds C.change self.old }
         requires fits { (C.change command).fits_redo (current (history C.change self.old)) }
         requires straight { (C.change command).names.follows ≡ false }
-        requires unlimited { (history C.change self.old).limit ≡ 0 }
+        ensures sound { Holds C.change self.new }
+        ensures pushed { IfOk result (λ _. IsPushed
+            (history C.change self.old)
+            (step_of (C.change command) (current (history C.change self.old)))
+            (history C.change self.new)) }
+        ensures kept { IfErr result (λ _. history C.change self.new ≡ history C.change self.old) }
+    {
+        if self.is_open() {
+            return self.push_child(command);
+        }
+        self.push_step(command)
+    }
+
+    // The same where no macro is open.
+    fn push_step(&mut self, mut command: C) -> Result<(), AllocError>
+        requires closed { self.old.levels.items ≡ [] }
+        requires sound { Holds C.change self.old }
+        requires fits { (C.change command).fits_redo (current (history C.change self.old)) }
+        requires straight { (C.change command).names.follows ≡ false }
         ensures sound { Holds C.change self.new }
         ensures pushed { IfOk result (λ _. IsPushed
             (history C.change self.old)
@@ -163,40 +238,32 @@ impl<C: Command> Stack<C> {
             return Err(error);
         }
         self.cut();
-        self.entries.push_back_reserved(Entry::Command(command));
-        self.index += 1;
+        self.add_step(Entry::Command(command));
         Ok(())
     }
 
-    /// Turns the step below the index back, and lowers the index by one. Takes no memory.
-    ///
-    /// The answer is `MacroOpen` while a macro is open, and `NothingToUndo` where the index is 0. The stack is then as it
-    /// was.
-    pub fn undo(&mut self) -> Result<(), StackFault>
-        requires { Holds C.change self.old }
+    // The same where a macro is open.
+    fn push_child(&mut self, mut command: C) -> Result<(), AllocError>
+        requires open { 0 < length self.old.levels.items }
+        requires sound { Holds C.change self.old }
+        requires fits { (C.change command).fits_redo (current (history C.change self.old)) }
+        requires straight { (C.change command).names.follows ≡ false }
         ensures sound { Holds C.change self.new }
-        ensures step { StepsBack (history C.change self.old) result (history C.change self.new) }
+        ensures pushed { IfOk result (λ _. IsPushed
+            (history C.change self.old)
+            (step_of (C.change command) (current (history C.change self.old)))
+            (history C.change self.new)) }
+        ensures kept { IfErr result (λ _. history C.change self.new ≡ history C.change self.old) }
     {
-        if self.index == 0 {
-            return Err(StackFault::NothingToUndo);
+        command.redo(&mut self.document);
+        if command.obsolete() {
+            return Ok(());
         }
-        self.step_back();
-        Ok(())
-    }
-
-    /// Makes the step above the index again, and raises the index by one. Takes no memory.
-    ///
-    /// The answer is `MacroOpen` while a macro is open, and `NothingToRedo` where the index is the count. The stack is then
-    /// as it was.
-    pub fn redo(&mut self) -> Result<(), StackFault>
-        requires { Holds C.change self.old }
-        ensures sound { Holds C.change self.new }
-        ensures step { StepsOn (history C.change self.old) result (history C.change self.new) }
-    {
-        if self.index == self.entries.len() {
-            return Err(StackFault::NothingToRedo);
+        if let Err(error) = self.take_child_place() {
+            command.undo(&mut self.document);
+            return Err(error);
         }
-        self.step_on();
+        self.add_child(Entry::Command(command));
         Ok(())
     }
 
@@ -213,15 +280,27 @@ impl<C: Command> Stack<C> {
         Ok(())
     }
 
+    // Sees to it that there is a place for an entry in the innermost macro.
+    fn take_child_place(&mut self) -> Result<(), AllocError>
+        requires { 0 < length self.old.levels.items }
+        ensures rest { self.new ≡ record self.old { levels = self.new.levels } }
+        ensures same { inners self.new ≡ inners self.old }
+        ensures bounded { IsBounded self.old → IsBounded self.new }
+        ensures own_room { (vec_len self.new.levels ≡ vec_len self.old.levels) × (vec_capacity self.new.levels ≡ vec_capacity self.old.levels) }
+        ensures room { IfOk result (λ _. LastHasRoom self.new.levels.items) }
+    {
+        let last = self.levels.len() - 1;
+        self.levels[last].take_place()?;
+        Ok(())
+    }
+
     // The entries above the index go, and a clean index above it is lost.
     #[inline(always)]
     fn cut(&mut self)
+        ensures rest { self.new ≡ record self.old { entries = self.new.entries; clean = self.new.clean } }
         ensures entries { self.new.entries.items ≡ take self.old.index self.old.entries.items }
         ensures clean { self.new.clean ≡ up_to self.old.index self.old.clean }
-        ensures index { self.new.index ≡ self.old.index }
-        ensures limit { self.new.limit ≡ self.old.limit }
-        ensures document { self.new.document ≡ self.old.document }
-        ensures capacity { deque_capacity self.new.entries ≡ deque_capacity self.old.entries }
+        ensures room { deque_capacity self.new.entries ≡ deque_capacity self.old.entries }
     {
         self.entries.truncate(self.index);
         if let Some(clean) = self.clean {
@@ -230,9 +309,114 @@ impl<C: Command> Stack<C> {
             }
         }
     }
+
+    // Puts an entry, which led to the document, above the others, which are all done. The first one goes where that is
+    // one too many.
+    fn add_step(&mut self, entry: Entry<C>)
+        requires closed { self.old.levels.items ≡ [] }
+        requires bounded { IsBounded self.old }
+        requires place { self.old.index ≡ length self.old.entries.items }
+        requires room { self.old.index < deque_capacity self.old.entries }
+        requires turnable { IsTurnable C.change ((entry_change C.change entry).undone self.old.document) self.old.entries.items self.old.index self.old.clean [] }
+        requires fits { (entry_change C.change entry).fits_undo self.old.document }
+        requires nesting { nesting entry ≤ MAX_DEPTH }
+        ensures sound { Holds C.change self.new }
+        ensures added { history C.change self.new ≡ with_added
+            (step_named (entry_change C.change entry).names self.old.document) []
+            (history_of C.change ((entry_change C.change entry).undone self.old.document) self.old.entries.items self.old.index self.old.clean self.old.limit []) }
+    {
+        self.entries.push_back_reserved(entry);
+        self.index += 1;
+        if self.limit != 0 {
+            self.drop_surplus();
+        }
+    }
+
+    // Where the entries are one more than the limit, the first one goes. All are done.
+    fn drop_surplus(&mut self)
+        requires limit { 0 < self.old.limit }
+        requires place { self.old.index ≡ length self.old.entries.items }
+        requires count { self.old.index ≤ self.old.limit + 1 }
+        ensures rest { self.new ≡ record self.old { entries = self.new.entries; index = self.new.index; clean = self.new.clean } }
+        ensures entries { self.new.entries.items ≡ drop (self.old.index - self.old.limit) self.old.entries.items }
+        ensures index { self.new.index ≡ self.old.index - (self.old.index - self.old.limit) }
+        ensures clean { self.new.clean ≡ lowered (self.old.index - self.old.limit) self.old.clean }
+    {
+        if self.index > self.limit {
+            let _ = self.entries.pop_front();
+            self.index -= 1;
+            self.clean = one_lower(self.clean);
+        }
+    }
+
+    // Puts an entry, which led to the document, behind those of the innermost macro.
+    fn add_child(&mut self, entry: Entry<C>)
+        requires open { 0 < length self.old.levels.items }
+        requires bounded { IsBounded self.old }
+        requires room { LastHasRoom self.old.levels.items }
+        requires turnable { IsTurnable C.change ((entry_change C.change entry).undone self.old.document) self.old.entries.items self.old.index self.old.clean (inners self.old) }
+        requires fits { (entry_change C.change entry).fits_undo self.old.document }
+        requires nesting { level_nesting (with_child entry (inners self.old)) ≤ MAX_DEPTH }
+        ensures sound { Holds C.change self.new }
+        ensures added { history C.change self.new ≡ with_added
+            (step_named (entry_change C.change entry).names self.old.document)
+            (opens C.change (inners self.old) ((entry_change C.change entry).undone self.old.document))
+            (history_of C.change ((entry_change C.change entry).undone self.old.document) self.old.entries.items self.old.index self.old.clean self.old.limit (inners self.old)) }
+    {
+        let last = self.levels.len() - 1;
+        self.levels[last].add(entry);
+    }
+}
+
+// A clean index, one lower, or lost where it is 0.
+fn one_lower(clean: Option<usize>) -> Option<usize>
+    ensures { result ≡ lowered 1 clean }
+{
+    match clean {
+        Some(at) if at > 0 => Some(at - 1),
+        _ => None,
+    }
 }
 
 impl<C: Command> Stack<C> {
+    /// Turns the step below the index back, and lowers the index by one. Takes no memory.
+    ///
+    /// The answer is `MacroOpen` while a macro is open, and `NothingToUndo` where the index is 0. The stack is then as it
+    /// was.
+    pub fn undo(&mut self) -> Result<(), StackFault>
+        requires { Holds C.change self.old }
+        ensures sound { Holds C.change self.new }
+        ensures step { StepsBack (history C.change self.old) result (history C.change self.new) }
+    {
+        if self.is_open() {
+            return Err(StackFault::MacroOpen);
+        }
+        if self.index == 0 {
+            return Err(StackFault::NothingToUndo);
+        }
+        self.step_back();
+        Ok(())
+    }
+
+    /// Makes the step above the index again, and raises the index by one. Takes no memory.
+    ///
+    /// The answer is `MacroOpen` while a macro is open, and `NothingToRedo` where the index is the count. The stack is then
+    /// as it was.
+    pub fn redo(&mut self) -> Result<(), StackFault>
+        requires { Holds C.change self.old }
+        ensures sound { Holds C.change self.new }
+        ensures step { StepsOn (history C.change self.old) result (history C.change self.new) }
+    {
+        if self.is_open() {
+            return Err(StackFault::MacroOpen);
+        }
+        if self.index == self.entries.len() {
+            return Err(StackFault::NothingToRedo);
+        }
+        self.step_on();
+        Ok(())
+    }
+
     /// Undoes or redoes until the index is this one, where a number past the count means the count. Takes no memory.
     ///
     /// The answer is `MacroOpen` while a macro is open, and the stack is then as it was.
@@ -241,6 +425,9 @@ impl<C: Command> Stack<C> {
         ensures sound { Holds C.change self.new }
         ensures step { GoesTo index (history C.change self.old) result (history C.change self.new) }
     {
+        if self.is_open() {
+            return Err(StackFault::MacroOpen);
+        }
         self.undo_to(index);
         self.redo_to(index);
         Ok(())
@@ -254,6 +441,9 @@ impl<C: Command> Stack<C> {
         ensures sound { Holds C.change self.new }
         ensures step { MarksClean (history C.change self.old) result (history C.change self.new) }
     {
+        if self.is_open() {
+            return Err(StackFault::MacroOpen);
+        }
         self.clean = Some(self.index);
         Ok(())
     }
@@ -267,53 +457,104 @@ impl<C: Command> Stack<C> {
         self.clean = None;
     }
 
-    /// Lets go of all steps, and undoes none of them. The document and the limit stay, and the stack is clean at index 0.
+    /// Sets the most steps that the stack keeps, where 0 stands for any number. Takes no memory.
+    ///
+    /// The answer is `NotEmpty` where there are steps, of which an open macro is one, and the stack is then as it was.
+    pub fn set_undo_limit(&mut self, limit: usize) -> Result<(), StackFault>
+        requires limit { limit ≤ MAX_LIMIT }
+        requires sound { Holds C.change self.old }
+        ensures sound { Holds C.change self.new }
+        ensures step { SetsLimit limit (history C.change self.old) result (history C.change self.new) }
+    {
+        if self.count() != 0 {
+            return Err(StackFault::NotEmpty);
+        }
+        self.limit = limit;
+        Ok(())
+    }
+
+    /// Lets go of all steps and of the open macros, and undoes none of them. The document and the limit stay, and the
+    /// stack is clean at index 0.
     pub fn clear(&mut self)
         requires { Holds C.change self.old }
         ensures sound { Holds C.change self.new }
         ensures step { Clears (history C.change self.old) (history C.change self.new) }
     {
-        // One document and the steps are all that a stack keeps.
+        // One document, the steps and the macros that are open are all that a stack keeps.
         let Stack {
             document: _,
             entries,
             index,
             clean,
             limit: _,
+            levels,
+            alloc: _,
         } = self;
         entries.clear();
+        levels.clear();
         *index = 0;
         *clean = Some(0);
     }
 
     // Undoes until the index is at most this one.
     fn undo_to(&mut self, index: usize)
-        requires { Holds C.change self.old }
+        requires closed { self.old.levels.items ≡ [] }
+        requires sound { Holds C.change self.old }
+        ensures closed { self.new.levels.items ≡ [] }
         ensures sound { Holds C.change self.new }
         ensures history { history C.change self.new
             ≡ positioned (min index (history C.change self.old).position) (history C.change self.old) }
     {
         let index = index.min(self.index);
-        let row = self.entries.make_contiguous();
-        undo_down(row, &mut self.document, self.index, index);
+        if self.is_worth_a_row(self.index - index) {
+            let row = self.entries.make_contiguous();
+            undo_down(row, &mut self.document, self.index, index);
+        } else {
+            undo_each(&mut self.entries, &mut self.document, self.index, index);
+        }
         self.index = index;
     }
 
     // Redoes until the index is at least this one, or the count.
     fn redo_to(&mut self, index: usize)
-        requires { Holds C.change self.old }
+        requires closed { self.old.levels.items ≡ [] }
+        requires sound { Holds C.change self.old }
         ensures sound { Holds C.change self.new }
         ensures history { history C.change self.new
             ≡ positioned (max (min index (length (history C.change self.old).steps)) (history C.change self.old).position) (history C.change self.old) }
     {
         let index = index.min(self.entries.len()).max(self.index);
-        let row = self.entries.make_contiguous();
-        redo_up(row, &mut self.document, self.index, index);
+        self.redo_up_to(index);
+    }
+
+    // Redoes until the index is this one.
+    fn redo_up_to(&mut self, index: usize)
+        requires closed { self.old.levels.items ≡ [] }
+        requires sound { Holds C.change self.old }
+        requires order { self.old.index ≤ index }
+        requires within { index ≤ length self.old.entries.items }
+        ensures sound { Holds C.change self.new }
+        ensures history { history C.change self.new ≡ positioned index (history C.change self.old) }
+    {
+        if self.is_worth_a_row(index - self.index) {
+            let row = self.entries.make_contiguous();
+            redo_up(row, &mut self.document, self.index, index);
+        } else {
+            redo_each(&mut self.entries, &mut self.document, self.index, index);
+        }
         self.index = index;
+    }
+
+    // Whether it is worth laying the entries side by side for so many turns. They lie so until the limit drops one. Later
+    // all of them would move, which pays where at least half are turned.
+    fn is_worth_a_row(&self, turns: usize) -> bool {
+        let (_, rest) = self.entries.as_slices();
+        rest.is_empty() || turns >= self.entries.len() / 2
     }
 
     // Turns the step below the index back, and lowers the index by one.
     fn step_back(&mut self)
+        requires closed { self.old.levels.items ≡ [] }
         requires sound { Holds C.change self.old }
         requires below { 0 < (history C.change self.old).position }
         ensures sound { Holds C.change self.new }
@@ -326,6 +567,7 @@ impl<C: Command> Stack<C> {
 
     // Makes the step above the index again, and raises the index by one.
     fn step_on(&mut self)
+        requires closed { self.old.levels.items ≡ [] }
         requires sound { Holds C.change self.old }
         requires above { (history C.change self.old).position < length (history C.change self.old).steps }
         ensures sound { Holds C.change self.new }

@@ -1,11 +1,12 @@
-use Rattle.std.proofs.Common.{◌<◌, arith, length, length-set, slice_index_or}
+use Rattle.std.proofs.Common.{◌<◌, arith, length, length-set, refl, ◌∙◌, slice_index_or}
 use Rattle.std.proofs.lemmas.List.{get_or_default}
-use Rattle.undo_stack.specs.Entries.{entry_change}
+use Rattle.undo_stack.specs.Entries.{entry_change, nesting}
+use Rattle.undo_stack.proofs.Rows.{map-set_same}
 use Rattle.undo_stack.proofs.Turns.{fits_next, moved_on, moved_none, moved_more}
 use Rattle.undo_stack.proofs.entry.redo_up.Goals as goal
 
 pub loop-at-init : goal.loop-at-init
-loop-at-init g c = record { moved = moved_none _ _ _ _ c.requires.down c.requires.up; below = c.requires.order; within = c.requires.within }
+loop-at-init g c = record { moved = moved_none _ _ _ _ c.requires.down c.requires.up; below = c.requires.order; within = c.requires.within; nesting = refl }
 
 pub redo-requires : goal.redo-requires
 redo-requires g c =
@@ -24,9 +25,10 @@ loop-at-preserved g c =
     let w = c.redo.new.self in
     let m = c.loop-at.invariant.moved in
     let inside : j < length xs = omega (arith, c.loop-at.invariant.within) in
-    let above = moved_on f xs v w j c.loop-at.document c.redo.new.document m.down m.up inside (get_or_default xs j _ v inside) c.redo.ensures in
+    let above = moved_on f xs v w j c.loop-at.document c.redo.new.document m.down m.up inside (get_or_default xs j _ v inside) c.redo.ensures.turned in
     record {
       moved = moved_more f _ _ _ _ _ _ _ _ _ m above;
       below = omega arith;
       within = omega (arith, c.loop-at.invariant.within, length-set xs j w);
+      nesting = map-set_same nesting xs v w j (get_or_default xs j _ v inside) c.redo.ensures.nesting ∙ c.loop-at.invariant.nesting;
     }

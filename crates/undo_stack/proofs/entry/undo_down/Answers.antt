@@ -1,34 +1,56 @@
-use Rattle.std.proofs.Common.{◌-◌, ◌<◌, arith, length, length-set, slice_index_or}
+use Rattle.std.proofs.Common.{◌≡◌, ◌+◌, ◌-◌, ◌<◌, ℕ, arith, length, length-set, refl, subst, ◌∙◌, take, drop, slice_index_or}
 use Rattle.std.proofs.lemmas.List.{get_or_default}
-use Rattle.undo_stack.specs.Entries.{entry_change}
-use Rattle.undo_stack.proofs.Turns.{fits_below, moved_below, moved_none, moved_more}
+use Rattle.undo_stack.specs.Row.{IsMoved, FitsDown, FitsUp}
+use Rattle.undo_stack.specs.Entries.{entry_change, nesting}
+use Rattle.undo_stack.proofs.Rows.{map-set_same}
+use Rattle.undo_stack.proofs.Turns.{fits_last, moved_back, moved_none, moved_more}
 use Rattle.undo_stack.proofs.entry.undo_down.Goals as goal
 
-pub loop-at-init : goal.loop-at-init
-loop-at-init g c = record { moved = moved_none _ _ _ _ c.requires.down c.requires.up; above = c.requires.order; within = c.requires.within }
+pub loop-left-init : goal.loop-left-init
+loop-left-init g c =
+    let f = entry_change g.C.Command.change in
+    let same : c.args.from ≡ c.args.to + (c.args.from - c.args.to) = omega (arith, c.requires.order) in
+    record {
+      moved = subst (λ (n : ℕ). IsMoved f c.args.row.now c.args.from c.args.document.now c.args.row.now n c.args.document.now) same (moved_none f c.args.row.now c.args.from c.args.document.now c.requires.down c.requires.up);
+      order = omega arith;
+      within = omega (arith, c.requires.within, c.requires.order);
+      nesting = refl;
+    }
 
 pub undo-requires : goal.undo-requires
 undo-requires g c =
-    let xs = c.loop-at.row in
-    let j = c.loop-at.at - 1 in
-    let v = slice_index_or xs j c.index-row-at.result in
-    let m = c.loop-at.invariant.moved in
-    let inside : j < length xs = omega (arith, c.loop-at.invariant.within) in
-    fits_below (entry_change g.C.Command.change) xs v c.loop-at.at c.loop-at.document (omega arith) c.loop-at.invariant.within (get_or_default xs j _ v inside) m.down
-
-pub loop-at-preserved : goal.loop-at-preserved
-loop-at-preserved g c =
     let f = entry_change g.C.Command.change in
-    let xs = c.loop-at.row in
-    let i = c.loop-at.at in
-    let j = i - 1 in
-    let v = slice_index_or xs j c.index-row-at.result in
+    let xs = c.loop-left.row in
+    let i = c.args.to + c.loop-left.left in
+    let j = c.args.to + (c.loop-left.left - 1) in
+    let d = c.loop-left.document in
+    let v = slice_index_or xs j c.index-row-to.result in
+    let m = c.loop-left.invariant.moved in
+    let same : i ≡ j + 1 = omega arith in
+    let inside : j < length xs = omega (arith, c.loop-left.invariant.within) in
+    let is = get_or_default xs j _ v inside in
+    let down = subst (λ (n : ℕ). FitsDown f (take n xs) d) same m.down in
+    fits_last f xs v j d down inside is
+
+pub loop-left-preserved : goal.loop-left-preserved
+loop-left-preserved g c =
+    let f = entry_change g.C.Command.change in
+    let xs = c.loop-left.row in
+    let i = c.args.to + c.loop-left.left in
+    let j = c.args.to + (c.loop-left.left - 1) in
+    let d = c.loop-left.document in
+    let v = slice_index_or xs j c.index-row-to.result in
+    let m = c.loop-left.invariant.moved in
+    let same : i ≡ j + 1 = omega arith in
+    let inside : j < length xs = omega (arith, c.loop-left.invariant.within) in
+    let is = get_or_default xs j _ v inside in
+    let down = subst (λ (n : ℕ). FitsDown f (take n xs) d) same m.down in
     let w = c.undo.new.self in
-    let m = c.loop-at.invariant.moved in
-    let inside : j < length xs = omega (arith, c.loop-at.invariant.within) in
-    let below = moved_below f xs v w i c.loop-at.document c.undo.new.document (omega arith) c.loop-at.invariant.within (get_or_default xs j _ v inside) m.down m.up c.undo.ensures in
+    let up = subst (λ (n : ℕ). FitsUp f (drop n xs) d) same m.up in
+    let before = subst (λ (n : ℕ). IsMoved f c.args.row.now c.args.from c.args.document.now xs n d) same m in
     record {
-      moved = moved_more f _ _ _ _ _ _ _ _ _ m below;
-      above = omega arith;
-      within = omega (arith, c.loop-at.invariant.within, length-set xs j w);
+      moved = moved_more f c.args.row.now xs _ c.args.from (j + 1) j c.args.document.now d c.undo.new.document before (moved_back f xs v w j d c.undo.new.document down up inside is c.undo.ensures.turned);
+      order = omega (arith, c.loop-left.invariant.order);
+      within = omega (arith, c.loop-left.invariant.within, length-set xs j w);
+      nesting = map-set_same nesting xs v w j is c.undo.ensures.nesting ∙ c.loop-left.invariant.nesting;
     }

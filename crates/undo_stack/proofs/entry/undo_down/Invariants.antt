@@ -1,14 +1,15 @@
-use Rattle.std.proofs.Common.{◌-◌, ◌≤◌, length}
+use Rattle.std.proofs.Common.{◌+◌, ◌≡◌, ◌≤◌, length, map}
 use Rattle.undo_stack.specs.Row.{IsMoved}
-use Rattle.undo_stack.specs.Entries.{entry_change}
+use Rattle.undo_stack.specs.Entries.{entry_change, nesting}
 use Rattle.undo_stack.proofs.entry.undo_down.Given as goal
 
-abbrev pub invariant-loop-at : goal.invariant-loop-at
-invariant-loop-at g l = record {
-  moved : IsMoved (entry_change g.C.Command.change) l.fn.row l.fn.from l.fn.document l.row l.at l.document;
-  above : l.to ≤ l.at;
-  within : l.at ≤ length l.row;
+abbrev pub invariant-loop-left : goal.invariant-loop-left
+invariant-loop-left g l = record {
+  moved : IsMoved (entry_change g.C.Command.change) l.fn.row l.fn.from l.fn.document l.row (l.to + l.left) l.document;
+  order : l.to + l.left ≤ l.from;
+  within : l.to + l.left ≤ length l.row;
+  nesting : map nesting l.row ≡ map nesting l.fn.row;
 }
 
-abbrev pub decreases-loop-at : goal.decreases-loop-at
-decreases-loop-at g l = l.at - l.to
+abbrev pub decreases-loop-left : goal.decreases-loop-left
+decreases-loop-left g l = l.left

@@ -1,24 +1,13 @@
-use Rattle.std.proofs.Common.{refl, sym, ap, ◌∙◌}
-use Rattle.undo_stack.specs.History.{History, current}
-use Rattle.undo_stack.specs.Pushing.{step_of}
+use Rattle.std.proofs.Common.{refl, sym, ◌∙◌}
 use Rattle.undo_stack.specs.Stacks.{history}
-use Rattle.undo_group.specs.Stacks.{group_of}
 use Rattle.editor.specs.Editors.{machine_of}
-use Rattle.editor.proofs.Unlimited.{active-unlimited, left-IsSound, left-machine}
+use Rattle.editor.proofs.Lent.{left-IsSound, left-machine}
 use Rattle.editor.proofs.Lifting.{with_active-kept}
-use Rattle.editor.proofs.Pushes.{pushed-limit}
 use Rattle.editor.proofs.Committing.{Commits-pushed, Commits-refused}
 use Rattle.editor.proofs.editor.Editor.commit.Goals as goal
 
-pub push-requires-clause-unlimited : goal.push-requires-clause-unlimited
-push-requires-clause-unlimited g c =
-    active-unlimited (group_of g.C.Command.change c.args.self.now.group) (history g.C.Command.change c.in-Some.stack.now) c.requires.sound.unlimited (sym c.in-Some.ensures.active)
-
 pub returns-in-Ok-clause-sound : goal.returns-in-Ok-clause-sound
-returns-in-Ok-clause-sound g c =
-    let change = g.C.Command.change in
-    let before = active-unlimited (group_of change c.args.self.now.group) (history change c.in-Some.stack.now) c.requires.sound.unlimited (sym c.in-Some.ensures.active) in
-    left-IsSound change c.args.self.now _ c.push.new.self c.requires.sound refl (c.active_mut.follows.holds c.push.new.self c.push.ensures.sound) (pushed-limit (history change c.in-Some.stack.now) (step_of (change c.args.command) (current (history change c.in-Some.stack.now))) (history change c.push.new.self) c.in-Ok.ensures.pushed ∙ before)
+returns-in-Ok-clause-sound g c = left-IsSound g.C.Command.change c.args.self.now _ c.push.new.self refl (c.active_mut.follows.holds c.push.new.self c.push.ensures.sound) c.requires.sound
 
 pub returns-in-Ok-clause-commits : goal.returns-in-Ok-clause-commits
 returns-in-Ok-clause-commits g c =
@@ -27,10 +16,7 @@ returns-in-Ok-clause-commits g c =
     c.in-Ok.ensures.pushed c.state_of.ensures (left-machine change c.args.self.now _ c.push.new.self refl (c.active_mut.follows.holds c.push.new.self c.push.ensures.sound))
 
 pub returns-in-Err-clause-sound : goal.returns-in-Err-clause-sound
-returns-in-Err-clause-sound g c =
-    let change = g.C.Command.change in
-    let before = active-unlimited (group_of change c.args.self.now.group) (history change c.in-Some.stack.now) c.requires.sound.unlimited (sym c.in-Some.ensures.active) in
-    left-IsSound change c.args.self.now _ c.push.new.self c.requires.sound refl (c.active_mut.follows.holds c.push.new.self c.push.ensures.sound) (ap (λ (h : History). h.limit) c.in-Err.ensures.kept ∙ before)
+returns-in-Err-clause-sound g c = left-IsSound g.C.Command.change c.args.self.now _ c.push.new.self refl (c.active_mut.follows.holds c.push.new.self c.push.ensures.sound) c.requires.sound
 
 pub returns-in-Err-clause-commits : goal.returns-in-Err-clause-commits
 returns-in-Err-clause-commits g c =

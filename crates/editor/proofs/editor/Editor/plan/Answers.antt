@@ -1,19 +1,12 @@
 use Rattle.std.proofs.Common.{◌≡◌, refl, sym, subst}
 use Rattle.undo_stack.specs.Stacks.{history}
-use Rattle.undo_group.specs.Stacks.{group_of}
 use Rattle.editor.specs.Editors.{machine_of}
 use Rattle.editor.specs.Machine.{Machine, workspace}
 use Rattle.editor.specs.Planning.{FitsPlan, KeepsPlan, Plans}
 use Rattle.editor.specs.Steps.{rule_of}
-use Rattle.editor.proofs.Unlimited.{active-unlimited, left-IsSound, left-machine}
+use Rattle.editor.proofs.Lent.{left-IsSound, left-machine}
 use Rattle.editor.proofs.Lifting.{on-FitsPlan, on-KeepsPlan, on-Plans}
 use Rattle.editor.proofs.editor.Editor.plan.Goals as goal
-
-pub on_document-requires-clause-sound : goal.on_document-requires-clause-sound
-on_document-requires-clause-sound g c =
-    let change = g.C.Command.change in
-    let none : (history change c.in-Some.stack.now).limit ≡ 0 = active-unlimited (group_of change c.args.self.now.group) (history change c.in-Some.stack.now) c.requires.sound.unlimited (sym c.in-Some.ensures.active) in
-    record { holds = c.in-Some.ensures.held; unlimited = none }
 
 pub returns-in-Open-clause-plans : goal.returns-in-Open-clause-plans
 returns-in-Open-clause-plans g c = rw c.in-Open.is c.open_file.ensures.step
@@ -21,7 +14,7 @@ returns-in-Open-clause-plans g c = rw c.in-Open.is c.open_file.ensures.step
 pub returns-in-Some-clause-sound : goal.returns-in-Some-clause-sound
 returns-in-Some-clause-sound g c =
     let stack = c.on_document.new.stack in
-    left-IsSound g.C.Command.change c.args.self.now _ stack c.requires.sound refl (c.active_mut.follows.holds stack c.on_document.ensures.sound.holds) c.on_document.ensures.sound.unlimited
+    left-IsSound g.C.Command.change c.args.self.now _ stack refl (c.active_mut.follows.holds stack c.on_document.ensures.sound) c.requires.sound
 
 pub returns-in-Some-clause-plans : goal.returns-in-Some-clause-plans
 returns-in-Some-clause-plans g c =
@@ -30,7 +23,7 @@ returns-in-Some-clause-plans g c =
     let stack = c.on_document.new.stack in
     let old = machine_of change c.args.self.now in
     let P : Machine → Type 0 = λ m. Plans c.args.line.now (workspace old kept) c.on_document.result (workspace m kept) in
-    subst P (sym (left-machine change c.args.self.now _ stack refl (c.active_mut.follows.holds stack c.on_document.ensures.sound.holds)))
+    subst P (sym (left-machine change c.args.self.now _ stack refl (c.active_mut.follows.holds stack c.on_document.ensures.sound)))
     (on-Plans (history change c.in-Some.stack.now) (history change stack) old c.in-Some.ensures.whole (sym c.in-Some.ensures.active) c.args.line.now c.on_document.result kept c.on_document.ensures.plans)
 
 pub returns-in-Some-clause-kept : goal.returns-in-Some-clause-kept
@@ -39,7 +32,7 @@ returns-in-Some-clause-kept g c =
     let stack = c.on_document.new.stack in
     let old = machine_of change c.args.self.now in
     let P : Machine → Type 0 = λ m. KeepsPlan c.on_document.result old m in
-    subst P (sym (left-machine change c.args.self.now _ stack refl (c.active_mut.follows.holds stack c.on_document.ensures.sound.holds)))
+    subst P (sym (left-machine change c.args.self.now _ stack refl (c.active_mut.follows.holds stack c.on_document.ensures.sound)))
     (on-KeepsPlan (history change c.in-Some.stack.now) (history change stack) old c.in-Some.ensures.whole (sym c.in-Some.ensures.active) (rule_of c.args.line.now) c.on_document.result c.on_document.ensures.plans)
 
 pub returns-in-Some-clause-fits : goal.returns-in-Some-clause-fits
@@ -48,5 +41,5 @@ returns-in-Some-clause-fits g c =
     let stack = c.on_document.new.stack in
     let old = machine_of change c.args.self.now in
     let P : Machine → Type 0 = λ m. FitsPlan m c.on_document.result in
-    subst P (sym (left-machine change c.args.self.now _ stack refl (c.active_mut.follows.holds stack c.on_document.ensures.sound.holds)))
+    subst P (sym (left-machine change c.args.self.now _ stack refl (c.active_mut.follows.holds stack c.on_document.ensures.sound)))
     (on-FitsPlan (history change c.in-Some.stack.now) (history change stack) old c.in-Some.ensures.whole (sym c.in-Some.ensures.active) (rule_of c.args.line.now) c.on_document.result c.on_document.ensures.plans)

@@ -1,23 +1,16 @@
 use Rattle.std.proofs.Common.{◌≡◌, refl, sym, subst}
 use Rattle.undo_stack.specs.Stacks.{history}
-use Rattle.undo_group.specs.Stacks.{group_of}
 use Rattle.editor.specs.Editors.{machine_of}
 use Rattle.editor.specs.Machine.{Machine}
 use Rattle.editor.specs.Planning.{KeepsReply}
-use Rattle.editor.proofs.Unlimited.{active-unlimited, left-IsSound, left-machine}
+use Rattle.editor.proofs.Lent.{left-IsSound, left-machine}
 use Rattle.editor.proofs.Lifting.{on-KeepsReply, saves}
 use Rattle.editor.proofs.editor.Editor.save.Goals as goal
-
-pub save_document-requires-clause-sound : goal.save_document-requires-clause-sound
-save_document-requires-clause-sound g c =
-    let change = g.C.Command.change in
-    let none : (history change c.in-Some.stack.now).limit ≡ 0 = active-unlimited (group_of change c.args.self.now.group) (history change c.in-Some.stack.now) c.requires.sound.unlimited (sym c.in-Some.ensures.active) in
-    record { holds = c.in-Some.ensures.held; unlimited = none }
 
 pub returns-in-Some-clause-sound : goal.returns-in-Some-clause-sound
 returns-in-Some-clause-sound g c =
     let stack = c.save_document.new.stack in
-    left-IsSound g.C.Command.change c.args.self.now _ stack c.requires.sound refl (c.active_mut.follows.holds stack c.save_document.ensures.sound.holds) c.save_document.ensures.sound.unlimited
+    left-IsSound g.C.Command.change c.args.self.now _ stack refl (c.active_mut.follows.holds stack c.save_document.ensures.sound) c.requires.sound
 
 pub returns-in-Some-clause-step : goal.returns-in-Some-clause-step
 returns-in-Some-clause-step g c =
@@ -25,7 +18,7 @@ returns-in-Some-clause-step g c =
     let stack = c.save_document.new.stack in
     let old = machine_of change c.args.self.now in
     saves _ (history change c.in-Some.stack.now) (history change stack) c.save_document.result old _ _ _ c.in-Some.ensures.whole (sym c.in-Some.ensures.active)
-    c.save_document.ensures.saves c.save_document.ensures.kept (left-machine change c.args.self.now _ stack refl (c.active_mut.follows.holds stack c.save_document.ensures.sound.holds))
+    c.save_document.ensures.saves c.save_document.ensures.kept (left-machine change c.args.self.now _ stack refl (c.active_mut.follows.holds stack c.save_document.ensures.sound))
 
 pub returns-in-Some-clause-kept : goal.returns-in-Some-clause-kept
 returns-in-Some-clause-kept g c =
@@ -33,5 +26,5 @@ returns-in-Some-clause-kept g c =
     let stack = c.save_document.new.stack in
     let old = machine_of change c.args.self.now in
     let P : Machine → Type 0 = λ m. KeepsReply c.save_document.result old m in
-    subst P (sym (left-machine change c.args.self.now _ stack refl (c.active_mut.follows.holds stack c.save_document.ensures.sound.holds)))
+    subst P (sym (left-machine change c.args.self.now _ stack refl (c.active_mut.follows.holds stack c.save_document.ensures.sound)))
     (on-KeepsReply (history change c.in-Some.stack.now) (history change stack) old c.in-Some.ensures.whole (sym c.in-Some.ensures.active) c.save_document.result c.save_document.ensures.kept)

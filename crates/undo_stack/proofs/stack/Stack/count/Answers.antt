@@ -1,7 +1,15 @@
 use Rattle.std.proofs.Common.{arith}
-use Rattle.undo_stack.specs.Entries.{entry_change}
-use Rattle.undo_stack.proofs.Rows.{length-steps}
+use Rattle.undo_stack.proofs.Views.{count-open, count-closed}
 use Rattle.undo_stack.proofs.stack.Stack.count.Goals as goal
 
+pub returns-then-is_open : goal.returns-then-is_open
+returns-then-is_open g c =
+    let s = c.args.self.now in
+    let all = count-open g.C.Command.change s.document s.entries.items s.index s.clean s.limit s.levels.items c.if-is_open.ensures in
+    omega (arith, all, c.len.ensures, s.entries.ok.0)
+
 pub returns : goal.returns
-returns g c = let s = c.args.self.now in rw (length-steps (entry_change g.C.Command.change) s.entries.items s.index s.document) (omega (arith, c.len.ensures, s.entries.ok.0))
+returns g c =
+    let s = c.args.self.now in
+    let all = count-closed g.C.Command.change s.document s.entries.items s.index s.clean s.limit s.levels.items c.if-is_open.ensures in
+    omega (arith, all, c.len-2.ensures, s.entries.ok.0)

@@ -1,6 +1,7 @@
-use Rattle.std.proofs.Common.{sym}
+use Rattle.std.proofs.Common.{sym, map}
+use Rattle.undo_stack.specs.Stacks.{inner_of}
 use Rattle.undo_stack.proofs.Views.{current-view}
 use Rattle.undo_stack.proofs.stack.Stack.document.Goals as goal
 
 pub returns : goal.returns
-returns g c = let s = c.args.self.now in sym (current-view g.C.Command.change s.document s.entries.items s.index s.clean s.limit c.requires.within)
+returns g c = let s = c.args.self.now in sym (current-view g.C.Command.change s.document s.entries.items s.index s.clean s.limit (map inner_of s.levels.items) c.requires.turnable.within)

@@ -1,14 +1,10 @@
-use Rattle.std.proofs.Common.{◌∙◌, ap, ℕ, List, Some}
-use Rattle.undo_stack.proofs.Texts.{text_some, text_none}
+use Rattle.std.proofs.Common.{◌∙◌, ap, ℕ, List, Some, map}
+use Rattle.undo_stack.specs.Stacks.{inner_of}
+use Rattle.undo_stack.proofs.Texts.{text_some}
 use Rattle.undo_stack.proofs.stack.Stack.text.Goals as goal
 
 pub returns-in-Some : goal.returns-in-Some
 returns-in-Some g c =
     let s = c.args.self.now in
     let item = c.in-Some.ensures.item in
-    ap (λ (t : List ℕ). Some t) c.text.ensures ∙ text_some g.C.Command.change s.document s.entries.items c.in-Some.entry.now s.index c.args.at s.clean s.limit item.3.0 item.1
-
-pub returns-in-None : goal.returns-in-None
-returns-in-None g c =
-    let s = c.args.self.now in
-    text_none g.C.Command.change s.document s.entries.items s.index c.args.at s.clean s.limit c.in-None.ensures.item.3
+    ap (λ (t : List ℕ). Some t) c.text.ensures ∙ text_some g.C.Command.change s.document s.entries.items c.in-Some.entry.now s.index c.args.at s.clean s.limit (map inner_of s.levels.items) item.3.0 item.1

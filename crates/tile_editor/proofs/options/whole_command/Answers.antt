@@ -1,0 +1,76 @@
+use Rattle.std.proofs.Common.{◌≡◌, ◌∙◌, ℕ, false, [], slice_index, ap, sym, inl, inr, arith, codes}
+use Rattle.clap.specs.Words.{IsPlainArg, Text, first_value, found_of, rule_of}
+use Rattle.clap.specs.Walk.{Rule}
+use Rattle.clap.specs.declared.builder.arg.Arg.{Arg}
+use Rattle.clap.specs.declared.builder.command.Command.{Command}
+use Rattle.clap.specs.declared.builder.command.Command.TheOpen.{Command-F}
+use Rattle.clap.specs.declared.builder.value_parser.ValueParser.TheVariants as parser
+use Rattle.undo_stack.specs.declared.limits.TheConstants.{MAX_LIMIT}
+use Rattle.tile_editor.specs.Options.{folder_option, limit_option}
+use Rattle.tile_editor.proofs.Commands.{IsOption, if_ok, texts_added, two_options_pass}
+use Rattle.tile_editor.proofs.options.whole_command.Goals as goal
+
+id_of : (a : Arg) (r : Rule) → rule_of a ≡ r → a.id.now ≡ r.id
+id_of a r e = ap (λ (x : Rule). x.id) e
+
+-- the first byte of an id
+first_byte : (id other : Text) → id ≡ other → slice_index id 0 ≡ slice_index other 0
+first_byte id other e = ap (λ (s : Text). slice_index s 0) e
+
+is_folder : (a : Arg) → rule_of a ≡ folder_option → IsPlainArg a → a.global ≡ false → IsOption a parser.NonEmptyString
+is_folder a rule plain local = record {
+  plain = plain;
+  local = local;
+  named = λ e. let bad : 102 ≡ 0 = first_byte (codes "folder") [] (sym (id_of a folder_option rule) ∙ e) in absurd (omega arith);
+  own = λ auto. elim auto [
+    | inl e ↦ let bad : 102 ≡ 104 = first_byte (codes "folder") (codes "help") (sym (id_of a folder_option rule) ∙ e) in absurd (omega arith)
+    | inr e ↦ let bad : 102 ≡ 118 = first_byte (codes "folder") (codes "version") (sym (id_of a folder_option rule) ∙ e) in absurd (omega arith)
+  ];
+  parser = ap (λ (x : Rule). x.parser) rule;
+}
+
+is_limit : (a : Arg) → rule_of a ≡ limit_option → IsPlainArg a → a.global ≡ false → IsOption a (parser.Unsigned 0 MAX_LIMIT)
+is_limit a rule plain local = record {
+  plain = plain;
+  local = local;
+  named = λ e. let bad : 108 ≡ 0 = first_byte (codes "limit") [] (sym (id_of a limit_option rule) ∙ e) in absurd (omega arith);
+  own = λ auto. elim auto [
+    | inl e ↦ let bad : 108 ≡ 104 = first_byte (codes "limit") (codes "help") (sym (id_of a limit_option rule) ∙ e) in absurd (omega arith)
+    | inr e ↦ let bad : 108 ≡ 118 = first_byte (codes "limit") (codes "version") (sym (id_of a limit_option rule) ∙ e) in absurd (omega arith)
+  ];
+  parser = ap (λ (x : Rule). x.parser) rule;
+}
+
+clash : ◌≡◌ {A = ℕ} 102 108 → ⊥
+clash h = absurd (omega (arith, h))
+
+differ : (a b : Arg) → rule_of a ≡ folder_option → rule_of b ≡ limit_option → a.id.now ≡ b.id.now → ⊥
+differ a b is-a is-b e = clash (first_byte (codes "folder") (codes "limit") (sym (id_of a folder_option is-a) ∙ e ∙ id_of b limit_option is-b))
+
+pub returns-clause-folder : goal.returns-clause-folder
+returns-clause-folder c =
+    let a = c.folder_arg in
+    let b = c.limit_arg in
+    let texts = texts_added c.new.result c.version.result c.about.result c.after_help.result _ _ _ c.version.ensures c.about.ensures c.after_help.ensures in
+    if_ok c.arg-2.result _ _ c.arg-2.ensures (λ cmd two m t p given.
+    (two_options_pass c.after_help.result c.in_ok-with_folder.with_folder cmd a.result b.result parser.NonEmptyString (parser.Unsigned 0 MAX_LIMIT) c.in_ok-with_folder.ensures two
+    (ap (λ (f : Command-F Command). f.args.items) texts ∙ c.new.ensures.empty.0)
+    (ap (λ (f : Command-F Command). f.groups.items) texts ∙ c.new.ensures.empty.1)
+    (ap (λ (f : Command-F Command). f.has_globals) texts ∙ c.new.ensures.local)
+    (is_folder a.result a.ensures.rule a.ensures.plain a.ensures.local) (is_limit b.result b.ensures.rule b.ensures.plain b.ensures.local)
+    (differ a.result b.result a.ensures.rule b.ensures.rule) m t p).0
+    (ap (first_value (found_of m)) (id_of a.result folder_option a.ensures.rule) ∙ given))
+
+pub returns-clause-limit : goal.returns-clause-limit
+returns-clause-limit c =
+    let a = c.folder_arg in
+    let b = c.limit_arg in
+    let texts = texts_added c.new.result c.version.result c.about.result c.after_help.result _ _ _ c.version.ensures c.about.ensures c.after_help.ensures in
+    if_ok c.arg-2.result _ _ c.arg-2.ensures (λ cmd two m t p given.
+    (two_options_pass c.after_help.result c.in_ok-with_folder.with_folder cmd a.result b.result parser.NonEmptyString (parser.Unsigned 0 MAX_LIMIT) c.in_ok-with_folder.ensures two
+    (ap (λ (f : Command-F Command). f.args.items) texts ∙ c.new.ensures.empty.0)
+    (ap (λ (f : Command-F Command). f.groups.items) texts ∙ c.new.ensures.empty.1)
+    (ap (λ (f : Command-F Command). f.has_globals) texts ∙ c.new.ensures.local)
+    (is_folder a.result a.ensures.rule a.ensures.plain a.ensures.local) (is_limit b.result b.ensures.rule b.ensures.plain b.ensures.local)
+    (differ a.result b.result a.ensures.rule b.ensures.rule) m t p).1
+    (ap (first_value (found_of m)) (id_of b.result limit_option b.ensures.rule) ∙ given))

@@ -1,0 +1,85 @@
+use Rattle.std.proofs.Common.{rules, ◌≡◌, ℕ, ◌+◌, ◌-◌, ◌<◌, length, refl, ◌∙◌, ap, subst, get_or, arith, Box, Global, length-set, get_or-set_other}
+use Rattle.undo_stack.specs.Entries.{entry_change, nesting}
+use Rattle.undo_stack.specs.Row.{Between, before}
+use Rattle.undo_stack.proofs.EntryChanges.{entry_change-Command, entry_change-Macro, nesting-Command, nesting-Macro}
+use Rattle.undo_stack.proofs.Rows.{map-set_same}
+use Rattle.undo_stack.proofs.Turns.{undone_named, between_back, between_last}
+use Rattle.undo_stack.specs.declared.entry.Entry.TheVariants.{outs-Command, outs-Macro}
+use Rattle.undo_stack.specs.declared.entry.Entry.{Entry, size_is-Entry, size-Entry}
+use Rattle.undo_stack.specs.declared.entry.MacroBody.{MacroBody}
+use denote.Param.Weighed.{at_most}
+use Rattle.undo_stack.proofs.entry.+undo.Goals as goal
+
+pub Entry::undo-undo-requires : goal.Entry::undo-undo-requires
+Entry::undo-undo-requires g t c =
+    let known = rw (c.in-Command.is, entry_change-Command g.C.Command.change c.in-Command.command) at c.requires in
+    rw c.in-Command.command-is known
+
+pub Entry::undo-returns-in-Command-clause-turned : goal.Entry::undo-returns-in-Command-clause-turned
+Entry::undo-returns-in-Command-clause-turned g t c =
+    let known = rw (c.in-Command.is, outs-Command c.in-Command.command) at c.undo.ensures in
+    rw (c.in-Command.is, outs-Command c.in-Command.command, entry_change-Command g.C.Command.change c.in-Command.command, entry_change-Command g.C.Command.change c.undo.new.self) known
+
+pub Entry::undo-returns-in-Command-clause-nesting : goal.Entry::undo-returns-in-Command-clause-nesting
+Entry::undo-returns-in-Command-clause-nesting g t c =
+    rw (c.in-Command.is, outs-Command c.in-Command.command, nesting-Command c.in-Command.command, nesting-Command c.undo.new.self) refl
+
+pub Entry::undo-undo_all-requires : goal.Entry::undo-undo_all-requires
+Entry::undo-undo_all-requires g t c κs within =
+    let known = rw (c.in-Macro.is, entry_change-Macro g.C.Command.change c.in-Macro.body) at c.requires in
+    let whole = size_is-Entry g.row.C.Denot c.args.self.now in
+    let size = rw (c.in-Macro.is, outs-Macro c.in-Macro.body) at whole in
+    let measure = rw c.in-Macro.is at c.decreases in
+    let same = c.deref_mut.ensures.value ∙ ap (λ (b : Box (MacroBody (Entry g.row.C.Denot)) Global). b.value) c.in-Macro.body-is in
+    rw same (omega (arith, size), (search rules, known))
+
+pub Entry::undo-returns-in-Macro-clause-turned : goal.Entry::undo-returns-in-Macro-clause-turned
+Entry::undo-returns-in-Macro-clause-turned g t c =
+    let f = g.C.Command.change in
+    let body = c.in-Macro.body in
+    let same = c.deref_mut.ensures.value ∙ ap (λ (b : Box (MacroBody (Entry g.row.C.Denot)) Global). b.value) c.in-Macro.body-is in
+    let new : Box (MacroBody (Entry g.row.C.Denot)) Global = record { ptr = body.ptr; alloc = body.alloc; value = record body.value { children = c.undo_all.new.children } } in
+    let known = rw same at c.undo_all.ensures.turned in
+    rw (c.in-Macro.is, outs-Macro body, same, entry_change-Macro f body, entry_change-Macro f new)
+    (undone_named (entry_change f) body.value.text body.value.action body.value.children.items c.undo_all.new.children.items c.args.document.now c.undo_all.new.document known)
+
+pub Entry::undo-returns-in-Macro-clause-nesting : goal.Entry::undo-returns-in-Macro-clause-nesting
+Entry::undo-returns-in-Macro-clause-nesting g t c =
+    let body = c.in-Macro.body in
+    let same = c.deref_mut.ensures.value ∙ ap (λ (b : Box (MacroBody (Entry g.row.C.Denot)) Global). b.value) c.in-Macro.body-is in
+    let new : Box (MacroBody (Entry g.row.C.Denot)) Global = record { ptr = body.ptr; alloc = body.alloc; value = record body.value { children = c.undo_all.new.children } } in
+    let known = rw same at c.undo_all.ensures.nesting in
+    rw (c.in-Macro.is, outs-Macro body, same, nesting-Macro body, nesting-Macro new, known) refl
+
+pub undo_all-undo-requires : goal.undo_all-undo-requires
+undo_all-undo-requires g t c κs within =
+    let f = entry_change g.C.Command.change in
+    let es = c.loop-i.children.items in
+    let i = c.loop-i.i in
+    let same : i ≡ i - 1 + 1 = omega arith in
+    let at : i - 1 < length es = omega arith in
+    let first = before f c.args.children.now.items c.args.document.now in
+    let known = subst (λ (n : ℕ). Between f es n c.loop-i.document first c.args.document.now) same c.loop-i.invariant.1 in
+    let olds = c.args.children.now.items in
+    let v = c.index_mut.result.now in
+    let size = size-Entry g.row.C.Denot in
+    let inside : i - 1 < length olds = omega (arith, c.loop-i.invariant.0.0) in
+    let is : v ≡ get_or olds (i - 1) v = c.index_mut.ensures.value ∙ c.loop-i.invariant.0.1 (i - 1) v (omega arith) in
+    let sizes : size v ≡ size (get_or olds (i - 1) v) = ap size is in
+    let most = at_most size olds (i - 1) v inside in
+    (omega (arith, sizes, most), (search rules, between_last f es c.index_mut.result.now (i - 1) c.loop-i.document first c.args.document.now known at c.index_mut.ensures.value))
+
+pub undo_all-loop-i-preserved : goal.undo_all-loop-i-preserved
+undo_all-loop-i-preserved g t c =
+    let f = entry_change g.C.Command.change in
+    let es = c.loop-i.children.items in
+    let i = c.loop-i.i in
+    let v = c.index_mut.result.now in
+    let same : i ≡ i - 1 + 1 = omega arith in
+    let at : i - 1 < length es = omega arith in
+    let first = before f c.args.children.now.items c.args.document.now in
+    let known = subst (λ (n : ℕ). Between f es n c.loop-i.document first c.args.document.now) same c.loop-i.invariant.1 in (
+      (length-set es (i - 1) c.undo.new.self ∙ c.loop-i.invariant.0.0, λ k d h. get_or-set_other es (i - 1) k c.undo.new.self d (omega arith) ∙ c.loop-i.invariant.0.1 k d (omega arith)),
+      between_back f es v c.undo.new.self (i - 1) c.loop-i.document c.undo.new.document first c.args.document.now known at c.index_mut.ensures.value c.undo.ensures.turned,
+      map-set_same nesting es v c.undo.new.self (i - 1) c.index_mut.ensures.value c.undo.ensures.nesting ∙ c.loop-i.invariant.2,
+    )

@@ -1,0 +1,36 @@
+use Rattle.std.proofs.Common.{◌≡◌, ◌+◌, ◌-◌, arith, length, refl}
+use Rattle.undo_stack.specs.Stacks.{inner_of}
+use Rattle.undo_stack.proofs.Rows.{map-set_same}
+use Rattle.undo_stack.proofs.Levels.{LastHasRoom-set}
+use Rattle.undo_stack.proofs.Stacks.{placed_bounded}
+use Rattle.undo_stack.proofs.stack.Stack.take_child_place.Goals as goal
+
+pub returns-in_err-take_place-clause-same : goal.returns-in_err-take_place-clause-same
+returns-in_err-take_place-clause-same g c =
+    let s = c.args.self.now in
+    map-set_same inner_of s.levels.items c.index_mut.result.now c.take_place.new.self (c.len-last.result - 1) c.index_mut.ensures.value c.take_place.ensures.same
+
+pub returns-in_err-take_place-clause-bounded : goal.returns-in_err-take_place-clause-bounded
+returns-in_err-take_place-clause-bounded g c =
+    let s = c.args.self.now in
+    let last : c.len-last.result - 1 + 1 ≡ length s.levels.items = omega (arith, c.requires, c.len-last.ensures, s.levels.ok.0) in
+    let same = map-set_same inner_of s.levels.items c.index_mut.result.now c.take_place.new.self (c.len-last.result - 1) c.index_mut.ensures.value c.take_place.ensures.same in
+    placed_bounded s _ c.take_place.new.self (c.len-last.result - 1) c.requires last refl refl refl refl same
+
+pub returns-clause-same : goal.returns-clause-same
+returns-clause-same g c =
+    let s = c.args.self.now in
+    map-set_same inner_of s.levels.items c.index_mut.result.now c.take_place.new.self (c.len-last.result - 1) c.index_mut.ensures.value c.take_place.ensures.same
+
+pub returns-clause-bounded : goal.returns-clause-bounded
+returns-clause-bounded g c =
+    let s = c.args.self.now in
+    let last : c.len-last.result - 1 + 1 ≡ length s.levels.items = omega (arith, c.requires, c.len-last.ensures, s.levels.ok.0) in
+    let same = map-set_same inner_of s.levels.items c.index_mut.result.now c.take_place.new.self (c.len-last.result - 1) c.index_mut.ensures.value c.take_place.ensures.same in
+    placed_bounded s _ c.take_place.new.self (c.len-last.result - 1) c.requires last refl refl refl refl same
+
+pub returns-clause-room : goal.returns-clause-room
+returns-clause-room g c =
+    let s = c.args.self.now in
+    let last : c.len-last.result - 1 + 1 ≡ length s.levels.items = omega (arith, c.requires, c.len-last.ensures, s.levels.ok.0) in
+    LastHasRoom-set s.levels.items c.take_place.new.self (c.len-last.result - 1) last c.in_ok-take_place.ensures.room

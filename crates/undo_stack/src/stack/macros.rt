@@ -1,0 +1,95 @@
+// The beginning and the end of a macro.
+ghost use Rattle.std.specs.Prelude.{◌≡◌, ◌≤◌, ◌<◌, [], length, IfOk, vec_len, vec_capacity};
+ghost use Rattle.std.specs.VecDeque.{deque_len, deque_capacity};
+ghost use Rattle.undo_stack.specs.Macros.{Begins, Ends};
+ghost use Rattle.undo_stack.specs.Pushing.{cut};
+ghost use Rattle.undo_stack.specs.Stacks.{history, Holds, LastHasRoom, WhereOpen};
+
+use super::{Stack, StackFault};
+use crate::level::Level;
+use crate::limits::MAX_DEPTH;
+use command_api::Command;
+use std::alloc::AllocError;
+
+impl<C: Command> Stack<C> {
+    /// Begins a macro, which takes what is pushed until it ends as one step. The text stands for it in a list of steps, the
+    /// other one names its action. The steps above the index go, and with them a clean index among them.
+    ///
+    /// The answer is `TooDeep` where as many macros are open as can be, before any memory is asked for, and `NoMemory` where
+    /// there is none. The stack is then as it was, with the steps above the index.
+    pub fn begin_macro(&mut self, text: &str, action: &str) -> Result<(), StackFault>
+        requires { Holds C.change self.old }
+        ensures sound { Holds C.change self.new }
+        ensures step { Begins text.now action.now (history C.change self.old) result (history C.change self.new) }
+    {
+        if self.levels.len() >= MAX_DEPTH {
+            return Err(StackFault::TooDeep);
+        }
+        // All that the macro needs, up to its end, is taken before the first change.
+        let Ok(level) = Level::new(self.alloc, text, action) else {
+            return Err(StackFault::NoMemory);
+        };
+        let Ok(()) = self.take_level_places() else {
+            return Err(StackFault::NoMemory);
+        };
+        self.cut_outside();
+        self.levels.push_reserved(level);
+        Ok(())
+    }
+
+    /// Ends the macro that began last, which becomes one step below the index, also where nothing was pushed in it. Where
+    /// another one is open, it becomes that one's last entry. With a limit other than 0, the first step goes where there are
+    /// more than that then. Takes no memory.
+    ///
+    /// The answer is `NoMacroOpen` where none is open, and the stack is then as it was.
+    pub fn end_macro(&mut self) -> Result<(), StackFault>
+        requires { Holds C.change self.old }
+        ensures sound { Holds C.change self.new }
+        ensures step { Ends (history C.change self.old) result (history C.change self.new) }
+    {
+        let Some(level) = self.levels.pop() else {
+            return Err(StackFault::NoMacroOpen);
+        };
+        let entry = level.into_entry();
+        if self.is_open() {
+            self.add_child(entry);
+        } else {
+            self.add_step(entry);
+        }
+        Ok(())
+    }
+
+    // Sees to it that there is a place for a further level, and for what it becomes.
+    fn take_level_places(&mut self) -> Result<(), AllocError>
+        requires { Holds C.change self.old }
+        ensures sound { Holds C.change self.new }
+        ensures same { history C.change self.new ≡ history C.change self.old }
+        ensures count { length self.new.levels.items ≡ length self.old.levels.items }
+        ensures room { IfOk result (λ _. vec_len self.new.levels < vec_capacity self.new.levels) }
+        ensures level_room { IfOk result (λ _. LastHasRoom self.new.levels.items) }
+        ensures entry_room { IfOk result (λ _. self.new.index < deque_capacity self.new.entries) }
+    {
+        self.levels.reserve(1)?;
+        if self.is_open() {
+            return self.take_child_place();
+        }
+        self.take_place()
+    }
+
+    // With no level open the entries above the index go, and a clean index above it is lost.
+    fn cut_outside(&mut self)
+        requires sound { Holds C.change self.old }
+        requires room { self.old.index < deque_capacity self.old.entries }
+        ensures sound { Holds C.change self.new }
+        ensures cut { history C.change self.new ≡ cut (history C.change self.old) }
+        ensures place { self.new.index ≡ length self.new.entries.items }
+        ensures room { deque_len self.new.entries < deque_capacity self.new.entries }
+        ensures levels { self.new.levels ≡ self.old.levels }
+        ensures document { self.new.document ≡ self.old.document }
+    {
+        if self.is_open() {
+            return;
+        }
+        self.cut();
+    }
+}
