@@ -1,4 +1,4 @@
-ghost use Rattle.std.specs.Prelude.{◌≡◌, ◌≤◌, length, Some};
+ghost use Rattle.std.specs.Prelude.{◌≤◌, length, Some};
 ghost use Rattle.undo_stack.specs.Stacks.{history, Holds};
 ghost use Rattle.session.specs.declared.limits.TheConstants.{MAX_FILE_NAME};
 ghost use Rattle.map_store.specs.Files.{SameOthers};

@@ -8,7 +8,7 @@ ghost use Rattle.undo_stack.specs.Macros.{Begins};
 ghost use Rattle.undo_stack.specs.Stacks.{history, Holds};
 ghost use Rattle.editor.specs.Acts.{LimitsTo, Calls, action_or};
 ghost use Rattle.editor.specs.Answers.{call_reply, state_reply, step_text_reply};
-ghost use Rattle.editor.specs.Planning.{KeepsReply, IsDone, refused};
+ghost use Rattle.editor.specs.Planning.{IsDone, refused};
 ghost use Rattle.editor.specs.declared.planned.Planned.TheVariants as planned;
 
 use crate::planned::Planned;

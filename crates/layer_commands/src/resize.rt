@@ -1,4 +1,4 @@
-ghost use Rattle.std.specs.Prelude.{◌≡◌, IfOk, IfErr};
+ghost use Rattle.std.specs.Prelude.{IfOk, IfErr};
 ghost use Rattle.command_api.specs.Making.{IsRefusalOf, Makes};
 ghost use Rattle.edits.specs.Resizing.{after_resize, IsDistance};
 ghost use Rattle.layer_commands.specs.Changes.{resize_change, resize_exchange, resize_names};

@@ -1,4 +1,4 @@
-ghost use Rattle.std.specs.Prelude.{◌≡◌, pos, Some, None, Ok, Err, IfOk, IfErr, MatchResult, if◌then◌else◌};
+ghost use Rattle.std.specs.Prelude.{◌≡◌, Some, None, Ok, Err, IfOk, IfErr, MatchResult, if◌then◌else◌};
 ghost use Rattle.map_model.specs.NewMap.{new_object};
 ghost use Rattle.map_model.specs.Parts.{layer_of};
 ghost use Rattle.map_model.specs.WellFormed.{IsPixels};

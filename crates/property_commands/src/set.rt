@@ -1,9 +1,9 @@
-ghost use Rattle.std.specs.Prelude.{◌≡◌, ◌↔◌, IsTrue, Some, IfOk, IfErr, IsSome};
+ghost use Rattle.std.specs.Prelude.{◌≡◌, Some, IfOk, IfErr};
 ghost use Rattle.map_model.specs.declared.place.OwnerPlace.{OwnerPlace};
-ghost use Rattle.map_model.specs.Properties.{new_property, properties_of, scalar_value, setting_of, setting_with, IsSetting};
+ghost use Rattle.map_model.specs.Properties.{new_property, scalar_value, setting_with, IsSetting};
 ghost use Rattle.command_api.specs.Exchange.{FitsExchange, IsExchanged};
 ghost use Rattle.command_api.specs.Making.{IsRefusalOf, Makes};
-ghost use Rattle.edits.specs.PropertyEdits.{after_set_property, property_count};
+ghost use Rattle.edits.specs.PropertyEdits.{after_set_property};
 ghost use Rattle.property_commands.specs.PropertyChanges.{property_set_change, property_set_exchange, set_property_change, set_property_exchange, set_property_names};
 
 use crate::link::exchange_property;

@@ -1,12 +1,12 @@
-ghost use Rattle.std.specs.Prelude.{◌≡◌, ◌≤◌, ◌<◌, ◌+◌, ◌-◌, ◌++◌, ◌∷◌, [], min, max, length, map, take, drop, false, Some, IfOk, IfErr, MatchBool, slice_get, option_copied, vec_len, vec_capacity};
-ghost use Rattle.std.specs.VecDeque.{deque_len, deque_capacity};
+ghost use Rattle.std.specs.Prelude.{◌≡◌, ◌≤◌, ◌<◌, ◌+◌, ◌-◌, [], min, max, length, take, drop, false, Some, IfOk, IfErr, MatchBool, slice_get, option_copied, vec_len, vec_capacity};
+ghost use Rattle.std.specs.VecDeque.{deque_capacity};
 ghost use Rattle.undo_stack.specs.History.{new_history, current, count, is_clean, step_named};
-ghost use Rattle.undo_stack.specs.Pushing.{IsPushed, step_of, up_to, lowered, limited, with_added};
+ghost use Rattle.undo_stack.specs.Pushing.{IsPushed, step_of, up_to, lowered, with_added};
 ghost use Rattle.undo_stack.specs.Moving.{positioned, StepsBack, StepsOn, GoesTo, MarksClean, UnmarksClean, SetsLimit, Clears};
 ghost use Rattle.undo_stack.specs.Reading.{text_at, action_of, undo_text_of, redo_text_of};
 ghost use Rattle.undo_stack.specs.Entries.{entry_change, nesting};
 ghost use Rattle.undo_stack.specs.Sound.{history_of, opens, with_child, IsTurnable, level_nesting};
-ghost use Rattle.undo_stack.specs.Stacks.{history, inners, inner_of, Holds, IsBounded, HaveRoom, LastHasRoom};
+ghost use Rattle.undo_stack.specs.Stacks.{history, inners, Holds, IsBounded, LastHasRoom};
 ghost use Rattle.undo_stack.specs.declared.limits.TheConstants.{MAX_DEPTH, MAX_LIMIT};
 
 mod macros;

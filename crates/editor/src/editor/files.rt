@@ -1,5 +1,5 @@
 // The lines about files.
-ghost use Rattle.std.specs.Prelude.{◌≡◌, ◌≤◌, length, Some};
+ghost use Rattle.std.specs.Prelude.{◌≤◌, length, Some};
 ghost use Rattle.session.specs.declared.limits.TheConstants.{MAX_FILE_NAME};
 ghost use Rattle.editor.specs.Editors.{machine_of, IsSound};
 ghost use Rattle.map_store.specs.Files.{SameOthers};

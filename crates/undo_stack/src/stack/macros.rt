@@ -1,9 +1,9 @@
 // The beginning and the end of a macro.
-ghost use Rattle.std.specs.Prelude.{◌≡◌, ◌≤◌, ◌<◌, [], length, IfOk, vec_len, vec_capacity};
+ghost use Rattle.std.specs.Prelude.{◌≡◌, ◌<◌, length, IfOk, vec_len, vec_capacity};
 ghost use Rattle.std.specs.VecDeque.{deque_len, deque_capacity};
 ghost use Rattle.undo_stack.specs.Macros.{Begins, Ends};
 ghost use Rattle.undo_stack.specs.Pushing.{cut};
-ghost use Rattle.undo_stack.specs.Stacks.{history, Holds, LastHasRoom, WhereOpen};
+ghost use Rattle.undo_stack.specs.Stacks.{history, Holds, LastHasRoom};
 
 use super::{Stack, StackFault};
 use crate::level::Level;

@@ -1,13 +1,12 @@
-use Rattle.std.proofs.Common.{sym}
+use Rattle.std.proofs.Common.{sym, arith}
+use Rattle.std.proofs.lemmas.Option.{slice_get-map}
 use Rattle.undo_stack.specs.Stacks.{Holds}
 use Rattle.undo_group.proofs.Places.{All-at}
-use Rattle.undo_group.proofs.Entries.{active_history-found}
+use Rattle.undo_group.proofs.Entries.{history_named-documents_of}
 use Rattle.undo_group.proofs.group.Group.active.Goals as goal
 
 pub returns-clause-active : goal.returns-clause-active
-returns-clause-active g c =
-    active_history-found g.C.Command.change c.args.self.now c.in_ok-self.field-0 (c.in_ok-stack.field-0-0.now, c.in_ok-stack.stack.now) c.in_ok-self.was c.in_ok-stack.ensures.entry c.in_ok-stack.ensures.value
+returns-clause-active g c = grind (arith, slice_get-map, history_named-documents_of g.C.Command.change)
 
 pub returns-clause-held : goal.returns-clause-held
-returns-clause-held g c =
-    All-at (λ e. Holds g.C.Command.change e.1) c.args.self.now.stacks.entries c.in_ok-self.field-0 (c.in_ok-stack.field-0-0.now, c.in_ok-stack.stack.now) (sym c.in_ok-stack.ensures.entry) c.requires.stacks
+returns-clause-held g c = All-at (λ e. Holds g.C.Command.change e.1) c.args.self.now.stacks.entries _ _ (sym c.in_ok-stack.ensures.entry) c.requires.stacks

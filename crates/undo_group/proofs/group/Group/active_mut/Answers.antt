@@ -1,28 +1,24 @@
-use Rattle.std.proofs.Common.{refl}
-use Rattle.undo_group.specs.Groups.{IsGroup}
-use Rattle.undo_group.specs.Stacks.{documents_of, group_of}
-use Rattle.undo_group.proofs.Places.{OnSome-from}
-use Rattle.undo_group.proofs.Documents.{IsGroup-at}
-use Rattle.undo_group.proofs.Entries.{AreDistinct-documents_of, Holds-lent, IsLeft-set_value_at, IsLeft-none, active_history-lent}
+use Rattle.std.proofs.Common.{refl, arith}
+use Rattle.std.proofs.lemmas.Option.{slice_get-map, gets}
+use Rattle.undo_group.specs.Stacks.{documents_of}
+use Rattle.undo_group.proofs.Documents.{IsGroup-at, active_history-at}
+use Rattle.undo_group.proofs.Entries.{AreDistinct-documents_of, IsLeft-set_value_at}
 use Rattle.undo_group.proofs.group.Group.active_mut.Goals as goal
 
 pub returns-in-Some : goal.returns-in-Some
 returns-in-Some g c =
     let f = g.C.Command.change in
     let old = c.args.self.now in
-    let es = old.stacks.entries in
-    let r = c.get_index_mut.result in
-    let unique = c.get_index_mut.ensures.unique in
-    let read = c.get_index_mut.ensures.value in (
-      (refl, λ w holds. IsLeft-set_value_at f old c.in-Some.at unique c.in-Some.is w c.requires holds, refl),
+    let distinct = AreDistinct-documents_of f old.stacks.entries c.get_index_mut.ensures.unique in (
+      (refl, λ w holds. IsLeft-set_value_at f old c.in-Some.at w c.get_index_mut.ensures.unique c.in-Some.is c.requires holds, refl),
       record {
         lends = tt;
-        active = active_history-lent f old c.in-Some.at unique c.in-Some.is r read;
-        held = Holds-lent f es c.in-Some.at r read c.requires.stacks;
-        whole = OnSome-from r (IsGroup (group_of f old)) (IsGroup-at (documents_of f es) old.active (AreDistinct-documents_of f es unique));
+        active = grind (arith, slice_get-map, active_history-at, distinct);
+        held = grind (arith, gets, slice_get-map, c.requires.stacks c.in-Some.at);
+        whole = grind (arith, IsGroup-at (documents_of f old.stacks.entries) old.active distinct);
       },
     )
 
 pub returns-in-None : goal.returns-in-None
 returns-in-None g c =
-    ((refl, λ w holds. IsLeft-none g.C.Command.change c.args.self.now w c.in-None.is c.requires, refl), record { lends = tt; active = rw c.in-None.is; held = tt; whole = tt })
+    ((refl, λ w holds. record { sound = c.requires; group = rw c.in-None.is refl }, refl), record { lends = tt; active = rw c.in-None.is; held = tt; whole = tt })
