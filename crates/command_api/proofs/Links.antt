@@ -5,7 +5,7 @@ use Rattle.map_model.specs.Document.{DocumentParts}
 use Rattle.map_model.specs.Part.{Part, IsLawfulPart}
 use Rattle.map_model.specs.Slot.{Slot, IsLawfulSlot, place_in}
 use Rattle.map_model.proofs.Changes.{length-insert}
-use Rattle.command_api.specs.Law.{Names, Never, WhenEqual}
+use Rattle.command_api.specs.Law.{Names, Never}
 use Rattle.command_api.specs.Making.{Makes}
 use Rattle.command_api.specs.Exchange.{IsExchanged, change_of}
 use Rattle.command_api.specs.Link.{linked, FitsLink, link}
@@ -60,7 +60,6 @@ link_made never fits is = record {
   names = refl;
 }
 
--- ---- a link that vanishes when equal
 -- a thing more in a list changes the document
 pub place_in-differs : {X : Type 0} (p : Part DocumentParts (List X)) → IsLawfulPart p → (k : ℕ) (x : X) (d : DocumentParts) → IsSomeAnd (p.get d) (λ xs. k ≤ length xs)
     → (place_in p k).with_item x d ≡ d → ⊥
@@ -75,12 +74,3 @@ place_in-differs {X = X} p laws k x d free same = by_list (p.get d) refl free
         let equal = some-eq (insert xs k x) xs (sym (laws.get-update (λ ys. insert ys k x) xs d e) ∙ ap p.get same ∙ e) in
         let more = length-insert xs k x in
         omega (arith, more, ap length equal)
-
--- an edit puts in a held link that changes the document, so that it is not obsolete
-pub differing_link_made : {X E : Type 0} {names : Names} {s : Slot X} {held : Option (Option X)} {d : DocumentParts} {after : Result DocumentParts E} → names.vanishing ≡ WhenEqual
-    → (linked s held d ≡ d → ⊥) → FitsLink s held d → after ≡ Ok (linked s held d) → Makes names d after (change_of (link names s held))
-differing_link_made vanishes differs fits is = record {
-  fits = (λ e. cc, record { fits = fits; settled = rw vanishes (λ e. cc, λ e. absurd (differs e)) });
-  document = is;
-  names = refl;
-}

@@ -1,11 +1,14 @@
 -- What a swap keeps, from the laws of its part.
-use Rattle.std.proofs.Common.{◌≡◌, Bool, true, IsSome, Some, Result, Ok, refl, sym, ap, ◌∙◌}
+use Rattle.std.proofs.Common.{◌≡◌, Bool, true, false, not, IsSome, Some, Result, Ok, refl, sym, ap, ◌∙◌}
 use Rattle.map_model.specs.Document.{DocumentParts}
 use Rattle.map_model.specs.Part.{Part, IsLawfulPart, put}
+use Rattle.map_model.specs.WellFormed.{IsWellFormed}
+use Rattle.command_api.specs.declared.offer.Offer.{Offer}
 use Rattle.command_api.specs.Law.{Names, Vanishing, WhenEqual, IsSettled}
 use Rattle.command_api.specs.Making.{Makes}
-use Rattle.command_api.specs.Exchange.{IsExchanged, change_of}
-use Rattle.command_api.specs.Swap.{swap, swap_where}
+use Rattle.command_api.specs.Exchange.{FitsTurn, IsExchanged, change_of}
+use Rattle.command_api.specs.Offers.{FitsPut, IsMerged, offer_undone}
+use Rattle.command_api.specs.Swap.{swap, swap_where, swap_shown, FitsShown, IsGiven}
 
 some-eq : {V : Type 0} (v w : V) → Some v ≡ Some w → v ≡ w
 some-eq v w e = cc
@@ -54,3 +57,67 @@ swap_where_made Allows laws vanishes own given told found allowed is = record {
   document = is;
   names = refl;
 }
+
+-- ---- swaps that show the value that they give
+IsGiven-turned : {V : Type 0} (p : Part DocumentParts V) → IsLawfulPart p → (made : Bool) (after held new : V) (d e : DocumentParts) → IsGiven p made after held d → p.get d ≡ Some new → e ≡ put p held d
+    → IsGiven p (not made) after new e
+IsGiven-turned p laws false after held new d e h given is = ap p.get is ∙ laws.get-update (λ own. held) new d given ∙ ap Some h.1
+IsGiven-turned p laws true after held new d e h given is = (get-put laws given is, some-eq new after (sym given ∙ h))
+
+-- one turn, where the document with the held value allows the part's own
+pub shown_swapped : {V : Type 0} {names : Names} {p : Part DocumentParts V} {same : Bool} (made : Bool) {after held new : V} {d e : DocumentParts} (Allows : DocumentParts → V → Type 0) → IsLawfulPart p
+    → FitsShown p Allows made after held d → p.get d ≡ Some new → e ≡ put p held d → Allows e new
+    → IsExchanged (swap_shown names p Allows same made after held) (swap_shown names p Allows same (not made) after new) d e
+shown_swapped {p = p} made {after = after} {held = held} {new = new} {d = d} {e = e} Allows laws fits given is allowed =
+    let back = put-put laws given is in
+    record {
+      document = is;
+      fits = record { given = IsGiven-turned p laws made after held new d e fits.given given is; allowed = allowed; here = rw is fits.there; there = rw back fits.here };
+      back = back;
+      names = refl;
+      obsolete = refl;
+      made = refl;
+    }
+
+-- an edit puts the value in, and a test has told whether it is the part's own
+pub shown_made : {V E : Type 0} {names : Names} {p : Part DocumentParts V} {same : Bool} {held : V} {d : DocumentParts} {after : Result DocumentParts E} (Allows : DocumentParts → V → Type 0) → IsLawfulPart p
+    → names.vanishing ≡ WhenEqual → (own : V) → p.get d ≡ Some own → (same ≡ true → own ≡ held) → (own ≡ held → same ≡ true) → Allows d held → IsWellFormed d.map → IsWellFormed (put p held d).map
+    → after ≡ Ok (put p held d) → Makes names d after (change_of (swap_shown names p Allows same false held held))
+shown_made Allows laws vanishes own given told found allowed here there is = record {
+  fits = (
+    λ e. cc,
+    record {
+      fits = record { given = (rw given refl, refl); allowed = allowed; here = here; there = there };
+      settled = put-IsSettled laws vanishes own given told found;
+    },
+  );
+  document = is;
+  names = refl;
+}
+
+-- one that is made shows its part's value, and the one that it held before
+pub shown_offered : {V : Type 0} {names : Names} {p : Part DocumentParts V} {same : Bool} (made : Bool) {after held : V} {d : DocumentParts} (Allows : DocumentParts → V → Type 0)
+    → FitsTurn false (swap_shown names p Allows same made after held) d → FitsPut p held after d
+shown_offered false Allows fits = absurd (fits.0 refl)
+shown_offered true Allows fits = record { well_formed = fits.1.fits.here; holds = fits.1.fits.given; back = fits.1.fits.there }
+
+-- one that is made takes a newer value of its part in, and a test has told whether that is the value from before both
+pub shown_merged : {V : Type 0} {names : Names} {p : Part DocumentParts V} {same told : Bool} (made : Bool) {after held before newer : V} {d : DocumentParts} {o : Offer} (Allows : DocumentParts → V → Type 0)
+    → IsLawfulPart p → names.vanishing ≡ WhenEqual → (told ≡ true → held ≡ newer) → (held ≡ newer → told ≡ true) → FitsPut p before newer d → offer_undone o d ≡ put p before d
+    → FitsTurn false (swap_shown names p Allows same made after held) (offer_undone o d) → (Allows (put p before d) held → Allows d held)
+    → IsMerged (change_of (swap_shown names p Allows same made after held)) (change_of (swap_shown names p Allows told made newer held)) o d
+shown_merged false Allows laws vanishes equal same fits is older stays = absurd (older.0 refl)
+shown_merged {p = p} true {held = held} {before = before} {newer = newer} {d = d} Allows laws vanishes equal same fits is older stays =
+    let there = (rw is at older).1.fits in
+    let back : put p held d ≡ put p held (put p before d) = sym (laws.update-update (λ own. held) (λ own. before) d) in
+    record {
+      fits = (
+        λ e. cc,
+        record {
+          fits = record { given = fits.holds; allowed = stays there.allowed; here = fits.well_formed; there = rw back there.there };
+          settled = put-IsSettled laws vanishes newer fits.holds (λ b. sym (equal b)) (λ q. same (sym q));
+        },
+      );
+      undone = back ∙ ap (put p held) (sym is);
+      names = refl;
+    }

@@ -4,3 +4,4 @@ pub mod Making
 pub mod Exchange
 pub mod Swap
 pub mod Link
+pub mod Offers

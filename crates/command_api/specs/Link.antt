@@ -27,3 +27,8 @@ pub record FitsLink {X : Type 0} (s : Slot X) (held : Option (Option X)) (d : Do
 -- an item is held, or stands in its slot; this is never obsolete
 abbrev pub link : {X : Type 0} → Names → Slot X → Option (Option X) → Exchange
 link names s held = record { names = names; obsolete = false; made = None; exchanged = linked s held; fits = FitsLink s held }
+
+-- what is held behind the turn: the item of the document, where nothing was held
+abbrev pub turned_link : {X : Type 0} → Slot X → Option (Option X) → DocumentParts → Option (Option X)
+turned_link s None d = Some (s.item d)
+turned_link s (Some loose) d = None

@@ -1,8 +1,11 @@
-ghost use Rattle.std.specs.Prelude.{◌≡◌};
-ghost use Rattle.command_api.specs.Law.{Change, IsLawful, IsRedone, IsUndone};
+ghost use Rattle.std.specs.Prelude.{◌≡◌, ◌↔◌, IfOk, IsTrue, Ok, true};
+ghost use Rattle.command_api.specs.Law.{Change, IsLawful, IsRedone, IsSame, IsUndone};
+ghost use Rattle.command_api.specs.Offers.{AsksMerge, IsMerged, IsOfferOf, Takes};
 ghost use Rattle.command_api.specs.Tag.{id_of};
 
+use crate::offer::Offer;
 use map_model::Document;
+use std::alloc::{AllocError, Global};
 
 /// A change of a document, which is made by `redo` and turned back by `undo`.
 ///
@@ -38,6 +41,25 @@ pub trait Command: Drop {
     fn undo(&mut self, document: &mut Document)
         requires { (change self.old).fits_undo document.old }
         ensures { IsUndone (change self.old) (change self.new) document.old document.new };
+
+    /// What the command shows to the one before it: its change, where it follows, and else nothing.
+    fn offer(&self) -> Offer<'_>
+        ensures { IsOfferOf (change self.now) result };
+
+    /// Takes a newer change in where it shows the command's own tag, and says whether it did. The document is the one after
+    /// both changes, and this command stays the one that is made. Its texts, its tag and whether it follows stay.
+    ///
+    /// Where there is no memory the command is as it was.
+    fn merge(
+        &mut self,
+        alloc: Global,
+        newer: &Offer<'_>,
+        document: &Document,
+    ) -> Result<bool, AllocError>
+        requires { AsksMerge (change self.old) newer.now document.now }
+        ensures answer { IfOk result (λ b. IsTrue b ↔ Takes (change self.old).names.tag newer.now) }
+        ensures merged { result ≡ Ok true → IsMerged (change self.old) (change self.new) newer.now document.now }
+        ensures kept { (result ≡ Ok true → ⊥) → IsSame (change self.old) (change self.new) };
 }
 
 // A box is the command in it.
@@ -66,5 +88,18 @@ impl Command for Box<dyn Command> {
 
     fn undo(&mut self, document: &mut Document) {
         (**self).undo(document)
+    }
+
+    fn offer(&self) -> Offer<'_> {
+        (**self).offer()
+    }
+
+    fn merge(
+        &mut self,
+        alloc: Global,
+        newer: &Offer<'_>,
+        document: &Document,
+    ) -> Result<bool, AllocError> {
+        (**self).merge(alloc, newer, document)
     }
 }

@@ -1,7 +1,9 @@
 ghost use Rattle.std.specs.Prelude.{◌≡◌, negsuc};
 
 use crate::command::Command;
+use crate::offer::Offer;
 use map_model::Document;
+use std::alloc::{AllocError, Global};
 
 /// What a command is called: the text that stands for it in a list of steps, the text that names its action, and the id
 /// of the kind of change, at least 0, or -1 where the command has no tag.
@@ -49,7 +51,14 @@ pub trait Exchange: Drop {
         ensures { IsExchanged (exchange_parts self.old) (exchange_parts self.new) document.old document.new };
 }
 
-impl<E: Exchange> Command for E {
+/// An exchange that has no tag. It follows nothing, and nothing merges with it.
+pub trait Lone: Exchange {
+    ghost use Rattle.command_api.specs.Offers.{IsAlone};
+
+    ghost alone: { (x : Self) → IsAlone (Self.exchange_parts x).names };
+}
+
+impl<E: Lone> Command for E {
     ghost use Rattle.command_api.specs.Exchange.{change_of};
 
     ghost change = { λ c. change_of (E.exchange_parts c) };
@@ -76,5 +85,21 @@ impl<E: Exchange> Command for E {
 
     fn undo(&mut self, document: &mut Document) {
         self.exchange(document)
+    }
+
+    fn offer(&self) -> Offer<'_> {
+        Offer::Nothing
+    }
+
+    fn merge(
+        &mut self,
+        alloc: Global,
+        newer: &Offer<'_>,
+        document: &Document,
+    ) -> Result<bool, AllocError> {
+        let _ = alloc;
+        let _ = newer;
+        let _ = document;
+        Ok(false)
     }
 }

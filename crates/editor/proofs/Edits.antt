@@ -1,10 +1,9 @@
 -- Planned edits, and the lines that ask for them.
-use Rattle.std.proofs.Common.{◌≡◌, ℕ, ◌+◌, ◌^◌, ◌<◌, ◌≤◌, List, [], ◌∷◌, length, map, Result, Ok, Err, Bool, true, false, ◌⊎◌, inl, inr, refl, sym, ap, ◌∙◌, subst, arith, length-append}
+use Rattle.std.proofs.Common.{◌≡◌, ℕ, ◌+◌, ◌^◌, ◌<◌, ◌≤◌, List, [], ◌∷◌, length, map, Result, Ok, Err, Bool, ◌⊎◌, inl, inr, refl, sym, ap, subst, arith, length-append}
 use Rattle.std.proofs.lemmas.List.{length-map}
 use Rattle.std.specs.Prelude.{ℤ, decimal, codes, IfOk, IfErr, MatchResult, IsOkAnd}
 use Rattle.std.specs.Fmt.{signed_decimal}
 use Rattle.std.specs.List.{join_with_byte}
-use Rattle.map_model.specs.declared.owner.Owner.{Owner}
 use Rattle.map_model.specs.Document.{DocumentParts}
 use Rattle.map_model.specs.WellFormed.{IsPixels}
 use Rattle.edits.specs.Stamping.{IsBlock}
@@ -13,10 +12,9 @@ use Rattle.command_api.specs.declared.fault.EditFault.TheVariants.{NoSuchLayer, 
 use Rattle.command_api.specs.Law.{Names}
 use Rattle.command_api.specs.Making.{IsRefusalOf, Makes}
 use Rattle.session.specs.declared.limits.TheConstants.{MAX_LINE}
-use Rattle.session.specs.declared.line.Line.TheVariants.{Erase, Stamp, MoveObject, SetProperty}
+use Rattle.session.specs.declared.line.Line.TheVariants.{Stamp}
 use Rattle.session.specs.declared.reply.Reply.TheVariants.{Refused}
-use Rattle.session.specs.declared.typed_value.TypedValue.{TypedValue}
-use Rattle.session.specs.Spelling.{AreRows, CanBeSpelled, IsCoordinate, commas, spelling}
+use Rattle.session.specs.Spelling.{AreRows, CanBeSpelled, IsCoordinate, commas, leading, spelling}
 use Rattle.editor.specs.declared.planned.Edit.{Edit}
 use Rattle.editor.specs.Acts.{answer_of}
 use Rattle.editor.specs.Planning.{PlansEdit, edit_change, plan_of}
@@ -38,58 +36,37 @@ IsRefusalOf-cases after OutOfRange h = inr h
 IsRefusalOf-cases after TooMany h = inr h
 
 -- an edit that was made, or refused, is planned so
-pub made-PlansEdit : (names : Names) (d : DocumentParts) (after : Result DocumentParts EditFault) (edit : Result Edit EditFault) → names.follows ≡ false
+pub made-PlansEdit : (names : Names) (d : DocumentParts) (after : Result DocumentParts EditFault) (edit : Result Edit EditFault)
     → IfOk edit (λ e. Makes names d after (edit_change e)) → IfErr edit (IsRefusalOf after) → PlansEdit (answer_of names after) d (plan_of edit)
-made-PlansEdit names d after (Ok edit) alone is r =
-    (rw (is.document, is.names) refl, record { fits = is.fits; straight = ap (λ (n : Names). n.follows) is.names ∙ alone })
-made-PlansEdit names d after (Err fault) alone is r = elim (IsRefusalOf-cases after fault r) [
+made-PlansEdit names d after (Ok edit) is r = (rw (is.document, is.names) refl, is.fits)
+made-PlansEdit names d after (Err fault) is r = elim (IsRefusalOf-cases after fault r) [
   | inl e ↦ inl (ap (λ f. Refused (refusal_of_edit f)) e)
   | inr e ↦ inr (refusal_of_edit fault, ap (answer_of names) e, refl)
 ]
 
 -- a command that was made, or refused, and then put into an edit
 pub mapped-PlansEdit : {K : Type 0} (wrap : K → Edit) (names : Names) (d : DocumentParts) (after : Result DocumentParts EditFault) (made : Result K EditFault) (edit : Result Edit EditFault)
-    → names.follows ≡ false → IfOk made (λ k. Makes names d after (edit_change (wrap k))) → IfErr made (IsRefusalOf after)
+    → IfOk made (λ k. Makes names d after (edit_change (wrap k))) → IfErr made (IsRefusalOf after)
     → MatchResult made (λ k. IsOkAnd edit (λ e. e ≡ wrap k)) (λ e. edit ≡ Err e) → PlansEdit (answer_of names after) d (plan_of edit)
-mapped-PlansEdit wrap names d after (Ok k) (Ok e) alone is r m =
+mapped-PlansEdit wrap names d after (Ok k) (Ok e) is r m =
     let P : Edit → Type 0 = λ x. PlansEdit (answer_of names after) d (plan_of (Ok x)) in
-    subst P (sym m) (made-PlansEdit names d after (Ok (wrap k)) alone is tt)
-mapped-PlansEdit wrap names d after (Ok k) (Err e) alone is r m = absurd m
-mapped-PlansEdit wrap names d after (Err fault) edit alone is r m =
+    subst P (sym m) (made-PlansEdit names d after (Ok (wrap k)) is tt)
+mapped-PlansEdit wrap names d after (Ok k) (Err e) is r m = absurd m
+mapped-PlansEdit wrap names d after (Err fault) edit is r m =
     let P : Result Edit EditFault → Type 0 = λ x. PlansEdit (answer_of names after) d (plan_of x) in
-    subst P (sym m) (made-PlansEdit names d after (Err fault) alone tt r)
+    subst P (sym m) (made-PlansEdit names d after (Err fault) tt r)
 
 -- the same of a command that takes no memory, and so is refused exactly as its edit is
 pub exact-PlansEdit : {K : Type 0} (wrap : K → Edit) (names : Names) (d : DocumentParts) (after : Result DocumentParts EditFault) (made : Result K EditFault) (edit : Result Edit EditFault)
-    → names.follows ≡ false → IfOk made (λ k. Makes names d after (edit_change (wrap k))) → IfErr made (λ fault. after ≡ Err fault)
+    → IfOk made (λ k. Makes names d after (edit_change (wrap k))) → IfErr made (λ fault. after ≡ Err fault)
     → MatchResult made (λ k. IsOkAnd edit (λ e. e ≡ wrap k)) (λ e. edit ≡ Err e) → PlansEdit (answer_of names after) d (plan_of edit)
-exact-PlansEdit wrap names d after (Ok k) (Ok e) alone is r m =
+exact-PlansEdit wrap names d after (Ok k) (Ok e) is r m =
     let P : Edit → Type 0 = λ x. PlansEdit (answer_of names after) d (plan_of (Ok x)) in
-    subst P (sym m) (made-PlansEdit names d after (Ok (wrap k)) alone is tt)
-exact-PlansEdit wrap names d after (Ok k) (Err e) alone is r m = absurd m
-exact-PlansEdit wrap names d after (Err fault) edit alone is r m =
+    subst P (sym m) (made-PlansEdit names d after (Ok (wrap k)) is tt)
+exact-PlansEdit wrap names d after (Ok k) (Err e) is r m = absurd m
+exact-PlansEdit wrap names d after (Err fault) edit is r m =
     let P : Result Edit EditFault → Type 0 = λ x. PlansEdit (answer_of names after) d (plan_of x) in
     subst P (sym m) (inr (refusal_of_edit fault, ap (answer_of names) r, refl))
-
--- an erase that can be spelled does not follow
-pub erase-straight : (layer : ℕ) (x y : ℤ) (width height : ℕ) (follows : Bool) → CanBeSpelled (Erase layer x y width height follows) → follows ≡ false
-erase-straight layer x y width height true h = absurd h.0.0
-erase-straight layer x y width height false h = refl
-
--- a stamp that can be spelled does not follow
-pub stamp-straight : (layer : ℕ) (x y : ℤ) (width : ℕ) (values : List ℕ) (follows : Bool) → CanBeSpelled (Stamp layer x y width values follows) → follows ≡ false
-stamp-straight layer x y width values true h = absurd h.0.0
-stamp-straight layer x y width values false h = refl
-
--- a move of an object that can be spelled does not follow, and stays within reach
-pub move_object-straight : (object : ℕ) (x y : ℤ) (follows : Bool) → CanBeSpelled (MoveObject object x y follows) → follows ≡ false
-move_object-straight object x y true h = absurd h.0.1.0
-move_object-straight object x y false h = refl
-
--- a setting of a property that can be spelled does not follow
-pub set_property-straight : (owner : Owner) (name : List ℕ) (value : TypedValue) (follows : Bool) → CanBeSpelled (SetProperty owner name value follows) → follows ≡ false
-set_property-straight owner name value true h = absurd h.0.1.0
-set_property-straight owner name value false h = refl
 
 -- a coordinate is a number of pixels that an object can have
 pub coordinate-IsPixels : (z : ℤ) → IsCoordinate z → IsPixels z
@@ -108,16 +85,15 @@ length-join_rest b w v ws = omega (arith, length-append w (b ∷ join_with_byte 
 
 -- a line is short, so its values are few
 values-few : (layer : ℕ) (x y : ℤ) (width : ℕ) (values : List ℕ) (follows : Bool) → CanBeSpelled (Stamp layer x y width values follows) → length values < 2 ^ 32
-values-few layer x y width values true h = absurd h.0.0
-values-few layer x y width values false h =
+values-few layer x y width values follows h =
     let many = length-join 44 (map decimal values) in
     let same : length (map decimal values) ≡ length values = length-map values decimal in
     let last = length-join_rest 32 (decimal width) (commas values) [] in
     let row = length-join_rest 32 (signed_decimal y) (decimal width) (commas values ∷ []) in
     let column = length-join_rest 32 (signed_decimal x) (signed_decimal y) (decimal width ∷ commas values ∷ []) in
     let id = length-join_rest 32 (decimal layer) (signed_decimal x) (signed_decimal y ∷ decimal width ∷ commas values ∷ []) in
-    let all = length-join_rest 32 (codes "stamp") (decimal layer) (signed_decimal x ∷ signed_decimal y ∷ decimal width ∷ commas values ∷ []) in
-    let short : length (spelling (Stamp layer x y width values false)) ≤ MAX_LINE = h.1 refl in
+    let all = length-join_rest 32 (leading (codes "stamp") follows) (decimal layer) (signed_decimal x ∷ signed_decimal y ∷ decimal width ∷ commas values ∷ []) in
+    let short : length (spelling (Stamp layer x y width values follows)) ≤ MAX_LINE = h.1 refl in
     omega (arith, short)
 
 -- its values are a block

@@ -15,7 +15,7 @@ use Rattle.editor.specs.declared.planned.Planned.{Planned}
 use Rattle.editor.specs.declared.planned.Planned.TheVariants as planned
 use Rattle.editor.specs.Acts.{Act, FileAct, IfActive, OfActive, OrNoMemory, Pushes, WithActive, answer_of, moved_to}
 use Rattle.editor.specs.Machine.{Machine, active_of, with_active, workspace}
-use Rattle.editor.specs.Planning.{FitsActive, FitsDocument, FitsPlan, IsEditOf, IsOfActive, KeepsPlan, KeepsReply, Plans, PlansEdit, PlansOn, edit_change, refused}
+use Rattle.editor.specs.Planning.{FitsActive, FitsPlan, IsEditOf, IsOfActive, KeepsPlan, KeepsReply, Plans, PlansEdit, PlansOn, edit_change, refused}
 use Rattle.editor.specs.Steps.{Allows, Edits, OnActive, OnDocuments, OnFiles, Rule, rule_of}
 
 -- a machine with this group
@@ -65,7 +65,7 @@ module _ (h n : History) (old : Machine) (whole : IsGroup old.group) (active : a
       let done = refused_edit (answer_of names (edit (current h))) h reply p.0 in
       (with_active-done act h n reply old whole active (subst R (sym p.1) done.0) (replied-kept (Edits names edit) h n reply p), refl)
 
-  pushed : (rule : Rule) (e : Edit) → PlansOn rule h (planned.Push e) n → (n ≡ h) × IsEditOf rule (Some h) (edit_change e) × FitsDocument (current h) (edit_change e)
+  pushed : (rule : Rule) (e : Edit) → PlansOn rule h (planned.Push e) n → (n ≡ h) × IsEditOf rule (Some h) (edit_change e) × (edit_change e).fits_redo (current h)
   pushed (OnFiles act) e p = absurd p
   pushed (OnDocuments act) e p = absurd p
   pushed (OnActive act) e p = absurd p

@@ -1,5 +1,5 @@
 -- What planning a line and committing an edit say of each other.
-use Rattle.std.specs.Prelude.{◌≡◌, Option, None, Some, Result, Ok, Err, false, ◌⊎◌, ⊤}
+use Rattle.std.specs.Prelude.{◌≡◌, Option, None, Some, Result, Ok, Err, ◌⊎◌, ⊤}
 use Rattle.map_model.specs.Document.{DocumentParts}
 use Rattle.command_api.specs.declared.fault.EditFault.{EditFault}
 use Rattle.command_api.specs.Law.{Change}
@@ -45,15 +45,10 @@ edit_change (RemoveProperty command) = remove_property_change command
 edit_change (AddTileset command) = add_tileset_change command
 edit_change (RemoveTileset command) = remove_tileset_change command
 
--- the command fits a document, and follows nothing
-pub record FitsDocument (d : DocumentParts) (c : Change) : Type 0 where
-  pub fits : c.fits_redo d
-  pub straight : c.names.follows ≡ false
-
 -- the command fits the active document
 abbrev pub FitsActive : Option History → Change → Type 0
 FitsActive None c = ⊥
-FitsActive (Some h) c = FitsDocument (current h) c
+FitsActive (Some h) c = c.fits_redo (current h)
 
 -- a planned edit fits
 abbrev pub FitsPlan : Machine → Planned → Type 0
@@ -81,7 +76,7 @@ abbrev pub PlansEdit : Result histories.Step Refusal → DocumentParts → Plann
 PlansEdit answer d planned.Quiet = ⊥
 PlansEdit answer d (planned.Reply reply) =
     (reply ≡ replies.Refused refusals.NoMemory) ⊎ ((refusal : Refusal) × (answer ≡ Err refusal) × (reply ≡ replies.Refused refusal))
-PlansEdit answer d (planned.Push edit) = (answer ≡ Ok (step_of (edit_change edit) d)) × FitsDocument d (edit_change edit)
+PlansEdit answer d (planned.Push edit) = (answer ≡ Ok (step_of (edit_change edit) d)) × (edit_change edit).fits_redo d
 
 -- a line about the active document
 abbrev pub IsOfActive : Rule → Type 0

@@ -18,6 +18,7 @@ use crate::steps::{answered, plan_begin, plan_limit, plan_show, plan_step_text, 
 use crate::{refusal, tile};
 use command_api::{Command, EditFault};
 use edits::{Area, Selecting};
+use map_model::Owner;
 use session::{Line, Refusal, Reply};
 use std::alloc::Global;
 use undo_stack::Stack;
@@ -36,6 +37,17 @@ pub fn planned(edit: Result<Edit, EditFault>) -> Planned
     match edit {
         Ok(edit) => Planned::Push(edit),
         Err(fault) => refused(refusal::of_edit(fault)),
+    }
+}
+
+// Goes to the object that properties belong to, where it is one, so that it is found and changed at once.
+fn seek_owner<C: Command>(stack: &mut Stack<C>, owner: Owner)
+    requires { Holds C.change stack.old }
+    ensures sound { Holds C.change stack.new }
+    ensures same { history C.change stack.new ≡ history C.change stack.old }
+{
+    if let Owner::Object(object) = owner {
+        stack.seek_object(object);
     }
 }
 
@@ -186,21 +198,36 @@ pub fn on_document<C: Command>(alloc: Global, stack: &mut Stack<C>, line: &Line<
             x,
             y,
             follows,
-        } => plan_move_object(document, *object, *x, *y, *follows),
+        } => {
+            stack.seek_object(*object);
+            plan_move_object(stack.document(), *object, *x, *y, *follows)
+        }
         Line::ResizeObject {
             object,
             width,
             height,
-        } => plan_resize_object(document, *object, *width, *height),
-        Line::RemoveObject { object } => plan_remove_object(document, *object),
+        } => {
+            stack.seek_object(*object);
+            plan_resize_object(stack.document(), *object, *width, *height)
+        }
+        Line::RemoveObject { object } => {
+            stack.seek_object(*object);
+            plan_remove_object(stack.document(), *object)
+        }
         // Properties and tilesets.
         Line::SetProperty {
             owner,
             name,
             value,
             follows,
-        } => plan_set_property(alloc, document, *owner, name, value, *follows),
-        Line::RemoveProperty { owner, name } => plan_remove_property(document, *owner, name),
+        } => {
+            seek_owner(stack, *owner);
+            plan_set_property(alloc, stack.document(), *owner, name, value, *follows)
+        }
+        Line::RemoveProperty { owner, name } => {
+            seek_owner(stack, *owner);
+            plan_remove_property(stack.document(), *owner, name)
+        }
         Line::AddTileset { first_id, source } => {
             plan_add_tileset(alloc, document, *first_id, source)
         }

@@ -20,7 +20,7 @@ use Rattle.edits.specs.declared.change.CellChange.{CellChange}
 use Rattle.edits.specs.declared.span.Span.{Span}
 use Rattle.edits.specs.Blocks.{ValueBlock, offset, is_below, stamp_over, erase_over, IsSpan}
 use Rattle.edits.specs.Covering.{covered, covered_map}
-use Rattle.edits.specs.Difference.{difference, difference_in}
+use Rattle.map_model.specs.Difference.{difference, difference_in}
 use Rattle.edits.specs.Laying.{IsLayerOf, IsReach}
 use Rattle.edits.specs.Painting.{IsPainted}
 use Rattle.edits.specs.Refusals.{body_tiles_or_fault, tiles_or_fault}

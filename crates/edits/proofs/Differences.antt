@@ -1,7 +1,7 @@
 -- Differences of two lists of values.
 use Rattle.std.proofs.Common.{◌≡◌, ℕ, zero, suc, ◌+◌, ◌<◌, List, [], ◌∷◌, length, true, nat_eq, get_or, add-zero, add-suc, append-nil, refl, ap, ◌∙◌, arith}
 use Rattle.std.proofs.lemmas.Bool.Decides.{nat_tests}
-use Rattle.edits.specs.Difference.{change_at, difference}
+use Rattle.map_model.specs.Difference.{change_at, difference}
 use Rattle.edits.specs.Covering.{each_at}
 
 pub change_at-same : (width place a b : ℕ) → b ≡ a → change_at width place a b ≡ []

@@ -8,7 +8,7 @@ use Rattle.map_model.specs.Document.{DocumentParts}
 use Rattle.map_model.specs.Parts.{layer_of}
 use Rattle.edits.specs.declared.change.CellChange.{CellChange}
 use Rattle.edits.specs.Covering.{covered}
-use Rattle.edits.specs.Difference.{difference}
+use Rattle.map_model.specs.Difference.{difference}
 use Rattle.edits.specs.Filling.{after_fill, fill_over, map_cell}
 use Rattle.edits.specs.Flooding.{HasCell}
 use Rattle.edits.specs.Painting.{IsPainted}

@@ -7,7 +7,7 @@ use Rattle.std.proofs.lemmas.Option.{slice_get-get_or}
 use Rattle.edits.specs.declared.flood.Spread.{Spread}
 use Rattle.edits.specs.declared.ground.Ground.{Ground}
 use Rattle.edits.specs.Covering.{covered, covered_value}
-use Rattle.edits.specs.Difference.{change_at, difference, edit_at}
+use Rattle.map_model.specs.Difference.{change_at, difference, edit_at}
 use Rattle.edits.specs.Joining.{is_value}
 use Rattle.edits.specs.Flooding.{changes_below, free_at, free_in, is_taken, taken_at, taken_over}
 use Rattle.edits.proofs.Differences.{difference-skip, get_or-each_at}

@@ -7,6 +7,7 @@ pub mod Flooded
 pub mod Joined
 pub mod Laws
 pub mod Marking
+pub mod Merged
 pub mod Overs
 pub mod Reaches
 pub mod Reaching

@@ -7,7 +7,7 @@ use Rattle.region.specs.Cells.{cell_cmp}
 use Rattle.map_model.specs.declared.edit.CellEdit.{CellEdit}
 use Rattle.edits.specs.declared.reach.Reach.{Reach}
 use Rattle.edits.specs.Covering.{covered, covered_value, lets_change, where_selected}
-use Rattle.edits.specs.Difference.{change_at}
+use Rattle.map_model.specs.Difference.{change_at}
 use Rattle.edits.specs.Laying.{IsReach, changes_below, changed_to}
 use Rattle.edits.proofs.Differences.{difference-skip, get_or-each_at}
 

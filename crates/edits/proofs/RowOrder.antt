@@ -9,11 +9,11 @@ use Rattle.region.proofs.Listed.{comes_before}
 use Rattle.map_model.specs.CellEdits.{AreInRowOrder, cell}
 use Rattle.map_model.specs.Lists.{Each}
 use Rattle.map_model.proofs.Listings.{Each-append}
-use Rattle.edits.specs.Difference.{edit_at, change_at, difference}
+use Rattle.map_model.specs.Difference.{edit_at, change_at, difference}
 
 -- ---- one more cell
 -- the first cell comes before the second one
-abbrev ComesBefore : CellEdit → CellEdit → Type 0
+abbrev pub ComesBefore : CellEdit → CellEdit → Type 0
 ComesBefore a b = cell_cmp (cell a) (cell b) ≡ Less
 
 AreInRowOrder-append : (es : List CellEdit) (c : CellEdit) → AreInRowOrder es → Each (λ e. ComesBefore e c) es → AreInRowOrder (es ++ c ∷ [])
@@ -53,13 +53,13 @@ ComesBefore-above width place before after e some h =
     let apart : (h.at / width < place / width) ⊎ ((h.at / width ≡ place / width) × (h.at % width < place % width)) = by_place width h.at place some h.above in
     comes_before (cell e) (cell (edit_at width place before after)) (rw (h.column, h.row) apart)
 
-Each-ComesBefore : (width place before after : ℕ) (es : List CellEdit) → 0 < width → Each (IsAbove width place) es → Each (λ e. ComesBefore e (edit_at width place before after)) es
+pub Each-ComesBefore : (width place before after : ℕ) (es : List CellEdit) → 0 < width → Each (IsAbove width place) es → Each (λ e. ComesBefore e (edit_at width place before after)) es
 Each-ComesBefore width place before after [] some h = tt
 Each-ComesBefore width place before after (e ∷ es) some h = (ComesBefore-above width place before after e some h.0, Each-ComesBefore width place before after es some h.1)
 
 -- ---- differences
 module _ (width : ℕ) (xs ys : List ℕ) (some : 0 < width) where
-  above : (k : ℕ) → Each (IsAbove width k) (difference width xs ys k)
+  pub above : (k : ℕ) → Each (IsAbove width k) (difference width xs ys k)
   above zero = tt
   above (suc k) =
       Each-append (IsAbove width (suc k)) (difference width xs ys k) (change_at width k (get_or xs k 0) (get_or ys k 0)) (IsAbove-suc width k (difference width xs ys k) (above k))

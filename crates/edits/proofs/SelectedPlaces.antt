@@ -14,7 +14,7 @@ use Rattle.edits.specs.declared.marks.Marks.{Marks}
 use Rattle.edits.specs.declared.flood.Spread.{Spread}
 use Rattle.edits.specs.declared.ground.Ground.{Ground}
 use Rattle.edits.specs.Covering.{covered, covered_value, lets_change}
-use Rattle.edits.specs.Difference.{difference}
+use Rattle.map_model.specs.Difference.{difference}
 use Rattle.edits.specs.Filling.{fill_over, free_from, is_joined}
 use Rattle.edits.specs.Flooding.{AreAllowed, AreSelected, HasCell, IsGround, IsGroundOf, cell_of, free_in, is_taken, start_of, taken_over}
 use Rattle.edits.specs.Joining.{AreJoined, is_free, is_reached, is_value}

@@ -15,7 +15,7 @@ use Rattle.map_model.specs.WellFormed.{IsSize, IsWellFormed}
 use Rattle.map_model.proofs.Keeps.{length-tiles_in}
 use Rattle.map_model.proofs.Listings.{Each-append}
 use Rattle.map_model.proofs.Turns.{with_tiles-with_tiles, with_tiles-along, with_tiles-same, tiles_in-with_tiles}
-use Rattle.edits.specs.Difference.{edit_at, change_at, difference, difference_in}
+use Rattle.map_model.specs.Difference.{edit_at, change_at, difference, difference_in}
 use Rattle.edits.proofs.Differences.{difference-skip}
 
 -- the first places from one list, the others from another
@@ -122,6 +122,18 @@ with_edits-again m id f es same e t h =
     ap (λ ds. put_values m.width After ds (f ys)) is ∙ put-after m.width (f ys) ys (omega (arith, h.size.wide)) (sym (same ys))
     )
     ∙ with_tiles-same m id
+
+-- the values before, put over a map, give the one of which the cells are the difference to it
+pub with_edits-back : (m : MapParts) (id : ℕ) (f : List ℕ → List ℕ) (es : List CellEdit) → ((vs : List ℕ) → length (f vs) ≡ length vs)
+    → es ≡ difference_in id (with_tiles m id f) m → HasTiles m id → IsWellFormed m → with_edits m id es Before ≡ with_tiles m id f
+with_edits-back m id f es same e t h =
+    let ys = tiles_in m id in
+    let size : m.width * m.height ≡ length (f ys) = sym (same ys ∙ length-tiles_in m id t h) in
+    let is : es ≡ difference m.width (f ys) ys (length (f ys)) =
+    e ∙ ap (λ xs. difference m.width xs ys (m.width * m.height)) (tiles_in-with_tiles m id f t) ∙ ap (difference m.width (f ys) ys) size in
+    with_tiles-along m id (put_values m.width Before es) f (
+    ap (λ ds. put_values m.width Before ds ys) is ∙ put-before m.width (f ys) ys (omega (arith, h.size.wide)) (same ys)
+    )
 
 -- a map differs from itself in no cell
 pub difference_in-same : (m : MapParts) (id : ℕ) → difference_in id m m ≡ []

@@ -14,7 +14,7 @@ use Rattle.edits.specs.declared.flood.Batch.{Batch}
 use Rattle.edits.specs.declared.flood.Spread.{Spread}
 use Rattle.map_model.specs.declared.edit.CellEdit.{CellEdit}
 use Rattle.edits.specs.Covering.{covered, lets_change}
-use Rattle.edits.specs.Difference.{difference}
+use Rattle.map_model.specs.Difference.{difference}
 use Rattle.edits.specs.Filling.{free_from}
 use Rattle.edits.specs.Joining.{AreJoined, is_free, is_value}
 use Rattle.edits.specs.Marks.{is_marked, room}

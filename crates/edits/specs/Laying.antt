@@ -7,7 +7,7 @@ use Rattle.map_model.specs.declared.limits.TheConstants.{MAX_SIDE, MAX_CELLS}
 use Rattle.edits.specs.declared.reach.Reach.{Reach}
 use Rattle.edits.specs.declared.span.Span.{Span}
 use Rattle.edits.specs.Covering.{covered, covered_value, lets_change, where_selected}
-use Rattle.edits.specs.Difference.{difference}
+use Rattle.map_model.specs.Difference.{difference}
 
 -- a tile layer of this width, with as many values as a map may have cells
 pub record IsLayerOf (width : ℕ) (tiles : List ℕ) : Type 0 where

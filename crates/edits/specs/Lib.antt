@@ -1,12 +1,12 @@
 pub mod Blocks
 pub mod Covering
-pub mod Difference
 pub mod Filling
 pub mod Flooding
 pub mod Joining
 pub mod LayerEdits
 pub mod Laying
 pub mod Marks
+pub mod Merging
 pub mod ObjectEdits
 pub mod Painting
 pub mod PropertyEdits

@@ -8,7 +8,7 @@ use Rattle.map_model.specs.WellFormed.{IsWellFormed}
 use Rattle.command_api.specs.declared.fault.EditFault.{EditFault}
 use Rattle.edits.specs.declared.change.CellChange.{CellChange}
 use Rattle.edits.specs.Covering.{covered_map}
-use Rattle.edits.specs.Difference.{difference_in}
+use Rattle.map_model.specs.Difference.{difference_in}
 
 -- a change holds exactly the cells that differ between two maps in a tile layer: in row order, each once, with the
 -- values before and after, which are unequal

@@ -1,7 +1,7 @@
 // The changes that a fill makes.
 ghost use Rattle.std.specs.Prelude.{◌≡◌, ◌≢◌, ℕ, ◌+◌, ◌-◌, ◌*◌, ◌/◌, ◌<◌, ◌≤◌, IfOk, OnOk, true, length};
 ghost use Rattle.edits.specs.Covering.{covered};
-ghost use Rattle.edits.specs.Difference.{difference};
+ghost use Rattle.map_model.specs.Difference.{difference};
 ghost use Rattle.edits.specs.Filling.{fill_over};
 ghost use Rattle.edits.specs.Flooding.{HasCell, IsGround, IsSound, changes_below, free_in, is_taken};
 

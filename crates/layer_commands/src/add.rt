@@ -1,10 +1,10 @@
-ghost use Rattle.std.specs.Prelude.{◌≡◌, Some, IfOk, IfErr};
+ghost use Rattle.std.specs.Prelude.{◌≡◌, Some, IfOk, IfErr, refl};
 ghost use Rattle.map_model.specs.NewMap.{new_layer};
 ghost use Rattle.command_api.specs.Making.{IsRefusalOf, Makes};
 ghost use Rattle.edits.specs.LayerEdits.{after_add};
 ghost use Rattle.layer_commands.specs.Changes.{add_change, add_exchange, add_names};
 
-use command_api::{Exchange, Label};
+use command_api::{Exchange, Label, Lone};
 use edits::EditFault;
 use link_chain::Loose;
 use map_model::limits::{MAX_LAYERS, MAX_NEXT_ID};
@@ -88,4 +88,8 @@ impl Exchange for AddLayer {
             }
         }
     }
+}
+
+impl Lone for AddLayer {
+    ghost alone = { λ x. record { tag = refl; follows = refl } };
 }

@@ -1,9 +1,9 @@
-ghost use Rattle.std.specs.Prelude.{◌≡◌, Err, IfOk, IfErr};
+ghost use Rattle.std.specs.Prelude.{◌≡◌, Err, IfOk, IfErr, refl};
 ghost use Rattle.command_api.specs.Making.{Makes};
 ghost use Rattle.edits.specs.LayerEdits.{after_move};
 ghost use Rattle.layer_commands.specs.Changes.{move_change, move_exchange, move_names};
 
-use command_api::{Exchange, Label};
+use command_api::{Exchange, Label, Lone};
 use edits::EditFault;
 use map_model::{Document, LayerPlace};
 use std::mem;
@@ -55,4 +55,8 @@ impl Exchange for MoveLayer {
         document.insert_layer(self.to, layer);
         mem::swap(&mut self.from, &mut self.to);
     }
+}
+
+impl Lone for MoveLayer {
+    ghost alone = { λ x. record { tag = refl; follows = refl } };
 }

@@ -1,9 +1,9 @@
-ghost use Rattle.std.specs.Prelude.{◌≡◌, Err, IfOk, IfErr};
+ghost use Rattle.std.specs.Prelude.{◌≡◌, Err, IfOk, IfErr, refl};
 ghost use Rattle.command_api.specs.Making.{Makes};
 ghost use Rattle.edits.specs.LayerEdits.{after_remove};
 ghost use Rattle.layer_commands.specs.Changes.{remove_change, remove_exchange, remove_names};
 
-use command_api::{Exchange, Label};
+use command_api::{Exchange, Label, Lone};
 use edits::EditFault;
 use link_chain::Loose;
 use map_model::{Document, Layer, LayerPlace};
@@ -48,4 +48,8 @@ impl Exchange for RemoveLayer {
             None => self.layer = Some(document.take_layer(self.place)),
         }
     }
+}
+
+impl Lone for RemoveLayer {
+    ghost alone = { λ x. record { tag = refl; follows = refl } };
 }

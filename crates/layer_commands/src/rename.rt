@@ -1,9 +1,9 @@
-ghost use Rattle.std.specs.Prelude.{IfOk, IfErr};
+ghost use Rattle.std.specs.Prelude.{IfOk, IfErr, refl};
 ghost use Rattle.command_api.specs.Making.{IsRefusalOf, Makes};
 ghost use Rattle.edits.specs.LayerEdits.{after_rename};
 ghost use Rattle.layer_commands.specs.Changes.{rename_change, rename_exchange, rename_names};
 
-use command_api::{Exchange, Label};
+use command_api::{Exchange, Label, Lone};
 use edits::EditFault;
 use map_model::{Document, MapText};
 use std::alloc::Global;
@@ -59,4 +59,8 @@ impl Exchange for RenameLayer {
     fn exchange(&mut self, document: &mut Document) {
         document.swap_layer_name(self.layer, &mut self.name);
     }
+}
+
+impl Lone for RenameLayer {
+    ghost alone = { λ x. record { tag = refl; follows = refl } };
 }

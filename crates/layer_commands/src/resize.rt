@@ -1,9 +1,9 @@
-ghost use Rattle.std.specs.Prelude.{IfOk, IfErr};
+ghost use Rattle.std.specs.Prelude.{IfOk, IfErr, refl};
 ghost use Rattle.command_api.specs.Making.{IsRefusalOf, Makes};
 ghost use Rattle.edits.specs.Resizing.{after_resize, IsDistance};
 ghost use Rattle.layer_commands.specs.Changes.{resize_change, resize_exchange, resize_names};
 
-use command_api::{Exchange, Label};
+use command_api::{Exchange, Label, Lone};
 use edits::{EditFault, resized_cells};
 use map_model::{Canvas, Document};
 use std::alloc::Global;
@@ -55,4 +55,8 @@ impl Exchange for ResizeMap {
     fn exchange(&mut self, document: &mut Document) {
         document.swap_canvas(&mut self.canvas);
     }
+}
+
+impl Lone for ResizeMap {
+    ghost alone = { λ x. record { tag = refl; follows = refl } };
 }

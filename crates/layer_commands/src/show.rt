@@ -1,9 +1,9 @@
-ghost use Rattle.std.specs.Prelude.{◌≡◌, Err, IfOk, IfErr};
+ghost use Rattle.std.specs.Prelude.{◌≡◌, Err, IfOk, IfErr, refl};
 ghost use Rattle.command_api.specs.Making.{Makes};
 ghost use Rattle.edits.specs.LayerEdits.{after_show};
 ghost use Rattle.layer_commands.specs.Changes.{show_change, show_exchange, show_names};
 
-use command_api::{Exchange, Label};
+use command_api::{Exchange, Label, Lone};
 use edits::EditFault;
 use map_model::Document;
 
@@ -54,4 +54,8 @@ impl Exchange for ShowLayer {
         document.set_visible(self.layer, self.visible);
         self.visible = visible;
     }
+}
+
+impl Lone for ShowLayer {
+    ghost alone = { λ x. record { tag = refl; follows = refl } };
 }

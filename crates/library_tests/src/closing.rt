@@ -1,11 +1,12 @@
 // A document that is closed lets go of what its steps own.
-ghost use Rattle.std.specs.Prelude.{◌≡◌, [], false, IfOk};
+ghost use Rattle.std.specs.Prelude.{◌≡◌, [], false, IfOk, refl};
 ghost use Rattle.command_api.specs.Law.{untagged, Never};
+ghost use Rattle.library_tests.specs.Still.{still};
 ghost use Rattle.map_model.specs.Document.{DocumentParts};
 ghost use Rattle.undo_group.specs.Stacks.{AreHeld};
 ghost use Rattle.undo_stack.specs.Stacks.{Holds};
 
-use command_api::Command;
+use command_api::{Command, Exchange, Label, Lone};
 use map_model::{Document, Map, MapText};
 use std::alloc::{AllocError, Global};
 use std::cell::Cell;
@@ -26,39 +27,24 @@ impl Drop for Probe {
     }
 }
 
-impl Command for Probe {
-    ghost change = { λ _. record {
-      names = untagged [] [] Never;
-      obsolete = false;
-      redone = λ d. d;
-      undone = λ d. d;
-      fits_redo = λ _. Unit {0};
-      fits_undo = λ _. Unit {0};
-    } };
+impl Exchange for Probe {
+    ghost exchange_parts = { λ _. still (untagged [] [] Never) false };
 
-    fn text(&self) -> &str {
-        ""
+    fn label(&self) -> Label {
+        Label::untagged("", "")
     }
 
-    fn action_text(&self) -> &str {
-        ""
-    }
-
-    fn id(&self) -> i32 {
-        -1
-    }
-
-    fn obsolete(&self) -> bool {
+    fn is_settled(&self) -> bool {
         false
     }
 
-    fn redo(&mut self, document: &mut Document) {
+    fn exchange(&mut self, document: &mut Document) {
         let _ = document;
     }
+}
 
-    fn undo(&mut self, document: &mut Document) {
-        let _ = document;
-    }
+impl Lone for Probe {
+    ghost alone = { λ _. record { tag = refl; follows = refl } };
 }
 
 fn new_probe(alloc: Global, dropped: &Rc<Cell<u32>>) -> Result<Box<Probe>, AllocError> {
@@ -80,7 +66,6 @@ fn add<C: Command>(
 ) -> Result<(), AllocError>
     requires sound { AreHeld C.change group.old }
     requires fits { (d : DocumentParts) → (C.change command).fits_redo d }
-    requires straight { (C.change command).names.follows ≡ false }
     ensures { AreHeld C.change group.new }
 {
     let mut stack = Stack::new(alloc, blank(alloc)?, 0);

@@ -3,14 +3,10 @@
 #![tactic(auto)]
 
 #[cfg(test)]
-mod cell_list;
-#[cfg(test)]
 mod chains;
 #[cfg(test)]
 mod closing;
 #[cfg(test)]
-mod fills;
-#[cfg(test)]
-mod regions;
+mod paints;
 #[cfg(test)]
 mod stacks;

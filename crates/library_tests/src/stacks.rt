@@ -1,11 +1,12 @@
 // Of a stack, what no clause says: which boxes are let go of and turned, and what a refused push leaves.
 
-ghost use Rattle.std.specs.Prelude.{◌≡◌, [], true, false};
+ghost use Rattle.std.specs.Prelude.{◌≡◌, [], true, false, refl};
 ghost use Rattle.command_api.specs.Law.{untagged, Never, WhenEqual};
+ghost use Rattle.library_tests.specs.Still.{still};
 ghost use Rattle.undo_stack.specs.History.{current};
 ghost use Rattle.undo_stack.specs.Stacks.{history, Holds};
 
-use command_api::Command;
+use command_api::{Command, Exchange, Label, Lone};
 use link_chain::Loose;
 use map_model::{Document, Layer, LayerKind, Map, MapText};
 use std::alloc::{AllocError, Global};
@@ -41,6 +42,12 @@ impl Counts {
     fn all(&self) -> (u32, u32, u32) {
         (self.redone.get(), self.undone.get(), self.dropped.get())
     }
+
+    // Counts a turn of a command, and says whether it is made then.
+    fn turn(&self, is_made: bool) -> bool {
+        add_one(if is_made { &self.undone } else { &self.redone });
+        !is_made
+    }
 }
 
 fn add_one(count: &Cell<u32>) {
@@ -50,6 +57,7 @@ fn add_one(count: &Cell<u32>) {
 // A command that leaves the document as it is and never vanishes. It owns a layer in a link, as a removal does.
 struct Probe {
     counts: Rc<Counts>,
+    is_made: bool,
     layer: Loose<Layer>,
 }
 
@@ -58,46 +66,31 @@ impl Drop for Probe {
         add_one(&self.counts.dropped);
         let Probe {
             counts: _,
+            is_made: _,
             layer: _,
         } = self;
     }
 }
 
-impl Command for Probe {
-    ghost change = { λ _. record {
-      names = untagged [] [] Never;
-      obsolete = false;
-      redone = λ d. d;
-      undone = λ d. d;
-      fits_redo = λ _. Unit {0};
-      fits_undo = λ _. Unit {0};
-    } };
+impl Exchange for Probe {
+    ghost exchange_parts = { λ _. still (untagged [] [] Never) false };
 
-    fn text(&self) -> &str {
-        ""
+    fn label(&self) -> Label {
+        Label::untagged("", "")
     }
 
-    fn action_text(&self) -> &str {
-        ""
-    }
-
-    fn id(&self) -> i32 {
-        -1
-    }
-
-    fn obsolete(&self) -> bool {
+    fn is_settled(&self) -> bool {
         false
     }
 
-    fn redo(&mut self, document: &mut Document) {
+    fn exchange(&mut self, document: &mut Document) {
         let _ = document;
-        add_one(&self.counts.redone);
+        self.is_made = self.counts.turn(self.is_made);
     }
+}
 
-    fn undo(&mut self, document: &mut Document) {
-        let _ = document;
-        add_one(&self.counts.undone);
-    }
+impl Lone for Probe {
+    ghost alone = { λ _. record { tag = refl; follows = refl } };
 }
 
 fn new_probe(alloc: Global, counts: &Rc<Counts>) -> Result<Box<Probe>, AllocError> {
@@ -105,68 +98,63 @@ fn new_probe(alloc: Global, counts: &Rc<Counts>) -> Result<Box<Probe>, AllocErro
     let name = MapText::new(String::from_str(alloc, "removed")?);
     let layer = Layer::new(alloc, LayerKind::Tile, 2, name, 1)?;
     let layer = Loose::new(alloc, layer).map_err(|_| AllocError)?;
-    Ok(Box::new(alloc, Probe { counts, layer })?)
+    let probe = Probe {
+        counts,
+        is_made: false,
+        layer,
+    };
+    Ok(Box::new(alloc, probe)?)
 }
 
 // A command that vanishes when equal, and is so: it leaves the document as it is.
 struct Idle {
     counts: Rc<Counts>,
+    is_made: bool,
 }
 
 impl Drop for Idle {
     fn drop(self) {
         add_one(&self.counts.dropped);
-        let Idle { counts: _ } = self;
+        let Idle {
+            counts: _,
+            is_made: _,
+        } = self;
     }
 }
 
-fn new_idle(alloc: Global, counts: &Rc<Counts>) -> Result<Box<Idle>, AllocError> {
-    let counts = counts.clone()?;
-    Ok(Box::new(alloc, Idle { counts })?)
-}
+impl Exchange for Idle {
+    ghost exchange_parts = { λ _. still (untagged [] [] WhenEqual) true };
 
-impl Command for Idle {
-    ghost change = { λ _. record {
-      names = untagged [] [] WhenEqual;
-      obsolete = true;
-      redone = λ d. d;
-      undone = λ d. d;
-      fits_redo = λ _. Unit {0};
-      fits_undo = λ _. Unit {0};
-    } };
-
-    fn text(&self) -> &str {
-        ""
+    fn label(&self) -> Label {
+        Label::untagged("", "")
     }
 
-    fn action_text(&self) -> &str {
-        ""
-    }
-
-    fn id(&self) -> i32 {
-        -1
-    }
-
-    fn obsolete(&self) -> bool {
+    fn is_settled(&self) -> bool {
         true
     }
 
-    fn redo(&mut self, document: &mut Document) {
+    fn exchange(&mut self, document: &mut Document) {
         let _ = document;
-        add_one(&self.counts.redone);
+        self.is_made = self.counts.turn(self.is_made);
     }
+}
 
-    fn undo(&mut self, document: &mut Document) {
-        let _ = document;
-        add_one(&self.counts.undone);
-    }
+impl Lone for Idle {
+    ghost alone = { λ _. record { tag = refl; follows = refl } };
+}
+
+fn new_idle(alloc: Global, counts: &Rc<Counts>) -> Result<Box<Idle>, AllocError> {
+    let idle = Idle {
+        counts: counts.clone()?,
+        is_made: false,
+    };
+    Ok(Box::new(alloc, idle)?)
 }
 
 // The calls below are those of a stack. Of what they do the proofs of the tests need only that the stack stays whole.
 fn push<C: Command>(stack: &mut Stack<C>, command: C) -> Result<(), AllocError>
     requires sound { Holds C.change stack.old }
     requires fits { (C.change command).fits_redo (current (history C.change stack.old)) }
-    requires straight { (C.change command).names.follows ≡ false }
     ensures sound { Holds C.change stack.new }
 {
     stack.push(command)

@@ -1,5 +1,6 @@
 ghost use Rattle.std.specs.Prelude.{◌≡◌, ◌+◌, ◌-◌, ◌^◌, ◌<◌, ◌≤◌, ◌++◌, [], length, take, drop, slice_get, slice_set, Some, IfOk, IfErr, IfSome, IsSomeAnd};
 ghost use Rattle.std.specs.List.{insert, remove};
+ghost use Rattle.std.specs.Option.{option_copied};
 ghost use Rattle.std.specs.Borrow.{sem};
 ghost use Rattle.link_chain.specs.Lending.{LendsItem};
 
@@ -52,8 +53,8 @@ impl<T: Drop> Loose<T> {
 
 /// A chain of links, seen as the list of its items.
 ///
-/// The links before the place that was last changed stand apart from those after it, so that a further change at
-/// the same place finds it at once. No call takes memory.
+/// The links before one place stand apart from those from there on, so that what stands there is found at once. It is
+/// the place that was last changed, or gone to since. No call takes memory.
 #[derive(Drop)]
 pub struct Chain<T> {
     before: LinkedList<T>,
@@ -139,7 +140,27 @@ impl<T: Drop> Chain<T> {
         }
     }
 
-    /// The place that was last changed, and the item there, found at once; `None` behind the last item.
+    /// The first item, found at once.
+    pub fn first(&self) -> Option<&T>
+        ensures { option_copied result ≡ slice_get self.now 0 }
+    {
+        match self.before.front() {
+            Some(item) => Some(item),
+            None => self.after.front(),
+        }
+    }
+
+    /// The last item, found at once.
+    pub fn last(&self) -> Option<&T>
+        ensures { option_copied result ≡ slice_get self.now (length self.now - 1) }
+    {
+        match self.after.back() {
+            Some(item) => Some(item),
+            None => self.before.back(),
+        }
+    }
+
+    /// The place that was last changed or gone to, and the item there, found at once; `None` behind the last item.
     pub fn here(&self) -> Option<(usize, &T)>
         ensures { IfSome result (λ found. slice_get self.now found.0 ≡ Some found.1.now) }
     {
@@ -154,6 +175,35 @@ impl<T: Drop> Chain<T> {
         ensures { result ≡ self.now }
     {
         Iter::over(self.before.iter(), self.after.iter())
+    }
+
+    /// Goes to a place, or behind the last item where there is none. No item changes.
+    pub fn go_to(&mut self, at: usize)
+        ensures { self.new ≡ self.old }
+    {
+        let at = at.min(self.len());
+        seek(&mut self.before, &mut self.after, at);
+    }
+
+    /// Goes on from here to the first item that passes a test, or stays where none does. No item changes.
+    pub fn go_on_to<F: FnMut(&T) -> bool>(&mut self, test: F)
+        requires { (state : F) (item : _) → F.pre state item }
+        ensures { self.new ≡ self.old }
+    {
+        let here = self.before.len();
+        if let Some(passed) = self.after.iter().position(test) {
+            self.go_to(here + passed);
+        }
+    }
+
+    /// Goes back from here to the nearest item that passes a test, or stays where none does. No item changes.
+    pub fn go_back_to<F: FnMut(&T) -> bool>(&mut self, test: F)
+        requires { (state : F) (item : _) → F.pre state item }
+        ensures { self.new ≡ self.old }
+    {
+        if let Some(at) = self.before.iter().rposition(test) {
+            self.go_to(at);
+        }
     }
 
     /// The item at a place below the length, to be changed where it stands.

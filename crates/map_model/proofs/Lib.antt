@@ -2,6 +2,7 @@ pub mod CanvasLaws
 pub mod CanvasSteps
 pub mod CellEdits
 pub mod Changes
+pub mod FoundLaws
 pub mod Keeps
 pub mod Listings
 pub mod NewMaps
@@ -11,6 +12,7 @@ pub mod PartLaws
 pub mod Places
 pub mod Selections
 pub mod SlotLaws
+pub mod StayPut
 pub mod TilesetChanges
 pub mod TilesetLemmas
 pub mod Turns

@@ -49,7 +49,7 @@ of_first-laws test p stays ps = record {
       ∙ change_first-along test (λ k. p.update f (p.update g k)) (p.update (λ v. f (g v))) xs (λ k q. ps.update-update f g k);
 }
 
-slice_get-change_at : {A : Type 0} (g : A → A) (xs : List A) (k : ℕ) → slice_get (change_at k g xs) k ≡ option_map g (slice_get xs k)
+pub slice_get-change_at : {A : Type 0} (g : A → A) (xs : List A) (k : ℕ) → slice_get (change_at k g xs) k ≡ option_map g (slice_get xs k)
 slice_get-change_at g [] zero = refl
 slice_get-change_at g [] (suc k) = refl
 slice_get-change_at g (x ∷ xs) zero = refl

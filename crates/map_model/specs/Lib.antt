@@ -2,6 +2,7 @@ pub mod Bodies
 pub mod Canvas
 pub mod CellEdits
 pub mod DataCode
+pub mod Difference
 pub mod Document
 pub mod Keeping
 pub mod Layers
@@ -19,3 +20,4 @@ pub mod Properties
 pub mod PropertyParts
 pub mod Lending
 pub mod Steps
+pub mod Given

@@ -1,5 +1,5 @@
 -- Parts: what can be read of a value, and changed there.
-use Rattle.std.specs.Prelude.{◌≡◌, ℕ, List, Bool, Option, Some, option_and_then, find, slice_get}
+use Rattle.std.specs.Prelude.{◌≡◌, ℕ, List, Bool, Option, Some, None, option_and_then, find, slice_get}
 use Rattle.std.specs.FinSet as set
 use Rattle.region.specs.Cells.{cell_cmp}
 use Rattle.map_model.specs.declared.parts.Layer.{Layer}
@@ -10,7 +10,7 @@ use Rattle.map_model.specs.declared.place.ObjectPlace.{ObjectPlace}
 use Rattle.map_model.specs.Document.{DocumentParts, with_selection}
 use Rattle.map_model.specs.Layers.{layer_name, layer_with_name, layer_visible, layer_with_visible}
 use Rattle.map_model.specs.Lists.{change_at, change_first}
-use Rattle.map_model.specs.Objects.{objects_of, layer_with_objects, object_placing, object_with_placing}
+use Rattle.map_model.specs.Objects.{objects_of, layer_with_objects, object_place, object_placing, object_with_placing}
 use Rattle.map_model.specs.Parts.{has_id}
 
 -- a part of A: its value, where there is one, and A with a function of that value in its place
@@ -50,6 +50,15 @@ of_first test p = record { get = λ xs. option_and_then p.get (find test xs); up
 abbrev pub of_place : {A V : Type 0} → ℕ → Part A V → Part (List A) V
 of_place k p = record { get = λ xs. option_and_then p.get (slice_get xs k); update = λ f. change_at k (p.update f) }
 
+-- f put to use at the place that was found, where there is one
+abbrev pub update_found : {A K V : Type 0} → (K → Part A V) → (V → V) → A → Option K → A
+update_found p f a None = a
+update_found p f a (Some k) = (p k).update f a
+
+-- a part at the place that a look-up finds
+abbrev pub found : {A K V : Type 0} → (A → Option K) → (K → Part A V) → Part A V
+found place p = record { get = λ a. option_and_then (λ k. (p k).get a) (place a); update = λ f a. update_found p f a (place a) }
+
 -- ---- parts of a layer
 abbrev pub name : Part Layer (List ℕ)
 name = whole layer_name layer_with_name
@@ -81,6 +90,10 @@ layer_objects id = of_layer id objects
 -- a part of the object at a place
 abbrev pub of_object : {V : Type 0} → ObjectPlace → Part Object V → Part DocumentParts V
 of_object place p = of_layer place.layer (inner objects (of_place place.at p))
+
+-- the placing of the object with an id
+abbrev pub placing_with_id : ℕ → Part DocumentParts Placing
+placing_with_id id = found (λ d. object_place d.map id) (λ place. of_object place placing)
 
 -- the tilesets
 abbrev pub tilesets : Part DocumentParts (List Tileset)

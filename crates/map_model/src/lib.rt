@@ -18,6 +18,7 @@ mod owner;
 mod parts;
 mod place;
 mod properties;
+mod seek;
 mod selection;
 mod setting;
 mod sizes;
@@ -34,5 +35,5 @@ pub use parts::{
 };
 pub use place::{LayerPlace, ObjectPlace, OwnerPlace};
 pub use selection::SelectionMode;
-pub use setting::{Scalar, Setting};
+pub use setting::{GivenSetting, OwnedScalar, Scalar, Setting};
 pub use sizes::{is_size, is_tile_size};

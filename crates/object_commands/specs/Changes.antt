@@ -1,12 +1,17 @@
 -- What each command is and does.
-use Rattle.std.specs.Prelude.{ℕ, Bool, Some, codes}
-use Rattle.map_model.specs.Part.{of_object, placing}
+use Rattle.std.specs.Prelude.{◌≡◌, ℕ, Bool, Some, codes}
+use Rattle.map_model.specs.declared.parts.Placing.{Placing}
+use Rattle.map_model.specs.declared.place.ObjectPlace.{ObjectPlace}
+use Rattle.map_model.specs.Document.{DocumentParts}
+use Rattle.map_model.specs.Objects.{object_place}
+use Rattle.map_model.specs.Part.{placing_with_id}
 use Rattle.map_model.specs.Slot.{object_slot, next_object_slot}
 use Rattle.map_model.specs.WellFormed.{IsPlacing}
+use Rattle.command_api.specs.declared.ids.TheConstants.{MOVE_ID}
 use Rattle.command_api.specs.Law.{Change, Names, untagged, Never, WhenEqual}
 use Rattle.command_api.specs.Tag.{OfObject}
 use Rattle.command_api.specs.Exchange.{Exchange, change_of}
-use Rattle.command_api.specs.Swap.{swap_where}
+use Rattle.command_api.specs.Swap.{swap_shown}
 use Rattle.command_api.specs.Link.{link}
 use Rattle.object_commands.specs.declared.add.AddObject.{AddObject}
 use Rattle.object_commands.specs.declared.remove.RemoveObject.{RemoveObject}
@@ -39,7 +44,7 @@ abbrev pub move_object_names : ℕ → Bool → Names
 move_object_names id follows = record {
   text = codes "Move Object";
   action = codes "move object";
-  tag = Some (record { kind = 3; subject = OfObject id });
+  tag = Some (record { kind = MOVE_ID; subject = OfObject id });
   vanishing = WhenEqual;
   follows = follows;
 }
@@ -47,13 +52,20 @@ move_object_names id follows = record {
 abbrev pub resize_object_names : Names
 resize_object_names = untagged (codes "Resize Object") (codes "resize object") WhenEqual
 
-abbrev pub place_object_names : PlaceKind → Names
-place_object_names (Move id follows) = move_object_names id follows
-place_object_names Resize = resize_object_names
+-- a resize has no tag and follows nothing
+abbrev pub place_object_names : PlaceKind → ℕ → Bool → Names
+place_object_names Move id follows = move_object_names id follows
+place_object_names Resize id follows = resize_object_names
+
+-- the object with the id stands at the place, and may have the placing
+pub record AllowsPlacing (id : ℕ) (place : ObjectPlace) (d : DocumentParts) (p : Placing) : Type 0 where
+  pub stands : object_place d.map id ≡ Some place
+  pub placing : IsPlacing p
 
 -- the object's placing and the one that is held change places
 abbrev pub place_object_exchange : PlaceObject → Exchange
-place_object_exchange c = swap_where (place_object_names c.kind) (of_object c.place placing) (λ d p. IsPlacing p) c.is_same c.placing
+place_object_exchange c =
+    swap_shown (place_object_names c.kind c.object c.follows) (placing_with_id c.object) (AllowsPlacing c.object c.place) c.is_same c.is_made c.after c.placing
 
 abbrev pub place_object_change : PlaceObject → Change
 place_object_change c = change_of (place_object_exchange c)

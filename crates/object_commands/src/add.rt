@@ -1,4 +1,4 @@
-ghost use Rattle.std.specs.Prelude.{◌≡◌, Some, None, Ok, Err, IfOk, IfErr, MatchResult, if◌then◌else◌};
+ghost use Rattle.std.specs.Prelude.{◌≡◌, Some, None, Ok, Err, IfOk, IfErr, MatchResult, if◌then◌else◌, refl};
 ghost use Rattle.map_model.specs.NewMap.{new_object};
 ghost use Rattle.map_model.specs.Parts.{layer_of};
 ghost use Rattle.map_model.specs.WellFormed.{IsPixels};
@@ -7,7 +7,7 @@ ghost use Rattle.edits.specs.ObjectEdits.{after_add_object, is_object_size, obje
 ghost use Rattle.object_commands.specs.Changes.{add_object_change, add_object_exchange, add_object_names};
 
 use crate::size::sizes;
-use command_api::{Exchange, Label};
+use command_api::{Exchange, Label, Lone};
 use edits::EditFault;
 use link_chain::{Chain, Loose};
 use map_model::limits::{MAX_NEXT_ID, MAX_OBJECTS};
@@ -133,4 +133,8 @@ impl Exchange for AddObject {
             }
         }
     }
+}
+
+impl Lone for AddObject {
+    ghost alone = { λ x. record { tag = refl; follows = refl } };
 }

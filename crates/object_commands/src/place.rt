@@ -1,29 +1,36 @@
-ghost use Rattle.std.specs.Prelude.{◌≡◌, Err, IfOk, IfErr};
+ghost use Rattle.std.specs.Prelude.{◌≡◌, ◌↔◌, Err, IfOk, IfErr, IsTrue, Some};
 ghost use Rattle.map_model.specs.WellFormed.{IsPixels};
+ghost use Rattle.command_api.specs.declared.ids.TheConstants.{MOVE_ID};
 ghost use Rattle.command_api.specs.Making.{Makes};
+ghost use Rattle.command_api.specs.Tag.{OfObject};
 ghost use Rattle.edits.specs.ObjectEdits.{after_move_object, after_resize_object};
 ghost use Rattle.object_commands.specs.Changes.{move_object_names, place_object_change, place_object_exchange, resize_object_names};
 
 use crate::size::sizes;
-use command_api::{Exchange, Label};
+use command_api::ids::MOVE_ID;
+use command_api::{Command, Exchange, Label, Offer};
 use edits::EditFault;
 use map_model::{Document, ObjectPlace, Placing};
+use std::alloc::{AllocError, Global};
 
 /// A way to place an object.
 #[derive(Clone, Copy, PartialEq, Eq, Debug)]
 enum PlaceKind {
-    /// A move of the object with an id, and whether it follows the step before it.
-    Move(u32, bool),
+    Move,
     Resize,
 }
 
-/// An object is moved or resized. The command holds the placing that the object does not have.
+/// An object is moved or resized. The command holds the placing that the object does not have, and the one that it gives.
 #[derive(Drop)]
 pub struct PlaceObject {
-    kind: PlaceKind,
     place: ObjectPlace,
     placing: Placing,
-    // Whether the object's placing and the command's are the same.
+    after: Placing,
+    object: u32,
+    kind: PlaceKind,
+    follows: bool,
+    is_made: bool,
+    // Whether the object's placing before the change and the one that the command gives are the same.
     is_same: bool,
 }
 
@@ -52,9 +59,13 @@ impl PlaceObject {
             ..found.placing
         };
         Ok(PlaceObject {
-            kind: PlaceKind::Move(object, follows),
             place,
             placing,
+            after: placing,
+            object,
+            kind: PlaceKind::Move,
+            follows,
+            is_made: false,
             is_same: found.placing == placing,
         })
     }
@@ -84,9 +95,13 @@ impl PlaceObject {
             ..found.placing
         };
         Ok(PlaceObject {
-            kind: PlaceKind::Resize,
             place,
             placing,
+            after: placing,
+            object,
+            kind: PlaceKind::Resize,
+            follows: false,
+            is_made: false,
             is_same: found.placing == placing,
         })
     }
@@ -97,10 +112,10 @@ impl Exchange for PlaceObject {
 
     fn label(&self) -> Label {
         match self.kind {
-            PlaceKind::Move(_, _) => Label {
+            PlaceKind::Move => Label {
                 text: "Move Object",
                 action: "move object",
-                id: 3,
+                id: MOVE_ID as i32,
             },
             PlaceKind::Resize => Label::untagged("Resize Object", "resize object"),
         }
@@ -112,5 +127,76 @@ impl Exchange for PlaceObject {
 
     fn exchange(&mut self, document: &mut Document) {
         self.placing = document.set_placing(self.place, self.placing);
+        self.is_made = !self.is_made;
+    }
+}
+
+impl PlaceObject {
+    // Whether the command is a move of the object with an id.
+    fn moves(&self, object: u32) -> bool
+        ensures { IsTrue result ↔ ((place_object_exchange self.now).names.tag ≡ Some (record { kind = MOVE_ID; subject = OfObject object })) }
+    {
+        match self.kind {
+            PlaceKind::Move => object == self.object,
+            PlaceKind::Resize => false,
+        }
+    }
+}
+
+impl Command for PlaceObject {
+    ghost change = { place_object_change };
+
+    fn text(&self) -> &str {
+        self.label().text
+    }
+
+    fn action_text(&self) -> &str {
+        self.label().action
+    }
+
+    fn id(&self) -> i32 {
+        self.label().id
+    }
+
+    fn obsolete(&self) -> bool {
+        self.is_settled()
+    }
+
+    fn redo(&mut self, document: &mut Document) {
+        self.exchange(document)
+    }
+
+    fn undo(&mut self, document: &mut Document) {
+        self.exchange(document)
+    }
+
+    fn offer(&self) -> Offer<'_> {
+        match self.kind {
+            PlaceKind::Move if self.follows => Offer::Place {
+                object: self.object,
+                before: self.placing,
+                after: self.after,
+            },
+            _ => Offer::Nothing,
+        }
+    }
+
+    fn merge(
+        &mut self,
+        alloc: Global,
+        newer: &Offer<'_>,
+        document: &Document,
+    ) -> Result<bool, AllocError> {
+        let _ = alloc;
+        let _ = document;
+        let Offer::Place { object, after, .. } = newer else {
+            return Ok(false);
+        };
+        if !self.moves(*object) {
+            return Ok(false);
+        }
+        self.after = *after;
+        self.is_same = self.placing == self.after;
+        Ok(true)
     }
 }

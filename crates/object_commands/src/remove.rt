@@ -1,9 +1,9 @@
-ghost use Rattle.std.specs.Prelude.{◌≡◌, Err, IfOk, IfErr};
+ghost use Rattle.std.specs.Prelude.{◌≡◌, Err, IfOk, IfErr, refl};
 ghost use Rattle.command_api.specs.Making.{Makes};
 ghost use Rattle.edits.specs.ObjectEdits.{after_remove_object};
 ghost use Rattle.object_commands.specs.Changes.{remove_object_change, remove_object_exchange, remove_object_names};
 
-use command_api::{Exchange, Label};
+use command_api::{Exchange, Label, Lone};
 use edits::EditFault;
 use link_chain::Loose;
 use map_model::{Document, Object, ObjectPlace};
@@ -50,4 +50,8 @@ impl Exchange for RemoveObject {
             None => self.object = Some(document.take_object(self.place)),
         }
     }
+}
+
+impl Lone for RemoveObject {
+    ghost alone = { λ x. record { tag = refl; follows = refl } };
 }

@@ -13,7 +13,7 @@ use Rattle.map_model.proofs.CellEdits.{length-put_values}
 use Rattle.map_model.proofs.Turns.{HasTiles-with_tiles}
 use Rattle.edits.specs.declared.change.CellChange.{CellChange}
 use Rattle.edits.specs.Covering.{covered, covered_map}
-use Rattle.edits.specs.Difference.{difference_in}
+use Rattle.map_model.specs.Difference.{difference_in}
 use Rattle.edits.specs.Painting.{IsPainted}
 use Rattle.edits.proofs.Differences.{length-each_at}
 use Rattle.edits.proofs.Turns.{with_edits-after, with_edits-before, with_edits-again, with_edits-none, difference_in-same, difference_in-within}
@@ -55,6 +55,7 @@ painted-IsDifference made layer cells d formed h =
       exact = h.exact
           ∙ ap (λ (f : DocumentParts). difference_by made layer f.map e.map) (sym (painted-painted made layer cells d h))
           ∙ sym (difference_by-not made layer e (painted layer cells (side_of (not made)) e));
+      back = λ made_now. subst (λ (f : DocumentParts). IsWellFormed f.map) (sym (painted-painted made layer cells d h)) h.well_formed;
     }
 
 -- ---- nothing to do
@@ -104,6 +105,7 @@ module _ (d : DocumentParts) (id : ℕ) (after : Result DocumentParts EditFault)
     well_formed = is.well_formed;
     tiles = rw is.exact.layer is.tiles;
     exact = is.exact.cells ∙ ap (λ k. difference_in k d.map (covered_map id is.over d.map)) (sym is.exact.layer) ∙ ap (difference_in change.layer d.map) (sym turned);
+    back = λ made_now. cc;
   }
 
   new-document : after ≡ Ok (painted change.layer change.cells After d)

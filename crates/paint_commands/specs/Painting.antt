@@ -8,10 +8,11 @@ use Rattle.map_model.specs.Document.{DocumentParts, painted}
 use Rattle.map_model.specs.Parts.{HasTiles}
 use Rattle.map_model.specs.WellFormed.{IsWellFormed}
 use Rattle.edits.specs.declared.change.CellChange.{CellChange}
-use Rattle.edits.specs.Difference.{difference_in}
+use Rattle.map_model.specs.Difference.{difference_in}
 use Rattle.command_api.specs.Exchange.{Exchange, change_of}
 use Rattle.command_api.specs.Law.{Change, Names, WhenEqual, untagged}
 use Rattle.command_api.specs.Tag.{OfLayer}
+use Rattle.command_api.specs.declared.ids.TheConstants.{STAMP_ID, ERASE_ID}
 use Rattle.paint_commands.specs.declared.paint.PaintCommand.{PaintCommand}
 use Rattle.paint_commands.specs.declared.paint.PaintKind.{PaintKind}
 use Rattle.paint_commands.specs.declared.paint.PaintKind.TheVariants.{Stamp, Erase, Fill}
@@ -21,7 +22,7 @@ abbrev pub stamp_names : ℕ → Bool → Names
 stamp_names layer follows = record {
   text = codes "Stamp";
   action = codes "stamp tiles";
-  tag = Some (record { kind = 1; subject = OfLayer layer });
+  tag = Some (record { kind = STAMP_ID; subject = OfLayer layer });
   vanishing = WhenEqual;
   follows = follows;
 }
@@ -31,7 +32,7 @@ abbrev pub erase_names : ℕ → Bool → Names
 erase_names layer follows = record {
   text = codes "Erase";
   action = codes "erase tiles";
-  tag = Some (record { kind = 2; subject = OfLayer layer });
+  tag = Some (record { kind = ERASE_ID; subject = OfLayer layer });
   vanishing = WhenEqual;
   follows = follows;
 }
@@ -56,11 +57,13 @@ abbrev pub difference_by : Bool → ℕ → MapParts → MapParts → List CellE
 difference_by false layer here there = difference_in layer here there
 difference_by true layer here there = difference_in layer there here
 
--- the well-formed document has the tile layer, and the cells are the difference of it and the turned one there
+-- the well-formed document has the tile layer, and the cells are the difference of it and the turned one there; that of
+-- a paint that is made, the one before it, is well formed too
 pub record IsDifference (made : Bool) (layer : ℕ) (cells : List CellEdit) (d : DocumentParts) : Type 0 where
   pub well_formed : IsWellFormed d.map
   pub tiles : HasTiles d.map layer
   pub exact : cells ≡ difference_by made layer d.map (painted layer cells (side_of made) d).map
+  pub back : made ≡ true → IsWellFormed (painted layer cells (side_of made) d).map
 
 -- what a paint command does: it fits the documents of which its cells are the difference to the turned one
 abbrev pub paint_exchange : PaintCommand → Exchange

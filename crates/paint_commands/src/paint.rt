@@ -1,19 +1,22 @@
-ghost use Rattle.std.specs.Prelude.{◌≡◌, IfOk, IfErr};
+ghost use Rattle.std.specs.Prelude.{◌≡◌, ◌↔◌, IfOk, IfErr, IsTrue, Some};
 ghost use Rattle.map_model.specs.CellEdits.{AreInRowOrder};
 ghost use Rattle.map_model.specs.Document.{DocumentParts};
 ghost use Rattle.edits.specs.Blocks.{block_of};
-ghost use Rattle.edits.specs.Difference.{difference_in};
+ghost use Rattle.map_model.specs.Difference.{difference_in};
 ghost use Rattle.edits.specs.Filling.{after_fill};
 ghost use Rattle.edits.specs.Stamping.{after_erase, after_stamp, IsBlock};
+ghost use Rattle.command_api.specs.Tag.{OfLayer};
 ghost use Rattle.command_api.specs.Making.{IsRefusalOf, Makes};
 ghost use Rattle.paint_commands.specs.Painting.{erase_names, fill_names, new_paint, paint_change, paint_exchange, painted_layer, side_of, stamp_names};
 
-use command_api::{Exchange, Label};
+use command_api::ids::{ERASE_ID, STAMP_ID};
+use command_api::{Command, Exchange, Label, Offer};
 use edits::{
-    Area, Block, CellChange, CellEdits, EditFault, erase_change, fill_change, stamp_change,
+    Area, Block, CellChange, CellEdits, EditFault, erase_change, fill_change, joined_cells,
+    stamp_change,
 };
 use map_model::{CellEdit, Document, Side};
-use std::alloc::Global;
+use std::alloc::{AllocError, Global};
 use tile_id::Gid;
 
 /// A way to paint.
@@ -140,12 +143,12 @@ impl Exchange for PaintCommand {
             PaintKind::Stamp => Label {
                 text: "Stamp",
                 action: "stamp tiles",
-                id: 1,
+                id: STAMP_ID as i32,
             },
             PaintKind::Erase => Label {
                 text: "Erase",
                 action: "erase tiles",
-                id: 2,
+                id: ERASE_ID as i32,
             },
             PaintKind::Fill => Label::untagged("Fill", "fill area"),
         }
@@ -159,5 +162,83 @@ impl Exchange for PaintCommand {
         let side = side_to_put(self.is_made);
         document.put_edits(self.layer, self.cells.as_slice(), side);
         self.is_made = !self.is_made;
+    }
+}
+
+impl PaintCommand {
+    // Whether the paint has the tag with this id and layer.
+    fn has_tag(&self, id: u32, layer: u32) -> bool
+        ensures { IsTrue result ↔ ((paint_exchange self.now).names.tag ≡ Some (record { kind = id; subject = OfLayer layer })) }
+    {
+        match self.kind {
+            PaintKind::Stamp => id == STAMP_ID && layer == self.layer,
+            PaintKind::Erase => id == ERASE_ID && layer == self.layer,
+            PaintKind::Fill => false,
+        }
+    }
+}
+
+impl Command for PaintCommand {
+    ghost change = { paint_change };
+
+    fn text(&self) -> &str {
+        self.label().text
+    }
+
+    fn action_text(&self) -> &str {
+        self.label().action
+    }
+
+    fn id(&self) -> i32 {
+        self.label().id
+    }
+
+    fn obsolete(&self) -> bool {
+        self.is_settled()
+    }
+
+    fn redo(&mut self, document: &mut Document) {
+        self.exchange(document)
+    }
+
+    fn undo(&mut self, document: &mut Document) {
+        self.exchange(document)
+    }
+
+    fn offer(&self) -> Offer<'_> {
+        if !self.follows {
+            return Offer::Nothing;
+        }
+        match self.kind {
+            PaintKind::Stamp => Offer::Cells {
+                id: STAMP_ID,
+                layer: self.layer,
+                cells: self.cells.as_slice(),
+            },
+            PaintKind::Erase => Offer::Cells {
+                id: ERASE_ID,
+                layer: self.layer,
+                cells: self.cells.as_slice(),
+            },
+            PaintKind::Fill => Offer::Nothing,
+        }
+    }
+
+    fn merge(
+        &mut self,
+        alloc: Global,
+        newer: &Offer<'_>,
+        document: &Document,
+    ) -> Result<bool, AllocError> {
+        let _ = document;
+        let Offer::Cells { id, layer, cells } = newer else {
+            return Ok(false);
+        };
+        if !self.has_tag(*id, *layer) {
+            return Ok(false);
+        }
+        let joined = joined_cells(alloc, self.cells.as_slice(), cells)?;
+        self.cells = CellEdits::new(joined);
+        Ok(true)
     }
 }

@@ -1,9 +1,9 @@
-ghost use Rattle.std.specs.Prelude.{IfOk, IfErr};
+ghost use Rattle.std.specs.Prelude.{IfOk, IfErr, refl};
 ghost use Rattle.command_api.specs.Making.{IsRefusalOf, Makes};
 ghost use Rattle.edits.specs.Selecting.{after_select};
 ghost use Rattle.paint_commands.specs.Selection.{select_change, select_exchange, select_names};
 
-use command_api::{Exchange, Label};
+use command_api::{Exchange, Label, Lone};
 use edits::{EditFault, Selecting, selected};
 use map_model::Document;
 use region::Region;
@@ -53,4 +53,8 @@ impl Exchange for SelectCommand {
     fn exchange(&mut self, document: &mut Document) {
         document.swap_selection(&mut self.selection);
     }
+}
+
+impl Lone for SelectCommand {
+    ghost alone = { λ x. record { tag = refl; follows = refl } };
 }

@@ -1,2 +1,3 @@
 pub mod PropertyMaking
 pub mod TilesetsAdded
+pub mod Settings

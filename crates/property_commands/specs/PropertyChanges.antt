@@ -1,13 +1,18 @@
 -- What each command of properties is and does.
-use Rattle.std.specs.Prelude.{ℕ, List, Bool, Some, codes}
+use Rattle.std.specs.Prelude.{◌≡◌, ◌↔◌, ℕ, List, length, Bool, false, Option, Some, None, is_none, IsSomeAnd, IsTrue, codes}
 use Rattle.map_model.specs.declared.owner.Owner.{Owner}
+use Rattle.map_model.specs.declared.parts.Property.{Property}
 use Rattle.map_model.specs.declared.place.OwnerPlace.{OwnerPlace}
-use Rattle.map_model.specs.Properties.{IsSetting}
-use Rattle.map_model.specs.PropertyParts.{property_slot, setting_at}
+use Rattle.map_model.specs.declared.setting.Setting.{Setting}
+use Rattle.map_model.specs.Document.{DocumentParts, with_map}
+use Rattle.map_model.specs.Given.{given_setting}
+use Rattle.map_model.specs.Properties.{IsSetting, new_property, owner_place, properties_of, property_at, property_place, without_property_at}
+use Rattle.map_model.specs.PropertyParts.{property_slot, setting_named, setting_place}
+use Rattle.command_api.specs.declared.ids.TheConstants.{SET_ID}
 use Rattle.command_api.specs.Law.{Change, Names, untagged, Never, WhenEqual}
 use Rattle.command_api.specs.Exchange.{Exchange, change_of}
-use Rattle.command_api.specs.Swap.{swap_where}
-use Rattle.command_api.specs.Link.{link}
+use Rattle.command_api.specs.Swap.{swap_shown}
+use Rattle.command_api.specs.Link.{link, linked, FitsLink}
 use Rattle.command_api.specs.Tag.{OfName}
 use Rattle.property_commands.specs.declared.remove.RemoveProperty.{RemoveProperty}
 use Rattle.property_commands.specs.declared.set.PropertySet.{PropertySet}
@@ -20,18 +25,49 @@ abbrev pub set_property_names : Owner → List ℕ → Bool → Names
 set_property_names owner name follows = record {
   text = codes "Set Property";
   action = codes "set property";
-  tag = Some (record { kind = 4; subject = OfName owner name });
+  tag = Some (record { kind = SET_ID; subject = OfName owner name });
   vanishing = WhenEqual;
   follows = follows;
 }
 
+-- the owner's property with the name stands at the place, and may have the setting
+pub record AllowsSetting (owner : Owner) (name : List ℕ) (place : OwnerPlace) (at : ℕ) (d : DocumentParts) (s : Setting) : Type 0 where
+  pub stands : setting_place owner name d ≡ Some (place, at)
+  pub setting : IsSetting place s
+
+-- the owner stands at the place, and has so many properties, none of them with the name
+pub record IsNewAt (owner : Owner) (name : List ℕ) (place : OwnerPlace) (at : ℕ) (d : DocumentParts) : Type 0 where
+  pub stands : owner_place d.map owner ≡ Some place
+  pub new : property_place d.map place name ≡ None
+  pub last : IsSomeAnd (properties_of d.map place) (λ ps. length ps ≡ at)
+
+-- the property that is held is new with the setting, or the one that stands last, where none is held, is
+abbrev pub IsNew : Owner → List ℕ → OwnerPlace → ℕ → Setting → Option (Option Property) → DocumentParts → Type 0
+IsNew owner name place at s None d = (property_at d.map place at ≡ Some (new_property name s)) × IsNewAt owner name place at (with_map (without_property_at place at) d)
+IsNew owner name place at s (Some loose) d = (loose ≡ Some (new_property name s)) × IsNewAt owner name place at d
+
+-- a link of a new property, that has the setting
+pub record FitsNewLink (owner : Owner) (name : List ℕ) (place : OwnerPlace) (at : ℕ) (s : Setting) (held : Option (Option Property)) (d : DocumentParts) : Type 0 where
+  pub link : FitsLink (property_slot place at) held d
+  pub new : IsNew owner name place at s held d
+
+-- a new property is put in last and taken out; this is never obsolete
+abbrev pub new_link : Names → Owner → List ℕ → OwnerPlace → ℕ → Setting → Option (Option Property) → Exchange
+new_link names owner name place at s held = record {
+  names = names;
+  obsolete = false;
+  made = Some (is_none held);
+  exchanged = linked (property_slot place at) held;
+  fits = FitsNewLink owner name place at s held;
+}
+
 -- the type and the value of a property that is there are exchanged, or a new property is put in and taken out
-abbrev pub set_kind_exchange : Names → OwnerPlace → ℕ → SetKind → Exchange
-set_kind_exchange names owner at (Replace setting is_same) = swap_where names (setting_at owner at) (λ d s. IsSetting owner s) is_same setting
-set_kind_exchange names owner at (Add property) = link names (property_slot owner at) property
+abbrev pub set_kind_exchange : Names → Owner → List ℕ → OwnerPlace → ℕ → Setting → SetKind → Exchange
+set_kind_exchange names owner name place at s (Replace setting is_made is_same) = swap_shown names (setting_named owner name) (AllowsSetting owner name place at) is_same is_made s setting
+set_kind_exchange names owner name place at s (Add property) = new_link names owner name place at s property
 
 abbrev pub property_set_exchange : PropertySet → Exchange
-property_set_exchange s = set_kind_exchange (set_property_names s.owner s.name s.follows) s.place s.at s.kind
+property_set_exchange s = set_kind_exchange (set_property_names s.owner s.name s.follows) s.owner s.name s.place s.at (given_setting s.shown) s.kind
 
 abbrev pub property_set_change : PropertySet → Change
 property_set_change s = change_of (property_set_exchange s)
@@ -41,6 +77,16 @@ set_property_exchange c = property_set_exchange c.set.value
 
 abbrev pub set_property_change : SetProperty → Change
 set_property_change c = change_of (set_property_exchange c)
+
+-- the type and the value from before that a kind of setting shows
+abbrev pub before_of : SetKind → Option Setting
+before_of (Replace setting is_made is_same) = Some setting
+before_of (Add property) = None
+
+-- the same kind of setting, for another one that is given: one that replaces is the same where it holds that one
+abbrev pub IsKindFor : Setting → SetKind → SetKind → Type 0
+IsKindFor s (Replace setting is_made is_same) kind = (told : Bool) × ((kind ≡ Replace setting is_made told) × (IsTrue told ↔ setting ≡ s))
+IsKindFor s (Add property) kind = kind ≡ Add property
 
 -- ---- remove
 abbrev pub remove_property_names : Names

@@ -1,9 +1,10 @@
 // What is held, or stands in its place.
+ghost use Rattle.std.specs.Prelude.{◌≡◌};
 ghost use Rattle.map_model.specs.PropertyParts.{property_slot};
 ghost use Rattle.map_model.specs.Slot.{tileset_slot};
 ghost use Rattle.command_api.specs.Exchange.{IsExchanged};
 ghost use Rattle.command_api.specs.Law.{Names};
-ghost use Rattle.command_api.specs.Link.{FitsLink, link};
+ghost use Rattle.command_api.specs.Link.{FitsLink, link, turned_link};
 
 use link_chain::Loose;
 use map_model::{Document, OwnerPlace, Property, Tileset};
@@ -16,7 +17,8 @@ pub fn exchange_property(
     held: &mut Option<Loose<Property>>,
 )
     requires { FitsLink (property_slot owner at) held.old document.old }
-    ensures { (names : Names) → IsExchanged (link names (property_slot owner at) held.old) (link names (property_slot owner at) held.new) document.old document.new }
+    ensures exchanged { (names : Names) → IsExchanged (link names (property_slot owner at) held.old) (link names (property_slot owner at) held.new) document.old document.new }
+    ensures held { held.new ≡ turned_link (property_slot owner at) held.old document.old }
 {
     match held.take() {
         Some(property) => document.insert_property(owner, at, property),

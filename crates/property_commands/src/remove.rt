@@ -1,11 +1,11 @@
-ghost use Rattle.std.specs.Prelude.{◌≡◌, Err, IfOk, IfErr};
+ghost use Rattle.std.specs.Prelude.{◌≡◌, Err, IfOk, IfErr, refl};
 ghost use Rattle.command_api.specs.Making.{Makes};
 ghost use Rattle.edits.specs.PropertyEdits.{after_remove_property};
 ghost use Rattle.property_commands.specs.PropertyChanges.{remove_property_change, remove_property_exchange, remove_property_names};
 
 use crate::link::exchange_property;
 use crate::owners::place_of;
-use command_api::{Exchange, Label};
+use command_api::{Exchange, Label, Lone};
 use edits::EditFault;
 use link_chain::Loose;
 use map_model::{Document, Owner, OwnerPlace, Property};
@@ -54,4 +54,8 @@ impl Exchange for RemoveProperty {
     fn exchange(&mut self, document: &mut Document) {
         exchange_property(document, self.owner, self.at, &mut self.property);
     }
+}
+
+impl Lone for RemoveProperty {
+    ghost alone = { λ x. record { tag = refl; follows = refl } };
 }

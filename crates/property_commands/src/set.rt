@@ -1,27 +1,50 @@
-ghost use Rattle.std.specs.Prelude.{◌≡◌, Some, IfOk, IfErr};
+ghost use Rattle.std.specs.Prelude.{◌≡◌, ◌↔◌, Some, IfOk, IfErr, IsTrue};
+ghost use Rattle.std.specs.Option.{option_copied};
 ghost use Rattle.map_model.specs.declared.place.OwnerPlace.{OwnerPlace};
+ghost use Rattle.map_model.specs.Given.{given_setting};
 ghost use Rattle.map_model.specs.Properties.{new_property, scalar_value, setting_with, IsSetting};
+ghost use Rattle.command_api.specs.declared.ids.TheConstants.{SET_ID};
 ghost use Rattle.command_api.specs.Exchange.{FitsExchange, IsExchanged};
 ghost use Rattle.command_api.specs.Making.{IsRefusalOf, Makes};
+ghost use Rattle.command_api.specs.Offers.{IsOfferOf};
+ghost use Rattle.command_api.specs.Tag.{OfName};
 ghost use Rattle.edits.specs.PropertyEdits.{after_set_property};
-ghost use Rattle.property_commands.specs.PropertyChanges.{property_set_change, property_set_exchange, set_property_change, set_property_exchange, set_property_names};
+ghost use Rattle.property_commands.specs.PropertyChanges.{IsKindFor, before_of, property_set_change, property_set_exchange, set_property_change, set_property_exchange, set_property_names};
 
 use crate::link::exchange_property;
 use crate::owners::place_of;
-use command_api::{Exchange, Label};
+use command_api::ids::SET_ID;
+use command_api::{Command, Exchange, Label, Offer};
 use edits::EditFault;
 use link_chain::Loose;
 use map_model::limits::MAX_PROPERTIES;
-use map_model::{Document, MapText, Owner, OwnerPlace, Property, Scalar, Setting};
+use map_model::{Document, GivenSetting, MapText, Owner, OwnerPlace, Property, Scalar, Setting};
 use std::alloc::{AllocError, Global};
 
 /// How a property is set.
 #[derive(Drop)]
 enum SetKind {
-    /// The type and the value that the property does not have, and whether they are those that it has.
-    Replace(Setting, bool),
+    /// The type and the value that the property does not have, whether the command is made, and whether they are those
+    /// that it gives.
+    Replace {
+        setting: Setting,
+        is_made: bool,
+        is_same: bool,
+    },
     /// A new property, while it is not in the map.
     Add(Option<Loose<Property>>),
+}
+
+impl SetKind {
+    // The type and the value from before, where the property was there.
+    fn before(&self) -> Option<&Setting>
+        ensures { option_copied result ≡ before_of self.now }
+    {
+        match self {
+            SetKind::Replace { setting, .. } => Some(setting),
+            SetKind::Add(_) => None,
+        }
+    }
 }
 
 // What is set, and how.
@@ -32,6 +55,8 @@ struct PropertySet {
     follows: bool,
     place: OwnerPlace,
     at: usize,
+    // The type and the value that the property gets.
+    shown: GivenSetting,
     kind: SetKind,
 }
 
@@ -91,8 +116,15 @@ impl PropertySet {
                 let Ok(setting) = Setting::new(alloc, kind, value) else {
                     return Err(EditFault::NoMemory);
                 };
-                let kind = SetKind::Replace(setting, is_same);
-                named(alloc, owner, name, follows, place, at, kind)
+                let Ok(shown) = GivenSetting::new(alloc, kind, value) else {
+                    return Err(EditFault::NoMemory);
+                };
+                let kind = SetKind::Replace {
+                    setting,
+                    is_made: false,
+                    is_same,
+                };
+                named(alloc, owner, name, follows, place, at, shown, kind)
             }
             None => {
                 let Some(properties) = map.properties(place) else {
@@ -105,8 +137,11 @@ impl PropertySet {
                 let Ok(property) = loose_property(alloc, name, kind, value) else {
                     return Err(EditFault::NoMemory);
                 };
+                let Ok(shown) = GivenSetting::new(alloc, kind, value) else {
+                    return Err(EditFault::NoMemory);
+                };
                 let kind = SetKind::Add(Some(property));
-                named(alloc, owner, name, follows, place, at, kind)
+                named(alloc, owner, name, follows, place, at, shown, kind)
             }
         }
     }
@@ -120,9 +155,10 @@ fn named(
     follows: bool,
     place: OwnerPlace,
     at: usize,
+    shown: GivenSetting,
     kind: SetKind,
 ) -> Result<PropertySet, EditFault>
-    ensures ok { IfOk result (λ c. c ≡ record { owner = owner; name = name.now; follows = follows; place = place; at = at; kind = kind }) }
+    ensures ok { IfOk result (λ c. c ≡ record { owner = owner; name = name.now; follows = follows; place = place; at = at; shown = shown; kind = kind }) }
     ensures err { IfErr result (λ fault. fault ≡ EditFault.NoMemory) }
 {
     match String::from_str(alloc, name) {
@@ -132,6 +168,7 @@ fn named(
             follows,
             place,
             at,
+            shown,
             kind,
         }),
         Err(_) => Err(EditFault::NoMemory),
@@ -160,7 +197,7 @@ impl Exchange for SetProperty {
         Label {
             text: "Set Property",
             action: "set property",
-            id: 4,
+            id: SET_ID as i32,
         }
     }
 
@@ -173,15 +210,79 @@ impl Exchange for SetProperty {
     }
 }
 
+impl Command for SetProperty {
+    ghost change = { set_property_change };
+
+    fn text(&self) -> &str {
+        self.label().text
+    }
+
+    fn action_text(&self) -> &str {
+        self.label().action
+    }
+
+    fn id(&self) -> i32 {
+        self.label().id
+    }
+
+    fn obsolete(&self) -> bool {
+        self.is_settled()
+    }
+
+    fn redo(&mut self, document: &mut Document) {
+        self.exchange(document)
+    }
+
+    fn undo(&mut self, document: &mut Document) {
+        self.exchange(document)
+    }
+
+    fn offer(&self) -> Offer<'_> {
+        self.set.offer()
+    }
+
+    fn merge(
+        &mut self,
+        alloc: Global,
+        newer: &Offer<'_>,
+        document: &Document,
+    ) -> Result<bool, AllocError> {
+        let _ = document;
+        let Offer::Value {
+            owner,
+            name,
+            kind,
+            value,
+            ..
+        } = newer
+        else {
+            return Ok(false);
+        };
+        if !self.set.sets(*owner, name) {
+            return Ok(false);
+        }
+        let shown = GivenSetting::new(alloc, kind, *value)?;
+        self.set.show(shown);
+        Ok(true)
+    }
+}
+
 impl PropertySet {
     // Whether the property has this type and value already.
     fn is_settled(&self) -> bool
         ensures { result ≡ (property_set_exchange self.now).obsolete }
     {
         match &self.kind {
-            SetKind::Replace(_, is_same) => *is_same,
+            SetKind::Replace { is_same, .. } => *is_same,
             SetKind::Add(_) => false,
         }
+    }
+
+    // Whether this sets the owner's property with a name.
+    fn sets(&self, owner: Owner, name: &str) -> bool
+        ensures { IsTrue result ↔ ((property_set_exchange self.now).names.tag ≡ Some (record { kind = SET_ID; subject = OfName owner name.now })) }
+    {
+        owner == self.owner && name == self.name.as_str()
     }
 
     // Exchanges what is held and the property.
@@ -190,10 +291,47 @@ impl PropertySet {
         ensures { IsExchanged (property_set_exchange self.old) (property_set_exchange self.new) document.old document.new }
     {
         match &mut self.kind {
-            SetKind::Replace(setting, _) => {
+            SetKind::Replace {
+                setting,
+                is_made,
+                ..
+            } => {
                 document.swap_setting(self.place, self.at, setting);
+                *is_made = !*is_made;
             }
             SetKind::Add(held) => exchange_property(document, self.place, self.at, held),
         }
+    }
+
+    // What is shown to the step before: the type and the value, and those of before, where there were some.
+    fn offer(&self) -> Offer<'_>
+        ensures { IsOfferOf (property_set_change self.now) result }
+    {
+        if !self.follows {
+            return Offer::Nothing;
+        }
+        Offer::Value {
+            owner: self.owner,
+            name: self.name.as_str(),
+            before: self.kind.before(),
+            kind: self.shown.kind(),
+            value: self.shown.value(),
+        }
+    }
+
+    // Shows another type and value than before: those that the property has got since.
+    fn show(&mut self, shown: GivenSetting)
+        ensures rest { self.new ≡ record self.old { shown = shown; kind = self.new.kind } }
+        ensures kind { IsKindFor (given_setting shown) self.old.kind self.new.kind }
+    {
+        if let SetKind::Replace {
+            setting,
+            is_same,
+            ..
+        } = &mut self.kind
+        {
+            *is_same = setting.is_given(shown.kind(), shown.value());
+        }
+        self.shown = shown;
     }
 }

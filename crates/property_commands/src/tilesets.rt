@@ -1,11 +1,11 @@
-ghost use Rattle.std.specs.Prelude.{◌≡◌, Some, Err, IfOk, IfErr};
+ghost use Rattle.std.specs.Prelude.{◌≡◌, Some, Err, IfOk, IfErr, refl};
 ghost use Rattle.map_model.specs.NewMap.{external_tileset};
 ghost use Rattle.command_api.specs.Making.{IsRefusalOf, Makes};
 ghost use Rattle.edits.specs.TilesetEdits.{after_add_tileset, after_remove_tileset, is_above};
 ghost use Rattle.property_commands.specs.TilesetChanges.{add_tileset_change, add_tileset_exchange, add_tileset_names, remove_tileset_change, remove_tileset_exchange, remove_tileset_names};
 
 use crate::link::exchange_tileset;
-use command_api::{Exchange, Label};
+use command_api::{Exchange, Label, Lone};
 use edits::EditFault;
 use link_chain::{Chain, Loose};
 use map_model::limits::{MAX_FIRST_ID, MAX_TILESETS};
@@ -87,6 +87,10 @@ impl Exchange for AddTileset {
     }
 }
 
+impl Lone for AddTileset {
+    ghost alone = { λ x. record { tag = refl; follows = refl } };
+}
+
 /// A tileset that nothing uses is removed. While it is not in the map, the command owns it, and puts it back at its old
 /// place.
 #[derive(Drop)]
@@ -128,4 +132,8 @@ impl Exchange for RemoveTileset {
     fn exchange(&mut self, document: &mut Document) {
         exchange_tileset(document, self.at, &mut self.tileset);
     }
+}
+
+impl Lone for RemoveTileset {
+    ghost alone = { λ x. record { tag = refl; follows = refl } };
 }

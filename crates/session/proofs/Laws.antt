@@ -14,7 +14,7 @@ use Rattle.map_model.specs.declared.selection.SelectionMode.TheVariants.{Replace
 use Rattle.session.specs.declared.line.LineFault.{LineFault}
 use Rattle.session.specs.Words.{words}
 use Rattle.session.specs.Grammar.{Gives, read, line_form, is_quiet, line_of}
-use Rattle.session.specs.Spelling.{joined_by_bars, Token, Fixed, Given, Rest, RestTexts, Unspelled, tokens, has_block, token_words, spaced, spelling, IsToken, Says, CanBeSpelled, SpelledIsRead, ReadIsSpelled, QuietIsRead, LongIsNotRead}
+use Rattle.session.specs.Spelling.{joined_by_bars, Token, Fixed, Given, Rest, RestTexts, tokens, has_block, token_words, spaced, spelling, IsToken, Says, CanBeSpelled, SpelledIsRead, ReadIsSpelled, QuietIsRead, LongIsNotRead}
 use Rattle.session.proofs.SpacedWords.{Clean, clean, clean_words, utf8-joined, plain_literal, words-spaced, utf8-spaced}
 use Rattle.session.proofs.SpelledFields.{clean_field}
 use Rattle.session.proofs.Lengths.{room, is_short}
@@ -38,7 +38,6 @@ clean_tokens (Fixed word ∷ ts) e h = let both = and_parts _ _ e in (clean word
 clean_tokens (Given kind value ∷ ts) e h = clean_append _ (flat_map token_words ts) (clean_field kind value h.0) (clean_tokens ts e h.1)
 clean_tokens (Rest text ∷ ts) e h = clean_append _ (flat_map token_words ts) (clean_words text h.0.utf8) (clean_tokens ts e h.1)
 clean_tokens (RestTexts text action ∷ ts) e h = clean_append _ (flat_map token_words ts) (clean_words (joined_by_bars text action) (utf8-joined text action h.0)) (clean_tokens ts e h.1)
-clean_tokens (Unspelled ∷ ts) e h = absurd h.0
 
 -- the parts begin with a word that neither a blank line nor a comment begins with
 abbrev is_loud : List Token → Bool
@@ -56,7 +55,6 @@ loud (Fixed (b ∷ word) ∷ ts) h = not_quiet b word (flat_map token_words ts) 
 loud (Given kind value ∷ ts) h = absurd cc
 loud (Rest text ∷ ts) h = absurd cc
 loud (RestTexts text action ∷ ts) h = absurd cc
-loud (Unspelled ∷ ts) h = absurd cc
 
 -- what is found of each line by computing
 record Row (line : Line) : Type 0 where
@@ -70,20 +68,16 @@ record Row (line : Line) : Type 0 where
 
 abbrev RowOf : Line → Type 0
 RowOf Quiet = Unit {0}
-RowOf (Stamp layer x y width values true) = Unit {0}
-RowOf (Erase layer x y width height true) = Unit {0}
-RowOf (MoveObject object x y true) = Unit {0}
-RowOf (SetProperty owner name value true) = Unit {0}
 RowOf line = Row line
 
 row : (line : Line) → RowOf line
 row Quiet = tt
-row (Stamp layer x y width values true) = tt
-row (Erase layer x y width height true) = tt
-row (MoveObject object x y true) = tt
-row (SetProperty owner name value true) = tt
+row (Stamp layer x y width values true) = record { follows = refl; plain = refl; loud = refl; few = refl; first = _; more = _; words = refl }
+row (Erase layer x y width height true) = record { follows = refl; plain = refl; loud = refl; few = refl; first = _; more = _; words = refl }
+row (MoveObject object x y true) = record { follows = refl; plain = refl; loud = refl; few = refl; first = _; more = _; words = refl }
 row (Select Replace x y width height) = record { follows = refl; plain = refl; loud = refl; few = refl; first = _; more = _; words = refl }
-row (SetProperty owner name (typed.String text) false) = record { follows = refl; plain = refl; loud = refl; few = refl; first = _; more = _; words = refl }
+row (SetProperty owner name (typed.String text) true) = record { follows = refl; plain = refl; loud = refl; few = refl; first = _; more = _; words = refl }
+row (SetProperty owner name value true) = record { follows = refl; plain = refl; loud = refl; few = refl; first = _; more = _; words = refl }
 row line = record { follows = refl; plain = refl; loud = refl; few = refl; first = _; more = _; words = refl }
 
 row_is_read : (line : Line) → Row line → CanBeSpelled line → line_of (spelling line) ≡ Ok line
@@ -98,10 +92,6 @@ row_is_read line r h =
 
 pub spelled_is_read : SpelledIsRead
 spelled_is_read Quiet h = checked [] (omega arith) IsUtf8-nil
-spelled_is_read (Stamp layer x y width values true) h = absurd h.0.0
-spelled_is_read (Erase layer x y width height true) h = absurd h.0.0
-spelled_is_read (MoveObject object x y true) h = absurd h.0.1.0
-spelled_is_read (SetProperty owner name value true) h = absurd h.0.1.0
 spelled_is_read line h = row_is_read line (row line) h
 
 agrees : Agrees line_form (λ ts. ts)

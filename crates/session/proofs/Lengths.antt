@@ -14,7 +14,7 @@ use Rattle.map_model.specs.declared.owner.Owner.TheVariants as owners
 use Rattle.session.specs.declared.limits.TheConstants.{MAX_LINE, MAX_DOCUMENT_NAME, MAX_FILE_NAME, MAX_TEXT, MAX_KEY}
 use Rattle.session.specs.Words.{words, bars, is_color, is_color_digit}
 use Rattle.session.specs.Grammar.{FieldKind, Number, Coordinate, Block, Name, File, Choice, LayerSort, YesNo, Truth, Key, Color, OwnerName, FieldValue}
-use Rattle.session.specs.Spelling.{Token, Fixed, Given, Rest, RestTexts, Unspelled, token_words, field_words, has_block, layer_kind_word, yes_no_word, truth_word, owner_word, spaced, joined_by_bars, AreTexts, IsNumber, IsOwner, IsCoordinate, IsField, IsToken}
+use Rattle.session.specs.Spelling.{Token, Fixed, Given, Rest, RestTexts, token_words, field_words, has_block, layer_kind_word, yes_no_word, truth_word, owner_word, spaced, joined_by_bars, AreTexts, IsNumber, IsOwner, IsCoordinate, IsField, IsToken}
 
 -- no fewer than the bytes of a field's words
 abbrev field_room : FieldKind → ℕ
@@ -38,7 +38,6 @@ room (Fixed word ∷ ts) = length word + 1 + room ts
 room (Given kind value ∷ ts) = field_room kind + 1 + room ts
 room (Rest text ∷ ts) = MAX_TEXT + 1 + room ts
 room (RestTexts text action ∷ ts) = MAX_TEXT + length bars + MAX_TEXT + 1 + room ts
-room (Unspelled ∷ ts) = room ts
 
 -- the bytes of words, each with a space behind it
 total : List (List ℕ) → ℕ
@@ -128,7 +127,6 @@ tokens_within (Fixed word ∷ ts) h r = omega (arith, tokens_within ts h.1 (omeg
 tokens_within (Given kind value ∷ ts) h r = omega (arith, total-append (field_words kind value) (flat_map token_words ts), field_within kind value h.0 (omega (arith, r)), tokens_within ts h.1 (omega (arith, r)))
 tokens_within (Rest text ∷ ts) h r = omega (arith, total-append (words text) (flat_map token_words ts), total-words text, h.0.short, tokens_within ts h.1 (omega (arith, r)))
 tokens_within (RestTexts text action ∷ ts) h r = omega (arith, total-append (words (joined_by_bars text action)) (flat_map token_words ts), total-words (joined_by_bars text action), joined_within text action h.0, tokens_within ts h.1 (omega (arith, r)))
-tokens_within (Unspelled ∷ ts) h r = absurd h.0
 
 -- parts without a block are short, and with one they have to be
 pub is_short : (ts : List Token) → (has_block ts || leb (room ts) MAX_LINE) ≡ true → AllByRecursion IsToken ts → (IsTrue (has_block ts) → length (spaced (flat_map token_words ts)) ≤ MAX_LINE) → length (spaced (flat_map token_words ts)) ≤ MAX_LINE

@@ -214,13 +214,14 @@ discard_form = Field Name λ name. Ends (Discard name)
 abbrev pub use_form : LineForm
 use_form = Field Choice λ choice. Ends (Use choice)
 
-abbrev pub stamp_form : LineForm
-stamp_form =
-    Field Number λ layer. Field Coordinate λ x. Field Coordinate λ y. Field Block λ block. Ends (Stamp layer x y block.0 block.1 false)
+-- a line that may follow the step before it has one form for both
+abbrev pub stamp_form : Bool → LineForm
+stamp_form follows =
+    Field Number λ layer. Field Coordinate λ x. Field Coordinate λ y. Field Block λ block. Ends (Stamp layer x y block.0 block.1 follows)
 
-abbrev pub erase_form : LineForm
-erase_form =
-    Field Number λ layer. Field Coordinate λ x. Field Coordinate λ y. Field Number λ width. Field Number λ height. Ends (Erase layer x y width height false)
+abbrev pub erase_form : Bool → LineForm
+erase_form follows =
+    Field Number λ layer. Field Coordinate λ x. Field Coordinate λ y. Field Number λ width. Field Number λ height. Ends (Erase layer x y width height follows)
 
 abbrev pub fill_form : LineForm
 fill_form =
@@ -240,8 +241,8 @@ abbrev pub add_object_form : LineForm
 add_object_form =
     Field Number λ layer. Field Coordinate λ x. Field Coordinate λ y. Field Number λ width. Field Number λ height. Text (AddObject layer x y width height)
 
-abbrev pub move_object_form : LineForm
-move_object_form = Field Number λ object. Field Coordinate λ x. Field Coordinate λ y. Ends (MoveObject object x y false)
+abbrev pub move_object_form : Bool → LineForm
+move_object_form follows = Field Number λ object. Field Coordinate λ x. Field Coordinate λ y. Ends (MoveObject object x y follows)
 
 abbrev pub resize_object_form : LineForm
 resize_object_form = Field Number λ object. Field Number λ width. Field Number λ height. Ends (ResizeObject object width height)
@@ -250,37 +251,37 @@ abbrev pub remove_object_form : LineForm
 remove_object_form = Field Number λ object. Ends (RemoveObject object)
 
 -- a value of each type
-abbrev pub string_form : Owner → List ℕ → LineForm
-string_form owner name = Text λ text. SetProperty owner name (typed.String text) false
+abbrev pub string_form : Owner → List ℕ → Bool → LineForm
+string_form owner name follows = Text λ text. SetProperty owner name (typed.String text) follows
 
-abbrev pub file_form : Owner → List ℕ → LineForm
-file_form owner name = Text λ text. SetProperty owner name (typed.File text) false
+abbrev pub file_form : Owner → List ℕ → Bool → LineForm
+file_form owner name follows = Text λ text. SetProperty owner name (typed.File text) follows
 
-abbrev pub int_form : Owner → List ℕ → LineForm
-int_form owner name = Field Coordinate λ number. Ends (SetProperty owner name (typed.Int number) false)
+abbrev pub int_form : Owner → List ℕ → Bool → LineForm
+int_form owner name follows = Field Coordinate λ number. Ends (SetProperty owner name (typed.Int number) follows)
 
-abbrev pub bool_form : Owner → List ℕ → LineForm
-bool_form owner name = Field Truth λ truth. Ends (SetProperty owner name (typed.Bool truth) false)
+abbrev pub bool_form : Owner → List ℕ → Bool → LineForm
+bool_form owner name follows = Field Truth λ truth. Ends (SetProperty owner name (typed.Bool truth) follows)
 
-abbrev pub color_form : Owner → List ℕ → LineForm
-color_form owner name = Field Color λ color. Ends (SetProperty owner name (typed.Color color) false)
+abbrev pub color_form : Owner → List ℕ → Bool → LineForm
+color_form owner name follows = Field Color λ color. Ends (SetProperty owner name (typed.Color color) follows)
 
-abbrev pub object_form : Owner → List ℕ → LineForm
-object_form owner name = Field Number λ id. Ends (SetProperty owner name (typed.Object id) false)
+abbrev pub object_form : Owner → List ℕ → Bool → LineForm
+object_form owner name follows = Field Number λ id. Ends (SetProperty owner name (typed.Object id) follows)
 
 -- the types of properties
-abbrev pub property_types : Owner → List ℕ → List (List ℕ × LineForm)
-property_types owner name =
-    (codes "string", string_form owner name)
-    ∷ (codes "int", int_form owner name)
-    ∷ (codes "bool", bool_form owner name)
-    ∷ (codes "color", color_form owner name)
-    ∷ (codes "file", file_form owner name)
-    ∷ (codes "object", object_form owner name)
+abbrev pub property_types : Owner → List ℕ → Bool → List (List ℕ × LineForm)
+property_types owner name follows =
+    (codes "string", string_form owner name follows)
+    ∷ (codes "int", int_form owner name follows)
+    ∷ (codes "bool", bool_form owner name follows)
+    ∷ (codes "color", color_form owner name follows)
+    ∷ (codes "file", file_form owner name follows)
+    ∷ (codes "object", object_form owner name follows)
     ∷ []
 
-abbrev pub set_property_form : LineForm
-set_property_form = Field OwnerName λ owner. Field Key λ name. choose (property_types owner name) BadWord
+abbrev pub set_property_form : Bool → LineForm
+set_property_form follows = Field OwnerName λ owner. Field Key λ name. choose (property_types owner name follows) BadWord
 
 abbrev pub remove_property_form : LineForm
 remove_property_form = Field OwnerName λ owner. Field Key λ name. Ends (RemoveProperty owner name)
@@ -326,7 +327,8 @@ layer_lines =
 -- what is done with an object
 abbrev pub object_lines : List (List ℕ × LineForm)
 object_lines =
-    (codes "move", move_object_form)
+    (codes "move", move_object_form false)
+    ∷ (codes "move+", move_object_form true)
     ∷ (codes "add", add_object_form)
     ∷ (codes "resize", resize_object_form)
     ∷ (codes "remove", remove_object_form)
@@ -334,7 +336,11 @@ object_lines =
 
 -- what is done with a property
 abbrev pub property_lines : List (List ℕ × LineForm)
-property_lines = (codes "set", set_property_form) ∷ (codes "remove", remove_property_form) ∷ []
+property_lines =
+    (codes "set", set_property_form false)
+    ∷ (codes "set+", set_property_form true)
+    ∷ (codes "remove", remove_property_form)
+    ∷ []
 
 -- what is done with a tileset
 abbrev pub tileset_lines : List (List ℕ × LineForm)
@@ -343,7 +349,8 @@ tileset_lines = (codes "add", add_tileset_form) ∷ (codes "remove", remove_tile
 -- the commands of most lines
 abbrev pub common_commands : List (List ℕ × LineForm)
 common_commands =
-    (codes "stamp", stamp_form)
+    (codes "stamp", stamp_form false)
+    ∷ (codes "stamp+", stamp_form true)
     ∷ (codes "undo", Ends Undo)
     ∷ (codes "redo", Ends Redo)
     ∷ (codes "tile", tile_form)
@@ -352,7 +359,7 @@ common_commands =
     ∷ (codes "undotext", Ends UndoText)
     ∷ (codes "redotext", Ends RedoText)
     ∷ (codes "goto", goto_form)
-    ∷ (codes "erase", erase_form)
+    ∷ (codes "erase", erase_form false)
     ∷ (codes "fill", fill_form)
     ∷ []
 
@@ -365,6 +372,7 @@ rare_commands =
     ∷ (codes "layer", choose layer_lines BadWord)
     ∷ (codes "object", choose object_lines BadWord)
     ∷ (codes "prop", choose property_lines BadWord)
+    ∷ (codes "erase+", erase_form true)
     ∷ (codes "tileset", choose tileset_lines BadWord)
     ∷ (codes "resize", resize_form)
     ∷ (codes "text", step_text_form)

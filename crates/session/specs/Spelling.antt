@@ -57,19 +57,18 @@ abbrev pub joined_by_bars : List ℕ → Option (List ℕ) → List ℕ
 joined_by_bars text None = text
 joined_by_bars text (Some action) = text ++ (bars ++ action)
 
--- a part of a spelled line: a word that is written out, a field with its value, a text that goes to the end, the texts of
--- a macro, which go there too, or one that no spelling has
+-- a part of a spelled line: a word that is written out, a field with its value, a text that goes to the end, or the texts
+-- of a macro, which go there too
 pub data Token : Type 0 where
   Fixed : List ℕ → Token
   Given : (kind : FieldKind) → FieldValue kind → Token
   Rest : List ℕ → Token
   RestTexts : List ℕ → Option (List ℕ) → Token
-  Unspelled : Token
 
--- the word of a line that may follow; there is none yet for one that does
-abbrev pub leading : List ℕ → Bool → Token
-leading word false = Fixed word
-leading word true = Unspelled
+-- the word of a line that may follow the step before it: a `+` says that it does
+abbrev pub leading : List ℕ → Bool → List ℕ
+leading word false = word
+leading word true = word ++ codes "+"
 
 -- the word of a way to select
 abbrev pub selection_mode_word : SelectionMode → List ℕ
@@ -100,10 +99,10 @@ tokens (Discard name) = Fixed (codes "discard") ∷ Given Name name ∷ []
 tokens (Use choice) = Fixed (codes "use") ∷ Given Choice choice ∷ []
 tokens Documents = Fixed (codes "list") ∷ []
 tokens (Stamp layer x y width values follows) =
-    leading (codes "stamp") follows ∷ Given Number layer ∷ Given Coordinate x ∷ Given Coordinate y
+    Fixed (leading (codes "stamp") follows) ∷ Given Number layer ∷ Given Coordinate x ∷ Given Coordinate y
     ∷ Given Block (width, values) ∷ []
 tokens (Erase layer x y width height follows) =
-    leading (codes "erase") follows ∷ Given Number layer ∷ Given Coordinate x ∷ Given Coordinate y ∷ Given Number width
+    Fixed (leading (codes "erase") follows) ∷ Given Number layer ∷ Given Coordinate x ∷ Given Coordinate y ∷ Given Number width
     ∷ Given Number height ∷ []
 tokens (Fill layer x y value) =
     Fixed (codes "fill") ∷ Given Number layer ∷ Given Coordinate x ∷ Given Coordinate y ∷ Given Number value ∷ []
@@ -125,12 +124,12 @@ tokens (AddObject layer x y width height name) =
     Fixed (codes "object") ∷ Fixed (codes "add") ∷ Given Number layer ∷ Given Coordinate x ∷ Given Coordinate y
     ∷ Given Number width ∷ Given Number height ∷ Rest name ∷ []
 tokens (MoveObject object x y follows) =
-    Fixed (codes "object") ∷ leading (codes "move") follows ∷ Given Number object ∷ Given Coordinate x ∷ Given Coordinate y ∷ []
+    Fixed (codes "object") ∷ Fixed (leading (codes "move") follows) ∷ Given Number object ∷ Given Coordinate x ∷ Given Coordinate y ∷ []
 tokens (ResizeObject object width height) =
     Fixed (codes "object") ∷ Fixed (codes "resize") ∷ Given Number object ∷ Given Number width ∷ Given Number height ∷ []
 tokens (RemoveObject object) = Fixed (codes "object") ∷ Fixed (codes "remove") ∷ Given Number object ∷ []
 tokens (SetProperty owner name value follows) =
-    Fixed (codes "prop") ∷ leading (codes "set") follows ∷ Given OwnerName owner ∷ Given Key name ∷ value_tokens value
+    Fixed (codes "prop") ∷ Fixed (leading (codes "set") follows) ∷ Given OwnerName owner ∷ Given Key name ∷ value_tokens value
 tokens (RemoveProperty owner name) =
     Fixed (codes "prop") ∷ Fixed (codes "remove") ∷ Given OwnerName owner ∷ Given Key name ∷ []
 tokens (AddTileset first_id source) =
@@ -177,7 +176,6 @@ token_words (Fixed word) = word ∷ []
 token_words (Given kind value) = field_words kind value
 token_words (Rest text) = words text
 token_words (RestTexts text action) = words (joined_by_bars text action)
-token_words Unspelled = []
 
 -- the spelling of a line; a quiet one has others too
 abbrev pub spelling : Line → List ℕ
@@ -272,7 +270,6 @@ IsToken (Fixed word) = ⊤
 IsToken (Given kind value) = IsField kind value
 IsToken (Rest text) = IsText text
 IsToken (RestTexts text action) = AreTexts text action
-IsToken Unspelled = ⊥
 
 -- whether a part is a block
 abbrev pub is_block_token : Token → Bool

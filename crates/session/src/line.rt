@@ -41,8 +41,8 @@ pub enum Line<'a> {
     },
     /// The names of the open documents.
     Documents,
-    /// A block of values, row by row, with its upper left at (`x`, `y`). Where it follows, it joins the step before
-    /// it, if that is of its kind; there is no command for this yet.
+    /// A block of values, row by row, with its upper left at (`x`, `y`). Where it follows, it merges with the step before
+    /// it, if that is a stamp of the same layer.
     Stamp {
         layer: u32,
         x: i32,
@@ -51,8 +51,8 @@ pub enum Line<'a> {
         values: Gids<'a>,
         follows: bool,
     },
-    /// The cells of a rectangle with its upper left at (`x`, `y`) are emptied. Where it follows, it joins the step before
-    /// it, if that is of its kind; there is no command for this yet.
+    /// The cells of a rectangle with its upper left at (`x`, `y`) are emptied. Where it follows, it merges with the step
+    /// before it, if that is an erase of the same layer.
     Erase {
         layer: u32,
         x: i32,
@@ -124,8 +124,8 @@ pub enum Line<'a> {
         height: u32,
         name: Text<'a>,
     },
-    /// The object goes to that place, in pixels. Where it follows, it joins the step before it, if that moves the same
-    /// object; there is no command for this yet.
+    /// The object goes to that place, in pixels. Where it follows, it merges with the step before it, if that moves the
+    /// same object.
     MoveObject {
         object: u32,
         x: i32,
@@ -142,8 +142,8 @@ pub enum Line<'a> {
     RemoveObject {
         object: u32,
     },
-    /// The property of that name gets a type and a value, or is put in with them. Where it follows, it joins the step
-    /// before it, if that sets the same property; there is no command for this yet.
+    /// The property of that name gets a type and a value, or is put in with them. Where it follows, it merges with the
+    /// step before it, if that sets the same property.
     SetProperty {
         owner: Owner,
         name: Text<'a>,

@@ -24,8 +24,8 @@ fn add_object<'a>(fields: &mut Fields<'a>) -> Result<Line<'a>, LineFault>
     })
 }
 
-fn move_object<'a>(fields: &mut Fields<'a>) -> Result<Line<'a>, LineFault>
-    ensures { Gives (λ x. x) result (read move_object_form (words_left fields.old.rest)) }
+fn move_object<'a>(follows: bool, fields: &mut Fields<'a>) -> Result<Line<'a>, LineFault>
+    ensures { Gives (λ x. x) result (read (move_object_form follows) (words_left fields.old.rest)) }
 {
     let object = fields.number()?;
     let x = fields.coordinate()?;
@@ -35,7 +35,7 @@ fn move_object<'a>(fields: &mut Fields<'a>) -> Result<Line<'a>, LineFault>
         object,
         x,
         y,
-        follows: false,
+        follows,
     })
 }
 
@@ -67,7 +67,7 @@ pub fn object<'a>(fields: &mut Fields<'a>) -> Result<Line<'a>, LineFault>
 {
     let action = fields.word()?;
     match action {
-        "move" => move_object(fields),
+        "move" | "move+" => move_object(action == "move+", fields),
         "add" => add_object(fields),
         "resize" => resize_object(fields),
         "remove" => remove_object(fields),

@@ -76,8 +76,8 @@ fn choose_document<'a>(fields: &mut Fields<'a>) -> Result<Line<'a>, LineFault>
     Ok(Line::Use { choice })
 }
 
-fn stamp<'a>(fields: &mut Fields<'a>) -> Result<Line<'a>, LineFault>
-    ensures { Gives (λ x. x) result (read stamp_form (words_left fields.old.rest)) }
+fn stamp<'a>(follows: bool, fields: &mut Fields<'a>) -> Result<Line<'a>, LineFault>
+    ensures { Gives (λ x. x) result (read (stamp_form follows) (words_left fields.old.rest)) }
 {
     let layer = fields.number()?;
     let x = fields.coordinate()?;
@@ -90,12 +90,12 @@ fn stamp<'a>(fields: &mut Fields<'a>) -> Result<Line<'a>, LineFault>
         y,
         width,
         values,
-        follows: false,
+        follows,
     })
 }
 
-fn erase<'a>(fields: &mut Fields<'a>) -> Result<Line<'a>, LineFault>
-    ensures { Gives (λ x. x) result (read erase_form (words_left fields.old.rest)) }
+fn erase<'a>(follows: bool, fields: &mut Fields<'a>) -> Result<Line<'a>, LineFault>
+    ensures { Gives (λ x. x) result (read (erase_form follows) (words_left fields.old.rest)) }
 {
     let layer = fields.number()?;
     let x = fields.coordinate()?;
@@ -109,7 +109,7 @@ fn erase<'a>(fields: &mut Fields<'a>) -> Result<Line<'a>, LineFault>
         y,
         width,
         height,
-        follows: false,
+        follows,
     })
 }
 
@@ -207,6 +207,7 @@ fn rare_command<'a>(name: &str, fields: &mut Fields<'a>) -> Result<Line<'a>, Lin
         "layer" => layer(fields),
         "object" => object(fields),
         "prop" => property(fields),
+        "erase+" => erase(true, fields),
         "tileset" => tileset(fields),
         "resize" => resize(fields),
         "text" => step_text(fields),
@@ -230,7 +231,7 @@ fn command<'a>(name: &str, fields: &mut Fields<'a>) -> Result<Line<'a>, LineFaul
 {
     // Those of most lines first: the words are compared one after the other.
     match name {
-        "stamp" => stamp(fields),
+        "stamp" | "stamp+" => stamp(name == "stamp+", fields),
         "undo" => bare(Line::Undo, fields),
         "redo" => bare(Line::Redo, fields),
         "tile" => tile(fields),
@@ -239,7 +240,7 @@ fn command<'a>(name: &str, fields: &mut Fields<'a>) -> Result<Line<'a>, LineFaul
         "undotext" => bare(Line::UndoText, fields),
         "redotext" => bare(Line::RedoText, fields),
         "goto" => goto(fields),
-        "erase" => erase(fields),
+        "erase" => erase(false, fields),
         "fill" => fill(fields),
         _ => rare_command(name, fields),
     }

@@ -1,4 +1,4 @@
-ghost use Rattle.std.specs.Prelude.{◌≡◌, false};
+ghost use Rattle.std.specs.Prelude.{◌≡◌};
 ghost use Rattle.std.specs.List.{list_all};
 ghost use Rattle.session.specs.declared.line.Line.TheVariants.{SetProperty};
 ghost use Rattle.session.specs.declared.line.LineFault.TheVariants.{BadWord};
@@ -135,109 +135,120 @@ fn owner_field<'a>(fields: &mut Fields<'a>) -> Result<Owner, LineFault>
 }
 
 // The line that sets a property to this value.
-fn set_to<'a>(owner: Owner, name: Text<'a>, value: TypedValue<'a>) -> Line<'a>
-    ensures { result ≡ SetProperty owner name.entry value.entry false }
+fn set_to<'a>(owner: Owner, name: Text<'a>, value: TypedValue<'a>, follows: bool) -> Line<'a>
+    ensures { result ≡ SetProperty owner name.entry value.entry follows }
 {
     Line::SetProperty {
         owner,
         name,
         value,
-        follows: false,
+        follows,
     }
 }
 
 fn set_string<'a>(
     owner: Owner,
     name: Text<'a>,
+    follows: bool,
     fields: &mut Fields<'a>,
 ) -> Result<Line<'a>, LineFault>
-    ensures { Gives (λ x. x) result (read (string_form owner name.entry) (words_left fields.old.rest)) }
+    ensures { Gives (λ x. x) result (read (string_form owner name.entry follows) (words_left fields.old.rest)) }
 {
     let text = fields.text()?;
-    Ok(set_to(owner, name, TypedValue::String(text)))
+    Ok(set_to(owner, name, TypedValue::String(text), follows))
 }
 
 fn set_file<'a>(
     owner: Owner,
     name: Text<'a>,
+    follows: bool,
     fields: &mut Fields<'a>,
 ) -> Result<Line<'a>, LineFault>
-    ensures { Gives (λ x. x) result (read (file_form owner name.entry) (words_left fields.old.rest)) }
+    ensures { Gives (λ x. x) result (read (file_form owner name.entry follows) (words_left fields.old.rest)) }
 {
     let text = fields.text()?;
-    Ok(set_to(owner, name, TypedValue::File(text)))
+    Ok(set_to(owner, name, TypedValue::File(text), follows))
 }
 
-fn set_int<'a>(owner: Owner, name: Text<'a>, fields: &mut Fields<'a>) -> Result<Line<'a>, LineFault>
-    ensures { Gives (λ x. x) result (read (int_form owner name.entry) (words_left fields.old.rest)) }
+fn set_int<'a>(
+    owner: Owner,
+    name: Text<'a>,
+    follows: bool,
+    fields: &mut Fields<'a>,
+) -> Result<Line<'a>, LineFault>
+    ensures { Gives (λ x. x) result (read (int_form owner name.entry follows) (words_left fields.old.rest)) }
 {
     let number = fields.coordinate()?;
     fields.end()?;
-    Ok(set_to(owner, name, TypedValue::Int(number)))
+    Ok(set_to(owner, name, TypedValue::Int(number), follows))
 }
 
 fn set_bool<'a>(
     owner: Owner,
     name: Text<'a>,
+    follows: bool,
     fields: &mut Fields<'a>,
 ) -> Result<Line<'a>, LineFault>
-    ensures { Gives (λ x. x) result (read (bool_form owner name.entry) (words_left fields.old.rest)) }
+    ensures { Gives (λ x. x) result (read (bool_form owner name.entry follows) (words_left fields.old.rest)) }
 {
     let truth = truth_field(fields)?;
     fields.end()?;
-    Ok(set_to(owner, name, TypedValue::Bool(truth)))
+    Ok(set_to(owner, name, TypedValue::Bool(truth), follows))
 }
 
 fn set_color<'a>(
     owner: Owner,
     name: Text<'a>,
+    follows: bool,
     fields: &mut Fields<'a>,
 ) -> Result<Line<'a>, LineFault>
-    ensures { Gives (λ x. x) result (read (color_form owner name.entry) (words_left fields.old.rest)) }
+    ensures { Gives (λ x. x) result (read (color_form owner name.entry follows) (words_left fields.old.rest)) }
 {
     let color = color_field(fields)?;
     fields.end()?;
-    Ok(set_to(owner, name, TypedValue::Color(color)))
+    Ok(set_to(owner, name, TypedValue::Color(color), follows))
 }
 
 fn set_object<'a>(
     owner: Owner,
     name: Text<'a>,
+    follows: bool,
     fields: &mut Fields<'a>,
 ) -> Result<Line<'a>, LineFault>
-    ensures { Gives (λ x. x) result (read (object_form owner name.entry) (words_left fields.old.rest)) }
+    ensures { Gives (λ x. x) result (read (object_form owner name.entry follows) (words_left fields.old.rest)) }
 {
     let id = fields.number()?;
     fields.end()?;
-    Ok(set_to(owner, name, TypedValue::Object(id)))
+    Ok(set_to(owner, name, TypedValue::Object(id), follows))
 }
 
 // The line that sets a property, from its type on.
 fn set_typed<'a>(
     owner: Owner,
     name: Text<'a>,
+    follows: bool,
     fields: &mut Fields<'a>,
 ) -> Result<Line<'a>, LineFault>
-    ensures { Gives (λ x. x) result (read (choose (property_types owner name.entry) BadWord) (words_left fields.old.rest)) }
+    ensures { Gives (λ x. x) result (read (choose (property_types owner name.entry follows) BadWord) (words_left fields.old.rest)) }
 {
     let type_name = fields.word()?;
     match type_name {
-        "string" => set_string(owner, name, fields),
-        "int" => set_int(owner, name, fields),
-        "bool" => set_bool(owner, name, fields),
-        "color" => set_color(owner, name, fields),
-        "file" => set_file(owner, name, fields),
-        "object" => set_object(owner, name, fields),
+        "string" => set_string(owner, name, follows, fields),
+        "int" => set_int(owner, name, follows, fields),
+        "bool" => set_bool(owner, name, follows, fields),
+        "color" => set_color(owner, name, follows, fields),
+        "file" => set_file(owner, name, follows, fields),
+        "object" => set_object(owner, name, follows, fields),
         _ => Err(LineFault::BadWord),
     }
 }
 
-fn set_property<'a>(fields: &mut Fields<'a>) -> Result<Line<'a>, LineFault>
-    ensures { Gives (λ x. x) result (read set_property_form (words_left fields.old.rest)) }
+fn set_property<'a>(follows: bool, fields: &mut Fields<'a>) -> Result<Line<'a>, LineFault>
+    ensures { Gives (λ x. x) result (read (set_property_form follows) (words_left fields.old.rest)) }
 {
     let owner = owner_field(fields)?;
     let name = key_field(fields)?;
-    set_typed(owner, name, fields)
+    set_typed(owner, name, follows, fields)
 }
 
 fn remove_property<'a>(fields: &mut Fields<'a>) -> Result<Line<'a>, LineFault>
@@ -255,7 +266,7 @@ pub fn property<'a>(fields: &mut Fields<'a>) -> Result<Line<'a>, LineFault>
 {
     let action = fields.word()?;
     match action {
-        "set" => set_property(fields),
+        "set" | "set+" => set_property(action == "set+", fields),
         "remove" => remove_property(fields),
         _ => Err(LineFault::BadWord),
     }

@@ -2,15 +2,11 @@
 #![tactic(auto)]
 
 mod options;
-mod run;
-#[cfg(test)]
-mod tests;
-mod writing;
 
 use crate::options::parse_options;
-use crate::run::{RunFault, run};
 use clap::error::ErrorKind;
 use map_store::FolderStore;
+use session_run::{RunFault, run};
 use std::env::Env;
 use std::fmt::Display;
 use std::io::BufWriter;

@@ -109,20 +109,3 @@ pub fn parse_options<'a, S: AsStr>(alloc: Global, words: &'a [S]) -> Result<Opti
         Err(error) => Err(error),
     }
 }
-
-#[cfg(test)]
-mod tests {
-    use super::parse_options;
-
-    #[test]
-    fn reads_limit_and_folder(rt: HostRuntime) {
-        let words = ["tile_editor", "--limit", "3", "--folder", "maps"];
-        match parse_options(rt.alloc(), words.as_slice()) {
-            Ok(options) => {
-                assert_eq!(rt; options.limit, 3);
-                assert_eq!(rt; options.folder, "maps");
-            }
-            Err(_) => assert!(rt; false),
-        }
-    }
-}

@@ -77,6 +77,10 @@ pub level_nesting-front : {C : Type 0} (ls : List (Inner C)) (l : Inner C) → l
 level_nesting-front [] l = omega arith
 level_nesting-front (m ∷ ls) l = let rest = level_nesting-front ls l in omega arith
 
+pub level_nesting-last : {C : Type 0} (ls : List (Inner C)) (l m : Inner C) → row_nesting m.row ≤ row_nesting l.row → level_nesting (ls ++ m ∷ []) ≤ level_nesting (ls ++ l ∷ [])
+level_nesting-last [] l m h = omega arith
+level_nesting-last (k ∷ ls) l m h = let rest = level_nesting-last ls l m h in omega arith
+
 -- free places
 abbrev pub HasRoom : {C : Type 0} → Level C → Type 0
 HasRoom l = vec_len l.body.value.children < vec_capacity l.body.value.children

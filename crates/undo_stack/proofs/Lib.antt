@@ -5,5 +5,8 @@ pub mod Views
 pub mod Texts
 pub mod Pushes
 pub mod Levels
+pub mod Joins
 pub mod Stacks
 pub mod Macros
+pub mod Targets
+pub mod Merges

@@ -1,9 +1,9 @@
 -- A push while a level is open, and levels that open and close, seen on a stack's entries.
-use Rattle.std.proofs.Common.{◌≡◌, ℕ, ◌<◌, ◌≤◌, List, [], ◌∷◌, ◌++◌, Option, length, refl, sym, ◌∙◌, ap, arith, Ok, true, false}
+use Rattle.std.proofs.Common.{◌≡◌, ℕ, ◌<◌, List, [], ◌∷◌, ◌++◌, Option, length, refl, sym, ◌∙◌, ap, arith, Ok}
 use Rattle.map_model.specs.Document.{DocumentParts}
-use Rattle.command_api.specs.Law.{Change, untagged, Never, IsSettled}
-use Rattle.undo_stack.specs.History.{Step, step_named, Open, History, current}
-use Rattle.undo_stack.specs.Pushing.{cut, cut_in, with_added, IsPushed}
+use Rattle.command_api.specs.Law.{Change, untagged, Never}
+use Rattle.undo_stack.specs.History.{step_named, Open, History, current}
+use Rattle.undo_stack.specs.Pushing.{cut, cut_in, with_added}
 use Rattle.undo_stack.specs.Macros.{step_of_level, end_answer_in, ended_in, begun}
 use Rattle.undo_stack.specs.Row.{before, FitsDown}
 use Rattle.undo_stack.specs.Entries.{entry_change}
@@ -11,8 +11,6 @@ use Rattle.undo_stack.specs.Sound.{Inner, opens, history_of, IsTurnable, with_ch
 use Rattle.undo_stack.specs.declared.entry.Entry.{Entry}
 use Rattle.undo_stack.proofs.Rows.{last_after-down}
 use Rattle.undo_stack.proofs.Levels.{open_of, start_of-append, opens-append, FitsOpens-pop, FitsOpens-push, start_of-with_child, opens-with_child, FitsOpens-with_child, front-append, innermost-append}
-use Rattle.undo_stack.proofs.Pushes.{merges-not}
-use Rattle.undo_stack.proofs.Views.{current-view}
 
 -- an entry x, which led to d, was put into the last level
 pub child_turnable : {C : Type 0} (f : C → Change) (x : Entry C) (d : DocumentParts) (es : List (Entry C)) (n : ℕ) (clean : Option ℕ) (ls : List (Inner C)) → 0 < length ls → IsTurnable f ((entry_change f x).undone d) es n clean ls → (entry_change f x).fits_undo d → IsTurnable f d es n clean (with_child x ls)
@@ -33,29 +31,6 @@ child_view f x d es n clean limit (l ∷ ls) h = rw (start_of-with_child f x l l
 pub cut-open : {C : Type 0} (f : C → Change) (d : DocumentParts) (es : List (Entry C)) (n : ℕ) (clean : Option ℕ) (limit : ℕ) (ls : List (Inner C)) → 0 < length ls → cut (history_of f d es n clean limit ls) ≡ history_of f d es n clean limit ls
 cut-open f d es n clean limit [] h = absurd (omega arith)
 cut-open f d es n clean limit (l ∷ ls) h = refl
-
--- an edit that left the document as it is, and one that became an inner step
-pub inner_gone : {C : Type 0} (f : C → Change) (d e : DocumentParts) (es : List (Entry C)) (n : ℕ) (clean : Option ℕ) (limit : ℕ) (ls : List (Inner C)) (s : Step) → 0 < length ls → n ≤ length es → s.names.follows ≡ false → e ≡ d → IsSettled s.names.vanishing true d s.after → IsPushed (history_of f d es n clean limit ls) s (history_of f e es n clean limit ls)
-inner_gone f d e es n clean limit ls s some within follows same settled =
-    let is = cut-open f d es n clean limit ls some in
-    record {
-      merged = false;
-      gone = true;
-      merged_where = merges-not (cut (history_of f d es n clean limit ls)) s follows;
-      gone_where = rw (ap current is ∙ current-view f d es n clean limit ls within) settled;
-      next = rw same (sym is);
-    }
-
-pub inner_added : {C : Type 0} (f : C → Change) (d : DocumentParts) (es : List (Entry C)) (n : ℕ) (clean : Option ℕ) (limit : ℕ) (ls : List (Inner C)) (s : Step) (next : History) → 0 < length ls → n ≤ length es → s.names.follows ≡ false → IsSettled s.names.vanishing false d s.after → next ≡ with_added s (opens f ls d) (history_of f d es n clean limit ls) → IsPushed (history_of f d es n clean limit ls) s next
-inner_added f d es n clean limit ls s next some within follows settled added =
-    let is = cut-open f d es n clean limit ls some in
-    record {
-      merged = false;
-      gone = false;
-      merged_where = merges-not (cut (history_of f d es n clean limit ls)) s follows;
-      gone_where = rw (ap current is ∙ current-view f d es n clean limit ls within) settled;
-      next = added ∙ sym (ap (λ (h : History). with_added s h.levels h) is);
-    }
 
 -- the last level is closed
 pub popped_turnable : {C : Type 0} (f : C → Change) (d : DocumentParts) (es : List (Entry C)) (n : ℕ) (clean : Option ℕ) (ls : List (Inner C)) (l : Inner C) → IsTurnable f d es n clean (ls ++ l ∷ []) → IsTurnable f (before (entry_change f) l.row d) es n clean ls

@@ -1,16 +1,18 @@
--- A push outside levels, of an edit that does not follow, seen on entries; and the limit.
+-- A push outside levels, of an edit that is not merged, seen on entries; and the limit.
 use Rattle.std.proofs.Common.{◌≡◌, ℕ, ◌+◌, ◌-◌, ◌<◌, ◌≤◌, max, zero, suc, List, [], ◌∷◌, ◌++◌, Option, Some, None, take, drop, length, map, refl, sym, ◌∙◌, ap, arith, Bool, true, false, leb, leb-true}
-use Rattle.std.specs.Prelude.{if◌then◌else◌, ◌↔◌}
+use Rattle.std.specs.Prelude.{if◌then◌else◌}
 use Rattle.std.proofs.lemmas.List.{append-nil, length-take-le, length-drop, take_all, drop_all, length-append, map-append}
 use Rattle.map_model.specs.Document.{DocumentParts}
 use Rattle.command_api.specs.Law.{Change, IsLawful, IsSettled, Vanishing, Never, WhenEqual, IsRedone}
 use Rattle.undo_stack.specs.History.{Step, step_named, History, last_after, current}
-use Rattle.undo_stack.specs.Pushing.{step_of, up_to, lowered, limited_to, with_added, dropped, cut, Continues, Merges, IsPushed}
+use Rattle.undo_stack.specs.Pushing.{step_of, up_to, lowered, limited_to, with_added, dropped, cut, Merges, IsPushed}
 use Rattle.undo_stack.specs.Row.{before, steps_down, FitsDown}
+use Rattle.undo_stack.specs.Merging.{IsPlaced}
 use Rattle.undo_stack.specs.Entries.{entry_change, nesting, greatest}
-use Rattle.undo_stack.specs.Sound.{history_of, IsTurnable, IsAtMost, row_nesting}
+use Rattle.undo_stack.specs.Sound.{Inner, history_of, IsTurnable, IsAtMost, row_nesting}
 use Rattle.undo_stack.specs.declared.entry.Entry.{Entry}
 use Rattle.undo_stack.proofs.Rows.{before-append, steps_down-append, FitsDown-push, last_after-down, length-down, take-steps, last_after-take, drop-steps_down, FitsDown-drop}
+use Rattle.undo_stack.proofs.Views.{current-view}
 
 -- an obsolete change leaves the document as it is
 pub settled-same : (v : Vanishing) (d e : DocumentParts) → IsSettled v true d e → e ≡ d
@@ -22,13 +24,15 @@ pub settled-back : (v : Vanishing) (b : Bool) (d e : DocumentParts) → IsSettle
 settled-back Never b d e h = h
 settled-back WhenEqual b d e h = ((λ p. sym (h.0 p)), (λ p. h.1 (sym p)))
 
--- an edit that does not follow merges into nothing
-continues-not : (t : Option Step) (s : Step) → s.names.follows ≡ false → Continues t s → ⊥
-continues-not None s h c = c
-continues-not (Some t) s h c = let one : s.names.follows ≡ true = c.0 in cc
-
-pub merges-not : (h : History) (s : Step) → s.names.follows ≡ false → (false ≡ true) ↔ Merges h s
-merges-not h s k = ((λ p. absurd (let bad : false ≡ true = p in let worse : ⊥ = cc in worse)), (λ m. absurd (continues-not _ s k m.continues)))
+-- what pushing an edit makes of a history, where it is not merged
+pub pushed_placed : (h : History) (s : Step) (n : History) → (Merges (cut h) s → ⊥) → IsPlaced h s n → IsPushed h s n
+pushed_placed h s n alone p = record {
+  merged = false;
+  gone = p.gone;
+  merged_where = ((λ q. absurd (let bad : false ≡ true = q in let worse : ⊥ = cc in worse)), (λ m. absurd (alone m)));
+  gone_where = p.gone_where;
+  next = p.next;
+}
 
 at_most_if : (b : Bool) (k n : ℕ) → (b ≡ true → k ≤ n) → IsAtMost (if b then Some k else None) n
 at_most_if true k n h = h refl
@@ -90,7 +94,7 @@ all_done : {C : Type 0} (f : C → Change) (d : DocumentParts) (es : List (Entry
 all_done f d es n h = let steps = length-down (entry_change f) (take n es) d in let most = length-take-le n es h in omega arith
 
 -- the history once it was cut, and its current document
-cut_done : {C : Type 0} (f : C → Change) (d : DocumentParts) (es : List (Entry C)) (n : ℕ) (clean : Option ℕ) (limit : ℕ) → n ≤ length es → cut (history_of f d es n clean limit []) ≡ record { base = before (entry_change f) (take n es) d; steps = steps_down (entry_change f) (take n es) d; position = n; clean = up_to n clean; limit = limit; levels = [] }
+pub cut_done : {C : Type 0} (f : C → Change) (d : DocumentParts) (es : List (Entry C)) (n : ℕ) (clean : Option ℕ) (limit : ℕ) → n ≤ length es → cut (history_of f d es n clean limit []) ≡ record { base = before (entry_change f) (take n es) d; steps = steps_down (entry_change f) (take n es) d; position = n; clean = up_to n clean; limit = limit; levels = [] }
 cut_done f d es n clean limit h = rw (take-steps (entry_change f) es n d h) refl
 
 pub cut_view : {C : Type 0} (f : C → Change) (d : DocumentParts) (es : List (Entry C)) (n : ℕ) (clean : Option ℕ) (limit : ℕ) → n ≤ length es → cut (history_of f d es n clean limit []) ≡ history_of f d (take n es) n (up_to n clean) limit []
@@ -104,25 +108,17 @@ cut_current f d es n clean limit h =
     let row = steps_down (entry_change f) (take n es) d in
     ap current (cut_done f d es n clean limit h) ∙ rw (take_all n row (all_done f d es n h)) (last_after-down (entry_change f) (take n es) d)
 
--- an edit that left the document as it is
-pub pushed_gone : {C : Type 0} (f : C → Change) (d e : DocumentParts) (es : List (Entry C)) (n : ℕ) (clean : Option ℕ) (limit : ℕ) (s : Step) → n ≤ length es → s.names.follows ≡ false → e ≡ d → IsSettled s.names.vanishing true d s.after → IsPushed (history_of f d es n clean limit []) s (history_of f e (take n es) n (up_to n clean) limit [])
-pushed_gone f d e es n clean limit s within follows same settled = record {
-  merged = false;
-  gone = true;
-  merged_where = merges-not (cut (history_of f d es n clean limit [])) s follows;
-  gone_where = rw (cut_current f d es n clean limit within) settled;
-  next = rw same (sym (cut_view f d es n clean limit within));
-}
+-- the current document stays where the steps past the position go
+pub current-cut : {C : Type 0} (f : C → Change) (d : DocumentParts) (es : List (Entry C)) (n : ℕ) (clean : Option ℕ) (limit : ℕ) (ls : List (Inner C)) → n ≤ length es → current (cut (history_of f d es n clean limit ls)) ≡ d
+current-cut f d es n clean limit [] h = cut_current f d es n clean limit h
+current-cut f d es n clean limit (l ∷ ls) h = current-view f d es n clean limit (l ∷ ls) h
 
--- an edit that became a step
-pub pushed_added : {C : Type 0} (f : C → Change) (d : DocumentParts) (es : List (Entry C)) (n : ℕ) (clean : Option ℕ) (limit : ℕ) (s : Step) (next : History) → n ≤ length es → s.names.follows ≡ false → IsSettled s.names.vanishing false d s.after → next ≡ with_added s [] (history_of f d (take n es) n (up_to n clean) limit []) → IsPushed (history_of f d es n clean limit []) s next
-pushed_added f d es n clean limit s next within follows settled added = record {
-  merged = false;
-  gone = false;
-  merged_where = merges-not (cut (history_of f d es n clean limit [])) s follows;
-  gone_where = rw (cut_current f d es n clean limit within) settled;
-  next = added ∙ ap (with_added s []) (sym (cut_view f d es n clean limit within));
-}
+-- an edit that left the document as it is, and one that became a step
+pub placed_gone : (h : History) (s : Step) (n : History) (d : DocumentParts) → current (cut h) ≡ d → IsSettled s.names.vanishing true d s.after → n ≡ cut h → IsPlaced h s n
+placed_gone h s n d at settled next = record { gone = true; gone_where = rw at settled; next = next }
+
+pub placed_added : (h : History) (s : Step) (n : History) (d : DocumentParts) → current (cut h) ≡ d → IsSettled s.names.vanishing false d s.after → n ≡ (let k = cut h in with_added s k.levels k) → IsPlaced h s n
+placed_added h s n d at settled next = record { gone = false; gone_where = rw at settled; next = next }
 
 -- an entry x above the others, which are all done, led to e
 pub added_view : {C : Type 0} (f : C → Change) (e : DocumentParts) (es : List (Entry C)) (x : Entry C) (n : ℕ) (clean : Option ℕ) (limit : ℕ) → length es ≡ n → history_of f e (es ++ x ∷ []) (n + 1) clean limit [] ≡ (let h = history_of f ((entry_change f x).undone e) es n clean limit [] in record h { steps = h.steps ++ step_named (entry_change f x).names e ∷ []; position = h.position + 1 })
@@ -170,11 +166,11 @@ limited_sound f e es n clean k len fits most =
 pub redone_step : (v w : Change) (d e k : DocumentParts) → IsRedone v w d e → k ≡ d → step_of v k ≡ step_named w.names e
 redone_step v w d e k r at = rw (at, ← r.document, r.names) refl
 
--- whether a command that was redone is gone
-pub redone_settled : (v w : Change) (d e : DocumentParts) (b : Bool) → IsRedone v w d e → IsLawful w → w.obsolete ≡ b → IsSettled w.names.vanishing b d e
-redone_settled v w d e b r law is =
-    let one = law.undo e r.fits in
-    settled-back w.names.vanishing b e d (rw (is, r.back) at one)
+-- whether a command that led to e is gone
+pub undone_settled : (w : Change) (e : DocumentParts) (b : Bool) → w.fits_undo e → IsLawful w → w.obsolete ≡ b → IsSettled w.names.vanishing b (w.undone e) e
+undone_settled w e b fits law is =
+    let one = law.undo e fits in
+    settled-back w.names.vanishing b e (w.undone e) (rw is at one)
 
 pub pushed_as : (h : History) (s t : Step) (n : History) → IsPushed h s n → t ≡ s → IsPushed h t n
 pushed_as h s t n p q = rw q p

@@ -4,8 +4,9 @@ use Rattle.std.proofs.lemmas.List.{length-take-le}
 use Rattle.map_model.specs.Document.{DocumentParts}
 use Rattle.command_api.specs.Law.{Change}
 use Rattle.undo_stack.specs.Pushing.{up_to, cut}
-use Rattle.undo_stack.specs.Sound.{Inner, history_of, IsTurnable, row_nesting}
-use Rattle.undo_stack.specs.Stacks.{inner_of, inners, IsBounded}
+use Rattle.undo_stack.specs.Sound.{Inner, history_of, IsTurnable, row_nesting, level_nesting}
+use Rattle.undo_stack.specs.Merging.{stack_before}
+use Rattle.undo_stack.specs.Stacks.{inner_of, inners, history, Holds, IsBounded}
 use Rattle.undo_stack.specs.declared.entry.Entry.{Entry}
 use Rattle.undo_stack.specs.declared.level.Level.{Level}
 use Rattle.undo_stack.specs.declared.stack.Stack.{Stack}
@@ -31,15 +32,15 @@ bounded_as s t p q r u b = record {
   level_room = rw u b.level_room;
 }
 
--- a stack of which the last level was given a free place
-pub placed_bounded : {C : Type 0} (s t : Stack C) (l : Level C) (at : ℕ) → 0 < length s.levels.items → at + 1 ≡ length s.levels.items → t.limit ≡ s.limit → t.entries ≡ s.entries → t.index ≡ s.index → t.levels.items ≡ set s.levels.items at l → map inner_of (set s.levels.items at l) ≡ inners s → IsBounded s → IsBounded t
-placed_bounded s t l at some last p q r u same b =
+-- a stack of which the last level is another one, no deeper
+pub placed_bounded : {C : Type 0} (s t : Stack C) (l : Level C) (at : ℕ) → 0 < length s.levels.items → at + 1 ≡ length s.levels.items → t.limit ≡ s.limit → t.entries ≡ s.entries → t.index ≡ s.index → t.levels.items ≡ set s.levels.items at l → level_nesting (map inner_of (set s.levels.items at l)) ≤ level_nesting (inners s) → IsBounded s → IsBounded t
+placed_bounded s t l at some last p q r u less b =
     let ls = set s.levels.items at l in
     record {
       limit = rw p b.limit;
       count = rw (p, q) b.count;
       entry_nesting = rw q b.entry_nesting;
-      open_nesting = rw (u, same) b.open_nesting;
+      open_nesting = rw u (let most = b.open_nesting in omega arith);
       none_above = rw (q, r, u) (WhereOpen-of ls _ (WhereOpen-some s.levels.items _ some b.none_above));
       entry_room = rw (q, u) (WhereOpen-of ls _ (WhereOpen-some s.levels.items _ some b.entry_room));
       level_room = rw u (HaveRoom-set s.levels.items l at last b.level_room);
@@ -48,24 +49,44 @@ placed_bounded s t l at some last p q r u same b =
 pub inners_closed : {C : Type 0} (ls : List (Level C)) → ls ≡ [] → map inner_of ls ≡ []
 inners_closed ls h = ap (map inner_of) h
 
--- the stack t is s without the entries above the index, and no level is open
-pub cut_turnable : {C : Type 0} (f : C → Change) (d : DocumentParts) (s t : Stack C) → t ≡ record s { entries = t.entries; clean = t.clean } → t.entries.items ≡ take s.index s.entries.items → t.clean ≡ up_to s.index s.clean → IsTurnable f d s.entries.items s.index s.clean [] → IsTurnable f d t.entries.items t.index t.clean []
-cut_turnable f d s t rest entries clean h =
-    turnable_at f d d (take s.index s.entries.items) t.entries.items s.index t.index (up_to s.index s.clean) t.clean [] [] refl entries (ap (λ (x : Stack _). x.index) rest) clean refl
-    (cut_sound f d s.entries.items s.index s.clean h)
+-- the stack t is s without the entries above the index
+pub record IsCut {C : Type 0} (s t : Stack C) : Type 0 where
+  pub rest : t ≡ record s { entries = t.entries; clean = t.clean }
+  pub entries : t.entries.items ≡ take s.index s.entries.items
+  pub clean : t.clean ≡ up_to s.index s.clean
 
-pub cut_bounded : {C : Type 0} (s t : Stack C) → s.levels.items ≡ [] → t ≡ record s { entries = t.entries; clean = t.clean } → t.entries.items ≡ take s.index s.entries.items → s.index ≤ length s.entries.items → IsBounded s → IsBounded t
-cut_bounded s t closed rest entries within b =
-    let limit : t.limit ≡ s.limit = ap (λ (x : Stack _). x.limit) rest in
-    let len : length t.entries.items ≡ s.index = ap length entries ∙ length-take-le s.index s.entries.items within in
-    let deep : row_nesting t.entries.items ≡ row_nesting (take s.index s.entries.items) = ap row_nesting entries in
-    let less = row_nesting-take s.index s.entries.items in
-    bounded_closed t (ap (λ (x : Stack _). x.levels.items) rest ∙ closed)
-    (rw limit b.limit)
-    (λ h. let kept = b.count (omega arith) in omega arith)
-    (let all = b.entry_nesting in omega arith)
+-- so it is where s had other room before, and before a command that led to its document
+pub cut_more : {C : Type 0} (s r t : Stack C) → r ≡ record s { entries = r.entries } → r.entries.items ≡ s.entries.items → IsCut r t → IsCut s t
+cut_more s r t rest items k = record {
+  rest = k.rest ∙ ap (λ (x : Stack _). record x { entries = t.entries; clean = t.clean }) rest;
+  entries = k.entries ∙ ap (λ (x : Stack _). take x.index r.entries.items) rest ∙ ap (take s.index) items;
+  clean = k.clean ∙ ap (λ (x : Stack _). up_to x.index x.clean) rest;
+}
 
-pub cut_history : {C : Type 0} (f : C → Change) (d : DocumentParts) (s t : Stack C) → t ≡ record s { entries = t.entries; clean = t.clean } → t.entries.items ≡ take s.index s.entries.items → t.clean ≡ up_to s.index s.clean → s.index ≤ length s.entries.items → history_of f d t.entries.items t.index t.clean t.limit [] ≡ cut (history_of f d s.entries.items s.index s.clean s.limit [])
-cut_history f d s t rest entries clean within =
-    view_at f d d (take s.index s.entries.items) t.entries.items s.index t.index (up_to s.index s.clean) t.clean s.limit t.limit [] [] refl entries (ap (λ (x : Stack _). x.index) rest) clean (ap (λ (x : Stack _). x.limit) rest) refl
-    ∙ sym (cut_view f d s.entries.items s.index s.clean s.limit within)
+pub cut_before : {C : Type 0} (f : C → Change) (c : C) (s t : Stack C) → IsCut s t → IsCut (stack_before f c s) (stack_before f c t)
+cut_before f c s t k = record { rest = ap (stack_before f c) k.rest; entries = k.entries; clean = k.clean }
+
+pub cut_holds : {C : Type 0} (f : C → Change) (s t : Stack C) → s.levels.items ≡ [] → IsCut s t → Holds f s → Holds f t
+cut_holds f s t closed k h =
+    let document : t.document ≡ s.document = ap (λ (x : Stack _). x.document) k.rest in
+    let index : t.index ≡ s.index = ap (λ (x : Stack _). x.index) k.rest in
+    let limit : t.limit ≡ s.limit = ap (λ (x : Stack _). x.limit) k.rest in
+    let none = inners_closed s.levels.items closed in
+    let len : length t.entries.items ≡ s.index = ap length k.entries ∙ length-take-le s.index s.entries.items h.turnable.within in
+    let deep : row_nesting t.entries.items ≡ row_nesting (take s.index s.entries.items) = ap row_nesting k.entries in
+    let within = h.turnable.within in
+    record {
+      turnable = turnable_at f s.document t.document (take s.index s.entries.items) t.entries.items s.index t.index (up_to s.index s.clean) t.clean [] (inners t) document k.entries index k.clean (ap inners k.rest ∙ none)
+          (cut_sound f s.document s.entries.items s.index s.clean (rw none at h.turnable));
+      bounded = bounded_closed t (ap (λ (x : Stack _). x.levels.items) k.rest ∙ closed)
+          (rw limit h.bounded.limit)
+          (λ p. let kept = h.bounded.count (omega arith) in omega arith)
+          (let all = h.bounded.entry_nesting in let less = row_nesting-take s.index s.entries.items in omega arith);
+    }
+
+pub cut_history : {C : Type 0} (f : C → Change) (s t : Stack C) → s.levels.items ≡ [] → IsCut s t → Holds f s → history f t ≡ cut (history f s)
+cut_history f s t closed k h =
+    let none = inners_closed s.levels.items closed in
+    view_at f s.document t.document (take s.index s.entries.items) t.entries.items s.index t.index (up_to s.index s.clean) t.clean s.limit t.limit [] (inners t) (ap (λ (x : Stack _). x.document) k.rest) k.entries (ap (λ (x : Stack _). x.index) k.rest) k.clean (ap (λ (x : Stack _). x.limit) k.rest) (ap inners k.rest ∙ none)
+    ∙ sym (cut_view f s.document s.entries.items s.index s.clean s.limit h.turnable.within)
+    ∙ ap (λ (ls : List (Inner _)). cut (history_of f s.document s.entries.items s.index s.clean s.limit ls)) (sym none)

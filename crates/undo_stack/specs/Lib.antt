@@ -7,3 +7,4 @@ pub mod Row
 pub mod Entries
 pub mod Sound
 pub mod Stacks
+pub mod Merging

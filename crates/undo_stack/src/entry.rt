@@ -1,10 +1,13 @@
 ghost use Rattle.std.specs.Prelude.{◌≡◌, ◌≤◌, [], length, take, drop, map};
-ghost use Rattle.command_api.specs.Law.{IsRedone, IsUndone};
+ghost use Rattle.command_api.specs.Law.{IsRedone, IsUndone, IsLawful};
+ghost use Rattle.command_api.specs.Offers.{IsOfferOf};
 ghost use Rattle.undo_stack.specs.Entries.{entry_change, nesting};
+ghost use Rattle.undo_stack.specs.Merging.{MergesChange};
 ghost use Rattle.undo_stack.specs.Row.{row_change, FitsDown, FitsUp, IsMoved};
 
-use command_api::Command;
+use command_api::{Command, Offer};
 use map_model::{Document, MapText};
+use std::alloc::{AllocError, Global};
 use std::collections::VecDeque;
 
 /// What a stack turns as one step: a command, or a macro of entries.
@@ -71,6 +74,61 @@ impl<C: Command> Entry<C> {
             Entry::Macro(body) => undo_all(&mut body.children, document),
         }
     }
+}
+
+impl<C: Command> Entry<C> {
+    /// Whether the entry changes nothing and may be let go of. A macro never may.
+    pub fn obsolete(&self) -> bool
+        ensures answer { result ≡ (entry_change C.change self.now).obsolete }
+        ensures law { IsLawful (entry_change C.change self.now) }
+    {
+        match self {
+            Entry::Command(command) => command.obsolete(),
+            Entry::Macro(_) => false,
+        }
+    }
+
+    /// Takes a newer command in, which led to the document and shows this offer, and says whether it did. A macro takes
+    /// nothing in.
+    ///
+    /// Where there is no memory the entry does what it did.
+    pub fn merge(
+        &mut self,
+        alloc: Global,
+        newer: &C,
+        offer: &Offer<'_>,
+        document: &Document,
+    ) -> Result<bool, AllocError>
+        requires offer { IsOfferOf (C.change newer.now) offer.now }
+        requires newer { (C.change newer.now).fits_undo document.now }
+        requires older { (entry_change C.change self.old).fits_undo ((C.change newer.now).undone document.now) }
+        ensures merged { MergesChange (entry_change C.change self.old) (C.change newer.now) document.now result (entry_change C.change self.new) }
+        ensures nesting { nesting self.new ≡ nesting self.old }
+    {
+        match self {
+            Entry::Command(older) => merge_commands(older, alloc, newer, offer, document),
+            Entry::Macro(_) => Ok(false),
+        }
+    }
+}
+
+// The older command takes the newer one in, where both have the same id.
+fn merge_commands<C: Command>(
+    older: &mut C,
+    alloc: Global,
+    newer: &C,
+    offer: &Offer<'_>,
+    document: &Document,
+) -> Result<bool, AllocError>
+    requires offer { IsOfferOf (C.change newer.now) offer.now }
+    requires newer { (C.change newer.now).fits_undo document.now }
+    requires older { (C.change older.old).fits_undo ((C.change newer.now).undone document.now) }
+    ensures { MergesChange (C.change older.old) (C.change newer.now) document.now result (C.change older.new) }
+{
+    if older.id() != newer.id() {
+        return Ok(false);
+    }
+    older.merge(alloc, offer, document)
 }
 
 // Makes the entries of a macro again, first to last.

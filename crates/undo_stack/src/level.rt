@@ -1,9 +1,15 @@
-ghost use Rattle.std.specs.Prelude.{◌≡◌, ◌<◌, [], ◌∷◌, ◌++◌, IfOk, vec_len, vec_capacity};
+ghost use Rattle.std.specs.Prelude.{◌≡◌, ◌<◌, ◌≤◌, [], ◌∷◌, ◌++◌, IfOk, length, vec_len, vec_capacity};
+ghost use Rattle.map_model.specs.Document.{DocumentParts};
+ghost use Rattle.command_api.specs.Offers.{IsOfferOf};
+ghost use Rattle.undo_stack.specs.Row.{FitsDown};
+ghost use Rattle.undo_stack.specs.Entries.{entry_change};
+ghost use Rattle.undo_stack.specs.Sound.{row_nesting};
+ghost use Rattle.undo_stack.specs.Merging.{MergesRow, SettlesRow};
 ghost use Rattle.undo_stack.specs.Stacks.{inner_of, closed_level};
 
 use crate::entry::{Entry, MacroBody};
-use command_api::Command;
-use map_model::MapText;
+use command_api::{Command, Offer};
+use map_model::{Document, MapText};
 use std::alloc::{AllocError, Global};
 
 /// A macro that is open. Its box is had from the beginning, so that its end takes no memory.
@@ -50,6 +56,44 @@ impl<C: Command> Level<C> {
         ensures { inner_of self.new ≡ record (inner_of self.old) { row = (inner_of self.old).row ++ entry ∷ [] } }
     {
         self.body.children.push_reserved(entry);
+    }
+
+    /// The last entry takes a newer command in, which led to the document and shows this offer, and says whether it did.
+    ///
+    /// Where there is no memory the entries do what they did.
+    pub fn merge(
+        &mut self,
+        alloc: Global,
+        newer: &C,
+        offer: &Offer<'_>,
+        document: &Document,
+    ) -> Result<bool, AllocError>
+        requires offer { IsOfferOf (C.change newer.now) offer.now }
+        requires newer { (C.change newer.now).fits_undo document.now }
+        requires older { FitsDown (entry_change C.change) (inner_of self.old).row ((C.change newer.now).undone document.now) }
+        ensures texts { inner_of self.new ≡ record (inner_of self.old) { row = (inner_of self.new).row } }
+        ensures merged { MergesRow (entry_change C.change) (inner_of self.old).row (C.change newer.now) document.now result (inner_of self.new).row }
+        ensures nesting { row_nesting (inner_of self.new).row ≡ row_nesting (inner_of self.old).row }
+    {
+        let count = self.body.children.len();
+        if count == 0 {
+            return Ok(false);
+        }
+        self.body.children[count - 1].merge(alloc, newer, offer, document)
+    }
+
+    /// The last entry goes where it is obsolete.
+    pub fn settle(&mut self)
+        requires some { 0 < length (inner_of self.old).row }
+        ensures texts { inner_of self.new ≡ record (inner_of self.old) { row = (inner_of self.new).row } }
+        ensures settled { (d : DocumentParts) → FitsDown (entry_change C.change) (inner_of self.old).row d
+            → SettlesRow (entry_change C.change) (inner_of self.old).row d (inner_of self.new).row }
+        ensures nesting { row_nesting (inner_of self.new).row ≤ row_nesting (inner_of self.old).row }
+    {
+        let below = self.body.children.len() - 1;
+        if self.body.children[below].obsolete() {
+            self.body.children.truncate(below);
+        }
     }
 
     /// The entry that the level is once it is closed.

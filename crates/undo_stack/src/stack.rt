@@ -7,9 +7,11 @@ ghost use Rattle.undo_stack.specs.Reading.{text_at, action_of, undo_text_of, red
 ghost use Rattle.undo_stack.specs.Entries.{entry_change, nesting};
 ghost use Rattle.undo_stack.specs.Sound.{history_of, opens, with_child, IsTurnable, level_nesting};
 ghost use Rattle.undo_stack.specs.Stacks.{history, inners, Holds, IsBounded, LastHasRoom};
+ghost use Rattle.undo_stack.specs.Merging.{IsPlaced, stack_before};
 ghost use Rattle.undo_stack.specs.declared.limits.TheConstants.{MAX_DEPTH, MAX_LIMIT};
 
 mod macros;
+mod merging;
 
 use crate::entry::{Entry, redo_each, redo_up, undo_down, undo_each};
 use crate::level::Level;
@@ -55,7 +57,7 @@ pub struct Stack<C> {
     // The open macros, outermost first. While there are any, no entry stands above the index, and there is a free place
     // for what each of them becomes: among the entries, or in the macro around it.
     levels: Vec<Level<C>>,
-    // The allocator by which a macro takes its memory when it begins.
+    // The allocator by which a merge takes its memory, and a macro when it begins.
     alloc: Global,
 }
 
@@ -128,6 +130,16 @@ impl<C: Command> Stack<C> {
         &self.document
     }
 
+    /// Goes to the object with an id, so that the document finds it at once, and a turn that changes it walks nowhere. It is
+    /// for speed alone: the history stays.
+    pub fn seek_object(&mut self, object: u32)
+        requires { Holds C.change self.old }
+        ensures sound { Holds C.change self.new }
+        ensures same { history C.change self.new ≡ history C.change self.old }
+    {
+        self.document.seek_object(object);
+    }
+
     /// The text for undo: the action text of the step below the index, and empty where there is none or a macro is open.
     pub fn undo_text(&self) -> &str
         ensures { result.now ≡ undo_text_of (history C.change self.now) }
@@ -188,38 +200,23 @@ impl<C: Command> Stack<C> {
 }
 
 impl<C: Command> Stack<C> {
-    /// Makes the change of a command, which becomes the step below the index. The steps above the index go, and with
-    /// them a clean index among them. With a limit other than 0, the first step goes where there are more than that then.
+    /// Makes the change of a command, and puts it into the history. The steps above the index go, and with them a clean index
+    /// among them.
     ///
-    /// While a macro is open, the command becomes the innermost one's last entry.
+    /// A command that follows merges into the step below the index, where that is no macro, has the same tag, and does not
+    /// end at the clean index. That step keeps its texts and leads to the new document. Where it is obsolete then, it goes,
+    /// and the index is one lower.
     ///
-    /// An obsolete command becomes no step, and the steps above the index go all the same. The command is one that does
-    /// not follow the step before it.
+    /// A command that merges into nothing becomes the step below the index, or no step where it is obsolete. With a limit other
+    /// than 0, the first step goes where there are more than that then.
     ///
-    /// Where there is no memory the command is let go of, and the stack is as it was, with the steps above the index.
-    pub fn push(&mut self, command: C) -> Result<(), AllocError>
+    /// While a macro is open, the command merges into the innermost one's last entry, clean or not, or becomes that.
+    ///
+    /// Where there is no memory for the merge or for the step, the command is let go of, and the stack is as it was, with the
+    /// steps above the index.
+    pub fn push(&mut self, mut command: C) -> Result<(), AllocError>
         requires sound { Holds C.change self.old }
         requires fits { (C.change command).fits_redo (current (history C.change self.old)) }
-        requires straight { (C.change command).names.follows ≡ false }
-        ensures sound { Holds C.change self.new }
-        ensures pushed { IfOk result (λ _. IsPushed
-            (history C.change self.old)
-            (step_of (C.change command) (current (history C.change self.old)))
-            (history C.change self.new)) }
-        ensures kept { IfErr result (λ _. history C.change self.new ≡ history C.change self.old) }
-    {
-        if self.is_open() {
-            return self.push_child(command);
-        }
-        self.push_step(command)
-    }
-
-    // The same where no macro is open.
-    fn push_step(&mut self, mut command: C) -> Result<(), AllocError>
-        requires closed { self.old.levels.items ≡ [] }
-        requires sound { Holds C.change self.old }
-        requires fits { (C.change command).fits_redo (current (history C.change self.old)) }
-        requires straight { (C.change command).names.follows ≡ false }
         ensures sound { Holds C.change self.new }
         ensures pushed { IfOk result (λ _. IsPushed
             (history C.change self.old)
@@ -228,6 +225,51 @@ impl<C: Command> Stack<C> {
         ensures kept { IfErr result (λ _. history C.change self.new ≡ history C.change self.old) }
     {
         command.redo(&mut self.document);
+        match self.merge(&command) {
+            Ok(true) => {
+                drop(command);
+                self.settle();
+                Ok(())
+            }
+            Ok(false) => self.place(command),
+            Err(error) => {
+                command.undo(&mut self.document);
+                Err(error)
+            }
+        }
+    }
+
+    // Puts a command, which led to the document and merges into nothing, into the history. Where there is no memory it is
+    // undone.
+    #[inline(always)]
+    fn place(&mut self, command: C) -> Result<(), AllocError>
+        requires sound { Holds C.change (stack_before C.change command self.old) }
+        requires fits { (C.change command).fits_undo self.old.document }
+        ensures sound { Holds C.change self.new }
+        ensures placed { IfOk result (λ _. IsPlaced
+            (history C.change (stack_before C.change command self.old))
+            (step_named (C.change command).names self.old.document)
+            (history C.change self.new)) }
+        ensures kept { IfErr result (λ _. history C.change self.new ≡ history C.change (stack_before C.change command self.old)) }
+    {
+        if self.is_open() {
+            return self.place_child(command);
+        }
+        self.place_step(command)
+    }
+
+    // The same where no macro is open.
+    fn place_step(&mut self, mut command: C) -> Result<(), AllocError>
+        requires closed { self.old.levels.items ≡ [] }
+        requires sound { Holds C.change (stack_before C.change command self.old) }
+        requires fits { (C.change command).fits_undo self.old.document }
+        ensures sound { Holds C.change self.new }
+        ensures placed { IfOk result (λ _. IsPlaced
+            (history C.change (stack_before C.change command self.old))
+            (step_named (C.change command).names self.old.document)
+            (history C.change self.new)) }
+        ensures kept { IfErr result (λ _. history C.change self.new ≡ history C.change (stack_before C.change command self.old)) }
+    {
         if command.obsolete() {
             self.cut();
             return Ok(());
@@ -243,19 +285,17 @@ impl<C: Command> Stack<C> {
     }
 
     // The same where a macro is open.
-    fn push_child(&mut self, mut command: C) -> Result<(), AllocError>
+    fn place_child(&mut self, mut command: C) -> Result<(), AllocError>
         requires open { 0 < length self.old.levels.items }
-        requires sound { Holds C.change self.old }
-        requires fits { (C.change command).fits_redo (current (history C.change self.old)) }
-        requires straight { (C.change command).names.follows ≡ false }
+        requires sound { Holds C.change (stack_before C.change command self.old) }
+        requires fits { (C.change command).fits_undo self.old.document }
         ensures sound { Holds C.change self.new }
-        ensures pushed { IfOk result (λ _. IsPushed
-            (history C.change self.old)
-            (step_of (C.change command) (current (history C.change self.old)))
+        ensures placed { IfOk result (λ _. IsPlaced
+            (history C.change (stack_before C.change command self.old))
+            (step_named (C.change command).names self.old.document)
             (history C.change self.new)) }
-        ensures kept { IfErr result (λ _. history C.change self.new ≡ history C.change self.old) }
+        ensures kept { IfErr result (λ _. history C.change self.new ≡ history C.change (stack_before C.change command self.old)) }
     {
-        command.redo(&mut self.document);
         if command.obsolete() {
             return Ok(());
         }

@@ -84,7 +84,6 @@ pub fn plan_erase(
     area: &Area,
     follows: bool,
 ) -> Planned
-    requires { CanBeSpelled (lines.Erase layer area.now.x area.now.y area.now.width area.now.height follows) }
     ensures { PlansEdit (answer_of (erase_names layer follows) (after_erase document.now layer area.now)) document.now result }
 {
     planned(PaintCommand::erase(alloc, document, layer, area, follows).map(Edit::Paint))
@@ -219,7 +218,6 @@ pub fn plan_set_property(
     value: &TypedValue<'_>,
     follows: bool,
 ) -> Planned
-    requires { CanBeSpelled (lines.SetProperty owner name.now value.now follows) }
     ensures { PlansEdit (answer_of (set_property_names owner name.now follows) (after_set_property document.now owner name.now (type_name value.now) (property_value value.now))) document.now result }
 {
     let (name, kind, value) = (name.as_str(), value.type_name(), value.scalar());

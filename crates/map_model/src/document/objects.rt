@@ -9,6 +9,7 @@ use crate::document::Document;
 use crate::objects::{insert_object_in, place_object_in, take_object_in};
 use crate::parts::{Object, Placing};
 use crate::place::ObjectPlace;
+use crate::seek::seek_in_layers;
 use link_chain::Loose;
 
 impl Document {
@@ -30,6 +31,17 @@ impl Document {
         ensures well_formed { IsDocument self.new }
     {
         take_object_in(&mut self.map.parts.layers, place)
+    }
+
+    /// Goes to the object with an id, where ids rise along its layer, so that it is then found and changed at once. The
+    /// document stays as it is.
+    pub fn seek_object(&mut self, id: u32)
+        ensures document { self.new ≡ self.old }
+        ensures well_formed { IsDocument self.new }
+    {
+        if self.map.object_here(id).is_none() {
+            seek_in_layers(&mut self.map.parts.layers, id);
+        }
     }
 
     /// Gives the object at a place another placing, and hands the old one back.

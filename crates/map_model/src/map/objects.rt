@@ -10,7 +10,7 @@ use crate::parts::Object;
 use crate::place::ObjectPlace;
 
 impl Map {
-    /// The object with an id, behind its place: at once where the objects were last changed there, or else by a walk.
+    /// The object with an id, behind its place: at once where the objects were last changed there or gone to, or else by a walk.
     pub fn object(&self, id: u32) -> Option<(ObjectPlace, &Object)>
         ensures place { option_map (λ found. found.0) result ≡ object_place self.now id }
         ensures object { IfSome result (λ found. object_at self.now found.0 ≡ Some found.1.now) }
@@ -33,8 +33,8 @@ impl Map {
         })
     }
 
-    // The object at the place that was last changed, where it has the id.
-    fn object_here(&self, id: u32) -> Option<(ObjectPlace, &Object)>
+    // The object at the place that was last changed or gone to, where it has the id.
+    pub(crate) fn object_here(&self, id: u32) -> Option<(ObjectPlace, &Object)>
         ensures place { IfSome result (λ found. object_place self.now id ≡ Some found.0) }
         ensures object { IfSome result (λ found. object_at self.now found.0 ≡ Some found.1.now) }
     {

@@ -1,4 +1,3 @@
-use Rattle.std.proofs.Common.{refl}
 use Rattle.property_commands.specs.TilesetChanges.{add_tileset_names}
 use Rattle.editor.specs.declared.planned.Edit.TheVariants.{AddTileset}
 use Rattle.editor.proofs.Edits.{mapped-PlansEdit}
@@ -8,4 +7,4 @@ pub returns : goal.returns
 returns c =
     let command = rw c.as_str.ensures at c.new.ensures.command in
     let refusal = rw c.as_str.ensures at c.new.ensures.refusal in
-    rw c.planned.ensures (mapped-PlansEdit AddTileset add_tileset_names c.args.document.now _ c.new.result c.map.result refl command refusal c.map.ensures.cases)
+    rw c.planned.ensures (mapped-PlansEdit AddTileset add_tileset_names c.args.document.now _ c.new.result c.map.result command refusal c.map.ensures.cases)

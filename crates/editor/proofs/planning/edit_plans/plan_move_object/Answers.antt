@@ -4,7 +4,7 @@ use mir.Syntax.{w32}
 use mir.Val.{SFits}
 use Rattle.object_commands.specs.Changes.{move_object_names}
 use Rattle.editor.specs.declared.planned.Edit.TheVariants.{PlaceObject}
-use Rattle.editor.proofs.Edits.{exact-PlansEdit, move_object-straight}
+use Rattle.editor.proofs.Edits.{exact-PlansEdit}
 use Rattle.editor.proofs.planning.edit_plans.plan_move_object.Goals as goal
 
 pub returns : goal.returns
@@ -13,4 +13,4 @@ returns c =
     let y : SFits w32 c.args.y = search rules in
     let command = rw (to_z-of_z w32 c.args.x x, to_z-of_z w32 c.args.y y) at c.moved.ensures.command in
     let refusal = rw (to_z-of_z w32 c.args.x x, to_z-of_z w32 c.args.y y) at c.moved.ensures.refusal in
-    rw c.planned.ensures (exact-PlansEdit PlaceObject (move_object_names c.args.object c.args.follows) c.args.document.now _ c.moved.result c.map.result (move_object-straight _ _ _ _ c.requires) command refusal c.map.ensures.cases)
+    rw c.planned.ensures (exact-PlansEdit PlaceObject (move_object_names c.args.object c.args.follows) c.args.document.now _ c.moved.result c.map.result command refusal c.map.ensures.cases)

@@ -1,4 +1,3 @@
-use Rattle.std.proofs.Common.{refl}
 use Rattle.property_commands.specs.PropertyChanges.{remove_property_names}
 use Rattle.editor.specs.declared.planned.Edit.TheVariants.{RemoveProperty}
 use Rattle.editor.proofs.Edits.{exact-PlansEdit}
@@ -8,4 +7,4 @@ pub returns : goal.returns
 returns c =
     let command = rw c.as_str.ensures at c.new.ensures.command in
     let refusal = rw c.as_str.ensures at c.new.ensures.refusal in
-    rw c.planned.ensures (exact-PlansEdit RemoveProperty remove_property_names c.args.document.now _ c.new.result c.map.result refl command refusal c.map.ensures.cases)
+    rw c.planned.ensures (exact-PlansEdit RemoveProperty remove_property_names c.args.document.now _ c.new.result c.map.result command refusal c.map.ensures.cases)

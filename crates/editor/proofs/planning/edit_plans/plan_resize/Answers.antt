@@ -1,4 +1,4 @@
-use Rattle.std.proofs.Common.{refl, rules}
+use Rattle.std.proofs.Common.{rules}
 use Rattle.std.proofs.lemmas.Int.{to_z-of_z}
 use mir.Syntax.{w32}
 use mir.Val.{SFits}
@@ -13,4 +13,4 @@ returns c =
     let dy : SFits w32 c.args.dy = search rules in
     let command = rw (to_z-of_z w32 c.args.dx dx, to_z-of_z w32 c.args.dy dy) at c.new.ensures.command in
     let refusal = rw (to_z-of_z w32 c.args.dx dx, to_z-of_z w32 c.args.dy dy) at c.new.ensures.refusal in
-    rw c.planned.ensures (mapped-PlansEdit ResizeMap resize_names c.args.document.now _ c.new.result c.map.result refl command refusal c.map.ensures.cases)
+    rw c.planned.ensures (mapped-PlansEdit ResizeMap resize_names c.args.document.now _ c.new.result c.map.result command refusal c.map.ensures.cases)

@@ -4,7 +4,7 @@ use mir.Syntax.{w32}
 use mir.Val.{SFits}
 use Rattle.paint_commands.specs.Painting.{stamp_names}
 use Rattle.editor.specs.declared.planned.Edit.TheVariants.{Paint}
-use Rattle.editor.proofs.Edits.{mapped-PlansEdit, stamp-IsBlock, stamp-straight}
+use Rattle.editor.proofs.Edits.{mapped-PlansEdit, stamp-IsBlock}
 use Rattle.editor.proofs.planning.edit_plans.plan_stamp.Goals as goal
 
 pub stamp-requires : goal.stamp-requires
@@ -21,5 +21,4 @@ returns c =
     let command = rw (c.as_slice.ensures.value, c.in-Ok.ensures, to_z-of_z w32 c.args.block.now.x x, to_z-of_z w32 c.args.block.now.y y) at c.stamp.ensures.command in
     let refusal = rw (c.as_slice.ensures.value, c.in-Ok.ensures, to_z-of_z w32 c.args.block.now.x x, to_z-of_z w32 c.args.block.now.y y) at c.stamp.ensures.refusal in
     rw c.planned.ensures
-    (mapped-PlansEdit Paint (stamp_names c.args.layer c.args.follows) c.args.document.now _ c.stamp.result c.map.result
-    (stamp-straight c.args.layer c.args.block.now.x c.args.block.now.y c.args.block.now.width c.args.block.now.values.now c.args.follows c.requires) command refusal c.map.ensures.cases)
+    (mapped-PlansEdit Paint (stamp_names c.args.layer c.args.follows) c.args.document.now _ c.stamp.result c.map.result command refusal c.map.ensures.cases)

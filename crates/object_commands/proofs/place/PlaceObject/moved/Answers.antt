@@ -18,6 +18,6 @@ returns-clause-command c =
     let found : object_at d.map place ≡ Some o = rw c.map.ensures at c.in-Some.ensures.object in
     let well_formed : IsWellFormed d.map = rw c.map.ensures at c.in-Some.ensures.well_formed in
     rw (x, y) (
-    place_made d (Move c.args.object c.args.follows) place o (moved c.args.x c.args.y) c.eq.result refl found well_formed
+    place_made d Move c.args.object c.args.follows place o (moved c.args.x c.args.y) c.eq.result refl there found well_formed
     (moved-IsPlacing c.args.x c.args.y c.requires.x c.requires.y) (rw (x, y) at c.eq.ensures) (rw there refl)
     )

@@ -1,4 +1,4 @@
-use Rattle.std.proofs.Common.{◌≡◌, ℤ, pos, Some, sym, ap, ◌∙◌, refl, rules, w32}
+use Rattle.std.proofs.Common.{◌≡◌, false, ℤ, pos, Some, sym, ap, ◌∙◌, refl, rules, w32}
 use Rattle.std.proofs.lemmas.Int.{to_z-of_z}
 use Rattle.map_model.specs.Objects.{object_at, object_place}
 use Rattle.map_model.specs.WellFormed.{IsWellFormed}
@@ -21,6 +21,6 @@ returns-clause-command c =
     let found : object_at d.map place ≡ Some o = rw c.map.ensures at c.in-Some.ensures.object in
     let well_formed : IsWellFormed d.map = rw c.map.ensures at c.in-Some.ensures.well_formed in
     rw (width, height) (
-    place_made d Resize place o (resized c.args.width c.args.height) c.eq.result refl found well_formed (resized-IsPlacing c.args.width c.args.height given.0) (rw (width, height) at c.eq.ensures)
+    place_made d Resize c.args.object false place o (resized c.args.width c.args.height) c.eq.result refl there found well_formed (resized-IsPlacing c.args.width c.args.height given.0) (rw (width, height) at c.eq.ensures)
     (rw (there, given.0) refl)
     )

@@ -1,12 +1,24 @@
+use Rattle.std.proofs.Common.{◌∙◌}
 use Rattle.map_model.specs.Objects.{object_placing}
-use Rattle.map_model.specs.WellFormed.{IsPlacing}
-use Rattle.map_model.proofs.PartLaws.{placing-laws, mapped}
-use Rattle.command_api.proofs.Swaps.{swapped_where}
-use Rattle.object_commands.proofs.Placements.{placing-given}
+use Rattle.map_model.proofs.PartLaws.{mapped}
+use Rattle.map_model.proofs.StayPut.{placing_with_id-laws}
+use Rattle.command_api.proofs.Swaps.{shown_swapped}
+use Rattle.object_commands.specs.Changes.{AllowsPlacing}
+use Rattle.object_commands.proofs.Placements.{placing-given, placing-put, placed-there, AllowsPlacing-put}
 use Rattle.object_commands.proofs.place.PlaceObjectExchange.exchange.Goals as goal
+
+pub set_placing-self-requires-clause-there : goal.set_placing-self-requires-clause-there
+set_placing-self-requires-clause-there c =
+    let p = c.args.self.now in
+    placed-there p.object p.place p.is_made p.after p.placing c.args.document.now c.requires.fits
 
 pub returns : goal.returns
 returns c =
+    let p = c.args.self.now in
+    let d = c.args.document.now in
     let set = c.set_placing-self in
-    swapped_where (λ d p. IsPlacing p) (placing-laws c.args.self.now.place)
-    (placing-given c.args.self.now.place c.args.document.now set.result (mapped object_placing _ _ set.ensures.given)) set.ensures.document set.ensures.back
+    let stands = c.requires.fits.allowed.stands in
+    let document = set.ensures.document ∙ placing-put p.object p.place d stands p.placing in
+    shown_swapped p.is_made (AllowsPlacing p.object p.place) (placing_with_id-laws p.object) c.requires.fits
+    (placing-given p.object p.place d stands set.result (mapped object_placing _ _ set.ensures.given)) document
+    (rw document (AllowsPlacing-put p.object p.place d p.placing set.result stands set.ensures.back))

@@ -2,4 +2,4 @@ use Rattle.property_commands.specs.PropertyChanges.{remove_property_names}
 use Rattle.property_commands.proofs.remove.RemovePropertyExchange.exchange.Goals as goal
 
 pub returns : goal.returns
-returns c = c.exchange_property.ensures remove_property_names
+returns c = c.exchange_property.ensures.exchanged remove_property_names

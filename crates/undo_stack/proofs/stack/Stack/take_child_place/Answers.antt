@@ -1,4 +1,5 @@
-use Rattle.std.proofs.Common.{◌≡◌, ◌+◌, ◌-◌, arith, length, refl}
+use Rattle.std.proofs.Common.{◌≡◌, ◌+◌, ◌-◌, arith, ap, length, refl}
+use Rattle.undo_stack.specs.Sound.{level_nesting}
 use Rattle.undo_stack.specs.Stacks.{inner_of}
 use Rattle.undo_stack.proofs.Rows.{map-set_same}
 use Rattle.undo_stack.proofs.Levels.{LastHasRoom-set}
@@ -15,7 +16,7 @@ returns-in_err-take_place-clause-bounded g c =
     let s = c.args.self.now in
     let last : c.len-last.result - 1 + 1 ≡ length s.levels.items = omega (arith, c.requires, c.len-last.ensures, s.levels.ok.0) in
     let same = map-set_same inner_of s.levels.items c.index_mut.result.now c.take_place.new.self (c.len-last.result - 1) c.index_mut.ensures.value c.take_place.ensures.same in
-    placed_bounded s _ c.take_place.new.self (c.len-last.result - 1) c.requires last refl refl refl refl same
+    placed_bounded s _ c.take_place.new.self (c.len-last.result - 1) c.requires last refl refl refl refl (omega (arith, ap level_nesting same))
 
 pub returns-clause-same : goal.returns-clause-same
 returns-clause-same g c =
@@ -27,7 +28,7 @@ returns-clause-bounded g c =
     let s = c.args.self.now in
     let last : c.len-last.result - 1 + 1 ≡ length s.levels.items = omega (arith, c.requires, c.len-last.ensures, s.levels.ok.0) in
     let same = map-set_same inner_of s.levels.items c.index_mut.result.now c.take_place.new.self (c.len-last.result - 1) c.index_mut.ensures.value c.take_place.ensures.same in
-    placed_bounded s _ c.take_place.new.self (c.len-last.result - 1) c.requires last refl refl refl refl same
+    placed_bounded s _ c.take_place.new.self (c.len-last.result - 1) c.requires last refl refl refl refl (omega (arith, ap level_nesting same))
 
 pub returns-clause-room : goal.returns-clause-room
 returns-clause-room g c =

@@ -1,0 +1,13 @@
+// The ids of the kinds of changes that merge. Contracts name them too. A caller's own paints have ids above these.
+
+/// Stamps on a tile layer.
+pub const STAMP_ID: u32 = 1;
+
+/// Erases on a tile layer.
+pub const ERASE_ID: u32 = 2;
+
+/// Moves of an object.
+pub const MOVE_ID: u32 = 3;
+
+/// Settings of a property.
+pub const SET_ID: u32 = 4;

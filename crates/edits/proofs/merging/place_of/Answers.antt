@@ -1,0 +1,13 @@
+use Rattle.std.proofs.Common.{◌≡◌, arith}
+use Rattle.edits.proofs.Merged.{front-ComesBefore}
+use Rattle.edits.proofs.merging.place_of.Goals as goal
+
+pub returns : goal.returns
+returns c =
+    let low = c.loop-low.low in
+    let same : c.loop-low.low ≡ c.loop-low.high = omega arith in
+    record {
+      within = omega arith;
+      front = front-ComesBefore c.args.older.now c.args.newer.now low c.requires (omega arith) c.loop-low.invariant.2;
+      back = rw same c.loop-low.invariant.3;
+    }

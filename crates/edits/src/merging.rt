@@ -1,0 +1,123 @@
+// The join of two changes of one layer.
+ghost use Rattle.std.specs.Prelude.{◌≡◌, ◌+◌, ◌*◌, ◌<◌, ◌≤◌, ◌++◌, IfOk, OnOk, length};
+ghost use Rattle.std.specs.Ordering.{is_eq, is_lt};
+ghost use Rattle.std.specs.Vec.{vec_capacity, vec_len};
+ghost use Rattle.region.specs.Cells.{cell_cmp};
+ghost use Rattle.map_model.specs.CellEdits.{AreInRowOrder, cell};
+ghost use Rattle.edits.specs.Merging.{IsPlaceOf, JoinedIsDifference, joined, joined_cell};
+
+use map_model::CellEdit;
+use std::alloc::{AllocError, Global};
+
+// The row and the column of a changed cell as one number.
+fn rank(x: u16, y: u16) -> u32
+    ensures value { result ≡ y * 65536 + x }
+    ensures column { x < 65536 }
+{
+    u32::from(y) * 65536 + u32::from(x)
+}
+
+// Whether a changed cell comes before another one in row order.
+fn comes_before(a: &CellEdit, b: &CellEdit) -> bool
+    ensures { result ≡ is_lt (cell_cmp (cell a.now) (cell b.now)) }
+{
+    rank(a.x, a.y) < rank(b.x, b.y)
+}
+
+// Whether two changes are of one cell.
+fn is_same_cell(a: &CellEdit, b: &CellEdit) -> bool
+    ensures { result ≡ is_eq (cell_cmp (cell a.now) (cell b.now)) }
+{
+    rank(a.x, a.y) == rank(b.x, b.y)
+}
+
+// The first place of which the cell does not come before the newer one. The search goes first as far as the last jump
+// went, since rows repeat; from there on by steps that double, and then back by halves.
+#[inline(never)]
+fn place_of(older: &[CellEdit], jump: usize, newer: &CellEdit) -> usize
+    requires { AreInRowOrder older.now }
+    ensures { IsPlaceOf older.now newer.now result }
+{
+    let mut low = 0;
+    let mut step = jump.max(1);
+    let mut next = 1;
+    while step <= older.len() - low && comes_before(&older[low + step - 1], newer) {
+        low += step;
+        step = next;
+        next = next.saturating_mul(2);
+    }
+    let mut high = low + (step - 1).min(older.len() - low);
+    while low < high {
+        let middle = low + (high - low) / 2;
+        if comes_before(&older[middle], newer) {
+            low = middle + 1;
+        } else {
+            high = middle;
+        }
+    }
+    low
+}
+
+// Adds a stretch of cells. It stands apart, as the search does, so that the loop around them stays small.
+#[inline(never)]
+fn push_stretch(cells: &mut Vec<CellEdit>, stretch: &[CellEdit]) -> Result<(), AllocError>
+    ensures items { OnOk result (cells.new.items ≡ cells.old.items ++ stretch.now) }
+    ensures len { OnOk result (vec_len cells.new ≡ vec_len cells.old + length stretch.now) }
+    ensures capacity { vec_capacity cells.old ≤ vec_capacity cells.new }
+{
+    cells.extend_from_slice(stretch)
+}
+
+// Adds a cell of both changes, unless it is after them what it was before.
+fn push_joined(cells: &mut Vec<CellEdit>, older: &CellEdit, newer: &CellEdit)
+    requires { vec_len cells.old < vec_capacity cells.old }
+    ensures items { cells.new.items ≡ cells.old.items ++ joined_cell older.now newer.now }
+    ensures len { vec_len cells.new ≤ vec_len cells.old + 1 }
+    ensures capacity { vec_capacity cells.new ≡ vec_capacity cells.old }
+{
+    if older.before != newer.after {
+        let mut both = *older;
+        both.after = newer.after;
+        cells.push_reserved(both);
+    }
+}
+
+/// The join of two changes of one layer, of which the newer one was made behind the older one: a cell of one of them keeps
+/// its values; a cell of both has its value before the older one and after the newer one, and goes where these are equal.
+///
+/// Refused only where there is no memory. There is one growth, with room for the cells of both changes. What comes between
+/// the newer cells is copied in stretches.
+pub fn joined_cells(
+    alloc: Global,
+    older: &[CellEdit],
+    newer: &[CellEdit],
+) -> Result<Vec<CellEdit>, AllocError>
+    requires { AreInRowOrder older.now }
+    ensures { IfOk result (λ cells. cells.items ≡ joined older.now newer.now) }
+{
+    let mut cells = Vec::with_capacity(alloc, older.len() + newer.len())?;
+    let mut rest = older;
+    let mut jump = older.len();
+    for cell in newer {
+        if !rest.is_empty() && comes_before(&rest[0], cell) {
+            let (front, behind) = rest.split_at(place_of(rest, jump, cell));
+            push_stretch(&mut cells, front)?;
+            jump = front.len();
+            rest = behind;
+        }
+        if !rest.is_empty() && is_same_cell(&rest[0], cell) {
+            push_joined(&mut cells, &rest[0], cell);
+            rest = &rest[1..];
+        } else {
+            cells.push_reserved(*cell);
+        }
+    }
+    push_stretch(&mut cells, rest)?;
+    Ok(cells)
+}
+
+/// The join of the difference of a first map and a second one of its size, and of that of the second and a third, is the
+/// difference of the first and the third. The function does nothing: it states this law of the join.
+pub fn joined_differences()
+    ensures { JoinedIsDifference }
+{}

@@ -1,0 +1,212 @@
+ghost use Rattle.std.specs.Prelude.{◌≡◌, ◌≤◌, Option, IsErrOf, IfOk, IfSome, ◌⊎◌};
+ghost use Rattle.undo_stack.specs.declared.limits.TheConstants.{MAX_LIMIT};
+ghost use Rattle.editor.specs.declared.planned.Edit.{Edit};
+ghost use Rattle.editor.specs.Editors.{IsSound, machine_of};
+ghost use Rattle.editor.specs.Machine.{started_machine, workspace};
+ghost use Rattle.editor.specs.Steps.{Step};
+ghost use Rattle.session.specs.Spelling.{CanBeSpelled};
+ghost use Rattle.session_run.specs.Runs.{PutsSame, RunsAll, RunsSome, RunsToRead, RunsToWrite, StepFound};
+
+use crate::writing::{flush_if, write_reply};
+use arrayvec::ArrayString;
+use command_api::Command;
+use editor::{Edit, Editor, Planned};
+use lines::{Found, LineReader};
+use map_store::MapStore;
+use session::{Line, LineFault, Refusal, Reply, parse_line};
+use std::alloc::Global;
+use std::io::{Read, Write};
+use thiserror::Error;
+
+/// How many lines a run heard, quiet ones too, and how many replies it wrote.
+#[derive(Clone, Copy, Debug, PartialEq, Eq)]
+pub struct Summary {
+    pub lines: u64,
+    pub replies: u64,
+}
+
+/// Why a run ended before the end of its input.
+#[derive(Debug, Drop, Error)]
+pub enum RunFault {
+    /// A read failed, or there were 4,294,967,296 of them. All replies to the lines before were written.
+    #[error("read failed")]
+    Read,
+    /// A write or a flush failed, or a write took no byte. The line that was to be replied to is done.
+    #[error("write failed")]
+    Write,
+    /// There was no memory for the line buffer. Nothing was read or written.
+    #[error("no memory")]
+    Memory,
+}
+
+// A command in a box, where there is memory.
+fn boxed<K: Command>(alloc: Global, command: K) -> Option<Box<K>>
+    ensures { IfSome result (λ b. b.value ≡ command) }
+{
+    Box::new(alloc, command).ok()
+}
+
+// Hears a line that was read: the reply to it, and none to a quiet one. What it plans is put into a command and
+// committed.
+fn hear_line<C: Command, S: MapStore, F: Fn(Edit) -> Option<C>>(
+    alloc: Global,
+    editor: &mut Editor<C>,
+    store: &mut S,
+    line: &Line<'_>,
+    put: &F,
+) -> Option<Reply>
+    requires sound { IsSound C.change editor.old }
+    requires spelled { CanBeSpelled line.now }
+    requires callable { F.IsAlwaysCallable put.now }
+    requires same { (edit : Edit) (command : Option C) → F.post put.now edit command → PutsSame C.change edit command }
+    ensures sound { IsSound C.change editor.new }
+    ensures step { Step line.now
+        (workspace (machine_of C.change editor.old) (S.kept store.old)) result (workspace (machine_of C.change editor.new) (S.kept store.new)) }
+{
+    match editor.plan(alloc, store, line) {
+        Planned::Quiet => None,
+        Planned::Reply(reply) => Some(reply),
+        Planned::Push(edit) => match put(edit) {
+            Some(command) => Some(editor.commit(command)),
+            None => Some(Reply::Refused(Refusal::NoMemory)),
+        },
+    }
+}
+
+// Hears a line that was found.
+fn hear<C: Command, S: MapStore, F: Fn(Edit) -> Option<C>>(
+    alloc: Global,
+    editor: &mut Editor<C>,
+    store: &mut S,
+    found: Found,
+    line: &[u8],
+    put: &F,
+) -> Option<Reply>
+    requires sound { IsSound C.change editor.old }
+    requires callable { F.IsAlwaysCallable put.now }
+    requires same { (edit : Edit) (command : Option C) → F.post put.now edit command → PutsSame C.change edit command }
+    ensures sound { IsSound C.change editor.new }
+    ensures step { StepFound found line.now
+        (workspace (machine_of C.change editor.old) (S.kept store.old)) result (workspace (machine_of C.change editor.new) (S.kept store.new)) }
+{
+    match found {
+        Found::TooLong => Some(Reply::Refused(Refusal::Line(LineFault::TooLong))),
+        Found::Line => match &parse_line(line) {
+            Ok(line) => hear_line(alloc, editor, store, line, put),
+            Err(fault) => Some(Reply::Refused(Refusal::Line(*fault))),
+        },
+    }
+}
+
+// Hears all lines and writes the replies, from how an editor stands on. What a line plans is put into a command by `put`.
+fn hear_all<C: Command, R: Read, W: Write, S: MapStore, F: Fn(Edit) -> Option<C>>(
+    alloc: Global,
+    mut editor: Editor<C>,
+    reader: &mut R,
+    writer: &mut W,
+    store: &mut S,
+    put: F,
+) -> Result<Summary, RunFault>
+    requires sound { IsSound C.change editor }
+    requires callable { F.IsAlwaysCallable put }
+    requires same { (edit : Edit) (command : Option C) → F.post put edit command → PutsSame C.change edit command }
+    ensures ok { IfOk result (λ summary. IfSome (R.remaining reader.old) (λ input.
+        RunsAll (workspace (machine_of C.change editor) (S.kept store.old)) input (W.contents writer.old) (W.contents writer.new) (S.kept store.new)
+        summary.lines summary.replies)) }
+    ensures read { IsErrOf result RunFault.Read → IfSome (R.remaining reader.old) (λ input.
+        RunsToRead (workspace (machine_of C.change editor) (S.kept store.old)) input (R.remaining reader.new) (W.contents writer.old) (W.contents writer.new) (S.kept store.new)) }
+    ensures write { IsErrOf result RunFault.Write → IfSome (R.remaining reader.old) (λ input.
+        RunsSome (workspace (machine_of C.change editor) (S.kept store.old)) input (W.contents writer.old) (W.contents writer.new) (S.kept store.new)
+        ⊎ RunsToWrite (workspace (machine_of C.change editor) (S.kept store.old)) input (W.contents writer.old) (W.contents writer.new) (S.kept store.new)) }
+    ensures memory { IsErrOf result RunFault.Memory → (writer.new ≡ writer.old) × (reader.new ≡ reader.old) × (store.new ≡ store.old) }
+{
+    let Ok(mut lines) = LineReader::new(alloc) else {
+        return Err(RunFault::Memory);
+    };
+    let mut head = ArrayString::<512>::new();
+    let mut summary = Summary {
+        lines: 0,
+        replies: 0,
+    };
+    'session: loop {
+        // What was written is shown before a read may wait.
+        if flush_if(writer, !lines.has_line()).is_err() {
+            return Err(RunFault::Write);
+        }
+        let found = match lines.next(reader) {
+            Ok(Some(found)) => found,
+            Ok(None) => return Ok(summary),
+            Err(_) => return Err(RunFault::Read),
+        };
+        summary.lines += 1;
+        let Some(reply) = hear(alloc, &mut editor, store, found, lines.line(), &put) else {
+            continue 'session;
+        };
+        if write_reply(writer, &mut head, reply).is_err() {
+            return Err(RunFault::Write);
+        }
+        summary.replies += 1;
+    }
+}
+
+/// Reads session lines to the end of the input, and writes a reply to each but the quiet ones. The maps that lines open
+/// and save are files of the store. The limit is the undo limit of each document when it is made, at most 1,000,000, where 0
+/// stands for none.
+///
+/// The replies are those of the machine that keeps, for each open document, a history of whole documents, and so are the
+/// files where the store is honest. Where it is not, it may find any bytes at an `open`, and nothing is said of its files.
+/// The writer is flushed before each read that may wait, and before an `Ok`.
+pub fn run<R: Read, W: Write, S: MapStore>(
+    alloc: Global,
+    reader: &mut R,
+    writer: &mut W,
+    store: &mut S,
+    limit: usize,
+) -> Result<Summary, RunFault>
+    requires { limit ≤ MAX_LIMIT }
+
+    // All lines of the input were heard, and the replies and the files are those of the machine.
+    ensures ok { IfOk result (λ summary. IfSome (R.remaining reader.old) (λ input.
+        RunsAll (workspace (started_machine limit) (S.kept store.old)) input (W.contents writer.old) (W.contents writer.new) (S.kept store.new)
+        summary.lines summary.replies)) }
+
+    // All lines before the one that had not come whole are done, files and all, and the replies to them were written whole.
+    // What came of that one and what the reader still has are the rest of the input.
+    ensures read { IsErrOf result RunFault.Read → IfSome (R.remaining reader.old) (λ input.
+        RunsToRead (workspace (started_machine limit) (S.kept store.old)) input (R.remaining reader.new) (W.contents writer.old) (W.contents writer.new) (S.kept store.new)) }
+
+    // All lines that were heard are done, files and all, and all replies were written whole and could not be flushed; or all
+    // replies before the one that could not be written were written whole, its line is done too, and of it a first part was
+    // written.
+    ensures write { IsErrOf result RunFault.Write → IfSome (R.remaining reader.old) (λ input.
+        RunsSome (workspace (started_machine limit) (S.kept store.old)) input (W.contents writer.old) (W.contents writer.new) (S.kept store.new)
+        ⊎ RunsToWrite (workspace (started_machine limit) (S.kept store.old)) input (W.contents writer.old) (W.contents writer.new) (S.kept store.new)) }
+
+    // For the line buffer alone, and before anything was read or written.
+    ensures memory { IsErrOf result RunFault.Memory → (writer.new ≡ writer.old) × (reader.new ≡ reader.old) × (store.new ≡ store.old) }
+{
+    let editor: Editor<Box<dyn Command>> = Editor::new(alloc, limit);
+    // Each kind of command is boxed by its own type.
+    let put = |edit: Edit| -> Option<Box<dyn Command>>
+        ensures { PutsSame (λ command. change command) edit result }
+    {
+        match edit {
+            Edit::Paint(command) => Some(boxed(alloc, command)?),
+            Edit::AddLayer(command) => Some(boxed(alloc, command)?),
+            Edit::RemoveLayer(command) => Some(boxed(alloc, command)?),
+            Edit::RenameLayer(command) => Some(boxed(alloc, command)?),
+            Edit::ShowLayer(command) => Some(boxed(alloc, command)?),
+            Edit::MoveLayer(command) => Some(boxed(alloc, command)?),
+            Edit::Select(command) => Some(boxed(alloc, command)?),
+            Edit::ResizeMap(command) => Some(boxed(alloc, command)?),
+            Edit::AddObject(command) => Some(boxed(alloc, command)?),
+            Edit::RemoveObject(command) => Some(boxed(alloc, command)?),
+            Edit::PlaceObject(command) => Some(boxed(alloc, command)?),
+            Edit::SetProperty(command) => Some(boxed(alloc, command)?),
+            Edit::RemoveProperty(command) => Some(boxed(alloc, command)?),
+            Edit::AddTileset(command) => Some(boxed(alloc, command)?),
+            Edit::RemoveTileset(command) => Some(boxed(alloc, command)?),
+        }
+    };
+    hear_all(alloc, editor, reader, writer, store, put)
+}

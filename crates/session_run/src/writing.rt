@@ -1,0 +1,70 @@
+ghost use Rattle.std.specs.Prelude.{◌≡◌, ◌∷◌, ◌++◌, [], OnOk, OnErr};
+ghost use Rattle.std.specs.Io.KnownBytes.{Appends, Keeps};
+ghost use Rattle.session_run.specs.Runs.{reply_line, TakesPart};
+
+use arrayvec::ArrayString;
+use session::Reply;
+use std::io::Write;
+
+/// A call of `write` or `flush` failed, or a write took no byte.
+#[derive(Clone, Copy, Debug, PartialEq, Eq)]
+pub struct WriteFault;
+
+// Writes all bytes.
+#[tactic(auto, using(crate::proofs::Appending::appends_more))]
+fn write_whole<W: Write>(writer: &mut W, bytes: &[u8]) -> Result<(), WriteFault>
+    ensures ok { OnOk result (Appends (W.contents writer.old) (W.contents writer.new) bytes.now) }
+    ensures err { OnErr result (TakesPart bytes.now (W.contents writer.old) (W.contents writer.new)) }
+{
+    let mut rest = bytes;
+    while !rest.is_empty() {
+        match writer.write(rest) {
+            Ok(0) => return Err(WriteFault),
+            Ok(count) => rest = &rest[count..],
+            Err(_) => return Err(WriteFault),
+        }
+    }
+    Ok(())
+}
+
+// Writes a head, a body and a newline, one after another.
+#[tactic(auto, using(crate::proofs::Appending::appends_more))]
+fn write_pieces<W: Write>(writer: &mut W, head: &[u8], body: &[u8]) -> Result<(), WriteFault>
+    ensures ok { OnOk result (Appends (W.contents writer.old) (W.contents writer.new) (head.now ++ body.now ++ 10 ∷ [])) }
+    ensures err { OnErr result (TakesPart (head.now ++ body.now ++ 10 ∷ []) (W.contents writer.old) (W.contents writer.new)) }
+{
+    write_whole(writer, head)?;
+    write_whole(writer, body)?;
+    write_whole(writer, b"\n")?;
+    Ok(())
+}
+
+/// Writes a reply and a newline, and lets go of the reply: with one call of `write` where the reply has no body and the
+/// writer takes it whole. What the head held is let go of.
+pub fn write_reply<W: Write>(
+    writer: &mut W,
+    head: &mut ArrayString<512>,
+    reply: Reply,
+) -> Result<(), WriteFault>
+    ensures ok { OnOk result (Appends (W.contents writer.old) (W.contents writer.new) (reply_line reply)) }
+    ensures err { OnErr result (TakesPart (reply_line reply) (W.contents writer.old) (W.contents writer.new)) }
+{
+    head.clear();
+    reply.write_into(head);
+    let body = reply.body();
+    if body.is_empty() {
+        head.push('\n');
+        return write_whole(writer, head.as_str().as_bytes());
+    }
+    write_pieces(writer, head.as_str().as_bytes(), body)
+}
+
+/// Flushes the writer, where that is wanted.
+pub fn flush_if<W: Write>(writer: &mut W, is_wanted: bool) -> Result<(), WriteFault>
+    ensures { Keeps (W.contents writer.old) (W.contents writer.new) }
+{
+    if is_wanted {
+        return writer.flush().map_err(|_| WriteFault);
+    }
+    Ok(())
+}

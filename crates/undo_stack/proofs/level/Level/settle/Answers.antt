@@ -1,0 +1,31 @@
+use Rattle.std.proofs.Common.{◌≡◌, ◌-◌, ◌∙◌, sym, length, arith}
+use Rattle.undo_stack.specs.Entries.{entry_change}
+use Rattle.undo_stack.proofs.Pushes.{row_nesting-take}
+use Rattle.undo_stack.proofs.Joins.{settles_gone, settles_kept}
+use Rattle.undo_stack.proofs.level.Level.settle.Goals as goal
+
+pub returns-then-obsolete-clause-settled : goal.returns-then-obsolete-clause-settled
+returns-then-obsolete-clause-settled g c d h =
+    let row = c.args.self.now.body.value.children.items in
+    let n = c.len-below.result in
+    let len = rw c.deref.ensures at c.len-below.ensures in
+    let count : n ≡ length row = omega (arith, len, c.args.self.now.body.value.children.ok.0) in
+    let is = rw c.deref-2.ensures at c.index.ensures in
+    let gone = sym c.obsolete.ensures.answer ∙ c.if-obsolete.true in
+    let items = rw c.deref_mut.ensures.value at c.truncate.ensures.items in
+    rw items (settles_gone (entry_change g.C.Command.change) row c.index.result.now n d (omega arith) count is c.obsolete.ensures.law gone h)
+
+pub returns-then-obsolete-clause-nesting : goal.returns-then-obsolete-clause-nesting
+returns-then-obsolete-clause-nesting g c =
+    let items = rw c.deref_mut.ensures.value at c.truncate.ensures.items in
+    rw items (row_nesting-take (c.len-below.result - 1) c.args.self.now.body.value.children.items)
+
+pub returns-else-obsolete-clause-settled : goal.returns-else-obsolete-clause-settled
+returns-else-obsolete-clause-settled g c d h =
+    let row = c.args.self.now.body.value.children.items in
+    let n = c.len-below.result in
+    let len = rw c.deref.ensures at c.len-below.ensures in
+    let count : n ≡ length row = omega (arith, len, c.args.self.now.body.value.children.ok.0) in
+    let is = rw c.deref-2.ensures at c.index.ensures in
+    let stays = sym c.obsolete.ensures.answer ∙ c.if-obsolete.false in
+    settles_kept (entry_change g.C.Command.change) row c.index.result.now n d (omega arith) count is c.obsolete.ensures.law stays h

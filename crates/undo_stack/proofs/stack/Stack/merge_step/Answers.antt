@@ -1,0 +1,55 @@
+use Rattle.std.proofs.Common.{◌-◌, ◌∙◌, ap, refl, arith, Bool, Ok, length-set, set}
+use Rattle.undo_stack.specs.Entries.{entry_change, nesting, greatest}
+use Rattle.undo_stack.specs.History.{step_named}
+use Rattle.undo_stack.specs.Merging.{stack_before}
+use Rattle.undo_stack.proofs.Rows.{map-set_same}
+use Rattle.undo_stack.proofs.Joins.{last_fits}
+use Rattle.undo_stack.proofs.Merges.{continues_below, merges_err, other_place, merged_row, kept_below, taken_step}
+use Rattle.undo_stack.proofs.Stacks.{inners_closed}
+use Rattle.undo_stack.proofs.stack.Stack.merge_step.Goals as goal
+
+pub merge-requires-clause-older : goal.merge-requires-clause-older
+merge-requires-clause-older g c =
+    let f = g.C.Command.change in
+    let s = c.args.self.now in
+    let flat = rw (inners_closed s.levels.items c.requires.closed) at c.requires.sound.turnable in
+    last_fits (entry_change f) s.entries.items c.index_mut.result.now s.index ((f c.args.command.now).undone s.document) (omega arith) flat.within c.index_mut.ensures.value flat.down
+
+pub returns-in_err-merge : goal.returns-in_err-merge
+returns-in_err-merge g c =
+    let f = g.C.Command.change in
+    let s = c.args.self.now in
+    let v = c.index_mut.result.now in
+    let w = c.merge.new.self in
+    let row = merged_row f c.args.command.now s v w c.merge.result c.requires.closed (omega arith) c.index_mut.ensures.value c.requires.sound c.merge.ensures.merged in
+    merges_err f c.args.command.now s _ c.from_residual.result c.from_residual.ensures.0
+    (kept_below f c.args.command.now s _ v w c.requires.closed (omega arith) c.index_mut.ensures.value refl refl c.merge.ensures.nesting (rw c.in_err-merge.was at row) c.requires.sound)
+
+pub returns-then-not-branch : goal.returns-then-not-branch
+returns-then-not-branch g c =
+    let f = g.C.Command.change in
+    let s = c.args.self.now in
+    let x = c.args.command.now in
+    let v = c.index_mut.result.now in
+    let w = c.merge.new.self in
+    let row = merged_row f x s v w c.merge.result c.requires.closed (omega arith) c.index_mut.ensures.value c.requires.sound c.merge.ensures.merged in
+    let no = c.in_ok-merge.was ∙ ap (λ (b : Bool). Ok b) c.if-not-branch.true in
+    let m = rw no at row in (
+      (λ k. m.0 (continues_below f (stack_before f x s) (step_named (f x).names s.document) c.requires.closed c.requires.sound.turnable.within k).0),
+      kept_below f x s _ v w c.requires.closed (omega arith) c.index_mut.ensures.value refl refl c.merge.ensures.nesting m.1 c.requires.sound,
+    )
+
+pub returns : goal.returns
+returns g c =
+    let f = g.C.Command.change in
+    let s = c.args.self.now in
+    let x = c.args.command.now in
+    let v = c.index_mut.result.now in
+    let w = c.merge.new.self in
+    let row = merged_row f x s v w c.merge.result c.requires.closed (omega arith) c.index_mut.ensures.value c.requires.sound c.merge.ensures.merged in
+    let yes = c.in_ok-merge.was ∙ ap (λ (b : Bool). Ok b) c.if-not-branch.false in
+    let m = rw yes at row in
+    let e = c.cut.ensures in
+    let ys = set s.entries.items (s.index - 1) w in
+    taken_step f x s c.cut.new.self ys c.requires.closed e.rest e.entries e.clean (omega arith) (other_place s.clean s.index c.if-eq.ensures) (length-set s.entries.items (s.index - 1) w)
+    (ap greatest (map-set_same nesting s.entries.items v w (s.index - 1) c.index_mut.ensures.value c.merge.ensures.nesting)) c.requires.sound m.0 m.1

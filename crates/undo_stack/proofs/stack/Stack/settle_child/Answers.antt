@@ -1,0 +1,32 @@
+use Rattle.std.proofs.Common.{◌≡◌, ◌+◌, ◌-◌, arith, refl, length}
+use Rattle.std.specs.Vec.{with_item}
+use Rattle.undo_stack.proofs.Merges.{child_fits, child_some, settled_child}
+use Rattle.undo_stack.proofs.stack.Stack.settle_child.Goals as goal
+
+pub settle-requires : goal.settle-requires
+settle-requires g c =
+    let s = c.args.self.now in
+    let last : c.len-last.result - 1 + 1 ≡ length s.levels.items = omega (arith, c.requires.«open», c.len-last.ensures, s.levels.ok.0) in
+    record { some = child_some g.C.Command.change s c.index_mut.result.now (c.len-last.result - 1) last c.index_mut.ensures.value c.requires.target }
+
+pub returns-clause-sound : goal.returns-clause-sound
+returns-clause-sound g c =
+    let f = g.C.Command.change in
+    let s = c.args.self.now in
+    let v = c.index_mut.result.now in
+    let is = c.index_mut.ensures.value in
+    let e = c.settle.ensures in
+    let last : c.len-last.result - 1 + 1 ≡ length s.levels.items = omega (arith, c.requires.«open», c.len-last.ensures, s.levels.ok.0) in
+    let fits = child_fits f s v (c.len-last.result - 1) last is c.requires.sound in
+    (settled_child f s (record s { levels = with_item s.levels (c.len-last.result - 1) c.settle.new.self }) v c.settle.new.self (c.len-last.result - 1) refl refl last is e.texts e.nesting (e.settled s.document fits) c.requires.sound).0
+
+pub returns-clause-settled : goal.returns-clause-settled
+returns-clause-settled g c =
+    let f = g.C.Command.change in
+    let s = c.args.self.now in
+    let v = c.index_mut.result.now in
+    let is = c.index_mut.ensures.value in
+    let e = c.settle.ensures in
+    let last : c.len-last.result - 1 + 1 ≡ length s.levels.items = omega (arith, c.requires.«open», c.len-last.ensures, s.levels.ok.0) in
+    let fits = child_fits f s v (c.len-last.result - 1) last is c.requires.sound in
+    (settled_child f s (record s { levels = with_item s.levels (c.len-last.result - 1) c.settle.new.self }) v c.settle.new.self (c.len-last.result - 1) refl refl last is e.texts e.nesting (e.settled s.document fits) c.requires.sound).1

@@ -1,0 +1,94 @@
+-- What the merge of a pushed edit makes of a change, a row, a history and a stack.
+use Rattle.std.specs.Prelude.{◌≡◌, ◌<◌, List, [], ◌∷◌, Some, None, Bool, true, false, Result, Ok, Err, length}
+use Rattle.map_model.specs.Document.{DocumentParts}
+use Rattle.command_api.specs.Law.{Change, IsSame, IsSettled}
+use Rattle.undo_stack.specs.History.{Step, step_named, Open, History, last_after, innermost}
+use Rattle.undo_stack.specs.Pushing.{cut, front, last_step, led_to, target, before_target, vanishing_of, Continues, Merges, Vanishes, with_target_at, without_target, next_of}
+use Rattle.undo_stack.specs.Row.{before, steps_down, FitsDown}
+use Rattle.undo_stack.specs.Stacks.{history, Holds}
+use Rattle.undo_stack.specs.declared.stack.Stack.{Stack}
+
+-- the change c continues the step of the change v
+abbrev pub Joins : Change → Change → Type 0
+Joins v c = (c.names.follows ≡ true) × (c.names.tag ≡ v.names.tag) × (c.names.tag ≡ None → ⊥)
+
+-- w does what v and then the newer change c do, which led to d
+pub record IsJoined (v w c : Change) (d : DocumentParts) : Type 0 where
+  pub fits : w.fits_undo d
+  pub undone : w.undone d ≡ v.undone (c.undone d)
+  pub names : w.names ≡ v.names
+
+-- merging the newer change c, which led to d, made w of v
+abbrev pub MergesChange : {E : Type 0} → Change → Change → DocumentParts → Result Bool E → Change → Type 0
+MergesChange v c d (Ok true) w = Joins v c × IsJoined v w c d
+MergesChange v c d (Ok false) w = (Joins v c → ⊥) × IsSame v w
+MergesChange v c d (Err e) w = IsSame v w
+
+-- the row ys, which led to e, is the row xs, which led to d, but for its steps, which were changed so
+pub record IsAltered {B : Type 0} (f : B → Change) (change : List Step → List Step) (xs : List B) (d : DocumentParts) (ys : List B) (e : DocumentParts) : Type 0 where
+  pub down : FitsDown f ys e
+  pub base : before f ys e ≡ before f xs d
+  pub steps : steps_down f ys e ≡ change (steps_down f xs d)
+
+-- merging the newer change c, which led to d, made ys of the row xs
+abbrev pub MergesRow : {E B : Type 0} → (B → Change) → List B → Change → DocumentParts → Result Bool E → List B → Type 0
+MergesRow f xs c d (Ok true) ys = Continues (last_step (steps_down f xs (c.undone d))) (step_named c.names d) × IsAltered f (led_to d) xs (c.undone d) ys d
+MergesRow f xs c d (Ok false) ys = (Continues (last_step (steps_down f xs (c.undone d))) (step_named c.names d) → ⊥) × IsAltered f (λ ss. ss) xs (c.undone d) ys (c.undone d)
+MergesRow f xs c d (Err e) ys = IsAltered f (λ ss. ss) xs (c.undone d) ys (c.undone d)
+
+-- the steps that are left where the last one is gone, and where it is not
+abbrev pub left_of : Bool → List Step → List Step
+left_of true ss = front ss
+left_of false ss = ss
+
+-- ys is the row xs, which led to d, without its last thing where that is obsolete
+pub record SettlesRow {B : Type 0} (f : B → Change) (xs : List B) (d : DocumentParts) (ys : List B) : Type 0 where
+  pub gone : Bool
+  pub gone_where : IsSettled (vanishing_of (last_step (steps_down f xs d))) gone (last_after (before f xs d) (front (steps_down f xs d))) d
+  pub row : IsAltered f (left_of gone) xs d ys d
+
+-- the target exists, nothing stands above it, and outside levels the position is not the clean one
+abbrev pub HasTarget : List Open → History → Type 0
+HasTarget [] h = (0 < h.position) × (h.position ≡ length h.steps) × (h.clean ≡ Some h.position → ⊥)
+HasTarget (l ∷ ls) h = 0 < length (innermost l ls).steps
+
+-- what is left of a history where its target is gone, and where it is not
+abbrev pub settled_to : Bool → History → History
+settled_to true h = without_target h.levels h
+settled_to false h = h
+
+-- n is the history h, which led to d, without its target where that is obsolete
+pub record SettlesTarget (d : DocumentParts) (h n : History) : Type 0 where
+  pub gone : Bool
+  pub gone_where : IsSettled (vanishing_of (target h)) gone (before_target h) d
+  pub next : n ≡ settled_to gone h
+
+-- the edit s, which is not merged into the history h, makes of it the history n
+pub record IsPlaced (h : History) (s : Step) (n : History) : Type 0 where
+  pub gone : Bool
+  pub gone_where : Vanishes false gone (cut h) s
+  pub next : n ≡ next_of false gone s (cut h)
+
+-- the stack before the command c, which led to its document
+abbrev pub stack_before : {C : Type 0} → (C → Change) → C → Stack C → Stack C
+stack_before f c s = record s { document = (f c).undone s.document }
+
+-- before the command c, the stacks s and t hold the same history
+pub record IsKept {C : Type 0} (f : C → Change) (c : C) (s t : Stack C) : Type 0 where
+  pub document : t.document ≡ s.document
+  pub sound : Holds f (stack_before f c t)
+  pub same : history f (stack_before f c t) ≡ history f (stack_before f c s)
+
+-- the target of the stack s took the command c in, and the steps above it went
+pub record IsTakenIn {C : Type 0} (f : C → Change) (c : C) (s t : Stack C) : Type 0 where
+  pub merges : Merges (cut (history f (stack_before f c s))) (step_named (f c).names s.document)
+  pub document : t.document ≡ s.document
+  pub sound : Holds f t
+  pub target : HasTarget (history f t).levels (history f t)
+  pub next : history f t ≡ (let h = cut (history f (stack_before f c s)) in with_target_at s.document h.levels h)
+
+-- merging the command c, which led to the document of s, made t of the stack s
+abbrev pub MergesStack : {E C : Type 0} → (C → Change) → C → Stack C → Result Bool E → Stack C → Type 0
+MergesStack f c s (Ok true) t = IsTakenIn f c s t
+MergesStack f c s (Ok false) t = (Merges (cut (history f (stack_before f c s))) (step_named (f c).names s.document) → ⊥) × IsKept f c s t
+MergesStack f c s (Err e) t = IsKept f c s t
