@@ -1,6 +1,7 @@
 """Reads the session files of `sessions/`, as sessions/README.md describes them, and runs the program on them."""
 import contextlib
 import itertools
+import json
 import re
 import subprocess
 import tempfile
@@ -116,6 +117,11 @@ def all_runs():
     return [run for file in sorted((TOP / 'sessions').glob('*.session')) for run in runs_of(file)]
 
 
+def text_of(tree):
+    """The text of JSON that is written for a tree: compact, with the members of each object in byte order of their names."""
+    return json.dumps(tree, sort_keys=True, ensure_ascii=False, separators=(',', ':')).encode()
+
+
 def files_in(folder):
     """The files of a folder by their names."""
     return {path.name: path.read_bytes() for path in folder.iterdir()}
@@ -157,9 +163,9 @@ def fault_of(program, run, env=None):
 
 
 @contextlib.contextmanager
-def interposed():
-    """The library that stands between a program and the C library, built for as long as it is wanted."""
+def interposed(source='interpose.c'):
+    """A library that stands between a program and the C library, built for as long as it is wanted."""
     with tempfile.TemporaryDirectory() as folder:
-        library = str(Path(folder) / 'interpose.so')
-        subprocess.run(['cc', '-O2', '-shared', '-fPIC', '-o', library, TOP / '.ci' / 'interpose.c'], check=True)
+        library = str(Path(folder) / 'interposed.so')
+        subprocess.run(['cc', '-O2', '-shared', '-fPIC', '-o', library, TOP / '.ci' / source], check=True)
         yield library
