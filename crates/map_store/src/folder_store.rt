@@ -5,8 +5,9 @@ ghost use Rattle.map_store.specs.Storing.{Loads};
 
 use crate::map_store::{MapStore, StoreFault};
 use std::alloc::{AllocError, Global};
-use std::fs::{File, OpenFile};
+use std::fs::{OpenFile, OpenOptions, Permissions};
 use std::io::{ErrorKind, Read, Write};
+use std::os::unix::fs::{MetadataExt, OpenOptionsExt, PermissionsExt};
 use std::rt::Files;
 use std::{fs, io};
 
@@ -18,6 +19,12 @@ const MORE_ROOM: usize = 65_536;
 
 /// The calls of `read` that a load makes at most.
 const MAX_CALLS: u64 = 4_294_967_296;
+
+/// The bits of a file's mode that say who may read, write and run it.
+const ACCESS_BITS: u32 = 0o777;
+
+/// The mode that a new file is asked for where it replaces none. The system takes away what the process's mask says.
+const NEW_FILE_MODE: u32 = 0o666;
 
 /// The files of a folder of the system. Nothing is claimed of them, since other programs reach them too.
 ///
@@ -115,18 +122,43 @@ fn read_whole<F: Read>(alloc: Global, file: &mut F, size: usize) -> Result<Vec<u
     Err(StoreFault::Device)
 }
 
+// The access bits of the file that stands at a path. Where nothing stands there, or what is no file, as a link, there are none.
+fn access_of<R: Files>(rt: &R, path: &str) -> io::Result<Option<u32>> {
+    match fs::symlink_metadata(rt, path) {
+        Ok(metadata) if metadata.is_file() => Ok(Some(metadata.mode() & ACCESS_BITS)),
+        Ok(_) => Ok(None),
+        Err(error) if error.kind() == ErrorKind::NotFound => Ok(None),
+        Err(error) => Err(error),
+    }
+}
+
+// Makes a file that is not there yet, with these access bits or those of any new file. It is never open to more people than that.
+fn create_new<R: Files>(rt: &R, path: &str, access: Option<u32>) -> io::Result<R::File> {
+    let file = OpenOptions::new()
+        .write(true)
+        .create_new(true)
+        .mode(access.unwrap_or(NEW_FILE_MODE))
+        .open(rt, path)?;
+    // The process's mask may have taken bits away.
+    if let Some(access) = access {
+        file.set_permissions(Permissions::from_mode(access))?;
+    }
+    Ok(file)
+}
+
 // Writes a file that is not there yet, and has the system keep it.
-fn write_new<R: Files>(rt: &R, path: &str, bytes: &[u8]) -> io::Result<()> {
-    let mut file = File::create_new(rt, path)?;
+fn write_new<R: Files>(rt: &R, path: &str, access: Option<u32>, bytes: &[u8]) -> io::Result<()> {
+    let mut file = create_new(rt, path, access)?;
     file.write_all(bytes)?;
     file.sync_all()
 }
 
-// Puts bytes into a file by way of a new one, which takes its place when it is whole.
+// Puts bytes into a file by way of a new one, which takes its place when it is whole. The access bits stay.
 fn replace<R: Files>(rt: &R, new_path: &str, path: &str, bytes: &[u8]) -> io::Result<()> {
+    let access = access_of(rt, path)?;
     // What a run that was killed left behind. What can't be removed is seen when the new file is made.
     let _ = fs::remove_file(rt, new_path);
-    write_new(rt, new_path, bytes)?;
+    write_new(rt, new_path, access, bytes)?;
     fs::rename(rt, new_path, path)
 }
 
