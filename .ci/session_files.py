@@ -2,6 +2,7 @@
 import contextlib
 import itertools
 import json
+import os
 import re
 import subprocess
 import tempfile
@@ -9,6 +10,7 @@ from pathlib import Path
 
 TOP = Path(__file__).resolve().parent.parent
 PROGRAM = TOP / 'crates' / 'tile_editor' / 'out' / 'tile_editor'
+NOBODY = 65534
 VALUE = re.compile(rb'\{=([^{}]*)\}')
 VALUES = re.compile(rb'\{values (\d+) ([^{}]*)\}')
 TIMES = re.compile(rb'\{([^{}]*)\*(\d+)\}')
@@ -162,10 +164,27 @@ def fault_of(program, run, env=None):
     return fault_of_replies(run.replies, done.stdout) or fault_of_files(run.after, files)
 
 
+def build_library(source, library):
+    """Builds a C file of `.ci/` as a library that stands between a program and the C library."""
+    subprocess.run(['cc', '-O2', '-Wall', '-shared', '-fPIC', '-o', library, TOP / '.ci' / source], check=True)
+
+
 @contextlib.contextmanager
 def interposed(source='interpose.c'):
     """A library that stands between a program and the C library, built for as long as it is wanted."""
     with tempfile.TemporaryDirectory() as folder:
         library = str(Path(folder) / 'interposed.so')
-        subprocess.run(['cc', '-O2', '-shared', '-fPIC', '-o', library, TOP / '.ci' / source], check=True)
+        build_library(source, library)
         yield library
+
+
+def can_lose_rights():
+    """Whether permissions can be tried: they can but where root, whom none stops, may be no other user."""
+    if os.getuid() != 0:
+        return True
+    try:
+        with tempfile.TemporaryDirectory() as top:
+            os.chown(top, NOBODY, NOBODY)
+            return subprocess.run(['true'], user=NOBODY, group=NOBODY).returncode == 0
+    except (OSError, subprocess.SubprocessError):
+        return False

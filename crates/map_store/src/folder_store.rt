@@ -132,16 +132,24 @@ fn access_of<R: Files>(rt: &R, path: &str) -> io::Result<Option<u32>> {
     }
 }
 
-// Makes a file that is not there yet, with these access bits or those of any new file. It is never open to more people than that.
+// Gives a file these access bits. Where it has them nothing is set, since not every file system can.
+fn set_access<F: OpenFile>(file: &F, access: u32) -> io::Result<()> {
+    if file.metadata()?.mode() & ACCESS_BITS == access {
+        return Ok(());
+    }
+    file.set_permissions(Permissions::from_mode(access))
+}
+
+// Makes a file that is not there yet, with these access bits or those of any new file. It is open to no more people at any time.
 fn create_new<R: Files>(rt: &R, path: &str, access: Option<u32>) -> io::Result<R::File> {
     let file = OpenOptions::new()
         .write(true)
         .create_new(true)
         .mode(access.unwrap_or(NEW_FILE_MODE))
         .open(rt, path)?;
-    // The process's mask may have taken bits away.
+    // The process's mask may have taken some away.
     if let Some(access) = access {
-        file.set_permissions(Permissions::from_mode(access))?;
+        set_access(&file, access)?;
     }
     Ok(file)
 }
