@@ -140,7 +140,7 @@ fn set_access<F: OpenFile>(file: &F, access: u32) -> io::Result<()> {
     file.set_permissions(Permissions::from_mode(access))
 }
 
-// Makes a file that is not there yet, with these access bits or those of any new file. It is open to no more people at any time.
+// Makes a file that is not there yet, with these access bits or those of any new file. Its mode is wider at no time.
 fn create_new<R: Files>(rt: &R, path: &str, access: Option<u32>) -> io::Result<R::File> {
     let file = OpenOptions::new()
         .write(true)
