@@ -48,6 +48,7 @@ fn boxed<K: Command>(alloc: Global, command: K) -> Option<Box<K>>
 
 // Hears a line that was read: the reply to it, and none to a quiet one. What it plans is put into a command and
 // committed.
+#[inline(always)]
 fn hear_line<C: Command, S: MapStore, F: Fn(Edit) -> Option<C>>(
     alloc: Global,
     editor: &mut Editor<C>,
@@ -74,6 +75,7 @@ fn hear_line<C: Command, S: MapStore, F: Fn(Edit) -> Option<C>>(
 }
 
 // Hears a line that was found.
+#[inline(always)]
 fn hear<C: Command, S: MapStore, F: Fn(Edit) -> Option<C>>(
     alloc: Global,
     editor: &mut Editor<C>,
