@@ -15,7 +15,7 @@ use Rattle.map_model.specs.Parts.{HasTiles}
 use Rattle.map_model.specs.Properties.{new_property, properties_of, property_at, scalar_value, setting_with}
 use Rattle.map_model.specs.PropertyParts.{setting_named, setting_place, without_setting}
 use Rattle.map_model.specs.WellFormed.{IsWellFormed}
-use Rattle.command_api.specs.Law.{Change, Names}
+use Rattle.command_api.specs.Law.{Change, Names, is_free}
 use Rattle.command_api.specs.Tag.{Tag, OfLayer, OfObject, OfName}
 use Rattle.command_api.specs.declared.ids.TheConstants.{MOVE_ID, SET_ID}
 use Rattle.command_api.specs.declared.offer.Offer.{Offer}
@@ -99,7 +99,8 @@ pub record IsMerged (v w : Change) (o : Offer) (d : DocumentParts) : Type 0 wher
   pub undone : w.undone d ≡ v.undone (offer_undone o d)
   pub names : w.names ≡ v.names
 
--- one that has no tag follows nothing and takes nothing in
+-- one that has no tag follows nothing and takes nothing in, and it does not say itself when it is obsolete
 pub record IsAlone (n : Names) : Type 0 where
   pub tag : n.tag ≡ None
   pub follows : n.follows ≡ false
+  pub bound : is_free n.vanishing ≡ false

@@ -1,5 +1,5 @@
 ghost use Rattle.std.specs.Prelude.{◌≡◌, ◌↔◌, IfOk, IsTrue, Ok, true};
-ghost use Rattle.command_api.specs.Law.{Change, IsLawful, IsRedone, IsSame, IsUndone};
+ghost use Rattle.command_api.specs.Law.{Change, IsLawful, IsRedone, IsSame, IsUndone, is_free};
 ghost use Rattle.command_api.specs.Offers.{AsksMerge, IsMerged, IsOfferOf, Takes};
 ghost use Rattle.command_api.specs.Tag.{id_of};
 
@@ -9,8 +9,8 @@ use std::alloc::{AllocError, Global};
 
 /// A change of a document, which is made by `redo` and turned back by `undo`.
 ///
-/// A new command has not been made yet. No call takes memory or fails: a command holds from its construction on all that
-/// its turns need.
+/// A new command has not been made yet. No call but `merge` takes memory or fails: a command holds from its construction on
+/// all that its turns need.
 pub trait Command: Drop {
     /// What the command is, and what its turns do to a document.
     ghost change: { Self → Change };
@@ -27,10 +27,15 @@ pub trait Command: Drop {
     fn id(&self) -> i32
         ensures { result ≡ id_of (change self.now).names.tag };
 
-    /// Whether the command changes nothing and may be let go of.
+    /// Whether the command changes nothing and may be dropped.
     fn obsolete(&self) -> bool
         ensures answer { result ≡ (change self.now).obsolete }
         ensures law { IsLawful (change self.now) };
+
+    /// Whether a turn may leave the command obsolete, which then turns nothing and is dropped by its stack. No command of the
+    /// editor's own lines is such a one. The answer stays the same for as long as the command lives.
+    fn is_free(&self) -> bool
+        ensures { result ≡ is_free (change self.now).names.vanishing };
 
     /// Makes the change. The document is one that the command fits for redo.
     fn redo(&mut self, document: &mut Document)
@@ -80,6 +85,10 @@ impl Command for Box<dyn Command> {
 
     fn obsolete(&self) -> bool {
         (**self).obsolete()
+    }
+
+    fn is_free(&self) -> bool {
+        (**self).is_free()
     }
 
     fn redo(&mut self, document: &mut Document) {

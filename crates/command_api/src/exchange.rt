@@ -51,7 +51,7 @@ pub trait Exchange: Drop {
         ensures { IsExchanged (exchange_parts self.old) (exchange_parts self.new) document.old document.new };
 }
 
-/// An exchange that has no tag. It follows nothing, and nothing merges with it.
+/// An exchange that has no tag. It follows nothing, nothing merges with it, and it is not free.
 pub trait Lone: Exchange {
     ghost use Rattle.command_api.specs.Offers.{IsAlone};
 
@@ -77,6 +77,10 @@ impl<E: Lone> Command for E {
 
     fn obsolete(&self) -> bool {
         self.is_settled()
+    }
+
+    fn is_free(&self) -> bool {
+        false
     }
 
     fn redo(&mut self, document: &mut Document) {

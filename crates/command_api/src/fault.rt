@@ -19,9 +19,9 @@ pub enum EditFault {
     TilesetInUse,
     /// The first id of a new tileset is not above all others.
     FirstIdNotAbove,
-    /// A place, a size or a coordinate is not within its limits.
+    /// A place, a size, a coordinate or a first id is not within its limits.
     OutOfRange,
-    /// There are as many as there may be.
+    /// There are as many as there may be, or there is no further id.
     TooMany,
     /// A growth was refused.
     NoMemory,

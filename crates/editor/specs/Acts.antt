@@ -21,7 +21,7 @@ use Rattle.session.specs.declared.reply.Refusal.TheVariants as refusals
 use Rattle.session.specs.declared.reply.Reply.{Reply}
 use Rattle.session.specs.declared.reply.Reply.TheVariants as replies
 use Rattle.editor.specs.Answers.{state_reply, status_reply, call_reply}
-use Rattle.editor.specs.Machine.{Machine, Workspace, active_of, with_active, opened, started}
+use Rattle.editor.specs.Machine.{Machine, active_of, with_active, opened, started}
 use Rattle.editor.specs.Refusals.{refusal_of_edit, refusal_of_map, refusal_of_stack}
 
 abbrev pub Act : Type 0 → Type 1

@@ -1,7 +1,9 @@
 -- An editor, seen as a machine, where change says what its commands do.
-use Rattle.std.specs.Prelude.{◌≤◌}
+use Rattle.std.specs.Prelude.{◌≤◌, List, All}
 use Rattle.command_api.specs.Law.{Change}
+use Rattle.undo_stack.specs.Turning.{IsSteady}
 use Rattle.undo_stack.specs.declared.limits.TheConstants.{MAX_LIMIT}
+use Rattle.undo_group.specs.Groups.{OpenDocument}
 use Rattle.undo_group.specs.Stacks.{group_of, AreHeld}
 use Rattle.editor.specs.declared.editor.Editor.{Editor}
 use Rattle.editor.specs.Machine.{Machine}
@@ -10,7 +12,12 @@ use Rattle.editor.specs.Machine.{Machine}
 abbrev pub machine_of : {C : Type 0} → (C → Change) → Editor C → Machine
 machine_of change editor = record { limit = editor.limit; group = group_of change editor.group }
 
--- what is open can be turned, and a new document may have the limit
+-- no step of these documents is that of a free command
+abbrev pub AreSteady : List OpenDocument → Type 0
+AreSteady documents = All (λ d. IsSteady d.history) documents
+
+-- what is open can be turned, and no step goes by a turn; a new document may have the limit
 pub record IsSound {C : Type 0} (change : C → Change) (editor : Editor C) : Type 0 where
   pub limit : editor.limit ≤ MAX_LIMIT
   pub held : AreHeld change editor.group
+  pub steady : AreSteady (group_of change editor.group).documents

@@ -1,5 +1,5 @@
 -- The machine: what each line may do.
-use Rattle.std.specs.Prelude.{◌≡◌, List, ℕ, Result, Ok, Err}
+use Rattle.std.specs.Prelude.{List, ℕ, Result, Ok, Err}
 use Rattle.map_model.specs.Document.{DocumentParts}
 use Rattle.map_json.specs.Trees.{text_of}
 use Rattle.map_store.specs.Files.{SameOthers}

@@ -1,4 +1,5 @@
-ghost use Rattle.std.specs.Prelude.{◌≡◌, ◌≤◌};
+ghost use Rattle.std.specs.Prelude.{◌≡◌, ◌≤◌, false};
+ghost use Rattle.command_api.specs.Law.{is_free};
 ghost use Rattle.session.specs.Spelling.{CanBeSpelled};
 ghost use Rattle.undo_stack.specs.declared.limits.TheConstants.{MAX_LIMIT};
 ghost use Rattle.undo_group.specs.Stacks.{group_of, AreHeld};
@@ -9,7 +10,6 @@ ghost use Rattle.editor.specs.Planning.{Commits, FitsActive, FitsPlan, KeepsPlan
 mod documents;
 mod files;
 
-use crate::editor::documents::Sizes;
 use crate::planned::Planned;
 use crate::planning::{on_document, refused};
 use crate::steps::state_of;
@@ -64,31 +64,16 @@ impl<C: Command> Editor<C> {
     {
         match line {
             Line::Quiet => Planned::Quiet,
-            Line::New {
-                name,
-                width,
-                height,
-                tile_width,
-                tile_height,
-                source,
-            } => {
-                let sizes = Sizes {
-                    width: *width,
-                    height: *height,
-                    tile_width: *tile_width,
-                    tile_height: *tile_height,
-                };
-                Planned::Reply(self.open_new(alloc, name, sizes, source))
-            }
-            Line::Open { name, file } => Planned::Reply(self.open_file(alloc, store, name, file)),
-            Line::Save { file } => Planned::Reply(self.save(alloc, store, file)),
-            Line::Close { name } => Planned::Reply(self.close(name)),
-            Line::Discard { name } => Planned::Reply(self.discard(name)),
-            Line::Use { choice } => Planned::Reply(self.choose(choice)),
-            Line::Documents => Planned::Reply(self.list(alloc)),
-            Line::Status => Planned::Reply(self.status()),
-            Line::UndoText => Planned::Reply(self.undo_text(alloc)),
-            Line::RedoText => Planned::Reply(self.redo_text(alloc)),
+            Line::New { .. }
+            | Line::Open { .. }
+            | Line::Save { .. }
+            | Line::Close { .. }
+            | Line::Discard { .. }
+            | Line::Use { .. }
+            | Line::Documents
+            | Line::Status
+            | Line::UndoText
+            | Line::RedoText => Planned::Reply(self.on_documents(alloc, store, line)),
             _ => match self.group.active_mut() {
                 Some(stack) => on_document(alloc, stack, line),
                 None => refused(Refusal::NoActiveDocument),
@@ -96,11 +81,12 @@ impl<C: Command> Editor<C> {
         }
     }
 
-    /// Pushes a command onto the active document's stack, and says how that stands. Where there is no memory the
-    /// editor is as it was.
+    /// Pushes a command onto the active document's stack, and says how that stands. The command is not free. Where there is
+    /// no memory the editor is as it was.
     pub fn commit(&mut self, command: C) -> Reply
         requires sound { IsSound C.change self.old }
         requires fits { FitsActive (active_of (machine_of C.change self.old)) (C.change command) }
+        requires bound { is_free (C.change command).names.vanishing ≡ false }
         ensures sound { IsSound C.change self.new }
         ensures commits { Commits (active_of (machine_of C.change self.old)) (C.change command) result (machine_of C.change self.old) (machine_of C.change self.new) }
     {

@@ -1,9 +1,10 @@
 // The lines about the active document: those that are edits plan their command, and change nothing.
 ghost use Rattle.std.specs.Prelude.{◌≡◌};
 ghost use Rattle.undo_stack.specs.Stacks.{history, Holds};
+ghost use Rattle.undo_stack.specs.Turning.{IsSteady};
 ghost use Rattle.session.specs.Spelling.{CanBeSpelled};
 ghost use Rattle.editor.specs.Steps.{rule_of};
-ghost use Rattle.editor.specs.Planning.{IsOfActive, PlansOn, plan_of, refused};
+ghost use Rattle.editor.specs.Planning.{IsOfActive, IsOfHistory, IsOtherEdit, PlansOn, plan_of, refused};
 
 mod edit_plans;
 
@@ -14,7 +15,7 @@ use crate::planning::edit_plans::{
     plan_remove_tileset, plan_rename_layer, plan_resize, plan_resize_object, plan_select,
     plan_set_property, plan_show_layer, plan_stamp,
 };
-use crate::steps::{answered, plan_begin, plan_limit, plan_show, plan_step_text, state_of};
+use crate::steps::{plan_answered, plan_begin, plan_limit, plan_show, plan_step_text, state_of};
 use crate::{refusal, tile};
 use command_api::{Command, EditFault};
 use edits::{Area, Selecting};
@@ -51,37 +52,38 @@ fn seek_owner<C: Command>(stack: &mut Stack<C>, owner: Owner)
     }
 }
 
-/// Plans a line about a document, the active one: an edit is left to be committed, and any other line is done.
-pub fn on_document<C: Command>(alloc: Global, stack: &mut Stack<C>, line: &Line<'_>) -> Planned
+// Does what a line about the active document that is no edit asks for: its history, and what it is. It and the edits stand
+// apart, since a function clears at its entry all that its arms hand on.
+#[inline(always)]
+fn on_history<C: Command>(alloc: Global, stack: &mut Stack<C>, line: &Line<'_>) -> Planned
     requires sound { Holds C.change stack.old }
+    requires steady { IsSteady (history C.change stack.old) }
     requires spelled { CanBeSpelled line.now }
-    requires about { IsOfActive (rule_of line.now) }
+    requires about { IsOfHistory (rule_of line.now) }
     ensures sound { Holds C.change stack.new }
     ensures plans { PlansOn (rule_of line.now) (history C.change stack.old) result (history C.change stack.new) }
 {
-    let document = stack.document();
     match line {
-        // Its history, and what it is.
         Line::Undo => {
             let answer = stack.undo();
-            Planned::Reply(answered(stack, answer))
+            plan_answered(stack, answer)
         }
         Line::Redo => {
             let answer = stack.redo();
-            Planned::Reply(answered(stack, answer))
+            plan_answered(stack, answer)
         }
         Line::Goto { index } => {
             let answer = stack.set_index(*index as usize);
-            Planned::Reply(answered(stack, answer))
+            plan_answered(stack, answer)
         }
         Line::Clean => {
             let answer = stack.set_clean();
-            Planned::Reply(answered(stack, answer))
+            plan_answered(stack, answer)
         }
         Line::Begin { text, action } => plan_begin(stack, text, action),
         Line::End => {
             let answer = stack.end_macro();
-            Planned::Reply(answered(stack, answer))
+            plan_answered(stack, answer)
         }
         Line::Limit { limit } => plan_limit(stack, *limit),
         Line::Dirty => {
@@ -92,32 +94,30 @@ pub fn on_document<C: Command>(alloc: Global, stack: &mut Stack<C>, line: &Line<
             stack.clear();
             Planned::Reply(state_of(stack))
         }
-        Line::Show => plan_show(alloc, document),
+        Line::Show => plan_show(alloc, stack.document()),
         Line::StepText { place } => plan_step_text(alloc, stack, *place),
-        Line::Tile { layer, x, y } => Planned::Reply(tile::reply(document.map(), *layer, *x, *y)),
+        Line::Tile { layer, x, y } => Planned::Reply(tile::reply(
+            stack.document().map(),
+            *layer,
+            *x,
+            *y,
+        )),
+        _ => unreachable!(),
+    }
+}
+
+// Plans a line that is an edit of the active document, and no stamp.
+#[inline(always)]
+fn on_edit<C: Command>(alloc: Global, stack: &mut Stack<C>, line: &Line<'_>) -> Planned
+    requires sound { Holds C.change stack.old }
+    requires spelled { CanBeSpelled line.now }
+    requires about { IsOtherEdit line.now }
+    ensures sound { Holds C.change stack.new }
+    ensures plans { PlansOn (rule_of line.now) (history C.change stack.old) result (history C.change stack.new) }
+{
+    let document = stack.document();
+    match line {
         // Cells and the selection.
-        Line::Stamp {
-            layer,
-            x,
-            y,
-            width,
-            values,
-            follows,
-        } => {
-            let (x, y, width) = (*x, *y, *width);
-            plan_stamp(
-                alloc,
-                document,
-                *layer,
-                &SpelledBlock {
-                    x,
-                    y,
-                    width,
-                    values,
-                },
-                *follows,
-            )
-        }
         Line::Erase {
             layer,
             x,
@@ -233,5 +233,55 @@ pub fn on_document<C: Command>(alloc: Global, stack: &mut Stack<C>, line: &Line<
         }
         Line::RemoveTileset { first_id } => plan_remove_tileset(document, *first_id),
         _ => unreachable!(),
+    }
+}
+
+/// Plans a line about a document, the active one: an edit is left to be committed, and any other line is done. No step of
+/// the document is that of a free command.
+pub fn on_document<C: Command>(alloc: Global, stack: &mut Stack<C>, line: &Line<'_>) -> Planned
+    requires sound { Holds C.change stack.old }
+    requires steady { IsSteady (history C.change stack.old) }
+    requires spelled { CanBeSpelled line.now }
+    requires about { IsOfActive (rule_of line.now) }
+    ensures sound { Holds C.change stack.new }
+    ensures plans { PlansOn (rule_of line.now) (history C.change stack.old) result (history C.change stack.new) }
+{
+    match line {
+        // Most lines are stamps.
+        Line::Stamp {
+            layer,
+            x,
+            y,
+            width,
+            values,
+            follows,
+        } => {
+            let (x, y, width) = (*x, *y, *width);
+            plan_stamp(
+                alloc,
+                stack.document(),
+                *layer,
+                &SpelledBlock {
+                    x,
+                    y,
+                    width,
+                    values,
+                },
+                *follows,
+            )
+        }
+        Line::Undo
+        | Line::Redo
+        | Line::Goto { .. }
+        | Line::Clean
+        | Line::Begin { .. }
+        | Line::End
+        | Line::Limit { .. }
+        | Line::Dirty
+        | Line::Clear
+        | Line::Show
+        | Line::StepText { .. }
+        | Line::Tile { .. } => on_history(alloc, stack, line),
+        _ => on_edit(alloc, stack, line),
     }
 }

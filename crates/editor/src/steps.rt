@@ -54,6 +54,14 @@ pub fn answered<C: Command>(stack: &Stack<C>, answer: Result<(), StackFault>) ->
     }
 }
 
+/// The plan of a line that was such a call.
+#[inline(never)]
+pub fn plan_answered<C: Command>(stack: &Stack<C>, answer: Result<(), StackFault>) -> Planned
+    ensures { result ≡ planned.Reply (call_reply answer (history C.change stack.now)) }
+{
+    Planned::Reply(answered(stack, answer))
+}
+
 /// Plans the text of the document's map, where there is memory for it.
 #[inline(never)]
 pub fn plan_show(alloc: Global, document: &Document) -> Planned

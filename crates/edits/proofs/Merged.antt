@@ -1,5 +1,5 @@
 -- The join of two differences is a difference.
-use Rattle.std.proofs.Common.{◌≡◌, ℕ, zero, suc, ◌+◌, ◌-◌, ◌*◌, ◌<◌, ◌≤◌, inl, inr, length, take, drop, List, [], ◌∷◌, ◌++◌, Bool, true, false, cond, nat_eq, nat_lt, get_or, Ordering, refl, sym, ap, ◌∙◌, append-nil, append_assoc, arith}
+use Rattle.std.proofs.Common.{◌≡◌, ℕ, zero, suc, ◌-◌, ◌*◌, ◌<◌, ◌≤◌, inl, inr, length, take, drop, List, [], ◌∷◌, ◌++◌, Bool, true, false, cond, nat_eq, get_or, Ordering, refl, sym, ap, ◌∙◌, append-nil, append_assoc, arith}
 use Rattle.std.specs.declared.cmp.Ordering.TheVariants.{Less, Equal, Greater}
 use Rattle.std.specs.Ordering.{is_eq, is_lt, match_ordering, ordering_reverse}
 use Rattle.std.proofs.lemmas.Bool.Decides.{nat_tests}
@@ -170,29 +170,6 @@ module _ (n : CellEdit) where
 -- some more cells are done
 pub done_more : (a t rest x whole one : List CellEdit) → one ≡ a ++ t → a ++ x ≡ whole → x ≡ t ++ rest → one ++ rest ≡ whole
 done_more a t rest x whole one e f g = ap (λ z. z ++ rest) e ∙ append_assoc a t rest ∙ ap (λ z. a ++ z) (sym g) ∙ f
-
--- ---- a row and a column as one number
-module _ (ax ay bx by : ℕ) (a : ax < 65536) (b : bx < 65536) where
-  rank-above : ay < by → nat_lt (ay * 65536 + ax) (by * 65536 + bx) ≡ is_lt (cell_cmp (ax, ay) (bx, by))
-  rank-above l = grind (arith, nat_tests)
-
-  rank-below : by < ay → nat_lt (ay * 65536 + ax) (by * 65536 + bx) ≡ is_lt (cell_cmp (ax, ay) (bx, by))
-  rank-below l = grind (arith, nat_tests)
-
-  rank-beside : ay ≡ by → nat_lt (ay * 65536 + ax) (by * 65536 + bx) ≡ is_lt (cell_cmp (ax, ay) (bx, by))
-  rank-beside l = grind (arith, nat_tests)
-
-  pub rank-is_lt : nat_lt (ay * 65536 + ax) (by * 65536 + bx) ≡ is_lt (cell_cmp (ax, ay) (bx, by))
-  rank-is_lt = elim (cases_lt ay by) [
-    | inl l ↦ rank-above l
-    | inr l ↦ elim (cases_lt by ay) [ inl m ↦ rank-below m | inr m ↦ rank-beside (omega arith) ]
-  ]
-
-pub rank-is_eq : (ax ay bx by : ℕ) → ax < 65536 → bx < 65536 → nat_eq (ay * 65536 + ax) (by * 65536 + bx) ≡ is_eq (cell_cmp (ax, ay) (bx, by))
-rank-is_eq ax ay bx by a b = elim (cases_lt ay by) [
-  | inl l ↦ grind (arith, nat_tests)
-  | inr l ↦ elim (cases_lt by ay) [ inl m ↦ grind (arith, nat_tests) | inr m ↦ grind (arith, nat_tests) ]
-]
 
 -- ---- one place
 joined-change_at : (width place a b c : ℕ) → joined (change_at width place a b) (change_at width place b c) ≡ change_at width place a c

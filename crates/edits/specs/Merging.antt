@@ -1,5 +1,5 @@
 -- The join of two changes of one layer, of which the newer one was made behind the older one.
-use Rattle.std.specs.Prelude.{◌≡◌, ℕ, ◌<◌, ◌≤◌, List, [], ◌∷◌, ◌++◌, length, nat_eq, slice_index_or, if◌then◌else◌}
+use Rattle.std.specs.Prelude.{◌≡◌, ℕ, ◌-◌, ◌<◌, ◌≤◌, List, [], ◌∷◌, ◌++◌, length, nat_eq, slice_index_or, if◌then◌else◌}
 use Rattle.std.specs.declared.cmp.Ordering.TheVariants.{Less}
 use Rattle.std.specs.Ordering.{match_ordering}
 use Rattle.region.specs.Cells.{cell_cmp}
@@ -30,6 +30,13 @@ JoinedIsDifference =
     → joined (difference_in id l m) (difference_in id m n) ≡ difference_in id l n
 
 -- ---- places
+-- the cell in front of the low place comes before the newer one, and the cell at the high place does not
+pub record ArePlacesAround (es : List CellEdit) (n : CellEdit) (low high : ℕ) : Type 0 where
+  pub order : low ≤ high
+  pub within : high ≤ length es
+  pub front : 0 < low → cell_cmp (cell (slice_index_or es (low - 1) n)) (cell n) ≡ Less
+  pub back : high < length es → cell_cmp (cell (slice_index_or es high n)) (cell n) ≡ Less → ⊥
+
 -- the first place of which the cell does not come before the newer one
 pub record IsPlaceOf (es : List CellEdit) (n : CellEdit) (place : ℕ) : Type 0 where
   pub within : place ≤ length es

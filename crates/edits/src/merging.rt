@@ -1,42 +1,33 @@
 // The join of two changes of one layer.
-ghost use Rattle.std.specs.Prelude.{◌≡◌, ◌+◌, ◌*◌, ◌<◌, ◌≤◌, ◌++◌, IfOk, OnOk, length};
+ghost use Rattle.std.specs.Prelude.{◌≡◌, ◌+◌, ◌<◌, ◌≤◌, ◌++◌, IfOk, OnOk, length};
 ghost use Rattle.std.specs.Ordering.{is_eq, is_lt};
 ghost use Rattle.std.specs.Vec.{vec_capacity, vec_len};
 ghost use Rattle.region.specs.Cells.{cell_cmp};
 ghost use Rattle.map_model.specs.CellEdits.{AreInRowOrder, cell};
-ghost use Rattle.edits.specs.Merging.{IsPlaceOf, JoinedIsDifference, joined, joined_cell};
+ghost use Rattle.edits.specs.Merging.{ArePlacesAround, IsPlaceOf, JoinedIsDifference, joined, joined_cell};
 
 use map_model::CellEdit;
 use std::alloc::{AllocError, Global};
-
-// The row and the column of a changed cell as one number.
-fn rank(x: u16, y: u16) -> u32
-    ensures value { result ≡ y * 65536 + x }
-    ensures column { x < 65536 }
-{
-    u32::from(y) * 65536 + u32::from(x)
-}
 
 // Whether a changed cell comes before another one in row order.
 fn comes_before(a: &CellEdit, b: &CellEdit) -> bool
     ensures { result ≡ is_lt (cell_cmp (cell a.now) (cell b.now)) }
 {
-    rank(a.x, a.y) < rank(b.x, b.y)
+    a.y < b.y || a.y == b.y && a.x < b.x
 }
 
 // Whether two changes are of one cell.
 fn is_same_cell(a: &CellEdit, b: &CellEdit) -> bool
     ensures { result ≡ is_eq (cell_cmp (cell a.now) (cell b.now)) }
 {
-    rank(a.x, a.y) == rank(b.x, b.y)
+    a.y == b.y && a.x == b.x
 }
 
-// The first place of which the cell does not come before the newer one. The search goes first as far as the last jump
-// went, since rows repeat; from there on by steps that double, and then back by halves.
-#[inline(never)]
-fn place_of(older: &[CellEdit], jump: usize, newer: &CellEdit) -> usize
-    requires { AreInRowOrder older.now }
-    ensures { IsPlaceOf older.now newer.now result }
+// Two places around the first one of which the cell does not come before the newer one. The search goes first as far as
+// the last jump went, since rows repeat, and from there on by steps that double.
+#[inline(always)]
+fn places_around(older: &[CellEdit], jump: usize, newer: &CellEdit) -> (usize, usize)
+    ensures { ArePlacesAround older.now newer.now result.0 result.1 }
 {
     let mut low = 0;
     let mut step = jump.max(1);
@@ -44,9 +35,19 @@ fn place_of(older: &[CellEdit], jump: usize, newer: &CellEdit) -> usize
     while step <= older.len() - low && comes_before(&older[low + step - 1], newer) {
         low += step;
         step = next;
-        next = next.saturating_mul(2);
+        next *= 2;
     }
-    let mut high = low + (step - 1).min(older.len() - low);
+    (low, low + (step - 1).min(older.len() - low))
+}
+
+// The first place of which the cell does not come before the newer one. The search goes by halves, between two places
+// around it.
+#[inline(always)]
+fn place_between(older: &[CellEdit], mut low: usize, mut high: usize, newer: &CellEdit) -> usize
+    requires ordered { AreInRowOrder older.now }
+    requires around { ArePlacesAround older.now newer.now low high }
+    ensures { IsPlaceOf older.now newer.now result }
+{
     while low < high {
         let middle = low + (high - low) / 2;
         if comes_before(&older[middle], newer) {
@@ -56,6 +57,16 @@ fn place_of(older: &[CellEdit], jump: usize, newer: &CellEdit) -> usize
         }
     }
     low
+}
+
+// The first place of which the cell does not come before the newer one.
+#[inline(never)]
+fn place_of(older: &[CellEdit], jump: usize, newer: &CellEdit) -> usize
+    requires { AreInRowOrder older.now }
+    ensures { IsPlaceOf older.now newer.now result }
+{
+    let (low, high) = places_around(older, jump, newer);
+    place_between(older, low, high, newer)
 }
 
 // Adds a stretch of cells. It stands apart, as the search does, so that the loop around them stays small.

@@ -91,5 +91,5 @@ impl Exchange for AddLayer {
 }
 
 impl Lone for AddLayer {
-    ghost alone = { λ x. record { tag = refl; follows = refl } };
+    ghost alone = { λ x. record { tag = refl; follows = refl; bound = refl } };
 }

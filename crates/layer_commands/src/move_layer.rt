@@ -58,5 +58,5 @@ impl Exchange for MoveLayer {
 }
 
 impl Lone for MoveLayer {
-    ghost alone = { λ x. record { tag = refl; follows = refl } };
+    ghost alone = { λ x. record { tag = refl; follows = refl; bound = refl } };
 }

@@ -51,5 +51,5 @@ impl Exchange for RemoveLayer {
 }
 
 impl Lone for RemoveLayer {
-    ghost alone = { λ x. record { tag = refl; follows = refl } };
+    ghost alone = { λ x. record { tag = refl; follows = refl; bound = refl } };
 }

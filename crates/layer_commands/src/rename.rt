@@ -62,5 +62,5 @@ impl Exchange for RenameLayer {
 }
 
 impl Lone for RenameLayer {
-    ghost alone = { λ x. record { tag = refl; follows = refl } };
+    ghost alone = { λ x. record { tag = refl; follows = refl; bound = refl } };
 }

@@ -58,5 +58,5 @@ impl Exchange for ResizeMap {
 }
 
 impl Lone for ResizeMap {
-    ghost alone = { λ x. record { tag = refl; follows = refl } };
+    ghost alone = { λ x. record { tag = refl; follows = refl; bound = refl } };
 }

@@ -57,5 +57,5 @@ impl Exchange for ShowLayer {
 }
 
 impl Lone for ShowLayer {
-    ghost alone = { λ x. record { tag = refl; follows = refl } };
+    ghost alone = { λ x. record { tag = refl; follows = refl; bound = refl } };
 }

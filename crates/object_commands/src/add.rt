@@ -136,5 +136,5 @@ impl Exchange for AddObject {
 }
 
 impl Lone for AddObject {
-    ghost alone = { λ x. record { tag = refl; follows = refl } };
+    ghost alone = { λ x. record { tag = refl; follows = refl; bound = refl } };
 }

@@ -2,6 +2,7 @@
 #![tactic(auto)]
 
 mod add;
+mod held_placing;
 mod place;
 mod remove;
 mod size;

@@ -6,6 +6,7 @@ ghost use Rattle.command_api.specs.Tag.{OfObject};
 ghost use Rattle.edits.specs.ObjectEdits.{after_move_object, after_resize_object};
 ghost use Rattle.object_commands.specs.Changes.{move_object_names, place_object_change, place_object_exchange, resize_object_names};
 
+use crate::held_placing::HeldPlacing;
 use crate::size::sizes;
 use command_api::ids::MOVE_ID;
 use command_api::{Command, Exchange, Label, Offer};
@@ -24,8 +25,8 @@ enum PlaceKind {
 #[derive(Drop)]
 pub struct PlaceObject {
     place: ObjectPlace,
-    placing: Placing,
-    after: Placing,
+    placing: HeldPlacing,
+    after: HeldPlacing,
     object: u32,
     kind: PlaceKind,
     follows: bool,
@@ -60,8 +61,8 @@ impl PlaceObject {
         };
         Ok(PlaceObject {
             place,
-            placing,
-            after: placing,
+            placing: HeldPlacing::new(placing),
+            after: HeldPlacing::new(placing),
             object,
             kind: PlaceKind::Move,
             follows,
@@ -96,8 +97,8 @@ impl PlaceObject {
         };
         Ok(PlaceObject {
             place,
-            placing,
-            after: placing,
+            placing: HeldPlacing::new(placing),
+            after: HeldPlacing::new(placing),
             object,
             kind: PlaceKind::Resize,
             follows: false,
@@ -126,7 +127,7 @@ impl Exchange for PlaceObject {
     }
 
     fn exchange(&mut self, document: &mut Document) {
-        self.placing = document.set_placing(self.place, self.placing);
+        self.placing = HeldPlacing::new(document.set_placing(self.place, self.placing.get()));
         self.is_made = !self.is_made;
     }
 }
@@ -162,6 +163,10 @@ impl Command for PlaceObject {
         self.is_settled()
     }
 
+    fn is_free(&self) -> bool {
+        false
+    }
+
     fn redo(&mut self, document: &mut Document) {
         self.exchange(document)
     }
@@ -174,8 +179,8 @@ impl Command for PlaceObject {
         match self.kind {
             PlaceKind::Move if self.follows => Offer::Place {
                 object: self.object,
-                before: self.placing,
-                after: self.after,
+                before: self.placing.get(),
+                after: self.after.get(),
             },
             _ => Offer::Nothing,
         }
@@ -195,8 +200,8 @@ impl Command for PlaceObject {
         if !self.moves(*object) {
             return Ok(false);
         }
-        self.after = *after;
-        self.is_same = self.placing == self.after;
+        self.after = HeldPlacing::new(*after);
+        self.is_same = self.placing.get() == *after;
         Ok(true)
     }
 }

@@ -53,5 +53,5 @@ impl Exchange for RemoveObject {
 }
 
 impl Lone for RemoveObject {
-    ghost alone = { λ x. record { tag = refl; follows = refl } };
+    ghost alone = { λ x. record { tag = refl; follows = refl; bound = refl } };
 }

@@ -1,5 +1,5 @@
 -- A paint that takes a newer one in.
-use Rattle.std.proofs.Common.{◌≡◌, ℕ, ◌*◌, List, length, Bool, true, false, nat_eq, Option, None, Some, refl, sym, ap, ◌∙◌, subst, arith}
+use Rattle.std.proofs.Common.{◌≡◌, ℕ, ◌*◌, List, length, Bool, true, false, Option, None, Some, refl, sym, ap, ◌∙◌, subst, arith}
 use Rattle.map_model.specs.declared.edit.CellEdit.{CellEdit}
 use Rattle.map_model.specs.declared.edit.Side.TheVariants.{Before}
 use Rattle.map_model.specs.CellEdits.{AreInRowOrder, put_values}
@@ -14,7 +14,7 @@ use Rattle.edits.proofs.Merged.{joined-difference_in}
 use Rattle.edits.proofs.RowOrder.{difference-AreInRowOrder}
 use Rattle.edits.proofs.Turns.{with_edits-back}
 use Rattle.command_api.specs.Exchange.{FitsTurn}
-use Rattle.command_api.specs.Law.{IsSettled}
+use Rattle.command_api.specs.Law.{WhenEqual}
 use Rattle.command_api.specs.Offers.{FitsCells}
 use Rattle.command_api.specs.Tag.{Subject, OfLayer, OfObject, OfName, Tag}
 use Rattle.paint_commands.specs.declared.paint.PaintCommand.{PaintCommand}
@@ -88,10 +88,10 @@ tag-layer Erase own follows kind layer e = sym (ap of_tag e)
 tag-layer Fill own follows kind layer e = cc
 
 -- each paint vanishes when equal
-settles : (k : PaintKind) (layer : ℕ) (follows b : Bool) (d e : DocumentParts) → (b ≡ true → e ≡ d) × (e ≡ d → b ≡ true) → IsSettled (paint_names k layer follows).vanishing b d e
-settles Stamp layer follows b d e h = h
-settles Erase layer follows b d e h = h
-settles Fill layer follows b d e h = h
+pub paint-WhenEqual : (k : PaintKind) (layer : ℕ) (follows : Bool) → (paint_names k layer follows).vanishing ≡ WhenEqual
+paint-WhenEqual Stamp layer follows = refl
+paint-WhenEqual Erase layer follows = refl
+paint-WhenEqual Fill layer follows = refl
 
 abbrev paint : PaintKind → ℕ → Bool → Bool → List CellEdit → PaintCommand
 paint k layer follows made cells = record { kind = k; layer = layer; follows = follows; is_made = made; cells = cells }
@@ -107,7 +107,7 @@ paint_merged k layer follows true older newer d n o =
         λ e. cc,
         record {
           fits = exact;
-          settled = settles k layer follows (nat_eq (length (joined older newer)) 0) d (painted layer (joined older newer) Before d) (difference-settled true layer (joined older newer) d exact);
+          settled = rw (paint-WhenEqual k layer follows) (difference-settled true layer (joined older newer) d exact);
         },
       ),
       merged-undone layer older newer d n o.1.fits,

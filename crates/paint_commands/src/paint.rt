@@ -158,6 +158,8 @@ impl Exchange for PaintCommand {
         self.cells.as_slice().is_empty()
     }
 
+    // Each turn of a paint is this call.
+    #[inline(always)]
     fn exchange(&mut self, document: &mut Document) {
         let side = side_to_put(self.is_made);
         document.put_edits(self.layer, self.cells.as_slice(), side);
@@ -195,6 +197,10 @@ impl Command for PaintCommand {
 
     fn obsolete(&self) -> bool {
         self.is_settled()
+    }
+
+    fn is_free(&self) -> bool {
+        false
     }
 
     fn redo(&mut self, document: &mut Document) {

@@ -56,5 +56,5 @@ impl Exchange for SelectCommand {
 }
 
 impl Lone for SelectCommand {
-    ghost alone = { λ x. record { tag = refl; follows = refl } };
+    ghost alone = { λ x. record { tag = refl; follows = refl; bound = refl } };
 }

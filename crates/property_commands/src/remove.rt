@@ -57,5 +57,5 @@ impl Exchange for RemoveProperty {
 }
 
 impl Lone for RemoveProperty {
-    ghost alone = { λ x. record { tag = refl; follows = refl } };
+    ghost alone = { λ x. record { tag = refl; follows = refl; bound = refl } };
 }

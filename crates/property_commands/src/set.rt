@@ -229,6 +229,10 @@ impl Command for SetProperty {
         self.is_settled()
     }
 
+    fn is_free(&self) -> bool {
+        false
+    }
+
     fn redo(&mut self, document: &mut Document) {
         self.exchange(document)
     }

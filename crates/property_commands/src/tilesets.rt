@@ -88,7 +88,7 @@ impl Exchange for AddTileset {
 }
 
 impl Lone for AddTileset {
-    ghost alone = { λ x. record { tag = refl; follows = refl } };
+    ghost alone = { λ x. record { tag = refl; follows = refl; bound = refl } };
 }
 
 /// A tileset that nothing uses is removed. While it is not in the map, the command owns it, and puts it back at its old
@@ -135,5 +135,5 @@ impl Exchange for RemoveTileset {
 }
 
 impl Lone for RemoveTileset {
-    ghost alone = { λ x. record { tag = refl; follows = refl } };
+    ghost alone = { λ x. record { tag = refl; follows = refl; bound = refl } };
 }

@@ -15,3 +15,4 @@ pub mod ReadFields
 pub mod Lengths
 pub mod Forms
 pub mod Laws
+pub mod LastDigits

@@ -1,4 +1,4 @@
-ghost use Rattle.std.specs.Prelude.{◌≡◌, ◌++◌, ◌+◌, ◌≤◌, ◌<◌, [], Option, length, decimal};
+ghost use Rattle.std.specs.Prelude.{◌≡◌, ◌++◌, ◌∷◌, ◌+◌, ◌/◌, ◌%◌, ◌≤◌, ◌<◌, [], Option, length, decimal};
 ghost use Rattle.arrayvec.specs.ArrayString.{array_string_len};
 ghost use Rattle.session.specs.declared.limits.TheConstants.{MAX_FILE_NAME};
 ghost use Rattle.session.specs.Replies.{body_of, reply_text, refusal_text, flag_letter, flags_text, local_text, word_and};
@@ -10,7 +10,7 @@ use itoa::Buffer;
 use map_model::MapText;
 use tile_id::Gid;
 
-/// Why a line changed nothing.
+/// Why a line was refused. It changed nothing, but that a `save` which the store failed may have changed its file.
 #[derive(Clone, Copy, Debug, PartialEq, Eq)]
 pub enum Refusal {
     /// The line says nothing.
@@ -137,16 +137,59 @@ fn refusal_words(refusal: Refusal) -> &'static str
     }
 }
 
-// Three numbers stand in most replies, and a call for each costs more than its text.
+fn push_digit(head: &mut ArrayString<512>, digit: u64)
+    requires room { array_string_len head.old ≤ 200 }
+    requires digit { digit < 10 }
+    ensures value { head.new.bytes ≡ head.old.bytes ++ (48 + digit) ∷ [] }
+    ensures size { array_string_len head.new ≡ array_string_len head.old + 1 }
+{
+    head.push((b'0' + digit as u8) as char);
+}
+
+// Writes the three last digits of a number.
+fn push_three_digits(head: &mut ArrayString<512>, number: u64)
+    requires { array_string_len head.old ≤ 180 }
+    ensures value { head.new.bytes ≡ head.old.bytes ++ (48 + number / 100 % 10) ∷ (48 + number / 10 % 10) ∷ (48 + number % 10) ∷ [] }
+    ensures size { array_string_len head.new ≡ array_string_len head.old + 3 }
+{
+    push_digit(head, number / 100 % 10);
+    push_digit(head, number / 10 % 10);
+    push_digit(head, number % 10);
+}
+
+// Writes a number below 1,000.
+fn push_small_number(head: &mut ArrayString<512>, number: u64)
+    requires room { array_string_len head.old ≤ 150 }
+    requires small { number < 1000 }
+    ensures value { head.new.bytes ≡ head.old.bytes ++ decimal number }
+    ensures size { array_string_len head.new ≤ array_string_len head.old + 3 }
+{
+    if number >= 100 {
+        push_three_digits(head, number);
+        return;
+    }
+    if number < 10 {
+        push_digit(head, number);
+        return;
+    }
+    push_digit(head, number / 10);
+    push_digit(head, number % 10);
+}
+
+// Three numbers stand in most replies: a call for each costs more than its text, and so does a copy of its digits.
 #[inline(always)]
 fn push_number(head: &mut ArrayString<512>, number: u64)
     requires { array_string_len head.old ≤ 150 }
     ensures value { head.new.bytes ≡ head.old.bytes ++ decimal number }
     ensures size { array_string_len head.new ≤ array_string_len head.old + 20 }
 {
-    // Most numbers have one digit.
-    if number < 10 {
-        head.push((b'0' + number as u8) as char);
+    if number < 1000 {
+        push_small_number(head, number);
+        return;
+    }
+    if number < 1_000_000 {
+        push_small_number(head, number / 1000);
+        push_three_digits(head, number);
         return;
     }
     let mut buffer = Buffer::new();

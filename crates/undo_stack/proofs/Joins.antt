@@ -86,13 +86,13 @@ merges_end f xs v w c d (Ok false) h m = (rw (last_of f xs v (c.undone d)) m.0, 
 merges_end f xs v w c d (Err e) h m = same_row f xs v w (c.undone d) h m
 
 -- the row below a place, by its last change
-take_below : {B : Type 0} (xs : List B) (v : B) (n : ℕ) → 0 < n → n ≤ length xs → v ≡ get_or xs (n - 1) v → take n xs ≡ take (n - 1) xs ++ v ∷ []
+pub take_below : {B : Type 0} (xs : List B) (v : B) (n : ℕ) → 0 < n → n ≤ length xs → v ≡ get_or xs (n - 1) v → take n xs ≡ take (n - 1) xs ++ v ∷ []
 take_below xs v n p q k =
     let same : n - 1 + 1 ≡ n = omega arith in
     let at : n - 1 < length xs = omega arith in
     subst (λ (m : ℕ). take m xs ≡ take (n - 1) xs ++ v ∷ []) same (take_last xs v (n - 1) at k)
 
-take_below-set : {B : Type 0} (xs : List B) (w : B) (n : ℕ) → 0 < n → n ≤ length xs → take n (set xs (n - 1) w) ≡ take (n - 1) xs ++ w ∷ []
+pub take_below-set : {B : Type 0} (xs : List B) (w : B) (n : ℕ) → 0 < n → n ≤ length xs → take n (set xs (n - 1) w) ≡ take (n - 1) xs ++ w ∷ []
 take_below-set xs w n p q = take-set_at xs (n - 1) n w (omega arith) (omega arith)
 
 pub last_fits : {B : Type 0} (f : B → Change) (xs : List B) (v : B) (n : ℕ) (d : DocumentParts) → 0 < n → n ≤ length xs → v ≡ get_or xs (n - 1) v → FitsDown f (take n xs) d → (f v).fits_undo d
@@ -101,6 +101,18 @@ last_fits f xs v n d p q k h = (FitsDown-pop f (take (n - 1) xs) v d (rw (take_b
 pub merges_below : {E B : Type 0} (f : B → Change) (xs : List B) (v w : B) (n : ℕ) (c : Change) (d : DocumentParts) (r : Result Bool E) → 0 < n → n ≤ length xs → v ≡ get_or xs (n - 1) v → FitsDown f (take n xs) (c.undone d) → MergesChange (f v) c d r (f w) → MergesRow f (take n xs) c d r (take n (set xs (n - 1) w))
 merges_below f xs v w n c d r p q k h m =
     rw (take_below xs v n p q k, take_below-set xs w n p q) (merges_end f (take (n - 1) xs) v w c d r (rw (take_below xs v n p q k) at h) m)
+
+-- the whole row by its last change
+module _ {B : Type 0} (xs : List B) (n : ℕ) (some : 0 < n) (count : n ≡ length xs) where
+  pub last_row : (v : B) → v ≡ get_or xs (n - 1) v → xs ≡ take (n - 1) xs ++ v ∷ []
+  last_row v is =
+      let all : length xs ≤ n = omega (arith, count) in
+      sym (take_all n xs all) ∙ take_below xs v n some (omega (arith, count)) is
+
+  pub last_row-set : (w : B) → set xs (n - 1) w ≡ take (n - 1) xs ++ w ∷ []
+  last_row-set w =
+      let all : length (set xs (n - 1) w) ≤ n = omega (arith, count, length-set xs (n - 1) w) in
+      sym (take_all n (set xs (n - 1) w) all) ∙ take_below-set xs w n some (omega (arith, count))
 
 -- the same of a whole row
 pub last_fits_all : {B : Type 0} (f : B → Change) (xs : List B) (v : B) (n : ℕ) (d : DocumentParts) → 0 < n → n ≡ length xs → v ≡ get_or xs (n - 1) v → FitsDown f xs d → (f v).fits_undo d
@@ -128,13 +140,12 @@ settled_last f xs v d b h law is =
     let one = law.undo d (FitsDown-pop f xs v d h).1 in
     rw (last_of f xs v d, before_last f xs v d) (settled-back (f v).names.vanishing b d ((f v).undone d) (rw is at one))
 
-pub settles_kept : {B : Type 0} (f : B → Change) (xs : List B) (v : B) (n : ℕ) (d : DocumentParts) → 0 < n → n ≡ length xs → v ≡ get_or xs (n - 1) v → IsLawful (f v) → (f v).obsolete ≡ false → FitsDown f xs d → SettlesRow f xs d xs
+pub settles_kept : {B : Type 0} (f : B → Change) (xs : List B) (v : B) (n : ℕ) (d : DocumentParts) → 0 < n → n ≡ length xs → v ≡ get_or xs (n - 1) v → IsLawful (f v) → (f v).obsolete ≡ false → FitsDown f xs d → SettlesRow f false xs d xs
 settles_kept f xs v n d p q k law is h =
     let all : length xs ≤ n = omega arith in
     let row : xs ≡ take (n - 1) xs ++ v ∷ [] = sym (take_all n xs all) ∙ take_below xs v n p (omega arith) k in
     let one = settled_last f (take (n - 1) xs) v d false (rw row at h) law is in
     record {
-      gone = false;
       gone_where = subst (λ (ys : List _). IsSettled (vanishing_of (last_step (steps_down f ys d))) false (last_after (before f ys d) (front (steps_down f ys d))) d) (sym row) one;
       row = altered_none f xs d h;
     }
@@ -148,21 +159,20 @@ gone_row f xs v d h same =
       steps = rw (steps_down-append f xs v d, front-append (steps_down f xs ((f v).undone d)) (step_named (f v).names d), same) refl;
     }
 
-settles_end : {B : Type 0} (f : B → Change) (xs : List B) (v : B) (d : DocumentParts) → IsLawful (f v) → (f v).obsolete ≡ true → FitsDown f (xs ++ v ∷ []) d → SettlesRow f (xs ++ v ∷ []) d xs
+settles_end : {B : Type 0} (f : B → Change) (xs : List B) (v : B) (d : DocumentParts) → IsLawful (f v) → (f v).obsolete ≡ true → FitsDown f (xs ++ v ∷ []) d → SettlesRow f true (xs ++ v ∷ []) d xs
 settles_end f xs v d law is h =
     let one = law.undo d (FitsDown-pop f xs v d h).1 in
     let same : (f v).undone d ≡ d = settled-same (f v).names.vanishing d ((f v).undone d) (rw is at one) in
     record {
-      gone = true;
       gone_where = settled_last f xs v d true h law is;
       row = gone_row f xs v d h same;
     }
 
-pub settles_gone : {B : Type 0} (f : B → Change) (xs : List B) (v : B) (n : ℕ) (d : DocumentParts) → 0 < n → n ≡ length xs → v ≡ get_or xs (n - 1) v → IsLawful (f v) → (f v).obsolete ≡ true → FitsDown f xs d → SettlesRow f xs d (take (n - 1) xs)
+pub settles_gone : {B : Type 0} (f : B → Change) (xs : List B) (v : B) (n : ℕ) (d : DocumentParts) → 0 < n → n ≡ length xs → v ≡ get_or xs (n - 1) v → IsLawful (f v) → (f v).obsolete ≡ true → FitsDown f xs d → SettlesRow f true xs d (take (n - 1) xs)
 settles_gone f xs v n d p q k law is h =
     let all : length xs ≤ n = omega arith in
     let row : xs ≡ take (n - 1) xs ++ v ∷ [] = sym (take_all n xs all) ∙ take_below xs v n p (omega arith) k in
-    subst (λ (ys : List _). SettlesRow f ys d (take (n - 1) xs)) (sym row) (settles_end f (take (n - 1) xs) v d law is (rw row at h))
+    subst (λ (ys : List _). SettlesRow f true ys d (take (n - 1) xs)) (sym row) (settles_end f (take (n - 1) xs) v d law is (rw row at h))
 
 -- a row of which those that are done were altered, but for their steps
 pub altered_moved : {B : Type 0} (f : B → Change) (xs ys : List B) (n : ℕ) (d : DocumentParts) → IsAltered f (λ ss. ss) (take n xs) d (take n ys) d → drop n ys ≡ drop n xs → length ys ≡ length xs → FitsUp f (drop n xs) d → IsMoved f xs n d ys n d

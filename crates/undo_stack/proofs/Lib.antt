@@ -1,6 +1,9 @@
 pub mod EntryChanges
 pub mod Rows
 pub mod Turns
+pub mod Turnings
+pub mod Steadiness
+pub mod Gone
 pub mod Views
 pub mod Texts
 pub mod Pushes
@@ -10,3 +13,5 @@ pub mod Stacks
 pub mod Macros
 pub mod Targets
 pub mod Merges
+pub mod Calm
+pub mod Reports

@@ -126,18 +126,18 @@ whole_fits f s closed all h =
     let flat = rw (inners_closed s.levels.items closed) at h.turnable in
     rw (take_all s.index s.entries.items most) at flat.down
 
-pub settled_step : {C : Type 0} (f : C → Change) (s t : Stack C) → s.levels.items ≡ [] → s.index ≡ length s.entries.items → t ≡ record s { entries = t.entries; index = t.index } → t.index ≡ length t.entries.items → SettlesRow (entry_change f) s.entries.items s.document t.entries.items → SettlesTarget s.document (history f s) (history f t)
-settled_step f s t closed all rest left row =
+pub settled_step : {C : Type 0} (f : C → Change) (gone : Bool) (s t : Stack C) → s.levels.items ≡ [] → s.index ≡ length s.entries.items → t ≡ record s { entries = t.entries; index = t.index } → t.index ≡ length t.entries.items → SettlesRow (entry_change f) gone s.entries.items s.document t.entries.items → SettlesTarget s.document gone (history f s) (history f t)
+settled_step f gone s t closed all rest left row =
     let none = inners_closed s.levels.items closed in
     let document : t.document ≡ s.document = ap (λ (x : Stack _). x.document) rest in
     let clean : t.clean ≡ s.clean = ap (λ (x : Stack _). x.clean) rest in
     let limit : t.limit ≡ s.limit = ap (λ (x : Stack _). x.limit) rest in
-    let settles = settles_done f s.document s.entries.items t.entries.items s.index t.index s.clean s.limit (sym all) (sym left) row in
+    let settles = settles_done f gone s.document s.entries.items t.entries.items s.index t.index s.clean s.limit (sym all) (sym left) row in
     let seen = view_at f s.document t.document t.entries.items t.entries.items t.index t.index s.clean t.clean s.limit t.limit [] (inners t) document refl refl clean limit (ap inners rest ∙ none) in
     rw (none, seen) settles
 
-pub settled_below : {C : Type 0} (f : C → Change) (s t : Stack C) → s.levels.items ≡ [] → s.index ≡ length s.entries.items → (s.clean ≡ Some s.index → ⊥) → t ≡ record s { entries = t.entries; index = t.index } → t.index ≡ s.index - 1 → t.entries.items ≡ take (s.index - 1) s.entries.items → SettlesRow (entry_change f) s.entries.items s.document t.entries.items → Holds f s → Holds f t
-settled_below f s t closed all other rest index entries row h =
+pub settled_below : {C : Type 0} (f : C → Change) (gone : Bool) (s t : Stack C) → s.levels.items ≡ [] → s.index ≡ length s.entries.items → (s.clean ≡ Some s.index → ⊥) → t ≡ record s { entries = t.entries; index = t.index } → t.index ≡ s.index - 1 → t.entries.items ≡ take (s.index - 1) s.entries.items → SettlesRow (entry_change f) gone s.entries.items s.document t.entries.items → Holds f s → Holds f t
+settled_below f gone s t closed all other rest index entries row h =
     let none = inners_closed s.levels.items closed in
     let document : t.document ≡ s.document = ap (λ (x : Stack _). x.document) rest in
     let clean : t.clean ≡ s.clean = ap (λ (x : Stack _). x.clean) rest in
@@ -286,13 +286,13 @@ merged_child f c s t v w at (Ok false) rest items last is texts nesting m h = (
 )
 merged_child f c s t v w at (Err e) rest items last is texts nesting m h = kept_last f c s t v w at rest items last is texts nesting m h
 
-pub settled_child : {C : Type 0} (f : C → Change) (s t : Stack C) (v w : Level C) (at : ℕ) → t ≡ record s { levels = t.levels } → t.levels.items ≡ set s.levels.items at w → at + 1 ≡ length s.levels.items → v ≡ get_or s.levels.items at v → inner_of w ≡ record (inner_of v) { row = (inner_of w).row } → row_nesting (inner_of w).row ≤ row_nesting (inner_of v).row → SettlesRow (entry_change f) (inner_of v).row s.document (inner_of w).row → Holds f s → Holds f t × SettlesTarget s.document (history f s) (history f t)
-settled_child f s t v w at rest items last is texts nesting row h =
+pub settled_child : {C : Type 0} (f : C → Change) (gone : Bool) (s t : Stack C) (v w : Level C) (at : ℕ) → t ≡ record s { levels = t.levels } → t.levels.items ≡ set s.levels.items at w → at + 1 ≡ length s.levels.items → v ≡ get_or s.levels.items at v → inner_of w ≡ record (inner_of v) { row = (inner_of w).row } → row_nesting (inner_of w).row ≤ row_nesting (inner_of v).row → SettlesRow (entry_change f) gone (inner_of v).row s.document (inner_of w).row → Holds f s → Holds f t × SettlesTarget s.document gone (history f s) (history f t)
+settled_child f gone s t v w at rest items last is texts nesting row h =
     let document : t.document ≡ s.document = ap (λ (x : Stack _). x.document) rest in
     let ms = around s at in
     let l = inner_of v in
     let m : Inner _ = record l { row = (inner_of w).row } in
-    let k : IsChanged f (left_of row.gone) s t v w at = record {
+    let k : IsChanged f (left_of gone) s t v w at = record {
       rest = rest ∙ ap (λ (d : DocumentParts). record s { document = d; levels = t.levels }) (sym document);
       items = items;
       last = last;
@@ -301,11 +301,11 @@ settled_child f s t v w at rest items last is texts nesting row h =
       row = rw document row.row;
       nesting = nesting;
     } in
-    let settles = settles_open f s.document s.entries.items s.index s.clean s.limit ms l (inner_of w).row row in
-    let old = ap (history_of f s.document s.entries.items s.index s.clean s.limit) (old_inners f (left_of row.gone) s t v w at k) in
-    let new = view_at f s.document t.document s.entries.items t.entries.items s.index t.index s.clean t.clean s.limit t.limit (ms ++ m ∷ []) (inners t) document (ap (λ (x : Stack _). x.entries.items) rest) (ap (λ (x : Stack _). x.index) rest) (ap (λ (x : Stack _). x.clean) rest) (ap (λ (x : Stack _). x.limit) rest) (new_inners f (left_of row.gone) s t v w at k) in (
-      changed_holds f (left_of row.gone) s t v w at k h,
-      subst (λ (x : History). SettlesTarget s.document x (history f t)) (sym old) (subst (λ (x : History). SettlesTarget s.document (history_of f s.document s.entries.items s.index s.clean s.limit (ms ++ l ∷ [])) x) (sym new) settles),
+    let settles = settles_open f gone s.document s.entries.items s.index s.clean s.limit ms l (inner_of w).row row in
+    let old = ap (history_of f s.document s.entries.items s.index s.clean s.limit) (old_inners f (left_of gone) s t v w at k) in
+    let new = view_at f s.document t.document s.entries.items t.entries.items s.index t.index s.clean t.clean s.limit t.limit (ms ++ m ∷ []) (inners t) document (ap (λ (x : Stack _). x.entries.items) rest) (ap (λ (x : Stack _). x.index) rest) (ap (λ (x : Stack _). x.clean) rest) (ap (λ (x : Stack _). x.limit) rest) (new_inners f (left_of gone) s t v w at k) in (
+      changed_holds f (left_of gone) s t v w at k h,
+      subst (λ (x : History). SettlesTarget s.document gone x (history f t)) (sym old) (subst (λ (x : History). SettlesTarget s.document gone (history_of f s.document s.entries.items s.index s.clean s.limit (ms ++ l ∷ [])) x) (sym new) settles),
     )
 
 -- a push, by what became of the command when it was redone
@@ -315,7 +315,7 @@ pushed_on f x y s e n r within p =
     (subst (λ (d : DocumentParts). IsPushed (history f (record s { document = d })) (step_named (f y).names e) n) r.back p)
     (redone_step (f x) (f y) s.document e (current (history f s)) r (current-view f s.document s.entries.items s.index s.clean s.limit (inners s) within))
 
-pub placed_kept : {C : Type 0} (f : C → Change) (c : C) (s t : Stack C) (n : History) → IsKept f c s t → IsPlaced (history f (stack_before f c t)) (step_named (f c).names t.document) n → IsPlaced (history f (stack_before f c s)) (step_named (f c).names s.document) n
-placed_kept f c s t n k p =
-    subst (λ (d : DocumentParts). IsPlaced (history f (stack_before f c s)) (step_named (f c).names d) n) k.document
-    (subst (λ (h : History). IsPlaced h (step_named (f c).names t.document) n) k.same p)
+pub placed_kept : {C : Type 0} (f : C → Change) (gone : Bool) (c : C) (s t : Stack C) (n : History) → IsKept f c s t → IsPlaced gone (history f (stack_before f c t)) (step_named (f c).names t.document) n → IsPlaced gone (history f (stack_before f c s)) (step_named (f c).names s.document) n
+placed_kept f gone c s t n k p =
+    subst (λ (d : DocumentParts). IsPlaced gone (history f (stack_before f c s)) (step_named (f c).names d) n) k.document
+    (subst (λ (h : History). IsPlaced gone h (step_named (f c).names t.document) n) k.same p)

@@ -3,7 +3,7 @@ use Rattle.std.proofs.Common.{◌≡◌, ℕ, ◌+◌, ◌-◌, ◌<◌, ◌≤�
 use Rattle.std.specs.Prelude.{if◌then◌else◌}
 use Rattle.std.proofs.lemmas.List.{append-nil, length-take-le, length-drop, take_all, drop_all, length-append, map-append}
 use Rattle.map_model.specs.Document.{DocumentParts}
-use Rattle.command_api.specs.Law.{Change, IsLawful, IsSettled, Vanishing, Never, WhenEqual, IsRedone}
+use Rattle.command_api.specs.Law.{Change, IsLawful, IsSettled, Vanishing, Never, WhenEqual, Free, IsRedone}
 use Rattle.undo_stack.specs.History.{Step, step_named, History, last_after, current}
 use Rattle.undo_stack.specs.Pushing.{step_of, up_to, lowered, limited_to, with_added, dropped, cut, Merges, IsPushed}
 use Rattle.undo_stack.specs.Row.{before, steps_down, FitsDown}
@@ -18,17 +18,19 @@ use Rattle.undo_stack.proofs.Views.{current-view}
 pub settled-same : (v : Vanishing) (d e : DocumentParts) → IsSettled v true d e → e ≡ d
 settled-same Never d e h = absurd (let bad : true ≡ false = h in let worse : ⊥ = cc in worse)
 settled-same WhenEqual d e h = h.0 refl
+settled-same Free d e h = h refl
 
 -- what is settled between two documents is so between them the other way
 pub settled-back : (v : Vanishing) (b : Bool) (d e : DocumentParts) → IsSettled v b d e → IsSettled v b e d
 settled-back Never b d e h = h
 settled-back WhenEqual b d e h = ((λ p. sym (h.0 p)), (λ p. h.1 (sym p)))
+settled-back Free b d e h = λ p. sym (h p)
 
 -- what pushing an edit makes of a history, where it is not merged
-pub pushed_placed : (h : History) (s : Step) (n : History) → (Merges (cut h) s → ⊥) → IsPlaced h s n → IsPushed h s n
-pushed_placed h s n alone p = record {
+pub pushed_placed : (gone : Bool) (h : History) (s : Step) (n : History) → (Merges (cut h) s → ⊥) → IsPlaced gone h s n → IsPushed h s n
+pushed_placed gone h s n alone p = record {
   merged = false;
-  gone = p.gone;
+  gone = gone;
   merged_where = ((λ q. absurd (let bad : false ≡ true = q in let worse : ⊥ = cc in worse)), (λ m. absurd (alone m)));
   gone_where = p.gone_where;
   next = p.next;
@@ -114,11 +116,11 @@ current-cut f d es n clean limit [] h = cut_current f d es n clean limit h
 current-cut f d es n clean limit (l ∷ ls) h = current-view f d es n clean limit (l ∷ ls) h
 
 -- an edit that left the document as it is, and one that became a step
-pub placed_gone : (h : History) (s : Step) (n : History) (d : DocumentParts) → current (cut h) ≡ d → IsSettled s.names.vanishing true d s.after → n ≡ cut h → IsPlaced h s n
-placed_gone h s n d at settled next = record { gone = true; gone_where = rw at settled; next = next }
+pub placed_gone : (h : History) (s : Step) (n : History) (d : DocumentParts) → current (cut h) ≡ d → IsSettled s.names.vanishing true d s.after → n ≡ cut h → IsPlaced true h s n
+placed_gone h s n d at settled next = record { gone_where = rw at settled; next = next }
 
-pub placed_added : (h : History) (s : Step) (n : History) (d : DocumentParts) → current (cut h) ≡ d → IsSettled s.names.vanishing false d s.after → n ≡ (let k = cut h in with_added s k.levels k) → IsPlaced h s n
-placed_added h s n d at settled next = record { gone = false; gone_where = rw at settled; next = next }
+pub placed_added : (h : History) (s : Step) (n : History) (d : DocumentParts) → current (cut h) ≡ d → IsSettled s.names.vanishing false d s.after → n ≡ (let k = cut h in with_added s k.levels k) → IsPlaced false h s n
+placed_added h s n d at settled next = record { gone_where = rw at settled; next = next }
 
 -- an entry x above the others, which are all done, led to e
 pub added_view : {C : Type 0} (f : C → Change) (e : DocumentParts) (es : List (Entry C)) (x : Entry C) (n : ℕ) (clean : Option ℕ) (limit : ℕ) → length es ≡ n → history_of f e (es ++ x ∷ []) (n + 1) clean limit [] ≡ (let h = history_of f ((entry_change f x).undone e) es n clean limit [] in record h { steps = h.steps ++ step_named (entry_change f x).names e ∷ []; position = h.position + 1 })

@@ -100,18 +100,21 @@ next_led : (gone : Bool) (s : Step) (h : History) → settled_to gone (with_targ
 next_led true s h = left_led s.after h.levels h
 next_led false s h = refl
 
+pub merged_next : (gone : Bool) (h : History) (s : Step) (m n : History) → m ≡ (let k = cut h in with_target_at s.after k.levels k) → SettlesTarget s.after gone m n → n ≡ next_of true gone s (cut h)
+merged_next gone h s m n is t = t.next ∙ ap (settled_to gone) is ∙ next_led gone s (cut h)
+
 -- pushing an edit that is merged, of which the target goes where it is obsolete then
-pub pushed_merged : (h : History) (s : Step) (m n : History) → Merges (cut h) s → m ≡ (let k = cut h in with_target_at s.after k.levels k) → SettlesTarget s.after m n → IsPushed h s n
-pushed_merged h s m n merges is t =
+pub pushed_merged : (gone : Bool) (h : History) (s : Step) (m n : History) → Merges (cut h) s → m ≡ (let k = cut h in with_target_at s.after k.levels k) → SettlesTarget s.after gone m n → IsPushed h s n
+pushed_merged gone h s m n merges is t =
     let k = cut h in
     let vanishing = ap (λ (x : History). vanishing_of (target x)) is ∙ vanishing_led s.after k.levels k in
     let start = ap before_target is ∙ before_led s.after k.levels k in
     record {
       merged = true;
-      gone = t.gone;
+      gone = gone;
       merged_where = ((λ q. merges), (λ q. refl));
       gone_where = rw (vanishing, start) at t.gone_where;
-      next = t.next ∙ ap (settled_to t.gone) is ∙ next_led t.gone s k;
+      next = merged_next gone h s m n is t;
     }
 
 -- a clean position that is not here is not here either once those past it are lost
@@ -145,15 +148,14 @@ altered_turnable f change d e es n clean ls l ys a s =
       inner = FitsOpens-push f ls m e (rw a.base (FitsOpens-pop f ls l d s.inner).0) a.down;
     }
 
-pub settles_open : {C : Type 0} (f : C → Change) (d : DocumentParts) (es : List (Entry C)) (n : ℕ) (clean : Option ℕ) (limit : ℕ) (ls : List (Inner C)) (l : Inner C) (ys : List (Entry C)) → SettlesRow (entry_change f) l.row d ys → SettlesTarget d (history_of f d es n clean limit (ls ++ l ∷ [])) (history_of f d es n clean limit (ls ++ record l { row = ys } ∷ []))
-settles_open f d es n clean limit ls l ys s =
+pub settles_open : {C : Type 0} (f : C → Change) (gone : Bool) (d : DocumentParts) (es : List (Entry C)) (n : ℕ) (clean : Option ℕ) (limit : ℕ) (ls : List (Inner C)) (l : Inner C) (ys : List (Entry C)) → SettlesRow (entry_change f) gone l.row d ys → SettlesTarget d gone (history_of f d es n clean limit (ls ++ l ∷ [])) (history_of f d es n clean limit (ls ++ record l { row = ys } ∷ []))
+settles_open f gone d es n clean limit ls l ys s =
     let h = history_of f (before (entry_change f) l.row d) es n clean limit ls in
     let o = open_of f l d in
     let is = open_view f d es n clean limit ls l in
     record {
-      gone = s.gone;
       gone_where = rw (ap (λ (x : History). vanishing_of (target x)) is, ap before_target is, target-levelled h h.levels o, before_target-levelled h h.levels o) s.gone_where;
-      next = altered_view f (left_of s.gone) d d es n clean limit ls l ys s.row ∙ sym (settled_to-levelled s.gone h h.levels o) ∙ sym (ap (settled_to s.gone) is);
+      next = altered_view f (left_of gone) d d es n clean limit ls l ys s.row ∙ sym (settled_to-levelled gone h h.levels o) ∙ sym (ap (settled_to gone) is);
     }
 
 -- the target of entries that are all done, with no level open
@@ -175,13 +177,12 @@ settled_view f false d es ys n m clean limit len left a =
     ∙ ap (make (before (entry_change f) es d) (steps_down (entry_change f) es d)) place
     ∙ sym (done_view f d es n clean limit len)
 
-pub settles_done : {C : Type 0} (f : C → Change) (d : DocumentParts) (es ys : List (Entry C)) (n m : ℕ) (clean : Option ℕ) (limit : ℕ) → length es ≡ n → length ys ≡ m → SettlesRow (entry_change f) es d ys → SettlesTarget d (history_of f d es n clean limit []) (history_of f d ys m clean limit [])
-settles_done f d es ys n m clean limit len left s =
+pub settles_done : {C : Type 0} (f : C → Change) (gone : Bool) (d : DocumentParts) (es ys : List (Entry C)) (n m : ℕ) (clean : Option ℕ) (limit : ℕ) → length es ≡ n → length ys ≡ m → SettlesRow (entry_change f) gone es d ys → SettlesTarget d gone (history_of f d es n clean limit []) (history_of f d ys m clean limit [])
+settles_done f gone d es ys n m clean limit len left s =
     let is = done_view f d es n clean limit len in
     record {
-      gone = s.gone;
       gone_where = rw (ap (λ (x : History). vanishing_of (target x)) is, ap before_target is) s.gone_where;
-      next = settled_view f s.gone d es ys n m clean limit len left s.row;
+      next = settled_view f gone d es ys n m clean limit len left s.row;
     }
 
 -- a merge into the last of the entries that are done, with no level open

@@ -24,7 +24,7 @@ map-up : {A B : Type 0} (f : B → Change) (g : Step → A) (p : B → A) → ((
 map-up f g p h [] d = refl
 map-up f g p h (x ∷ xs) d = rw (h x ((f x).redone d), map-up f g p h xs ((f x).redone d)) refl
 
-map-steps : {A B : Type 0} (f : B → Change) (g : Step → A) (p : B → A) → ((x : B) (d : DocumentParts) → g (step_named (f x).names d) ≡ p x) → (xs : List B) (n : ℕ) (d : DocumentParts) → map g (steps_of f xs n d) ≡ map p xs
+pub map-steps : {A B : Type 0} (f : B → Change) (g : Step → A) (p : B → A) → ((x : B) (d : DocumentParts) → g (step_named (f x).names d) ≡ p x) → (xs : List B) (n : ℕ) (d : DocumentParts) → map g (steps_of f xs n d) ≡ map p xs
 map-steps f g p h xs n d =
     map-append g (steps_down f (take n xs) d) (steps_up f (drop n xs) d)
     ∙ rw (map-down f g p h (take n xs) d, map-up f g p h (drop n xs) d, ← map-append p (take n xs) (drop n xs), take-append-drop n xs) refl

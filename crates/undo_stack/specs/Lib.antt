@@ -1,6 +1,8 @@
 pub mod History
 pub mod Pushing
 pub mod Moving
+pub mod Turning
+pub mod Calm
 pub mod Macros
 pub mod Reading
 pub mod Row
@@ -8,3 +10,4 @@ pub mod Entries
 pub mod Sound
 pub mod Stacks
 pub mod Merging
+pub mod Reporting

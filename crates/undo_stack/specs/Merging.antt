@@ -41,9 +41,8 @@ abbrev pub left_of : Bool → List Step → List Step
 left_of true ss = front ss
 left_of false ss = ss
 
--- ys is the row xs, which led to d, without its last thing where that is obsolete
-pub record SettlesRow {B : Type 0} (f : B → Change) (xs : List B) (d : DocumentParts) (ys : List B) : Type 0 where
-  pub gone : Bool
+-- ys is the row xs, which led to d, without its last thing where that is gone, as it is where it is obsolete
+pub record SettlesRow {B : Type 0} (f : B → Change) (gone : Bool) (xs : List B) (d : DocumentParts) (ys : List B) : Type 0 where
   pub gone_where : IsSettled (vanishing_of (last_step (steps_down f xs d))) gone (last_after (before f xs d) (front (steps_down f xs d))) d
   pub row : IsAltered f (left_of gone) xs d ys d
 
@@ -57,15 +56,13 @@ abbrev pub settled_to : Bool → History → History
 settled_to true h = without_target h.levels h
 settled_to false h = h
 
--- n is the history h, which led to d, without its target where that is obsolete
-pub record SettlesTarget (d : DocumentParts) (h n : History) : Type 0 where
-  pub gone : Bool
+-- n is the history h, which led to d, without its target where that is gone, as it is where it is obsolete
+pub record SettlesTarget (d : DocumentParts) (gone : Bool) (h n : History) : Type 0 where
   pub gone_where : IsSettled (vanishing_of (target h)) gone (before_target h) d
   pub next : n ≡ settled_to gone h
 
--- the edit s, which is not merged into the history h, makes of it the history n
-pub record IsPlaced (h : History) (s : Step) (n : History) : Type 0 where
-  pub gone : Bool
+-- the edit s, which is not merged into the history h, makes of it the history n, and is gone there or not
+pub record IsPlaced (gone : Bool) (h : History) (s : Step) (n : History) : Type 0 where
   pub gone_where : Vanishes false gone (cut h) s
   pub next : n ≡ next_of false gone s (cut h)
 

@@ -7,6 +7,7 @@
 --    and outside levels the position goes down by one.
 -- 2. Else, if the edit vanishes when equal and d equals the current document, no step is added.
 -- 3. Else a step with d is added: to the innermost level, or to the list with the position one higher and then the limit.
+-- Where the two documents of 1 or 2 are equal, a free t or edit may go too: it does where its command says so (Reporting).
 use Rattle.std.specs.Prelude.{◌≡◌, ℕ, ◌+◌, ◌-◌, List, [], ◌∷◌, ◌++◌, Option, Some, None, take, drop, length, Bool, true, false, leb, if◌then◌else◌, ◌↔◌, zero, suc}
 use Rattle.map_model.specs.Document.{DocumentParts}
 use Rattle.command_api.specs.Law.{Change, Vanishing, Never, IsSettled}

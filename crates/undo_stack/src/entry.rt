@@ -1,6 +1,7 @@
-ghost use Rattle.std.specs.Prelude.{◌≡◌, ◌≤◌, [], length, take, drop, map};
-ghost use Rattle.command_api.specs.Law.{IsRedone, IsUndone, IsLawful};
+ghost use Rattle.std.specs.Prelude.{◌≡◌, ◌≤◌, [], true, false, length, take, drop, map};
+ghost use Rattle.command_api.specs.Law.{IsRedone, IsUndone, IsLawful, is_free};
 ghost use Rattle.command_api.specs.Offers.{IsOfferOf};
+ghost use Rattle.undo_stack.specs.Calm.{IsGone, IsLive};
 ghost use Rattle.undo_stack.specs.Entries.{entry_change, nesting};
 ghost use Rattle.undo_stack.specs.Merging.{MergesChange};
 ghost use Rattle.undo_stack.specs.Row.{row_change, FitsDown, FitsUp, IsMoved};
@@ -84,6 +85,27 @@ impl<C: Command> Entry<C> {
     {
         match self {
             Entry::Command(command) => command.obsolete(),
+            Entry::Macro(_) => false,
+        }
+    }
+
+    /// Whether the entry is a free command. A macro is none.
+    pub fn is_free(&self) -> bool
+        ensures { result ≡ is_free (entry_change C.change self.now).names.vanishing }
+    {
+        match self {
+            Entry::Command(command) => command.is_free(),
+            Entry::Macro(_) => false,
+        }
+    }
+
+    /// Whether the entry is a free command that is obsolete.
+    pub fn is_gone(&self) -> bool
+        ensures gone { result ≡ true → IsGone (entry_change C.change self.now) }
+        ensures kept { result ≡ false → IsLive (entry_change C.change self.now) }
+    {
+        match self {
+            Entry::Command(command) => command.is_free() && command.obsolete(),
             Entry::Macro(_) => false,
         }
     }

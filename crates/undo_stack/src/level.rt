@@ -1,10 +1,13 @@
 ghost use Rattle.std.specs.Prelude.{◌≡◌, ◌<◌, ◌≤◌, [], ◌∷◌, ◌++◌, IfOk, length, vec_len, vec_capacity};
 ghost use Rattle.map_model.specs.Document.{DocumentParts};
 ghost use Rattle.command_api.specs.Offers.{IsOfferOf};
+ghost use Rattle.undo_stack.specs.Calm.{AreLive, LeavesLive};
+ghost use Rattle.undo_stack.specs.Pushing.{front};
 ghost use Rattle.undo_stack.specs.Row.{FitsDown};
 ghost use Rattle.undo_stack.specs.Entries.{entry_change};
 ghost use Rattle.undo_stack.specs.Sound.{row_nesting};
 ghost use Rattle.undo_stack.specs.Merging.{MergesRow, SettlesRow};
+ghost use Rattle.undo_stack.specs.Reporting.{TakesIn, last_entry, reports};
 ghost use Rattle.undo_stack.specs.Stacks.{inner_of, closed_level};
 
 use crate::entry::{Entry, MacroBody};
@@ -38,7 +41,14 @@ impl<C: Command> Level<C> {
     pub fn text(&self) -> &str
         ensures { result.now ≡ (inner_of self.now).text }
     {
-        self.body.text.as_str()
+        // A level keeps its macro alone, and that its two texts and its entries: no document.
+        let Level { body } = self;
+        let MacroBody {
+            text,
+            action: _,
+            children: _,
+        } = &**body;
+        text.as_str()
     }
 
     /// Sees to it that there is a place for one more entry.
@@ -73,6 +83,8 @@ impl<C: Command> Level<C> {
         requires older { FitsDown (entry_change C.change) (inner_of self.old).row ((C.change newer.now).undone document.now) }
         ensures texts { inner_of self.new ≡ record (inner_of self.old) { row = (inner_of self.new).row } }
         ensures merged { MergesRow (entry_change C.change) (inner_of self.old).row (C.change newer.now) document.now result (inner_of self.new).row }
+        ensures joined { TakesIn C.change newer.now document.now (last_entry (inner_of self.old).row) result (last_entry (inner_of self.new).row) }
+        ensures live { LeavesLive C.change (inner_of self.old).row result (inner_of self.new).row }
         ensures nesting { row_nesting (inner_of self.new).row ≡ row_nesting (inner_of self.old).row }
     {
         let count = self.body.children.len();
@@ -87,7 +99,8 @@ impl<C: Command> Level<C> {
         requires some { 0 < length (inner_of self.old).row }
         ensures texts { inner_of self.new ≡ record (inner_of self.old) { row = (inner_of self.new).row } }
         ensures settled { (d : DocumentParts) → FitsDown (entry_change C.change) (inner_of self.old).row d
-            → SettlesRow (entry_change C.change) (inner_of self.old).row d (inner_of self.new).row }
+            → SettlesRow (entry_change C.change) (reports C.change (last_entry (inner_of self.old).row)) (inner_of self.old).row d (inner_of self.new).row }
+        ensures live { AreLive C.change (front (inner_of self.old).row) → AreLive C.change (inner_of self.new).row }
         ensures nesting { row_nesting (inner_of self.new).row ≤ row_nesting (inner_of self.old).row }
     {
         let below = self.body.children.len() - 1;

@@ -2,16 +2,20 @@ ghost use Rattle.std.specs.Prelude.{◌≡◌, ◌≤◌, ◌<◌, ◌+◌, ◌-
 ghost use Rattle.std.specs.VecDeque.{deque_capacity};
 ghost use Rattle.undo_stack.specs.History.{new_history, current, count, is_clean, step_named};
 ghost use Rattle.undo_stack.specs.Pushing.{IsPushed, step_of, up_to, lowered, with_added};
-ghost use Rattle.undo_stack.specs.Moving.{positioned, StepsBack, StepsOn, GoesTo, MarksClean, UnmarksClean, SetsLimit, Clears};
+ghost use Rattle.undo_stack.specs.Moving.{positioned, MarksClean, UnmarksClean, SetsLimit, Clears};
+ghost use Rattle.undo_stack.specs.Turning.{Undoes, Redoes, SetsIndex};
 ghost use Rattle.undo_stack.specs.Reading.{text_at, action_of, undo_text_of, redo_text_of};
+ghost use Rattle.undo_stack.specs.Calm.{IsCalm, IsLive};
 ghost use Rattle.undo_stack.specs.Entries.{entry_change, nesting};
 ghost use Rattle.undo_stack.specs.Sound.{history_of, opens, with_child, IsTurnable, level_nesting};
 ghost use Rattle.undo_stack.specs.Stacks.{history, inners, Holds, IsBounded, LastHasRoom};
 ghost use Rattle.undo_stack.specs.Merging.{IsPlaced, stack_before};
+ghost use Rattle.undo_stack.specs.Reporting.{IsReported};
 ghost use Rattle.undo_stack.specs.declared.limits.TheConstants.{MAX_DEPTH, MAX_LIMIT};
 
 mod macros;
 mod merging;
+mod stepping;
 
 use crate::entry::{Entry, redo_each, redo_up, undo_down, undo_each};
 use crate::level::Level;
@@ -42,7 +46,7 @@ pub enum StackFault {
 /// A document and its history, over commands of one type, which may be `Box<dyn Command>`.
 ///
 /// A caller sees the history that the stack holds. That the commands fit the document is a condition of its calls, which
-/// each of them keeps.
+/// each of them keeps. None leaves a free command that is obsolete among the entries or those of an open macro.
 #[derive(Drop)]
 pub struct Stack<C> {
     // The document after the entries below the index, and those of the open macros.
@@ -57,6 +61,8 @@ pub struct Stack<C> {
     // The open macros, outermost first. While there are any, no entry stands above the index, and there is a free place
     // for what each of them becomes: among the entries, or in the macro around it.
     levels: Vec<Level<C>>,
+    // Whether a free command may stand among the entries. Only then is each one looked at when it was turned.
+    has_free: bool,
     // The allocator by which a merge takes its memory, and a macro when it begins.
     alloc: Global,
 }
@@ -68,6 +74,7 @@ impl<C: Command> Stack<C> {
     pub fn new(alloc: Global, document: Document, limit: usize) -> Stack<C>
         requires { limit ≤ MAX_LIMIT }
         ensures sound { Holds C.change result }
+        ensures calm { IsCalm C.change result }
         ensures history { history C.change result ≡ new_history document limit }
     {
         Stack {
@@ -77,6 +84,7 @@ impl<C: Command> Stack<C> {
             clean: Some(0),
             limit,
             levels: Vec::new(alloc),
+            has_free: false,
             alloc,
         }
     }
@@ -135,6 +143,7 @@ impl<C: Command> Stack<C> {
     pub fn seek_object(&mut self, object: u32)
         requires { Holds C.change self.old }
         ensures sound { Holds C.change self.new }
+        ensures calm { IsCalm C.change self.old → IsCalm C.change self.new }
         ensures same { history C.change self.new ≡ history C.change self.old }
     {
         self.document.seek_object(object);
@@ -218,10 +227,12 @@ impl<C: Command> Stack<C> {
         requires sound { Holds C.change self.old }
         requires fits { (C.change command).fits_redo (current (history C.change self.old)) }
         ensures sound { Holds C.change self.new }
+        ensures calm { IsCalm C.change self.old → IsCalm C.change self.new }
         ensures pushed { IfOk result (λ _. IsPushed
             (history C.change self.old)
             (step_of (C.change command) (current (history C.change self.old)))
             (history C.change self.new)) }
+        ensures reported { IfOk result (λ _. IsReported C.change command self.old self.new) }
         ensures kept { IfErr result (λ _. history C.change self.new ≡ history C.change self.old) }
     {
         command.redo(&mut self.document);
@@ -246,7 +257,9 @@ impl<C: Command> Stack<C> {
         requires sound { Holds C.change (stack_before C.change command self.old) }
         requires fits { (C.change command).fits_undo self.old.document }
         ensures sound { Holds C.change self.new }
-        ensures placed { IfOk result (λ _. IsPlaced
+        ensures calm { IsCalm C.change self.old → IsCalm C.change self.new }
+        ensures document { IfOk result (λ _. self.new.document ≡ self.old.document) }
+        ensures placed { IfOk result (λ _. IsPlaced (C.change command).obsolete
             (history C.change (stack_before C.change command self.old))
             (step_named (C.change command).names self.old.document)
             (history C.change self.new)) }
@@ -264,7 +277,9 @@ impl<C: Command> Stack<C> {
         requires sound { Holds C.change (stack_before C.change command self.old) }
         requires fits { (C.change command).fits_undo self.old.document }
         ensures sound { Holds C.change self.new }
-        ensures placed { IfOk result (λ _. IsPlaced
+        ensures calm { IsCalm C.change self.old → IsCalm C.change self.new }
+        ensures document { IfOk result (λ _. self.new.document ≡ self.old.document) }
+        ensures placed { IfOk result (λ _. IsPlaced (C.change command).obsolete
             (history C.change (stack_before C.change command self.old))
             (step_named (C.change command).names self.old.document)
             (history C.change self.new)) }
@@ -290,7 +305,9 @@ impl<C: Command> Stack<C> {
         requires sound { Holds C.change (stack_before C.change command self.old) }
         requires fits { (C.change command).fits_undo self.old.document }
         ensures sound { Holds C.change self.new }
-        ensures placed { IfOk result (λ _. IsPlaced
+        ensures calm { IsCalm C.change self.old → IsCalm C.change self.new }
+        ensures document { IfOk result (λ _. self.new.document ≡ self.old.document) }
+        ensures placed { IfOk result (λ _. IsPlaced (C.change command).obsolete
             (history C.change (stack_before C.change command self.old))
             (step_named (C.change command).names self.old.document)
             (history C.change self.new)) }
@@ -326,6 +343,7 @@ impl<C: Command> Stack<C> {
         ensures rest { self.new ≡ record self.old { levels = self.new.levels } }
         ensures same { inners self.new ≡ inners self.old }
         ensures bounded { IsBounded self.old → IsBounded self.new }
+        ensures calm { IsCalm C.change self.old → IsCalm C.change self.new }
         ensures own_room { (vec_len self.new.levels ≡ vec_len self.old.levels) × (vec_capacity self.new.levels ≡ vec_capacity self.old.levels) }
         ensures room { IfOk result (λ _. LastHasRoom self.new.levels.items) }
     {
@@ -343,6 +361,15 @@ impl<C: Command> Stack<C> {
         ensures room { deque_capacity self.new.entries ≡ deque_capacity self.old.entries }
     {
         self.entries.truncate(self.index);
+        self.lose_clean();
+    }
+
+    // A clean index above the index is lost.
+    #[inline(always)]
+    fn lose_clean(&mut self)
+        ensures rest { self.new ≡ record self.old { clean = self.new.clean } }
+        ensures clean { self.new.clean ≡ up_to self.old.index self.old.clean }
+    {
         if let Some(clean) = self.clean {
             if clean > self.index {
                 self.clean = None;
@@ -361,10 +388,13 @@ impl<C: Command> Stack<C> {
         requires fits { (entry_change C.change entry).fits_undo self.old.document }
         requires nesting { nesting entry ≤ MAX_DEPTH }
         ensures sound { Holds C.change self.new }
+        ensures calm { IsCalm C.change self.old → IsLive (entry_change C.change entry) → IsCalm C.change self.new }
+        ensures document { self.new.document ≡ self.old.document }
         ensures added { history C.change self.new ≡ with_added
             (step_named (entry_change C.change entry).names self.old.document) []
             (history_of C.change ((entry_change C.change entry).undone self.old.document) self.old.entries.items self.old.index self.old.clean self.old.limit []) }
     {
+        self.has_free = self.has_free || entry.is_free();
         self.entries.push_back_reserved(entry);
         self.index += 1;
         if self.limit != 0 {
@@ -398,6 +428,8 @@ impl<C: Command> Stack<C> {
         requires fits { (entry_change C.change entry).fits_undo self.old.document }
         requires nesting { level_nesting (with_child entry (inners self.old)) ≤ MAX_DEPTH }
         ensures sound { Holds C.change self.new }
+        ensures calm { IsCalm C.change self.old → IsLive (entry_change C.change entry) → IsCalm C.change self.new }
+        ensures document { self.new.document ≡ self.old.document }
         ensures added { history C.change self.new ≡ with_added
             (step_named (entry_change C.change entry).names self.old.document)
             (opens C.change (inners self.old) ((entry_change C.change entry).undone self.old.document))
@@ -419,14 +451,16 @@ fn one_lower(clean: Option<usize>) -> Option<usize>
 }
 
 impl<C: Command> Stack<C> {
-    /// Turns the step below the index back, and lowers the index by one. Takes no memory.
+    /// Turns the step below the index back, and lowers the index by one. Takes no memory. Where the step is that of a free
+    /// command, which is obsolete then, it goes, and a clean index above it is lost.
     ///
     /// The answer is `MacroOpen` while a macro is open, and `NothingToUndo` where the index is 0. The stack is then as it
     /// was.
     pub fn undo(&mut self) -> Result<(), StackFault>
         requires { Holds C.change self.old }
         ensures sound { Holds C.change self.new }
-        ensures step { StepsBack (history C.change self.old) result (history C.change self.new) }
+        ensures calm { IsCalm C.change self.old → IsCalm C.change self.new }
+        ensures step { Undoes (history C.change self.old) result (history C.change self.new) }
     {
         if self.is_open() {
             return Err(StackFault::MacroOpen);
@@ -438,14 +472,16 @@ impl<C: Command> Stack<C> {
         Ok(())
     }
 
-    /// Makes the step above the index again, and raises the index by one. Takes no memory.
+    /// Makes the step above the index again, and raises the index by one. Takes no memory. Where the step is that of a free
+    /// command, which is obsolete then, it goes, the index stays, and a clean index above it is lost.
     ///
     /// The answer is `MacroOpen` while a macro is open, and `NothingToRedo` where the index is the count. The stack is then
     /// as it was.
     pub fn redo(&mut self) -> Result<(), StackFault>
         requires { Holds C.change self.old }
         ensures sound { Holds C.change self.new }
-        ensures step { StepsOn (history C.change self.old) result (history C.change self.new) }
+        ensures calm { IsCalm C.change self.old → IsCalm C.change self.new }
+        ensures step { Redoes (history C.change self.old) result (history C.change self.new) }
     {
         if self.is_open() {
             return Err(StackFault::MacroOpen);
@@ -458,18 +494,23 @@ impl<C: Command> Stack<C> {
     }
 
     /// Undoes or redoes until the index is this one, where a number past the count means the count. Takes no memory.
+    /// Steps go as in an undo or a redo, and each that goes on the way up leaves the index one lower in the end.
     ///
     /// The answer is `MacroOpen` while a macro is open, and the stack is then as it was.
     pub fn set_index(&mut self, index: usize) -> Result<(), StackFault>
         requires { Holds C.change self.old }
         ensures sound { Holds C.change self.new }
-        ensures step { GoesTo index (history C.change self.old) result (history C.change self.new) }
+        ensures calm { IsCalm C.change self.old → IsCalm C.change self.new }
+        ensures step { SetsIndex index (history C.change self.old) result (history C.change self.new) }
     {
         if self.is_open() {
             return Err(StackFault::MacroOpen);
         }
-        self.undo_to(index);
-        self.redo_to(index);
+        if self.has_free {
+            self.step_to(index);
+        } else {
+            self.turn_to(index);
+        }
         Ok(())
     }
 
@@ -479,6 +520,7 @@ impl<C: Command> Stack<C> {
     pub fn set_clean(&mut self) -> Result<(), StackFault>
         requires { Holds C.change self.old }
         ensures sound { Holds C.change self.new }
+        ensures calm { IsCalm C.change self.old → IsCalm C.change self.new }
         ensures step { MarksClean (history C.change self.old) result (history C.change self.new) }
     {
         if self.is_open() {
@@ -492,6 +534,7 @@ impl<C: Command> Stack<C> {
     pub fn reset_clean(&mut self)
         requires { Holds C.change self.old }
         ensures sound { Holds C.change self.new }
+        ensures calm { IsCalm C.change self.old → IsCalm C.change self.new }
         ensures step { UnmarksClean (history C.change self.old) (history C.change self.new) }
     {
         self.clean = None;
@@ -504,6 +547,7 @@ impl<C: Command> Stack<C> {
         requires limit { limit ≤ MAX_LIMIT }
         requires sound { Holds C.change self.old }
         ensures sound { Holds C.change self.new }
+        ensures calm { IsCalm C.change self.old → IsCalm C.change self.new }
         ensures step { SetsLimit limit (history C.change self.old) result (history C.change self.new) }
     {
         if self.count() != 0 {
@@ -518,6 +562,7 @@ impl<C: Command> Stack<C> {
     pub fn clear(&mut self)
         requires { Holds C.change self.old }
         ensures sound { Holds C.change self.new }
+        ensures calm { IsCalm C.change self.old → IsCalm C.change self.new }
         ensures step { Clears (history C.change self.old) (history C.change self.new) }
     {
         // One document, the steps and the macros that are open are all that a stack keeps.
@@ -528,12 +573,28 @@ impl<C: Command> Stack<C> {
             clean,
             limit: _,
             levels,
+            has_free,
             alloc: _,
         } = self;
         entries.clear();
         levels.clear();
         *index = 0;
         *clean = Some(0);
+        *has_free = false;
+    }
+
+    // Undoes or redoes until the index is this one, or the count. No entry goes.
+    fn turn_to(&mut self, index: usize)
+        requires closed { self.old.levels.items ≡ [] }
+        requires sound { Holds C.change self.old }
+        ensures closed { self.new.levels.items ≡ [] }
+        ensures sound { Holds C.change self.new }
+        ensures calm { self.old.has_free ≡ false → IsCalm C.change self.old → IsCalm C.change self.new }
+        ensures history { history C.change self.new
+            ≡ positioned (min index (length (history C.change self.old).steps)) (history C.change self.old) }
+    {
+        self.undo_to(index);
+        self.redo_to(index);
     }
 
     // Undoes until the index is at most this one.
@@ -542,6 +603,7 @@ impl<C: Command> Stack<C> {
         requires sound { Holds C.change self.old }
         ensures closed { self.new.levels.items ≡ [] }
         ensures sound { Holds C.change self.new }
+        ensures has_free { self.new.has_free ≡ self.old.has_free }
         ensures history { history C.change self.new
             ≡ positioned (min index (history C.change self.old).position) (history C.change self.old) }
     {
@@ -559,7 +621,9 @@ impl<C: Command> Stack<C> {
     fn redo_to(&mut self, index: usize)
         requires closed { self.old.levels.items ≡ [] }
         requires sound { Holds C.change self.old }
+        ensures closed { self.new.levels.items ≡ [] }
         ensures sound { Holds C.change self.new }
+        ensures has_free { self.new.has_free ≡ self.old.has_free }
         ensures history { history C.change self.new
             ≡ positioned (max (min index (length (history C.change self.old).steps)) (history C.change self.old).position) (history C.change self.old) }
     {
@@ -573,7 +637,9 @@ impl<C: Command> Stack<C> {
         requires sound { Holds C.change self.old }
         requires order { self.old.index ≤ index }
         requires within { index ≤ length self.old.entries.items }
+        ensures closed { self.new.levels.items ≡ [] }
         ensures sound { Holds C.change self.new }
+        ensures has_free { self.new.has_free ≡ self.old.has_free }
         ensures history { history C.change self.new ≡ positioned index (history C.change self.old) }
     {
         if self.is_worth_a_row(index - self.index) {
@@ -590,31 +656,5 @@ impl<C: Command> Stack<C> {
     fn is_worth_a_row(&self, turns: usize) -> bool {
         let (_, rest) = self.entries.as_slices();
         rest.is_empty() || turns >= self.entries.len() / 2
-    }
-
-    // Turns the step below the index back, and lowers the index by one.
-    fn step_back(&mut self)
-        requires closed { self.old.levels.items ≡ [] }
-        requires sound { Holds C.change self.old }
-        requires below { 0 < (history C.change self.old).position }
-        ensures sound { Holds C.change self.new }
-        ensures history { history C.change self.new
-            ≡ positioned ((history C.change self.old).position - 1) (history C.change self.old) }
-    {
-        self.entries[self.index - 1].undo(&mut self.document);
-        self.index -= 1;
-    }
-
-    // Makes the step above the index again, and raises the index by one.
-    fn step_on(&mut self)
-        requires closed { self.old.levels.items ≡ [] }
-        requires sound { Holds C.change self.old }
-        requires above { (history C.change self.old).position < length (history C.change self.old).steps }
-        ensures sound { Holds C.change self.new }
-        ensures history { history C.change self.new
-            ≡ positioned ((history C.change self.old).position + 1) (history C.change self.old) }
-    {
-        self.entries[self.index].redo(&mut self.document);
-        self.index += 1;
     }
 }

@@ -8,29 +8,32 @@ ghost use Rattle.undo_group.specs.Groups.{IsNew, removed};
 ghost use Rattle.undo_group.specs.Stacks.{group_of, AreHeld};
 ghost use Rattle.undo_stack.specs.History.{new_history};
 ghost use Rattle.undo_stack.specs.Reading.{redo_text_of, undo_text_of};
+ghost use Rattle.session.specs.Spelling.{CanBeSpelled};
 ghost use Rattle.session.specs.declared.reply.Reply.TheVariants as replies;
 ghost use Rattle.editor.specs.Editors.{machine_of, IsSound};
 ghost use Rattle.editor.specs.Acts.{Answers, Closes, Creates, NotTaken, GoesOn, Named, OrNoMemory, Opens, TellsText, Uses};
 ghost use Rattle.editor.specs.Answers.{documents_text, is_active, starred, status_reply};
-ghost use Rattle.editor.specs.Machine.{active_of};
-ghost use Rattle.editor.specs.Planning.{KeepsReply};
+ghost use Rattle.editor.specs.Machine.{active_of, workspace};
+ghost use Rattle.editor.specs.Planning.{IsOfDocuments, KeepsReply};
+ghost use Rattle.editor.specs.Steps.{Step};
 
 use crate::editor::Editor;
 use crate::steps::{state_of, text_reply};
 use command_api::Command;
 use map_model::{Document, Map, MapText, is_size, is_tile_size};
-use session::{Refusal, Reply, Text};
+use map_store::MapStore;
+use session::{Line, Refusal, Reply, Text};
 use std::alloc::{AllocError, Global};
 use undo_group::Group;
 use undo_stack::Stack;
 
 /// The sizes of a new map: its columns and rows, and the pixels of a tile.
 #[derive(Clone, Copy)]
-pub(crate) struct Sizes {
-    pub(crate) width: u32,
-    pub(crate) height: u32,
-    pub(crate) tile_width: u32,
-    pub(crate) tile_height: u32,
+struct Sizes {
+    width: u32,
+    height: u32,
+    tile_width: u32,
+    tile_height: u32,
 }
 
 impl Sizes {
@@ -104,15 +107,55 @@ fn documents_text<C: Command>(alloc: Global, group: &Group<C>) -> Result<String,
 }
 
 impl<C: Command> Editor<C> {
-    // Opens a new document.
-    #[inline(never)]
-    pub(crate) fn open_new(
+    // Does what a line about the open documents and the files asks for. It stands apart, since a function clears at its
+    // entry all that its arms hand on.
+    #[inline(always)]
+    pub(crate) fn on_documents<S: MapStore>(
         &mut self,
         alloc: Global,
-        name: &Text<'_>,
-        sizes: Sizes,
-        source: &Text<'_>,
+        store: &mut S,
+        line: &Line<'_>,
     ) -> Reply
+        requires sound { IsSound C.change self.old }
+        requires spelled { CanBeSpelled line.now }
+        requires about { IsOfDocuments line.now }
+        ensures sound { IsSound C.change self.new }
+        ensures step { Step line.now (workspace (machine_of C.change self.old) (S.kept store.old)) (Some result) (workspace (machine_of C.change self.new) (S.kept store.new)) }
+        ensures kept { KeepsReply result (machine_of C.change self.old) (machine_of C.change self.new) }
+    {
+        match line {
+            Line::New {
+                name,
+                width,
+                height,
+                tile_width,
+                tile_height,
+                source,
+            } => {
+                let sizes = Sizes {
+                    width: *width,
+                    height: *height,
+                    tile_width: *tile_width,
+                    tile_height: *tile_height,
+                };
+                self.open_new(alloc, name, sizes, source)
+            }
+            Line::Open { name, file } => self.open_file(alloc, store, name, file),
+            Line::Save { file } => self.save(alloc, store, file),
+            Line::Close { name } => self.close(name),
+            Line::Discard { name } => self.discard(name),
+            Line::Use { choice } => self.choose(choice),
+            Line::Documents => self.list(alloc),
+            Line::Status => self.status(),
+            Line::UndoText => self.undo_text(alloc),
+            Line::RedoText => self.redo_text(alloc),
+            _ => unreachable!(),
+        }
+    }
+
+    // Opens a new document.
+    #[inline(never)]
+    fn open_new(&mut self, alloc: Global, name: &Text<'_>, sizes: Sizes, source: &Text<'_>) -> Reply
         requires { IsSound C.change self.old }
         ensures sound { IsSound C.change self.new }
         ensures step { NotTaken name.now (OrNoMemory (Creates name.now sizes.width sizes.height sizes.tile_width sizes.tile_height source.now))
@@ -154,7 +197,7 @@ impl<C: Command> Editor<C> {
     }
 
     // Closes a document that is clean.
-    pub(crate) fn close(&mut self, name: &Text<'_>) -> Reply
+    fn close(&mut self, name: &Text<'_>) -> Reply
         requires { IsSound C.change self.old }
         ensures sound { IsSound C.change self.new }
         ensures step { Named name.now (Closes name.now) (machine_of C.change self.old) (Some result) (machine_of C.change self.new) }
@@ -169,7 +212,7 @@ impl<C: Command> Editor<C> {
     }
 
     // Closes a document.
-    pub(crate) fn discard(&mut self, name: &Text<'_>) -> Reply
+    fn discard(&mut self, name: &Text<'_>) -> Reply
         requires { IsSound C.change self.old }
         ensures sound { IsSound C.change self.new }
         ensures step { Named name.now (λ h. GoesOn (removed name.now)) (machine_of C.change self.old) (Some result) (machine_of C.change self.new) }
@@ -182,7 +225,7 @@ impl<C: Command> Editor<C> {
     }
 
     // Makes a document the active one, or none.
-    pub(crate) fn choose(&mut self, choice: &Option<Text<'_>>) -> Reply
+    fn choose(&mut self, choice: &Option<Text<'_>>) -> Reply
         requires { IsSound C.change self.old }
         ensures sound { IsSound C.change self.new }
         ensures step { Uses choice.now (machine_of C.change self.old) (Some result) (machine_of C.change self.new) }
@@ -200,7 +243,7 @@ impl<C: Command> Editor<C> {
 
     // The names of the open documents, where there is memory for them.
     #[inline(never)]
-    pub(crate) fn list(&self, alloc: Global) -> Reply
+    fn list(&self, alloc: Global) -> Reply
         requires { IsSound C.change self.now }
         ensures { OrNoMemory (Answers λ m. replies.Documents (documents_text m.group)) (machine_of C.change self.now) (Some result) (machine_of C.change self.now) }
     {
@@ -211,7 +254,7 @@ impl<C: Command> Editor<C> {
     }
 
     // How the active document stands.
-    pub(crate) fn status(&self) -> Reply
+    fn status(&self) -> Reply
         requires { IsSound C.change self.now }
         ensures { result ≡ status_reply (active_of (machine_of C.change self.now)) }
     {
@@ -222,7 +265,7 @@ impl<C: Command> Editor<C> {
     }
 
     // The text for undo.
-    pub(crate) fn undo_text(&self, alloc: Global) -> Reply
+    fn undo_text(&self, alloc: Global) -> Reply
         requires { IsSound C.change self.now }
         ensures { TellsText undo_text_of (machine_of C.change self.now) (Some result) (machine_of C.change self.now) }
     {
@@ -233,7 +276,7 @@ impl<C: Command> Editor<C> {
     }
 
     // The text for redo.
-    pub(crate) fn redo_text(&self, alloc: Global) -> Reply
+    fn redo_text(&self, alloc: Global) -> Reply
         requires { IsSound C.change self.now }
         ensures { TellsText redo_text_of (machine_of C.change self.now) (Some result) (machine_of C.change self.now) }
     {

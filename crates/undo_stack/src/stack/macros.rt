@@ -1,6 +1,7 @@
 // The beginning and the end of a macro.
 ghost use Rattle.std.specs.Prelude.{◌≡◌, ◌<◌, length, IfOk, vec_len, vec_capacity};
 ghost use Rattle.std.specs.VecDeque.{deque_len, deque_capacity};
+ghost use Rattle.undo_stack.specs.Calm.{IsCalm};
 ghost use Rattle.undo_stack.specs.Macros.{Begins, Ends};
 ghost use Rattle.undo_stack.specs.Pushing.{cut};
 ghost use Rattle.undo_stack.specs.Stacks.{history, Holds, LastHasRoom};
@@ -20,6 +21,7 @@ impl<C: Command> Stack<C> {
     pub fn begin_macro(&mut self, text: &str, action: &str) -> Result<(), StackFault>
         requires { Holds C.change self.old }
         ensures sound { Holds C.change self.new }
+        ensures calm { IsCalm C.change self.old → IsCalm C.change self.new }
         ensures step { Begins text.now action.now (history C.change self.old) result (history C.change self.new) }
     {
         if self.levels.len() >= MAX_DEPTH {
@@ -45,6 +47,7 @@ impl<C: Command> Stack<C> {
     pub fn end_macro(&mut self) -> Result<(), StackFault>
         requires { Holds C.change self.old }
         ensures sound { Holds C.change self.new }
+        ensures calm { IsCalm C.change self.old → IsCalm C.change self.new }
         ensures step { Ends (history C.change self.old) result (history C.change self.new) }
     {
         let Some(level) = self.levels.pop() else {
@@ -63,6 +66,7 @@ impl<C: Command> Stack<C> {
     fn take_level_places(&mut self) -> Result<(), AllocError>
         requires { Holds C.change self.old }
         ensures sound { Holds C.change self.new }
+        ensures calm { IsCalm C.change self.old → IsCalm C.change self.new }
         ensures same { history C.change self.new ≡ history C.change self.old }
         ensures count { length self.new.levels.items ≡ length self.old.levels.items }
         ensures room { IfOk result (λ _. vec_len self.new.levels < vec_capacity self.new.levels) }
@@ -81,6 +85,7 @@ impl<C: Command> Stack<C> {
         requires sound { Holds C.change self.old }
         requires room { self.old.index < deque_capacity self.old.entries }
         ensures sound { Holds C.change self.new }
+        ensures calm { IsCalm C.change self.old → IsCalm C.change self.new }
         ensures cut { history C.change self.new ≡ cut (history C.change self.old) }
         ensures place { self.new.index ≡ length self.new.entries.items }
         ensures room { deque_len self.new.entries < deque_capacity self.new.entries }

@@ -1,7 +1,9 @@
 // The merge of a pushed command into the target: the entry below the index, or the last one of the innermost macro.
 ghost use Rattle.std.specs.Prelude.{◌≡◌, ◌<◌, [], length};
 ghost use Rattle.command_api.specs.Offers.{IsOfferOf};
+ghost use Rattle.undo_stack.specs.Calm.{IsCalm, IsCalmToLast, LeavesCalm};
 ghost use Rattle.undo_stack.specs.Merging.{HasTarget, SettlesTarget, MergesStack, stack_before};
+ghost use Rattle.undo_stack.specs.Reporting.{TakesIn, reports, target_entry};
 ghost use Rattle.undo_stack.specs.Stacks.{history, Holds};
 
 use super::Stack;
@@ -15,17 +17,32 @@ impl<C: Command> Stack<C> {
     pub(super) fn merge(&mut self, command: &C) -> Result<bool, AllocError>
         requires sound { Holds C.change (stack_before C.change command.now self.old) }
         requires fits { (C.change command.now).fits_undo self.old.document }
-        ensures { MergesStack C.change command.now self.old result self.new }
+        ensures merged { MergesStack C.change command.now self.old result self.new }
+        ensures joined { TakesIn C.change command.now self.old.document (target_entry self.old) result (target_entry self.new) }
+        ensures calm { LeavesCalm C.change self.old result self.new }
     {
-        let offer = command.offer();
+        // The offer is lent where it was made: it is larger than most commands.
+        self.merge_offered(command, &command.offer())
+    }
+
+    // The same with the offer that the command makes.
+    #[inline(always)]
+    fn merge_offered(&mut self, command: &C, offer: &Offer<'_>) -> Result<bool, AllocError>
+        requires offer { IsOfferOf (C.change command.now) offer.now }
+        requires sound { Holds C.change (stack_before C.change command.now self.old) }
+        requires fits { (C.change command.now).fits_undo self.old.document }
+        ensures merged { MergesStack C.change command.now self.old result self.new }
+        ensures joined { TakesIn C.change command.now self.old.document (target_entry self.old) result (target_entry self.new) }
+        ensures calm { LeavesCalm C.change self.old result self.new }
+    {
         // Most commands do not follow, and pay no more than that one call.
-        if let Offer::Nothing = &offer {
+        if let Offer::Nothing = offer {
             return Ok(false);
         }
         if self.is_open() {
-            return self.merge_child(command, &offer);
+            return self.merge_child(command, offer);
         }
-        self.merge_step(command, &offer)
+        self.merge_step(command, offer)
     }
 
     // The same where no macro is open.
@@ -34,7 +51,9 @@ impl<C: Command> Stack<C> {
         requires offer { IsOfferOf (C.change command.now) offer.now }
         requires sound { Holds C.change (stack_before C.change command.now self.old) }
         requires fits { (C.change command.now).fits_undo self.old.document }
-        ensures { MergesStack C.change command.now self.old result self.new }
+        ensures merged { MergesStack C.change command.now self.old result self.new }
+        ensures joined { TakesIn C.change command.now self.old.document (target_entry self.old) result (target_entry self.new) }
+        ensures calm { LeavesCalm C.change self.old result self.new }
     {
         if self.index == 0 {
             return Ok(false);
@@ -56,7 +75,9 @@ impl<C: Command> Stack<C> {
         requires offer { IsOfferOf (C.change command.now) offer.now }
         requires sound { Holds C.change (stack_before C.change command.now self.old) }
         requires fits { (C.change command.now).fits_undo self.old.document }
-        ensures { MergesStack C.change command.now self.old result self.new }
+        ensures merged { MergesStack C.change command.now self.old result self.new }
+        ensures joined { TakesIn C.change command.now self.old.document (target_entry self.old) result (target_entry self.new) }
+        ensures calm { LeavesCalm C.change self.old result self.new }
     {
         let last = self.levels.len() - 1;
         self.levels[last].merge(self.alloc, command, offer, &self.document)
@@ -67,7 +88,9 @@ impl<C: Command> Stack<C> {
         requires sound { Holds C.change self.old }
         requires target { HasTarget (history C.change self.old).levels (history C.change self.old) }
         ensures sound { Holds C.change self.new }
-        ensures settled { SettlesTarget self.old.document (history C.change self.old) (history C.change self.new) }
+        ensures calm { IsCalmToLast C.change self.old → IsCalm C.change self.new }
+        ensures document { self.new.document ≡ self.old.document }
+        ensures settled { SettlesTarget self.old.document (reports C.change (target_entry self.old)) (history C.change self.old) (history C.change self.new) }
     {
         if self.is_open() {
             self.settle_child();
@@ -82,7 +105,9 @@ impl<C: Command> Stack<C> {
         requires sound { Holds C.change self.old }
         requires target { HasTarget (history C.change self.old).levels (history C.change self.old) }
         ensures sound { Holds C.change self.new }
-        ensures settled { SettlesTarget self.old.document (history C.change self.old) (history C.change self.new) }
+        ensures calm { IsCalmToLast C.change self.old → IsCalm C.change self.new }
+        ensures document { self.new.document ≡ self.old.document }
+        ensures settled { SettlesTarget self.old.document (reports C.change (target_entry self.old)) (history C.change self.old) (history C.change self.new) }
     {
         let below = self.index - 1;
         if self.entries[below].obsolete() {
@@ -97,7 +122,9 @@ impl<C: Command> Stack<C> {
         requires sound { Holds C.change self.old }
         requires target { HasTarget (history C.change self.old).levels (history C.change self.old) }
         ensures sound { Holds C.change self.new }
-        ensures settled { SettlesTarget self.old.document (history C.change self.old) (history C.change self.new) }
+        ensures calm { IsCalmToLast C.change self.old → IsCalm C.change self.new }
+        ensures document { self.new.document ≡ self.old.document }
+        ensures settled { SettlesTarget self.old.document (reports C.change (target_entry self.old)) (history C.change self.old) (history C.change self.new) }
     {
         let last = self.levels.len() - 1;
         self.levels[last].settle();

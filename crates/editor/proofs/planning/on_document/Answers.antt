@@ -8,22 +8,4 @@ pub returns-in-Stamp-clause-plans : goal.returns-in-Stamp-clause-plans
 returns-in-Stamp-clause-plans g c =
     let x : SFits w32 c.in-Stamp.x = search rules in
     let y : SFits w32 c.in-Stamp.y = search rules in
-    rw (c.in-Stamp.is, sym c.document-document.ensures) (rw (to_z-of_z w32 c.in-Stamp.x x, to_z-of_z w32 c.in-Stamp.y y) at c.plan_stamp.ensures, refl)
-
-pub returns-in-Erase-clause-plans : goal.returns-in-Erase-clause-plans
-returns-in-Erase-clause-plans g c =
-    let x : SFits w32 c.in-Erase.x = search rules in
-    let y : SFits w32 c.in-Erase.y = search rules in
-    rw (c.in-Erase.is, sym c.document-document.ensures) (rw (to_z-of_z w32 c.in-Erase.x x, to_z-of_z w32 c.in-Erase.y y) at c.plan_erase.ensures, refl)
-
-pub returns-in-Fill-clause-plans : goal.returns-in-Fill-clause-plans
-returns-in-Fill-clause-plans g c =
-    let x : SFits w32 c.in-Fill.x = search rules in
-    let y : SFits w32 c.in-Fill.y = search rules in
-    rw (c.in-Fill.is, sym c.document-document.ensures) (rw (to_z-of_z w32 c.in-Fill.x x, to_z-of_z w32 c.in-Fill.y y) at c.plan_fill.ensures, refl)
-
-pub returns-in-Resize-clause-plans : goal.returns-in-Resize-clause-plans
-returns-in-Resize-clause-plans g c =
-    let dx : SFits w32 c.in-Resize.dx = search rules in
-    let dy : SFits w32 c.in-Resize.dy = search rules in
-    rw (c.in-Resize.is, sym c.document-document.ensures) (rw (to_z-of_z w32 c.in-Resize.dx dx, to_z-of_z w32 c.in-Resize.dy dy) at c.plan_resize.ensures, refl)
+    rw (c.in-Stamp.is, sym c.document.ensures) (rw (to_z-of_z w32 c.in-Stamp.x x, to_z-of_z w32 c.in-Stamp.y y) at c.plan_stamp.ensures, refl)

@@ -1,8 +1,13 @@
 use Rattle.std.proofs.Common.{Some}
 use Rattle.editor.specs.Editors.{machine_of}
 use Rattle.editor.specs.Machine.{workspace}
+use Rattle.editor.proofs.Bound.{same-bound}
 use Rattle.session_run.proofs.Planned.{push_step, unput_step}
 use Rattle.session_run.proofs.running.hear_line.Goals as goal
+
+pub commit-requires-clause-bound : goal.commit-requires-clause-bound
+commit-requires-clause-bound g c =
+    same-bound c.in-Push.edit (g.C.Command.change c.in-Some.command) (c.requires.same c.in-Push.edit (Some c.in-Some.command) c.in-Some.ensures)
 
 pub returns-in-Some-clause-step : goal.returns-in-Some-clause-step
 returns-in-Some-clause-step g c =

@@ -1,13 +1,22 @@
-use Rattle.std.proofs.Common.{refl, sym, ◌∙◌}
+use Rattle.std.proofs.Common.{refl, subst, sym, ◌∙◌}
+use Rattle.undo_stack.specs.History.{History, current}
+use Rattle.undo_stack.specs.Pushing.{step_of}
 use Rattle.undo_stack.specs.Stacks.{history}
+use Rattle.undo_stack.specs.Turning.{IsSteady}
+use Rattle.undo_stack.proofs.Steadiness.{IsPushed-steady}
 use Rattle.editor.specs.Editors.{machine_of}
-use Rattle.editor.proofs.Lent.{left-IsSound, left-machine}
+use Rattle.editor.proofs.Lent.{active-IsSteady, left-IsSound, left-machine}
 use Rattle.editor.proofs.Lifting.{with_active-kept}
 use Rattle.editor.proofs.Committing.{Commits-pushed, Commits-refused}
 use Rattle.editor.proofs.editor.Editor.commit.Goals as goal
 
 pub returns-in-Ok-clause-sound : goal.returns-in-Ok-clause-sound
-returns-in-Ok-clause-sound g c = left-IsSound g.C.Command.change c.args.self.now _ c.push.new.self refl (c.active_mut.follows.holds c.push.new.self c.push.ensures.sound) c.requires.sound
+returns-in-Ok-clause-sound g c =
+    let change = g.C.Command.change in
+    let h = history change c.in-Some.stack.now in
+    let steady = active-IsSteady change c.args.self.now h c.requires.sound c.in-Some.ensures.active in
+    left-IsSound change c.args.self.now _ c.push.new.self refl (c.active_mut.follows.holds c.push.new.self c.push.ensures.sound)
+    (IsPushed-steady h (step_of (change c.args.command) (current h)) (history change c.push.new.self) c.requires.bound steady c.in-Ok.ensures.pushed) c.requires.sound
 
 pub returns-in-Ok-clause-commits : goal.returns-in-Ok-clause-commits
 returns-in-Ok-clause-commits g c =
@@ -16,7 +25,12 @@ returns-in-Ok-clause-commits g c =
     c.in-Ok.ensures.pushed c.state_of.ensures (left-machine change c.args.self.now _ c.push.new.self refl (c.active_mut.follows.holds c.push.new.self c.push.ensures.sound))
 
 pub returns-in-Err-clause-sound : goal.returns-in-Err-clause-sound
-returns-in-Err-clause-sound g c = left-IsSound g.C.Command.change c.args.self.now _ c.push.new.self refl (c.active_mut.follows.holds c.push.new.self c.push.ensures.sound) c.requires.sound
+returns-in-Err-clause-sound g c =
+    let change = g.C.Command.change in
+    let h = history change c.in-Some.stack.now in
+    let steady = active-IsSteady change c.args.self.now h c.requires.sound c.in-Some.ensures.active in
+    left-IsSound change c.args.self.now _ c.push.new.self refl (c.active_mut.follows.holds c.push.new.self c.push.ensures.sound)
+    (subst (λ (n : History). IsSteady n) (sym c.in-Err.ensures.kept) steady) c.requires.sound
 
 pub returns-in-Err-clause-commits : goal.returns-in-Err-clause-commits
 returns-in-Err-clause-commits g c =

@@ -1,20 +1,26 @@
-use Rattle.std.proofs.Common.{◌≡◌, refl, sym, subst}
+use Rattle.std.proofs.Common.{refl, sym, subst}
 use Rattle.undo_stack.specs.Stacks.{history}
 use Rattle.editor.specs.Editors.{machine_of}
 use Rattle.editor.specs.Machine.{Machine, workspace}
 use Rattle.editor.specs.Planning.{FitsPlan, KeepsPlan, Plans}
 use Rattle.editor.specs.Steps.{rule_of}
-use Rattle.editor.proofs.Lent.{left-IsSound, left-machine}
+use Rattle.editor.proofs.Lent.{active-IsSteady, left-IsSound, left-machine}
 use Rattle.editor.proofs.Lifting.{on-FitsPlan, on-KeepsPlan, on-Plans}
+use Rattle.editor.proofs.SteadyPlans.{plans-steady}
 use Rattle.editor.proofs.editor.Editor.plan.Goals as goal
 
-pub returns-in-Open-clause-plans : goal.returns-in-Open-clause-plans
-returns-in-Open-clause-plans g c = rw c.in-Open.is c.open_file.ensures.step
+pub on_document-requires-clause-steady : goal.on_document-requires-clause-steady
+on_document-requires-clause-steady g c =
+    let change = g.C.Command.change in
+    active-IsSteady change c.args.self.now (history change c.in-Some.stack.now) c.requires.sound c.in-Some.ensures.active
 
 pub returns-in-Some-clause-sound : goal.returns-in-Some-clause-sound
 returns-in-Some-clause-sound g c =
+    let change = g.C.Command.change in
     let stack = c.on_document.new.stack in
-    left-IsSound g.C.Command.change c.args.self.now _ stack refl (c.active_mut.follows.holds stack c.on_document.ensures.sound) c.requires.sound
+    let steady = active-IsSteady change c.args.self.now (history change c.in-Some.stack.now) c.requires.sound c.in-Some.ensures.active in
+    left-IsSound change c.args.self.now _ stack refl (c.active_mut.follows.holds stack c.on_document.ensures.sound)
+    (plans-steady c.args.line.now (history change c.in-Some.stack.now) (history change stack) c.on_document.result steady c.on_document.ensures.plans) c.requires.sound
 
 pub returns-in-Some-clause-plans : goal.returns-in-Some-clause-plans
 returns-in-Some-clause-plans g c =

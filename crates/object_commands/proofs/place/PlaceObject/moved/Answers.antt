@@ -17,7 +17,7 @@ returns-clause-command c =
     let there : object_place d.map c.args.object ≡ Some place = rw c.map.ensures at (sym c.in-Some.ensures.place) in
     let found : object_at d.map place ≡ Some o = rw c.map.ensures at c.in-Some.ensures.object in
     let well_formed : IsWellFormed d.map = rw c.map.ensures at c.in-Some.ensures.well_formed in
-    rw (x, y) (
+    rw (c.new.ensures, c.new-2.ensures, x, y) (
     place_made d Move c.args.object c.args.follows place o (moved c.args.x c.args.y) c.eq.result refl there found well_formed
     (moved-IsPlacing c.args.x c.args.y c.requires.x c.requires.y) (rw (x, y) at c.eq.ensures) (rw there refl)
     )

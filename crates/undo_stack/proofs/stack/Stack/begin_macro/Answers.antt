@@ -8,6 +8,7 @@ use Rattle.undo_stack.specs.Stacks.{history, inner_of, inners, LastHasRoom}
 use Rattle.undo_stack.proofs.Levels.{HaveRoom-push, level_nesting-append, WhereOpen-of}
 use Rattle.undo_stack.proofs.Macros.{begun_turnable, begun_view}
 use Rattle.undo_stack.proofs.Views.{length-opens, current-view}
+use Rattle.undo_stack.proofs.Calm.{calm_opened}
 use Rattle.undo_stack.proofs.stack.Stack.begin_macro.Goals as goal
 
 pub returns-then-len-ge-MAX_DEPTH-clause-step : goal.returns-then-len-ge-MAX_DEPTH-clause-step
@@ -78,3 +79,9 @@ returns-clause-step g c =
       answered = rw (length-opens f s.levels.items s.document, lt-ltb (length s.levels.items) 64 (omega (arith, c.len.ensures, s.levels.ok.0))) (inl refl);
       leads = rw is (begun_view f (history f s) t.document t.entries.items t.index t.clean t.limit (inners t) c.args.text.now c.args.action.now whole at);
     }
+
+pub returns-clause-calm : goal.returns-clause-calm
+returns-clause-calm g c h =
+    let t = c.cut_outside.new.self in
+    let level = c.in-Ok.level in
+    rw c.push_reserved.ensures.items (calm_opened g.C.Command.change t.has_free t.entries.items t.levels.items level (ap (λ (l : Inner g.row.C.Denot). l.row) c.in-Ok.ensures) (c.cut_outside.ensures.calm (c.take_level_places.ensures.calm h)))

@@ -1,13 +1,15 @@
-use Rattle.std.proofs.Common.{◌≡◌, ◌<◌, ◌+◌, ◌++◌, ◌∷◌, [], ◌∙◌, ap, sym, subst, arith, length, map, List, Ok}
+use Rattle.std.proofs.Common.{◌≡◌, ◌<◌, ◌+◌, ◌++◌, ◌∷◌, [], ◌∙◌, ap, refl, sym, subst, arith, length, map, List, Ok}
 use Rattle.std.proofs.lemmas.List.{length-map, length-append, map-append}
 use Rattle.undo_stack.specs.Macros.{Ends}
-use Rattle.undo_stack.specs.Entries.{nesting}
+use Rattle.undo_stack.specs.Calm.{IsLive}
+use Rattle.undo_stack.specs.Entries.{entry_change, nesting}
 use Rattle.undo_stack.specs.Sound.{Inner, history_of, row_nesting}
 use Rattle.undo_stack.specs.Stacks.{history, inner_of, inners}
 use Rattle.undo_stack.proofs.EntryChanges.{entry_change-Macro, nesting-Macro}
 use Rattle.undo_stack.proofs.Levels.{HaveRoom-pop, level_nesting-front, level_nesting-closed, WhereOpen-of, WhereOpen-some}
 use Rattle.undo_stack.proofs.Macros.{popped_turnable, popped_fits, ended_answer, ended_view}
 use Rattle.undo_stack.proofs.Stacks.{inners_closed}
+use Rattle.undo_stack.proofs.Calm.{calm_popped}
 use Rattle.undo_stack.proofs.stack.Stack.end_macro.Goals as goal
 
 pub add_child-requires-clause-bounded : goal.add_child-requires-clause-bounded
@@ -142,3 +144,17 @@ returns-else-is_open-clause-step g c =
       answered = ended_answer f [] l s.document;
       leads = added ∙ sym (ended_view f s.document s.entries.items s.index s.clean s.limit [] l);
     }
+
+pub returns-then-is_open-clause-calm : goal.returns-then-is_open-clause-calm
+returns-then-is_open-clause-calm g c h =
+    let f = g.C.Command.change in
+    let s = c.args.self.now in
+    let live : IsLive (entry_change f c.into_entry-entry.result) = rw (c.into_entry-entry.ensures, entry_change-Macro f c.in-Some.level.body) (λ free. refl) in
+    c.add_child.ensures.calm (calm_popped f s.has_free s.entries.items s.levels.items c.pop.new.self.items c.in-Some.level c.in-Some.ensures.items h) live
+
+pub returns-else-is_open-clause-calm : goal.returns-else-is_open-clause-calm
+returns-else-is_open-clause-calm g c h =
+    let f = g.C.Command.change in
+    let s = c.args.self.now in
+    let live : IsLive (entry_change f c.into_entry-entry.result) = rw (c.into_entry-entry.ensures, entry_change-Macro f c.in-Some.level.body) (λ free. refl) in
+    c.add_step.ensures.calm (calm_popped f s.has_free s.entries.items s.levels.items c.pop.new.self.items c.in-Some.level c.in-Some.ensures.items h) live

@@ -1,4 +1,4 @@
-use Rattle.std.proofs.Common.{◌≡◌, ◌<◌, ◌∙◌, ap, sym, arith, length, true, false}
+use Rattle.std.proofs.Common.{◌≡◌, ◌<◌, ◌∙◌, ap, refl, sym, arith, length, true, false}
 use Rattle.std.proofs.lemmas.List.{length-map}
 use Rattle.map_model.specs.Document.{DocumentParts}
 use Rattle.undo_stack.specs.History.{step_named, History}
@@ -13,7 +13,7 @@ use Rattle.undo_stack.proofs.EntryChanges.{entry_change-Command, nesting-Command
 use Rattle.undo_stack.proofs.Levels.{level_nesting-with_child}
 use Rattle.undo_stack.proofs.Macros.{cut-open}
 use Rattle.undo_stack.proofs.Pushes.{settled-same, undone_settled, current-cut, placed_gone, placed_added}
-use Rattle.undo_stack.proofs.Stacks.{turnable_at}
+use Rattle.undo_stack.proofs.Stacks.{turnable_at, bounded_as}
 use Rattle.undo_stack.proofs.stack.Stack.place_child.Goals as goal
 
 pub returns-then-obsolete-clause-sound : goal.returns-then-obsolete-clause-sound
@@ -35,9 +35,10 @@ returns-then-obsolete-clause-placed g c =
     let settled = undone_settled w s.document true c.requires.fits c.obsolete.ensures.law (sym c.obsolete.ensures.answer ∙ c.if-obsolete.true) in
     let same : s.document ≡ b = settled-same w.names.vanishing b s.document settled in
     let h = history f (stack_before f c.args.command s) in
-    placed_gone h (step_named w.names s.document) (history f s) b
+    let told : w.obsolete ≡ true = sym c.obsolete.ensures.answer ∙ c.if-obsolete.true in
+    rw told (placed_gone h (step_named w.names s.document) (history f s) b
     (current-cut f b s.entries.items s.index s.clean s.limit (inners s) c.requires.sound.turnable.within)
-    settled (ap (λ (d : DocumentParts). history f (record s { document = d })) same ∙ sym (cut-open f b s.entries.items s.index s.clean s.limit (inners s) some))
+    settled (ap (λ (d : DocumentParts). history f (record s { document = d })) same ∙ sym (cut-open f b s.entries.items s.index s.clean s.limit (inners s) some)))
 
 pub add_child-requires-clause-turnable : goal.add_child-requires-clause-turnable
 add_child-requires-clause-turnable g c =
@@ -54,6 +55,11 @@ add_child-requires-clause-turnable g c =
     (ap (λ (x : Stack g.row.C.Denot). x.index) e.rest)
     (ap (λ (x : Stack g.row.C.Denot). x.clean) e.rest)
     e.same c.requires.sound.turnable)
+
+pub add_child-requires-clause-bounded : goal.add_child-requires-clause-bounded
+add_child-requires-clause-bounded g c =
+    let s = c.args.self.now in
+    c.take_child_place.ensures.bounded (bounded_as (stack_before g.C.Command.change c.args.command s) s refl refl refl refl c.requires.sound.bounded)
 
 pub add_child-requires-clause-fits : goal.add_child-requires-clause-fits
 add_child-requires-clause-fits g c =
@@ -85,6 +91,14 @@ returns-clause-placed g c =
     let limit = ap (λ (x : Stack g.row.C.Denot). x.limit) rest in
     let added = rw (entry_change-Command f c.args.command, document, entries, index, clean, limit, c.take_child_place.ensures.same) at c.add_child.ensures.added in
     let h = history f (stack_before f c.args.command s) in
-    placed_added h st (history f c.add_child.new.self) b
+    let told : w.obsolete ≡ false = sym c.obsolete.ensures.answer ∙ c.if-obsolete.false in
+    rw told (placed_added h st (history f c.add_child.new.self) b
     (current-cut f b s.entries.items s.index s.clean s.limit (inners s) c.requires.sound.turnable.within)
-    settled (added ∙ sym (ap (λ (k : History). with_added st k.levels k) (cut-open f b s.entries.items s.index s.clean s.limit (inners s) some)))
+    settled (added ∙ sym (ap (λ (k : History). with_added st k.levels k) (cut-open f b s.entries.items s.index s.clean s.limit (inners s) some))))
+
+pub returns-clause-calm : goal.returns-clause-calm
+returns-clause-calm g c h =
+    c.add_child.ensures.calm (c.take_child_place.ensures.calm h) (rw (entry_change-Command g.C.Command.change c.args.command) (λ free. sym c.obsolete.ensures.answer ∙ c.if-obsolete.false))
+
+pub returns-clause-document : goal.returns-clause-document
+returns-clause-document g c = c.add_child.ensures.document ∙ ap (λ (x : Stack g.row.C.Denot). x.document) c.take_child_place.ensures.rest

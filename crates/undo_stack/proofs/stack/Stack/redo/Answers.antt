@@ -23,5 +23,5 @@ returns-clause-step g c =
     let s = c.args.self.now in
     record {
       answered = sym (redo-accepted g.C.Command.change s.document s.entries.items s.index s.clean s.limit s.levels.items c.if-is_open.ensures (omega (arith, c.requires.turnable.within, s.entries.ok.0)));
-      leads = c.step_on.ensures.history;
+      leads = c.step_on.ensures.turned;
     }

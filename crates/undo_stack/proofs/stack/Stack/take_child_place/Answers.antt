@@ -1,9 +1,10 @@
-use Rattle.std.proofs.Common.{◌≡◌, ◌+◌, ◌-◌, arith, ap, length, refl}
-use Rattle.undo_stack.specs.Sound.{level_nesting}
+use Rattle.std.proofs.Common.{◌≡◌, ◌<◌, ◌+◌, ◌-◌, arith, ap, length, refl}
+use Rattle.undo_stack.specs.Sound.{Inner, level_nesting}
 use Rattle.undo_stack.specs.Stacks.{inner_of}
 use Rattle.undo_stack.proofs.Rows.{map-set_same}
 use Rattle.undo_stack.proofs.Levels.{LastHasRoom-set}
 use Rattle.undo_stack.proofs.Stacks.{placed_bounded}
+use Rattle.undo_stack.proofs.Calm.{calm_same_level}
 use Rattle.undo_stack.proofs.stack.Stack.take_child_place.Goals as goal
 
 pub returns-in_err-take_place-clause-same : goal.returns-in_err-take_place-clause-same
@@ -35,3 +36,15 @@ returns-clause-room g c =
     let s = c.args.self.now in
     let last : c.len-last.result - 1 + 1 ≡ length s.levels.items = omega (arith, c.requires, c.len-last.ensures, s.levels.ok.0) in
     LastHasRoom-set s.levels.items c.take_place.new.self (c.len-last.result - 1) last c.in_ok-take_place.ensures.room
+
+pub returns-in_err-take_place-clause-calm : goal.returns-in_err-take_place-clause-calm
+returns-in_err-take_place-clause-calm g c =
+    let s = c.args.self.now in
+    let inside : c.len-last.result - 1 < length s.levels.items = omega (arith, c.requires, c.len-last.ensures, s.levels.ok.0) in
+    calm_same_level g.C.Command.change s.has_free s.entries.items s.levels.items c.index_mut.result.now c.take_place.new.self (c.len-last.result - 1) inside c.index_mut.ensures.value (ap (λ (l : Inner g.row.C.Denot). l.row) c.take_place.ensures.same)
+
+pub returns-clause-calm : goal.returns-clause-calm
+returns-clause-calm g c =
+    let s = c.args.self.now in
+    let inside : c.len-last.result - 1 < length s.levels.items = omega (arith, c.requires, c.len-last.ensures, s.levels.ok.0) in
+    calm_same_level g.C.Command.change s.has_free s.entries.items s.levels.items c.index_mut.result.now c.take_place.new.self (c.len-last.result - 1) inside c.index_mut.ensures.value (ap (λ (l : Inner g.row.C.Denot). l.row) c.take_place.ensures.same)

@@ -1,6 +1,6 @@
 use Rattle.std.proofs.Common.{◌≡◌, arith}
 use Rattle.edits.proofs.Merged.{front-ComesBefore}
-use Rattle.edits.proofs.merging.place_of.Goals as goal
+use Rattle.edits.proofs.merging.place_between.Goals as goal
 
 pub returns : goal.returns
 returns c =
@@ -8,6 +8,6 @@ returns c =
     let same : c.loop-low.low ≡ c.loop-low.high = omega arith in
     record {
       within = omega arith;
-      front = front-ComesBefore c.args.older.now c.args.newer.now low c.requires (omega arith) c.loop-low.invariant.2;
-      back = rw same c.loop-low.invariant.3;
+      front = front-ComesBefore c.args.older.now c.args.newer.now low c.requires.ordered (omega arith) c.loop-low.invariant.front;
+      back = rw same c.loop-low.invariant.back;
     }

@@ -1,0 +1,23 @@
+use Rattle.std.proofs.Common.{Some, subst, sym}
+use Rattle.undo_stack.specs.History.{History}
+use Rattle.undo_stack.specs.Stacks.{history}
+use Rattle.undo_stack.specs.Turning.{IsSteady}
+use Rattle.undo_group.specs.Groups.{added, chosen}
+use Rattle.undo_group.specs.Stacks.{group_of}
+use Rattle.editor.proofs.Lent.{group-IsSound}
+use Rattle.editor.proofs.Steady.{added-AreSteady}
+use Rattle.editor.proofs.editor.Editor.add_document.Goals as goal
+
+pub returns-in-Ok-clause-sound : goal.returns-in-Ok-clause-sound
+returns-in-Ok-clause-sound g c =
+    let f = g.C.Command.change in
+    let old = group_of f c.args.self.now.group in
+    let name = c.as_str.result.now in
+    let h = history f c.new-stack.result in
+    group-IsSound f _ (chosen (Some name) (added name h old)) c.requires.sound.limit c.add_active.ensures.sound c.in-Ok.ensures.added
+    (added-AreSteady name h old.documents (subst (λ (k : History). IsSteady k) (sym c.new-stack.ensures.history) tt) c.requires.sound.steady)
+
+pub returns-in-Err-clause-sound : goal.returns-in-Err-clause-sound
+returns-in-Err-clause-sound g c =
+    let f = g.C.Command.change in
+    group-IsSound f _ (group_of f c.args.self.now.group) c.requires.sound.limit c.add_active.ensures.sound c.in-Err.ensures.kept c.requires.sound.steady

@@ -1,0 +1,21 @@
+use Rattle.std.proofs.Common.{sym, ◌∙◌}
+use Rattle.undo_stack.proofs.EntryChanges.{entry_change-Command, entry_change-Macro}
+use Rattle.undo_stack.proofs.Turnings.{false-true, gone_at}
+use Rattle.undo_stack.proofs.entry.Entry.is_gone.Goals as goal
+
+pub returns-then-is_free-clause-gone : goal.returns-then-is_free-clause-gone
+returns-then-is_free-clause-gone g c =
+    let v = g.C.Command.change c.in-Command.command in
+    rw (c.in-Command.is, entry_change-Command g.C.Command.change c.in-Command.command) (λ gone. gone_at v (sym c.is_free.ensures ∙ c.if-is_free.true) (sym c.obsolete.ensures.answer ∙ gone) c.obsolete.ensures.law)
+
+pub returns-then-is_free-clause-kept : goal.returns-then-is_free-clause-kept
+returns-then-is_free-clause-kept g c =
+    rw (c.in-Command.is, entry_change-Command g.C.Command.change c.in-Command.command) (λ kept free. sym c.obsolete.ensures.answer ∙ kept)
+
+pub returns-else-is_free-clause-kept : goal.returns-else-is_free-clause-kept
+returns-else-is_free-clause-kept g c =
+    rw (c.in-Command.is, entry_change-Command g.C.Command.change c.in-Command.command) (λ kept free. false-true (sym c.if-is_free.false ∙ c.is_free.ensures ∙ free))
+
+pub returns-in-Macro-clause-kept : goal.returns-in-Macro-clause-kept
+returns-in-Macro-clause-kept g c =
+    rw (c.in-Macro.is, entry_change-Macro g.C.Command.change c.in-Macro.field-0) (λ kept free. false-true free)
