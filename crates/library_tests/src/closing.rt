@@ -44,7 +44,7 @@ impl Exchange for Probe {
 }
 
 impl Lone for Probe {
-    ghost alone = { λ _. record { tag = refl; follows = refl } };
+    ghost alone = { λ _. record { tag = refl; follows = refl; bound = refl } };
 }
 
 fn new_probe(alloc: Global, dropped: &Rc<Cell<u32>>) -> Result<Box<Probe>, AllocError> {

@@ -7,6 +7,10 @@ mod chains;
 #[cfg(test)]
 mod closing;
 #[cfg(test)]
+mod counted_paints;
+#[cfg(test)]
+mod free;
+#[cfg(test)]
 mod paints;
 #[cfg(test)]
 mod stacks;

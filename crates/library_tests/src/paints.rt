@@ -10,7 +10,7 @@ use std::alloc::{AllocError, Global};
 use std::test::Fail;
 use tile_id::Gid;
 
-fn town(alloc: Global) -> Result<Document, AllocError> {
+pub(crate) fn town(alloc: Global) -> Result<Document, AllocError> {
     let source = MapText::new(String::from_str(alloc, "town.tsj")?);
     Ok(Document::new(alloc, Map::create(alloc, 4, 3, 16, 16, source)?))
 }

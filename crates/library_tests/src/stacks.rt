@@ -16,21 +16,21 @@ use std::test::Fail;
 use undo_stack::{Stack, StackFault};
 
 // A document for commands that leave it as it is.
-fn blank(alloc: Global) -> Result<Document, AllocError> {
+pub(crate) fn blank(alloc: Global) -> Result<Document, AllocError> {
     let source = MapText::new(String::new(alloc));
     Ok(Document::new(alloc, Map::create(alloc, 1, 1, 1, 1, source)?))
 }
 
 // How often a command was turned and let go of.
 #[derive(Drop)]
-struct Counts {
-    redone: Cell<u32>,
-    undone: Cell<u32>,
-    dropped: Cell<u32>,
+pub(crate) struct Counts {
+    pub(crate) redone: Cell<u32>,
+    pub(crate) undone: Cell<u32>,
+    pub(crate) dropped: Cell<u32>,
 }
 
 impl Counts {
-    fn new(alloc: Global) -> Result<Rc<Counts>, AllocError> {
+    pub(crate) fn new(alloc: Global) -> Result<Rc<Counts>, AllocError> {
         let counts = Counts {
             redone: Cell::new(0),
             undone: Cell::new(0),
@@ -39,18 +39,18 @@ impl Counts {
         Ok(Rc::new(alloc, counts)?)
     }
 
-    fn all(&self) -> (u32, u32, u32) {
+    pub(crate) fn all(&self) -> (u32, u32, u32) {
         (self.redone.get(), self.undone.get(), self.dropped.get())
     }
 
     // Counts a turn of a command, and says whether it is made then.
-    fn turn(&self, is_made: bool) -> bool {
+    pub(crate) fn turn(&self, is_made: bool) -> bool {
         add_one(if is_made { &self.undone } else { &self.redone });
         !is_made
     }
 }
 
-fn add_one(count: &Cell<u32>) {
+pub(crate) fn add_one(count: &Cell<u32>) {
     count.set(count.get().wrapping_add(1));
 }
 
@@ -90,7 +90,7 @@ impl Exchange for Probe {
 }
 
 impl Lone for Probe {
-    ghost alone = { λ _. record { tag = refl; follows = refl } };
+    ghost alone = { λ _. record { tag = refl; follows = refl; bound = refl } };
 }
 
 fn new_probe(alloc: Global, counts: &Rc<Counts>) -> Result<Box<Probe>, AllocError> {
@@ -140,7 +140,7 @@ impl Exchange for Idle {
 }
 
 impl Lone for Idle {
-    ghost alone = { λ _. record { tag = refl; follows = refl } };
+    ghost alone = { λ _. record { tag = refl; follows = refl; bound = refl } };
 }
 
 fn new_idle(alloc: Global, counts: &Rc<Counts>) -> Result<Box<Idle>, AllocError> {
@@ -152,7 +152,7 @@ fn new_idle(alloc: Global, counts: &Rc<Counts>) -> Result<Box<Idle>, AllocError>
 }
 
 // The calls below are those of a stack. Of what they do the proofs of the tests need only that the stack stays whole.
-fn push<C: Command>(stack: &mut Stack<C>, command: C) -> Result<(), AllocError>
+pub(crate) fn push<C: Command>(stack: &mut Stack<C>, command: C) -> Result<(), AllocError>
     requires sound { Holds C.change stack.old }
     requires fits { (C.change command).fits_redo (current (history C.change stack.old)) }
     ensures sound { Holds C.change stack.new }
@@ -160,7 +160,7 @@ fn push<C: Command>(stack: &mut Stack<C>, command: C) -> Result<(), AllocError>
     stack.push(command)
 }
 
-fn undo<C: Command>(stack: &mut Stack<C>) -> Result<(), StackFault>
+pub(crate) fn undo<C: Command>(stack: &mut Stack<C>) -> Result<(), StackFault>
     requires { Holds C.change stack.old }
     ensures { Holds C.change stack.new }
 {
@@ -169,7 +169,7 @@ fn undo<C: Command>(stack: &mut Stack<C>) -> Result<(), StackFault>
     Ok(())
 }
 
-fn redo<C: Command>(stack: &mut Stack<C>) -> Result<(), StackFault>
+pub(crate) fn redo<C: Command>(stack: &mut Stack<C>) -> Result<(), StackFault>
     requires { Holds C.change stack.old }
     ensures { Holds C.change stack.new }
 {
@@ -178,7 +178,7 @@ fn redo<C: Command>(stack: &mut Stack<C>) -> Result<(), StackFault>
     Ok(())
 }
 
-fn set_index<C: Command>(stack: &mut Stack<C>, index: usize) -> Result<(), StackFault>
+pub(crate) fn set_index<C: Command>(stack: &mut Stack<C>, index: usize) -> Result<(), StackFault>
     requires { Holds C.change stack.old }
     ensures { Holds C.change stack.new }
 {
@@ -187,7 +187,7 @@ fn set_index<C: Command>(stack: &mut Stack<C>, index: usize) -> Result<(), Stack
     Ok(())
 }
 
-fn begin_macro<C: Command>(stack: &mut Stack<C>) -> Result<(), StackFault>
+pub(crate) fn begin_macro<C: Command>(stack: &mut Stack<C>) -> Result<(), StackFault>
     requires { Holds C.change stack.old }
     ensures { Holds C.change stack.new }
 {
@@ -196,7 +196,7 @@ fn begin_macro<C: Command>(stack: &mut Stack<C>) -> Result<(), StackFault>
     Ok(())
 }
 
-fn end_macro<C: Command>(stack: &mut Stack<C>) -> Result<(), StackFault>
+pub(crate) fn end_macro<C: Command>(stack: &mut Stack<C>) -> Result<(), StackFault>
     requires { Holds C.change stack.old }
     ensures { Holds C.change stack.new }
 {
@@ -205,9 +205,10 @@ fn end_macro<C: Command>(stack: &mut Stack<C>) -> Result<(), StackFault>
     Ok(())
 }
 
-// Each turn, and how often the two commands were turned and let go of after it.
+// Each turn, and how often the two commands were turned and let go of after it. A stack that kept a copy of the document,
+// and put it back in place of turning the command, would fail these counts.
 #[test]
-fn each_call_turns_one_command(rt: HostRuntime) -> Result<(), Fail> {
+fn no_whole_copies_kept(rt: HostRuntime) -> Result<(), Fail> {
     let alloc = rt.alloc();
     let first = Counts::new(alloc)?;
     let second = Counts::new(alloc)?;

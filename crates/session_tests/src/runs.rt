@@ -14,13 +14,27 @@ const MANY: u32 = 1_000_000;
 
 const WHOLE: usize = 1_000_000;
 
-const ROW_1: &str = "new town 4 3 16 16 town.tsj => ok 0/0 clean 0
+const ONE: &str = "new town 4 3 16 16 town.tsj => ok 0/0 clean 0
 stamp 1 1 1 2 5,6 => ok 1/1 dirty 0
 tile 1 2 1 => tile 6 ---- 1 5
 undo => ok 0/1 clean 0
 tile 1 2 1 => tile 0
 redo => ok 1/1 dirty 0
 redo => no 22 nothing to redo";
+
+const SEVERAL: &str = "new town 4 3 16 16 town.tsj => ok 0/0 clean 0
+new city 2 2 16 16 c.tsj => ok 0/0 clean 0
+list => docs town *city
+close city => ok none clean
+status => ok none clean
+undotext => text
+undo => no 10 no active document
+use town => ok 0/0 clean 0
+stamp 1 0 0 1 5 => ok 1/1 dirty 0
+close town => no 13 unsaved changes
+use x => no 12 no such document
+discard town => ok none clean
+list => docs";
 
 /// Gives its bytes, at most `step` a call, and fails at the call that has `calls_left` calls before it.
 #[derive(Drop)]
@@ -163,4 +177,13 @@ fn first_replies(replies: &str, count: usize) -> &str {
         .take(count)
         .fold(0usize, |len, reply| len.saturating_add(reply.len()));
     replies.get(..len).unwrap_or(replies)
+}
+
+/// The bytes of a session, at most `step` a read, of which the one that has `calls_left` before it fails.
+fn source_of(script: &Script, step: usize, calls_left: u32) -> Source<'_> {
+    Source {
+        bytes: script.session.as_bytes(),
+        step,
+        calls_left,
+    }
 }

@@ -1,37 +1,49 @@
-use super::{MANY, ROW_1, Sink, Source, WHOLE, first_replies, read_script, taken, whole_lines};
+use super::{
+    MANY, ONE, SEVERAL, Script, Sink, Source, WHOLE, first_replies, read_script, source_of, taken,
+    whole_lines,
+};
 use map_store::MemoryStore;
 use session_run::run;
+use std::alloc::Global;
 use std::cell::Cell;
 use std::io;
 use std::io::{BufWriter, Read, Write};
 use std::test::Fail;
 
+/// How much was written where each of a session's flushes fails in turn, and at last none: whole replies each time.
+fn lengths_at_flushes(alloc: Global, script: &Script, step: usize) -> Result<Vec<usize>, Fail> {
+    let mut lengths = Vec::new(alloc);
+    for flushes_left in 0..100u32 {
+        let sink = Sink::new(alloc, WHOLE, MANY, flushes_left);
+        let told = taken(alloc, source_of(script, step, MANY), sink, false)?;
+        let Some(text) = told.strip_suffix("write failed") else {
+            lengths.push(told.len())?;
+            break;
+        };
+        let is_whole = text.is_empty() || text.ends_with('\n');
+        if !is_whole || !script.replies.starts_with(text) {
+            return Ok(Vec::new(alloc));
+        }
+        lengths.push(text.len())?;
+    }
+    Ok(lengths)
+}
+
 // Each flush but the first comes behind whole replies, and the last behind all.
 #[test]
 fn flush_faults_come_behind_whole_replies(rt: HostRuntime) -> Result<(), Fail> {
     let alloc = rt.alloc();
-    let script = read_script(alloc, ROW_1)?;
-    for step in [1, 50, WHOLE] {
-        let mut lengths = Vec::new(alloc);
-        for flushes_left in 0..100u32 {
-            let source = Source {
-                bytes: script.session.as_bytes(),
-                step,
-                calls_left: MANY,
-            };
-            let sink = Sink::new(alloc, WHOLE, MANY, flushes_left);
-            let told = taken(alloc, source, sink, false)?;
-            let Some(text) = told.strip_suffix("write failed") else {
-                assert_eq!(rt; told.strip_suffix("done"), Some(script.replies.as_str()));
-                break;
-            };
-            assert!(rt; script.replies.starts_with(text));
-            assert!(rt; text.is_empty() || text.ends_with('\n'));
-            lengths.push(text.len())?;
+    for rows in [ONE, SEVERAL] {
+        let script = read_script(alloc, rows)?;
+        let all = script.replies.len();
+        for step in [1, 50, WHOLE] {
+            let lengths = lengths_at_flushes(alloc, &script, step)?;
+            assert!(rt; 3 <= lengths.len() && lengths.len() < 100, "by {step}");
+            assert_eq!(rt; lengths.first(), Some(&0), "by {step}");
+            // The last fault, and then the whole run, behind which stands `done`.
+            let last = [all, all.saturating_add(4)];
+            assert!(rt; lengths.ends_with(&last), "by {step}");
         }
-        assert!(rt; 2 <= lengths.len() && lengths.len() < 100, "by {step}");
-        assert_eq!(rt; lengths.first(), Some(&0), "by {step}");
-        assert_eq!(rt; lengths.last(), Some(&script.replies.len()), "by {step}");
     }
     Ok(())
 }
@@ -73,7 +85,7 @@ impl<'a> Read for Onlooker<'a> {
 #[test]
 fn each_read_finds_all_replies_flushed(rt: HostRuntime) -> Result<(), Fail> {
     let alloc = rt.alloc();
-    let script = read_script(alloc, ROW_1)?;
+    let script = read_script(alloc, ONE)?;
     let bytes = script.session.as_bytes();
     for step in [1, 7, 65_536] {
         // The replies to all lines that were given whole are due.

@@ -1,4 +1,4 @@
-use super::{MANY, Script, Sink, Source, WHOLE, read_script, told_of, whole_lines};
+use super::{MANY, Sink, Source, WHOLE, read_script, source_of, told_of, whole_lines};
 use map_store::{FuseStore, MapStore, MemoryStore};
 use session_run::run;
 use std::alloc::{AllocError, Global};
@@ -34,14 +34,6 @@ fn told_over_files(
             format!(in alloc; "{told} {text}")
         }
         Err(_) => Ok(told),
-    }
-}
-
-fn source_of(script: &Script, step: usize, calls_left: u32) -> Source<'_> {
-    Source {
-        bytes: script.session.as_bytes(),
-        step,
-        calls_left,
     }
 }
 

@@ -1,0 +1,208 @@
+// Paints on a stack: which of them are turned and let go of where one merges into the one before it.
+ghost use Rattle.std.specs.Prelude.{IfSome};
+ghost use Rattle.paint_commands.specs.Painting.{paint_change};
+ghost use Rattle.undo_stack.specs.Stacks.{Holds};
+
+use crate::paints::town;
+use crate::stacks::{Counts, add_one, push, undo};
+use command_api::{Command, Offer};
+use edits::Block;
+use map_model::Document;
+use paint_commands::PaintCommand;
+use std::alloc::{AllocError, Global};
+use std::rc::Rc;
+use std::test::Fail;
+use tile_id::Gid;
+use undo_stack::Stack;
+
+// A paint that counts its turns, and that it is let go of. All else it hands on.
+struct CountedPaint {
+    counts: Rc<Counts>,
+    paint: PaintCommand,
+}
+
+impl Drop for CountedPaint {
+    fn drop(self) {
+        add_one(&self.counts.dropped);
+        let CountedPaint {
+            counts: _,
+            paint: _,
+        } = self;
+    }
+}
+
+impl Command for CountedPaint {
+    ghost change = { λ c. paint_change c.paint };
+
+    fn text(&self) -> &str {
+        self.paint.text()
+    }
+
+    fn action_text(&self) -> &str {
+        self.paint.action_text()
+    }
+
+    fn id(&self) -> i32 {
+        self.paint.id()
+    }
+
+    fn obsolete(&self) -> bool {
+        self.paint.obsolete()
+    }
+
+    fn is_free(&self) -> bool {
+        self.paint.is_free()
+    }
+
+    fn redo(&mut self, document: &mut Document) {
+        add_one(&self.counts.redone);
+        self.paint.redo(document)
+    }
+
+    fn undo(&mut self, document: &mut Document) {
+        add_one(&self.counts.undone);
+        self.paint.undo(document)
+    }
+
+    fn offer(&self) -> Offer<'_> {
+        self.paint.offer()
+    }
+
+    fn merge(
+        &mut self,
+        alloc: Global,
+        newer: &Offer<'_>,
+        document: &Document,
+    ) -> Result<bool, AllocError> {
+        self.paint.merge(alloc, newer, document)
+    }
+}
+
+// A stamp of one cell of the first row, not made yet.
+fn new_stamp(
+    alloc: Global,
+    document: &Document,
+    counts: &Rc<Counts>,
+    column: i32,
+    follows: bool,
+) -> Option<CountedPaint>
+    ensures { IfSome result (λ c. (paint_change c.paint).fits_redo document.now) }
+{
+    let block = Block {
+        x: column,
+        y: 0,
+        width: 1,
+        values: &[Gid(5)],
+    };
+    let paint = PaintCommand::stamp(alloc, document, 1, &block, follows).ok()?;
+    let counts = counts.clone().ok()?;
+    Some(CountedPaint { counts, paint })
+}
+
+// Makes a stamp and pushes it. Says whether it was pushed.
+fn stamp(
+    alloc: Global,
+    stack: &mut Stack<CountedPaint>,
+    counts: &Rc<Counts>,
+    column: i32,
+    follows: bool,
+) -> bool
+    requires { Holds (λ (c : CountedPaint). paint_change c.paint) stack.old }
+    ensures { Holds (λ (c : CountedPaint). paint_change c.paint) stack.new }
+{
+    match new_stamp(alloc, stack.document(), counts, column, follows) {
+        Some(paint) => push(stack, paint).is_ok(),
+        None => false,
+    }
+}
+
+// The newer one is made and dropped, the older one turns both back at once.
+#[test]
+fn merged_paint_is_one_turn(rt: HostRuntime) -> Result<(), Fail> {
+    let alloc = rt.alloc();
+    let older = Counts::new(alloc)?;
+    let newer = Counts::new(alloc)?;
+    let mut stack: Stack<CountedPaint> = Stack::new(alloc, town(alloc)?, 0);
+    let told = [
+        (
+            stamp(alloc, &mut stack, &older, 0, false),
+            older.all(),
+            newer.all(),
+        ),
+        (
+            stamp(alloc, &mut stack, &newer, 1, true),
+            older.all(),
+            newer.all(),
+        ),
+        (undo(&mut stack).is_ok(), older.all(), newer.all()),
+    ];
+    let stands = (stack.index(), stack.count());
+    drop(stack);
+    let wanted = [
+        (true, (1, 0, 0), (0, 0, 0)),
+        (true, (1, 0, 0), (1, 0, 1)),
+        (true, (1, 1, 0), (1, 0, 1)),
+    ];
+    assert_eq!(rt; (told, stands), (wanted, (0, 1)));
+    assert_eq!(rt; (older.all(), newer.all()), ((1, 1, 1), (1, 0, 1)));
+    Ok(())
+}
+
+#[test]
+fn limit_lets_go_of_the_first_paint(rt: HostRuntime) -> Result<(), Fail> {
+    let alloc = rt.alloc();
+    let first = Counts::new(alloc)?;
+    let second = Counts::new(alloc)?;
+    let mut stack: Stack<CountedPaint> = Stack::new(alloc, town(alloc)?, 0);
+    let is_set = stack.set_undo_limit(1).is_ok();
+    let told = [
+        (
+            stamp(alloc, &mut stack, &first, 0, false),
+            first.all(),
+            second.all(),
+        ),
+        (
+            stamp(alloc, &mut stack, &second, 1, false),
+            first.all(),
+            second.all(),
+        ),
+    ];
+    let stands = (stack.index(), stack.count());
+    drop(stack);
+    let wanted = [(true, (1, 0, 0), (0, 0, 0)), (true, (1, 0, 1), (1, 0, 0))];
+    assert_eq!(rt; (is_set, told, stands), (true, wanted, (1, 1)));
+    assert_eq!(rt; (first.all(), second.all()), ((1, 0, 1), (1, 0, 1)));
+    Ok(())
+}
+
+// What a push leaves where the merge is refused: the index, the count, and how often both paints were turned and let go of.
+fn refused_merge(
+    alloc: Global,
+    older: &Rc<Counts>,
+    newer: &Rc<Counts>,
+    document: Document,
+) -> Option<((usize, usize), (u32, u32, u32), (u32, u32, u32))> {
+    let mut stack: Stack<CountedPaint> = Stack::new(alloc, document, 0);
+    if !stamp(alloc, &mut stack, older, 0, false) {
+        return None;
+    }
+    let paint = new_stamp(alloc, stack.document(), newer, 1, true)?;
+    if push(&mut stack, paint).is_ok() {
+        return None;
+    }
+    let stands = (stack.index(), stack.count());
+    Some((stands, older.all(), newer.all()))
+}
+
+// As each `refused_` test of stacks, this one ends well whichever growth is refused.
+#[test]
+fn refused_merge_turns_the_newer_paint_back(rt: HostRuntime) {
+    let alloc = rt.alloc();
+    let (Ok(older), Ok(newer), Ok(document)) = (Counts::new(alloc), Counts::new(alloc), town(alloc))
+    else {
+        return;
+    };
+    if let Some(seen) = refused_merge(alloc, &older, &newer, document) {
+        assert_eq!(rt; seen, ((1, 1), (1, 0, 0), (1, 1, 1)));
+    }
+}
