@@ -39,8 +39,8 @@ fn write_pieces<W: Write>(writer: &mut W, head: &[u8], body: &[u8]) -> Result<()
     Ok(())
 }
 
-/// Writes a reply and a newline, and lets go of the reply: with one call of `write` where the reply has no body and the
-/// writer takes it whole. What the head held is let go of.
+/// Writes a reply and a newline, and lets go of the reply: with one call of `write` where the head has room for what stands
+/// behind it and the writer takes it whole. What the head held is let go of.
 pub fn write_reply<W: Write>(
     writer: &mut W,
     head: &mut ArrayString<512>,
@@ -51,12 +51,20 @@ pub fn write_reply<W: Write>(
 {
     head.clear();
     reply.write_into(head);
-    let body = reply.body();
-    if body.is_empty() {
-        head.push('\n');
-        return write_whole(writer, head.as_str().as_bytes());
+    match &reply {
+        Reply::Map(bytes) => {
+            return write_pieces(writer, head.as_str().as_bytes(), bytes.as_slice());
+        }
+        Reply::Documents(text) | Reply::Text(text) => {
+            if head.remaining_capacity() <= text.as_str().len() {
+                return write_pieces(writer, head.as_str().as_bytes(), text.as_str().as_bytes());
+            }
+            head.push_str(text.as_str());
+        }
+        _ => {}
     }
-    write_pieces(writer, head.as_str().as_bytes(), body)
+    head.push('\n');
+    write_whole(writer, head.as_str().as_bytes())
 }
 
 /// Flushes the writer, where that is wanted.
