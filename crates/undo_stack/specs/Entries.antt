@@ -1,5 +1,5 @@
 -- What an entry does, and how deep macros stand in one another.
-use Rattle.std.specs.Prelude.{ℕ, ◌+◌, max, List, [], ◌∷◌}
+use Rattle.std.specs.Prelude.{ℕ, ◌+◌, max, Bool, true, false, List, [], ◌∷◌}
 use Rattle.command_api.specs.Law.{Change}
 use Rattle.undo_stack.specs.Row.{row_change}
 use Rattle.undo_stack.specs.declared.entry.Entry.{Entry, rec-Entry, fold-Entry}
@@ -27,3 +27,11 @@ layer_nesting (Macro body) = greatest body.value.children.items + 1
 -- how many macros stand in one another in an entry
 abbrev pub nesting : {C : Type 0} → Entry C → ℕ
 nesting {C} = fold-Entry C ℕ layer_nesting
+
+-- whether an entry is a macro
+abbrev pub layer_is_macro : {C : Type 0} → Entry-F C Bool → Bool
+layer_is_macro (Command c) = false
+layer_is_macro (Macro body) = true
+
+abbrev pub is_macro : {C : Type 0} → Entry C → Bool
+is_macro {C} = fold-Entry C Bool layer_is_macro

@@ -1,9 +1,10 @@
 -- A stack, seen as a history, where f says what its commands do. An open macro is a `Level` in code, which keeps a box, an
 -- `Inner` where its entries are seen as lists, and an `Open` in the history, with whole documents.
-use Rattle.std.specs.Prelude.{◌≡◌, ◌<◌, ◌≤◌, List, [], ◌∷◌, length, map, vec_len, vec_capacity}
+use Rattle.std.specs.Prelude.{◌≡◌, ◌<◌, ◌≤◌, Bool, true, List, [], ◌∷◌, ◌++◌, length, map, vec_len, vec_capacity}
 use Rattle.std.specs.VecDeque.{deque_len, deque_capacity}
 use Rattle.command_api.specs.Law.{Change}
 use Rattle.undo_stack.specs.History.{History}
+use Rattle.undo_stack.specs.Entries.{is_macro}
 use Rattle.undo_stack.specs.Sound.{Inner, history_of, IsTurnable, row_nesting, level_nesting}
 use Rattle.undo_stack.specs.declared.entry.Entry.{Entry}
 use Rattle.undo_stack.specs.declared.entry.Entry.TheVariants.{Macro}
@@ -25,6 +26,14 @@ closed_level l = Macro l.body
 -- the history that a stack holds
 abbrev pub history : {C : Type 0} → (C → Change) → Stack C → History
 history f s = history_of f s.document s.entries.items s.index s.clean s.limit (inners s)
+
+-- of each step whether it is a macro: of the entries, and last of the open one where there is one
+abbrev pub macros_in : {C : Type 0} → List (Level C) → List (Entry C) → List Bool
+macros_in [] es = map is_macro es
+macros_in (l ∷ ls) es = map is_macro es ++ true ∷ []
+
+abbrev pub macros : {C : Type 0} → Stack C → List Bool
+macros s = macros_in s.levels.items s.entries.items
 
 -- where there are any of these levels, P
 abbrev pub WhereOpen : {A : Type 0} → List A → Type 0 → Type 0

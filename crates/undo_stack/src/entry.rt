@@ -2,7 +2,7 @@ ghost use Rattle.std.specs.Prelude.{◌≡◌, ◌≤◌, [], true, false, lengt
 ghost use Rattle.command_api.specs.Law.{IsRedone, IsUndone, IsLawful, is_free};
 ghost use Rattle.command_api.specs.Offers.{IsOfferOf};
 ghost use Rattle.undo_stack.specs.Calm.{IsGone, IsLive};
-ghost use Rattle.undo_stack.specs.Entries.{entry_change, nesting};
+ghost use Rattle.undo_stack.specs.Entries.{entry_change, is_macro, nesting};
 ghost use Rattle.undo_stack.specs.Merging.{MergesChange};
 ghost use Rattle.undo_stack.specs.Row.{row_change, FitsDown, FitsUp, IsMoved};
 
@@ -86,6 +86,16 @@ impl<C: Command> Entry<C> {
         match self {
             Entry::Command(command) => command.obsolete(),
             Entry::Macro(_) => false,
+        }
+    }
+
+    /// Whether the entry is a macro.
+    pub fn is_macro(&self) -> bool
+        ensures { result ≡ is_macro self.now }
+    {
+        match self {
+            Entry::Command(_) => false,
+            Entry::Macro(_) => true,
         }
     }
 

@@ -8,7 +8,7 @@ ghost use Rattle.undo_stack.specs.Reading.{text_at, action_of, undo_text_of, red
 ghost use Rattle.undo_stack.specs.Calm.{IsCalm, IsLive};
 ghost use Rattle.undo_stack.specs.Entries.{entry_change, nesting};
 ghost use Rattle.undo_stack.specs.Sound.{history_of, opens, with_child, IsTurnable, level_nesting};
-ghost use Rattle.undo_stack.specs.Stacks.{history, inners, Holds, IsBounded, LastHasRoom};
+ghost use Rattle.undo_stack.specs.Stacks.{history, inners, macros, Holds, IsBounded, LastHasRoom};
 ghost use Rattle.undo_stack.specs.Merging.{IsPlaced, stack_before};
 ghost use Rattle.undo_stack.specs.Reporting.{IsReported};
 ghost use Rattle.undo_stack.specs.declared.limits.TheConstants.{MAX_DEPTH, MAX_LIMIT};
@@ -130,6 +130,13 @@ impl<C: Command> Stack<C> {
         self.clean == Some(self.index)
     }
 
+    /// The index at which the document counts as clean, and `None` where that was lost.
+    pub fn clean_index(&self) -> Option<usize>
+        ensures { result ≡ (history C.change self.now).clean }
+    {
+        self.clean
+    }
+
     /// The document at the index, and within an open macro the one after what was pushed last.
     pub fn document(&self) -> &Document
         requires { Holds C.change self.now }
@@ -195,6 +202,28 @@ impl<C: Command> Stack<C> {
             Some(level) => Some(level.text()),
             None => None,
         }
+    }
+
+    /// Whether the step at this place is a macro, where the first step is at 0, and `None` past the last one. An open macro
+    /// stands last.
+    pub fn is_macro(&self, at: usize) -> Option<bool>
+        ensures { result ≡ slice_get (macros self.now) at }
+    {
+        match self.entries.get(at) {
+            Some(entry) => Some(entry.is_macro()),
+            None => self.is_open_macro(at),
+        }
+    }
+
+    // The same at a place behind the entries.
+    fn is_open_macro(&self, at: usize) -> Option<bool>
+        requires { length self.now.entries.items ≤ at }
+        ensures { result ≡ slice_get (macros self.now) at }
+    {
+        if self.is_open() && at == self.entries.len() {
+            return Some(true);
+        }
+        None
     }
 
     // The action text of the step at this place, and empty where there is none.
