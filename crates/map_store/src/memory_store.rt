@@ -9,8 +9,10 @@ pub struct MemoryStore {
 }
 
 impl MemoryStore {
-    ghost use Rattle.std.specs.Prelude.{◌≡◌, true};
-    ghost use Rattle.std.specs.FinMap.{empty};
+    ghost use Rattle.std.specs.Prelude.{◌≡◌, true, slice_get};
+    ghost use Rattle.std.specs.Option.{option_copied};
+    ghost use Rattle.std.specs.FinMap.{contains_key, empty, get, keys, len, remove};
+    ghost use Rattle.map_store.specs.Kept.{files_of};
 
     /// No files.
     pub fn new(alloc: Global) -> MemoryStore
@@ -18,6 +20,41 @@ impl MemoryStore {
     {
         MemoryStore {
             files: BTreeMap::new(alloc),
+        }
+    }
+
+    /// The bytes of a file, and `None` where there is none of that name.
+    pub fn file(&self, name: &str) -> Option<&[u8]>
+        ensures { option_copied result ≡ get (files_of self.now.files) name.now }
+    {
+        match self.files.get(name) {
+            Some(bytes) => Some(bytes.as_slice()),
+            None => None,
+        }
+    }
+
+    /// Takes a file out, and says whether there was one of that name.
+    pub fn remove(&mut self, name: &str) -> bool
+        ensures found { result ≡ contains_key (files_of self.old.files) name.now }
+        ensures removed { files_of self.new.files ≡ remove (files_of self.old.files) name.now }
+    {
+        self.files.remove(name).is_some()
+    }
+
+    /// How many files there are.
+    pub fn count(&self) -> usize
+        ensures { result ≡ len (files_of self.now.files) }
+    {
+        self.files.len()
+    }
+
+    /// The name of the file at a place in the order of names, where the first is at 0, and `None` past the last one.
+    pub fn name(&self, at: usize) -> Option<&str>
+        ensures { option_copied result ≡ slice_get (keys (files_of self.now.files)) at }
+    {
+        match self.files.keys().nth(at) {
+            Some(name) => Some(name.as_str()),
+            None => None,
         }
     }
 }
