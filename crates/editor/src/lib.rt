@@ -2,6 +2,7 @@
 //! document's stack.
 #![tactic(auto)]
 
+mod edit_command;
 mod editor;
 mod planned;
 mod planning;
