@@ -1,5 +1,5 @@
 -- A coordinate by its sign.
-use Rattle.std.proofs.Common.{◌≡◌, ◌≢◌, ◌≤◌, ℕ, zero, suc, negsuc, subst, arith, FitsSigned, w32, cond, eqb, List, [], ◌∷◌, Option, Some, None, Bor, ℤ, pos, refl, sym, ap, ◌∙◌}
+use Rattle.std.proofs.Common.{◌≡◌, ◌≢◌, ◌≤◌, ◌<◌, get_or, length, ℕ, zero, suc, negsuc, subst, arith, FitsSigned, w32, cond, eqb, List, [], ◌∷◌, Option, Some, None, Bor, ℤ, pos, refl, sym, ap, ◌∙◌}
 use Rattle.std.specs.Prelude.{option_and_then}
 use Rattle.std.specs.Option.{option_map}
 use Rattle.std.specs.List.{onto_first}
@@ -57,3 +57,8 @@ plain_found text h found f = plain_by (words text) (λ w ws e. without_minus w (
 pub fits_below : (n : ℕ) (z : ℤ) → Some z ≡ below_zero n → n ≤ MAX_COORDINATE → FitsSigned w32 z
 fits_below zero z e h = absurd cc
 fits_below (suc n) z e h = let same : negsuc n ≡ z = cc in subst (FitsSigned w32) same (omega (arith, ints))
+
+-- a text whose first byte is a `-` has a byte
+pub minus_inside : (bs : List ℕ) → get_or bs 0 0 ≡ 45 → 0 < length bs
+minus_inside [] e = absurd cc
+minus_inside (b ∷ bs) e = omega arith

@@ -265,7 +265,7 @@ fn push_word(head: &mut ArrayString<512>, word: &'static str, text: &str)
 {
     head.push_str(word);
     if !text.is_empty() {
-        head.push_str(" ");
+        head.push(' ');
     }
 }
 

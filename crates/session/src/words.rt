@@ -1,5 +1,5 @@
 ghost use Rattle.std.specs.Char.{is_ascii_digit};
-ghost use Rattle.std.specs.Prelude.{◌≡◌, false, ◌<◌, ◌∷◌, ◌==◌, ◌≤◌, ◌≢◌, ◌+◌, ◌++◌, All, take, drop, length, Some, IfSome, IfNone, option_map};
+ghost use Rattle.std.specs.Prelude.{◌≡◌, List, ℕ, false, ◌<◌, ◌∷◌, ◌==◌, ◌≤◌, ◌≢◌, ◌+◌, ◌++◌, All, take, drop, length, Some, IfSome, IfNone, option_map};
 ghost use Rattle.std.specs.List.{list_all, slice_split};
 ghost use Rattle.session.specs.declared.limits.TheConstants.{MAX_COORDINATE};
 ghost use Rattle.session.specs.Words.{number_of, is_numeral_front, AreLeadingDigits, HasLargeFront, IsFirst, words, distance_of, below_zero, coordinate_of, is_name, is_name_byte, is_text, is_text_byte, cut_at_bars, are_texts, pieces_left, size_left};
@@ -118,11 +118,26 @@ fn negative(distance: u32) -> Option<i32>
     Some(-(distance as i32))
 }
 
+/// What stands behind a minus sign at the front.
+fn behind_minus(text: &str) -> Option<&str>
+    ensures some { IfSome result (λ digits. text.now ≡ 45 ∷ digits.now) }
+    ensures none { IfNone result ((rest : List ℕ) → text.now ≢ 45 ∷ rest) }
+{
+    let bytes = text.as_bytes();
+    if bytes.is_empty() {
+        return None;
+    }
+    if bytes[0] != b'-' {
+        return None;
+    }
+    Some(&text[1..])
+}
+
 /// The coordinate that the first word is, at most `MAX_COORDINATE` from 0, and what is left of the line.
 pub fn coordinate_before(text: &str) -> Option<(i32, Option<&str>)>
     ensures { IsFirst coordinate_of (words text.now) 32 result }
 {
-    match text.strip_prefix('-') {
+    match behind_minus(text) {
         Some(digits) => {
             let (distance, rest) = distance_before(digits)?;
             Some((negative(distance)?, rest))

@@ -1,4 +1,4 @@
-use Rattle.std.proofs.Common.{◌≡◌, ◌/◌, ◌<◌, ◌≤◌, ◌^◌, ◌++◌, decimal, ap, sym, ◌∙◌, arith}
+use Rattle.std.proofs.Common.{◌/◌, ◌<◌, ◌≤◌, ◌^◌, ◌++◌, decimal, ap, sym, ◌∙◌, arith}
 use Rattle.std.proofs.lemmas.List.{append_assoc}
 use Rattle.session.proofs.LastDigits.{decimal-three_last, three_digits}
 use Rattle.session.proofs.reply.push_number.Goals as goal
