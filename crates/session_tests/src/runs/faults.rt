@@ -66,11 +66,16 @@ fn each_whole_write_may_fail(
     Ok(true)
 }
 
-// A reply with a body is written in pieces, and as one where a buffer stands in between and one byte is read at a time.
+// A reply that is no map is written by one call, and so it is where a buffer stands in between and one byte is read at a time.
 #[test]
 fn write_faults_come_behind_whole_replies(rt: HostRuntime) -> Result<(), Fail> {
     let alloc = rt.alloc();
-    for (rows, step, has_buffer) in [(ONE, WHOLE, false), (ONE, 1, true), (SEVERAL, 1, true)] {
+    for (rows, step, has_buffer) in [
+        (ONE, WHOLE, false),
+        (ONE, 1, true),
+        (SEVERAL, WHOLE, false),
+        (SEVERAL, 1, true),
+    ] {
         let script = read_script(alloc, rows)?;
         assert!(rt;
             each_whole_write_may_fail(alloc, &script, step, has_buffer)?,
