@@ -4,4 +4,4 @@
 mod running;
 mod writing;
 
-pub use running::{RunFault, Summary, run};
+pub use running::{RunFault, Summary, run, step};

@@ -3,7 +3,7 @@ ghost use Rattle.undo_stack.specs.declared.limits.TheConstants.{MAX_LIMIT};
 ghost use Rattle.editor.specs.declared.planned.Edit.{Edit};
 ghost use Rattle.editor.specs.Editors.{IsSound, machine_of};
 ghost use Rattle.editor.specs.Machine.{started_machine, workspace};
-ghost use Rattle.editor.specs.Steps.{Step};
+ghost use Rattle.editor.specs.Steps.{Step, StepIn};
 ghost use Rattle.session.specs.Spelling.{CanBeSpelled};
 ghost use Rattle.session_run.specs.Runs.{PutsSame, RunsAll, RunsSome, RunsToRead, RunsToWrite, StepFound};
 
@@ -74,6 +74,29 @@ fn hear_line<C: Command, S: MapStore, F: Fn(Edit) -> Option<C>>(
     }
 }
 
+/// Does what a line asks for, and gives the reply to it, and none to a quiet one. The line has no newline at its end. What it
+/// plans is put into a command by `put`.
+#[inline(always)]
+pub fn step<C: Command, S: MapStore, F: Fn(Edit) -> Option<C>>(
+    alloc: Global,
+    editor: &mut Editor<C>,
+    store: &mut S,
+    line: &[u8],
+    put: &F,
+) -> Option<Reply>
+    requires sound { IsSound C.change editor.old }
+    requires callable { F.IsAlwaysCallable put.now }
+    requires same { (edit : Edit) (command : Option C) → F.post put.now edit command → PutsSame C.change edit command }
+    ensures sound { IsSound C.change editor.new }
+    ensures step { StepIn line.now
+        (workspace (machine_of C.change editor.old) (S.kept store.old)) result (workspace (machine_of C.change editor.new) (S.kept store.new)) }
+{
+    match &parse_line(line) {
+        Ok(line) => hear_line(alloc, editor, store, line, put),
+        Err(fault) => Some(Reply::Refused(Refusal::Line(*fault))),
+    }
+}
+
 // Hears a line that was found.
 #[inline(always)]
 fn hear<C: Command, S: MapStore, F: Fn(Edit) -> Option<C>>(
@@ -93,10 +116,7 @@ fn hear<C: Command, S: MapStore, F: Fn(Edit) -> Option<C>>(
 {
     match found {
         Found::TooLong => Some(Reply::Refused(Refusal::Line(LineFault::TooLong))),
-        Found::Line => match &parse_line(line) {
-            Ok(line) => hear_line(alloc, editor, store, line, put),
-            Err(fault) => Some(Reply::Refused(Refusal::Line(*fault))),
-        },
+        Found::Line => step(alloc, editor, store, line, put),
     }
 }
 

@@ -1,17 +1,9 @@
-use Rattle.std.proofs.Common.{◌≡◌, Ok, Err, refl}
-use Rattle.session.specs.Grammar.{line_of}
+use Rattle.std.proofs.Common.{refl}
 use Rattle.session_run.proofs.Hearing.{too_long}
 use Rattle.session_run.proofs.running.hear.Goals as goal
 
 pub returns-in-TooLong-clause-step : goal.returns-in-TooLong-clause-step
 returns-in-TooLong-clause-step g c = rw c.in-TooLong.is (λ long size. rw (too_long long size) (refl, refl))
 
-pub returns-in-Ok-clause-step : goal.returns-in-Ok-clause-step
-returns-in-Ok-clause-step g c =
-    let read : line_of c.args.line.now ≡ Ok c.in-Ok.line = rw c.in-Ok.is at c.parse_line.ensures.value in
-    rw (c.in-Line.is, read) c.hear_line.ensures.step
-
-pub returns-in-Err-clause-step : goal.returns-in-Err-clause-step
-returns-in-Err-clause-step g c =
-    let read : line_of c.args.line.now ≡ Err c.in-Err.fault = rw c.in-Err.is at c.parse_line.ensures.value in
-    rw (c.in-Line.is, read) (refl, refl)
+pub returns-in-Line-clause-step : goal.returns-in-Line-clause-step
+returns-in-Line-clause-step g c = rw c.in-Line.is c.step.ensures.step
