@@ -9,12 +9,14 @@ mod faults;
 mod flushes;
 mod stores;
 
+pub use stores::MAP;
+
 /// More than a test's calls, and more than its bytes.
 const MANY: u32 = 1_000_000;
 
 const WHOLE: usize = 1_000_000;
 
-const ONE: &str = "new town 4 3 16 16 town.tsj => ok 0/0 clean 0
+pub const ONE: &str = "new town 4 3 16 16 town.tsj => ok 0/0 clean 0
 stamp 1 1 1 2 5,6 => ok 1/1 dirty 0
 tile 1 2 1 => tile 6 ---- 1 5
 undo => ok 0/1 clean 0
@@ -22,7 +24,7 @@ tile 1 2 1 => tile 0
 redo => ok 1/1 dirty 0
 redo => no 22 nothing to redo";
 
-const SEVERAL: &str = "new town 4 3 16 16 town.tsj => ok 0/0 clean 0
+pub const SEVERAL: &str = "new town 4 3 16 16 town.tsj => ok 0/0 clean 0
 new city 2 2 16 16 c.tsj => ok 0/0 clean 0
 list => docs town *city
 close city => ok none clean

@@ -5,7 +5,7 @@ use std::alloc::{AllocError, Global};
 use std::test::Fail;
 
 /// A map of 2 by 1 cells, with a tile and a flipped one.
-const MAP: &str =
+pub const MAP: &str =
     r#"{"height":1,"infinite":false,"layers":[{"data":"AQAAAAIAAIA=","encoding":"base64","height":1,"id":1,"name":"g","opacity":1,"type":"tilelayer","visible":true,"width":2,"x":0,"y":0}],"nextlayerid":2,"nextobjectid":1,"orientation":"orthogonal","renderorder":"right-down","tileheight":16,"tilesets":[{"firstgid":1,"source":"t.tsj"}],"tilewidth":16,"type":"map","version":"1.10","width":2}"#;
 
 /// The files `m.tmj`, with that map, and no other.

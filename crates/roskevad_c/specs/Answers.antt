@@ -1,0 +1,112 @@
+-- What a call answers, and what then stands in a caller's buffer.
+use Rattle.std.specs.Prelude.{◌≡◌, ◌++◌, ◌≤◌, ◌<◌, ◌⊎◌, ℕ, nat_le, Bool, true, false, List, drop, length, Option, None, Some, if◌then◌else◌}
+use Rattle.std.specs.FinMap.{contains_key, empty, get, insert, remove}
+use Rattle.std.specs.List.{slice_get}
+use Rattle.std.specs.Option.{option_map}
+use Rattle.region.specs.declared.runs.Run.{Run}
+use Rattle.session.specs.Replies.{reply_text}
+use Rattle.session.specs.Words.{is_name}
+use Rattle.session.specs.declared.limits.TheConstants.{MAX_FILE_NAME}
+use Rattle.undo_stack.specs.declared.limits.TheConstants.{MAX_LIMIT}
+use Rattle.editor.specs.Machine.{active_of, started_machine}
+use Rattle.editor.specs.Steps.{StepIn}
+use Rattle.roskevad_session.specs.Parts.{SessionParts, workspace_of, AreRunsOf}
+use Rattle.roskevad_c.specs.declared.answers.TheConstants.{DONE, NONE, CLOSED, NO_MEMORY, TOO_GREAT, BAD_NAME}
+use Rattle.roskevad_c.specs.declared.runs.SelectionRun.{SelectionRun}
+
+-- the buffer with these bytes at its front, where it has room for all of them, and else as it was
+abbrev pub written : List ℕ → List ℕ → List ℕ
+written bytes buffer = if nat_le (length bytes) (length buffer) then bytes ++ drop (length bytes) buffer else buffer
+
+-- ---- bytes that may be absent
+abbrev pub size_of : Option (List ℕ) → ℕ
+size_of None = NONE
+size_of (Some bytes) = length bytes
+
+abbrev pub filled : Option (List ℕ) → List ℕ → List ℕ
+filled None buffer = buffer
+filled (Some bytes) buffer = written bytes buffer
+
+-- ---- bytes of a session, which a closed slot has not
+abbrev pub told_size : Option (Option (List ℕ)) → ℕ
+told_size None = CLOSED
+told_size (Some bytes) = size_of bytes
+
+abbrev pub told_bytes : Option (Option (List ℕ)) → List ℕ → List ℕ
+told_bytes None buffer = buffer
+told_bytes (Some bytes) buffer = filled bytes buffer
+
+-- ---- a number of a session
+abbrev pub told_number : Option (Option ℕ) → ℕ
+told_number None = CLOSED
+told_number (Some None) = NONE
+told_number (Some (Some n)) = n
+
+-- ---- what is told of a session
+-- the text of the reply to its last line
+abbrev pub last_reply : SessionParts → Option (List ℕ)
+last_reply s = option_map reply_text s.reply
+
+-- the bytes under a name, and none under one that no line can spell
+abbrev pub file_in : List ℕ → SessionParts → Option (List ℕ)
+file_in name s = if is_name MAX_FILE_NAME name then get s.files name else None
+
+-- whether a file of that name is there
+abbrev pub is_there : List ℕ → SessionParts → Option ℕ
+is_there name s = if is_name MAX_FILE_NAME name then (if contains_key s.files name then Some DONE else None) else None
+
+-- without the file of that name
+abbrev pub without : List ℕ → SessionParts → SessionParts
+without name s = if is_name MAX_FILE_NAME name then record s { files = remove s.files name } else s
+
+-- with a file of that name
+abbrev pub with_file : List ℕ → List ℕ → SessionParts → SessionParts
+with_file name bytes s = record s { files = insert s.files name bytes }
+
+-- ---- what calls do
+-- a session is opened, or there was no memory for it
+abbrev pub Opened : ℕ → ℕ → Option SessionParts → Type 0
+Opened limit answer None = answer ≡ NO_MEMORY
+Opened limit answer (Some s) = (answer ≡ DONE) × (s ≡ record { machine = started_machine limit; files = empty; reply = None })
+
+-- a session is opened, where the limit is not above the greatest
+abbrev pub Opens : ℕ → ℕ → Option SessionParts → Type 0
+Opens limit answer new = (limit ≤ MAX_LIMIT → Opened limit answer new) × (MAX_LIMIT < limit → (answer ≡ TOO_GREAT) × (new ≡ None))
+
+-- a line is stepped, where the slot is open
+abbrev pub Steps : List ℕ → Option SessionParts → Option SessionParts → Type 0
+Steps line None new = new ≡ None
+Steps line (Some s) None = ⊥
+Steps line (Some s) (Some t) = StepIn line (workspace_of s) t.reply (workspace_of t)
+
+-- a file of a name that lines can spell is put in, or there was no memory for it
+abbrev pub Stores : List ℕ → List ℕ → SessionParts → ℕ → Option SessionParts → Type 0
+Stores name bytes s answer new = ((answer ≡ DONE) × (new ≡ Some (with_file name bytes s))) ⊎ ((answer ≡ NO_MEMORY) × (new ≡ Some s))
+
+abbrev pub Puts : List ℕ → List ℕ → Option SessionParts → ℕ → Option SessionParts → Type 0
+Puts name bytes None answer new = (answer ≡ CLOSED) × (new ≡ None)
+Puts name bytes (Some s) answer new =
+    (is_name MAX_FILE_NAME name ≡ true → Stores name bytes s answer new)
+    × (is_name MAX_FILE_NAME name ≡ false → (answer ≡ BAD_NAME) × (new ≡ Some s))
+
+-- ---- what no line tells
+-- 0 or 1 where there is a step at that place
+abbrev pub TellsOfStep : Option Bool → ℕ → Type 0
+TellsOfStep None answer = answer ≡ CLOSED
+TellsOfStep (Some false) answer = answer ≡ NONE
+TellsOfStep (Some true) answer = answer ≤ 1
+
+-- how many runs the selection has
+abbrev pub TellsCount : Option SessionParts → ℕ → Type 0
+TellsCount None answer = answer ≡ CLOSED
+TellsCount (Some s) answer = (runs : List Run) × AreRunsOf (active_of s.machine) runs × (answer ≡ length runs)
+
+-- a run is given out where there is one
+abbrev pub GivesRun : Option Run → ℕ → SelectionRun → SelectionRun → Type 0
+GivesRun None answer old new = (answer ≡ NONE) × (new ≡ old)
+GivesRun (Some run) answer old new = (answer ≡ DONE) × (new ≡ record { row = run.y; column = run.x; count = run.len })
+
+-- the run of the selection at that place is given out
+abbrev pub TellsRun : Option SessionParts → ℕ → ℕ → SelectionRun → SelectionRun → Type 0
+TellsRun None at answer old new = (answer ≡ CLOSED) × (new ≡ old)
+TellsRun (Some s) at answer old new = (runs : List Run) × AreRunsOf (active_of s.machine) runs × GivesRun (slice_get runs at) answer old new

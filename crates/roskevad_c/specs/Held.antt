@@ -1,0 +1,17 @@
+-- What a `Held` owns: the same as a `Box<Session>`, or nothing.
+use Rattle.std.specs.Prelude.{Option, None, Some}
+use Rattle.std.specs.Coded.{coded_option}
+use base.Fml.{Fml, ftrue}
+use base.Stored.{Coded}
+use denote.RawPtr.{Ptr}
+use Rattle.std.specs.Box.Ownership.{box_owns}
+use Rattle.std.specs.Global.{Global}
+use Rattle.std_heap.specs.contracts.GlobalAllocator.TheImpl.{ghosts}
+use Rattle.roskevad_session.specs.contracts.memory_session.Session.{the_row}
+
+abbrev pub held_owns : Global → Ptr → Option the_row.Denot → Fml
+held_owns alloc at None = ftrue
+held_owns alloc at (Some session) = box_owns (ghosts.dealloc_token alloc) the_row at session
+
+abbrev pub kept_coded : Coded (Option the_row.Denot)
+kept_coded = coded_option the_row.coded

@@ -1,0 +1,294 @@
+//! The editor for C: a session in memory behind a slot.
+//!
+//! Each call but `roskevad_version` takes a slot, which C keeps and never looks into. A call that gives bytes copies them to the
+//! front of a buffer where the buffer has room for all of them, and else leaves the buffer as it was; it answers how many
+//! there are. What stands in place of a length, a number or a place is one of the constants at the end of the numbers.
+#![tactic(auto)]
+
+mod answers;
+mod copies;
+mod held;
+mod names;
+mod parts;
+mod runs;
+mod slot;
+
+ghost use Rattle.std.specs.Prelude.{◌≡◌, nat_le, None, Some, codes, length, slice_get, if◌then◌else◌};
+ghost use Rattle.std.specs.FinMap.{keys, len};
+ghost use Rattle.std.specs.Option.{option_map};
+ghost use Rattle.undo_stack.specs.declared.limits.TheConstants.{MAX_LIMIT};
+ghost use Rattle.editor.specs.Machine.{active_of};
+ghost use Rattle.roskevad_session.specs.Parts.{clean_index_of, has_step};
+ghost use Rattle.roskevad_c.specs.Answers.{filled, file_in, is_there, last_reply, size_of, told_bytes, told_number, told_size, with_file, without, Opens, Puts, Steps, TellsCount, TellsOfStep, TellsRun};
+
+use crate::answers::{BAD_NAME, CLOSED, DONE, NO_MEMORY, NONE, TOO_GREAT};
+use crate::copies::{copy_bytes, copy_reply};
+use crate::names::spelled;
+use crate::runs::SelectionRun;
+use crate::slot::Slot;
+use roskevad_session::Session;
+use std::alloc::Global;
+
+// The greatest undo limit.
+const GREATEST_LIMIT: usize = 1_000_000;
+
+/// Opens a slot: a session with no documents and no files. An open one is closed first. The limit is the undo limit of each
+/// document when it is made, at most 1,000,000, where 0 stands for none. Answers `DONE`, `NO_MEMORY` or `TOO_GREAT`; after
+/// the last two the slot is closed.
+#[unsafe(no_mangle)]
+pub extern "C" fn roskevad_open(alloc: Global, slot: &mut Slot, limit: usize) -> usize
+    ensures { Opens limit result slot.new.held.kept }
+{
+    let _ = slot.take(alloc);
+    if limit > GREATEST_LIMIT {
+        return TOO_GREAT;
+    }
+    match Box::new(alloc, Session::new(alloc, limit)) {
+        Ok(session) => {
+            *slot = Slot::of_box(session);
+            DONE
+        }
+        Err(_) => NO_MEMORY,
+    }
+}
+
+/// Does what a line asks for, and copies the reply. The line has no newline at its end. Answers the reply's size, `NONE`
+/// where the line is quiet, or `CLOSED`.
+#[unsafe(no_mangle)]
+pub extern "C" fn roskevad_step(
+    alloc: Global,
+    slot: &mut Slot,
+    line: &[u8],
+    reply: &mut [u8],
+) -> usize
+    ensures step { Steps line.now slot.old.held.kept slot.new.held.kept }
+    ensures size { result ≡ told_size (option_map last_reply slot.new.held.kept) }
+    ensures copied { reply.new ≡ told_bytes (option_map last_reply slot.new.held.kept) reply.old }
+{
+    let Some(mut session) = slot.take(alloc) else {
+        return CLOSED;
+    };
+    session.step(line);
+    let size = copy_reply(session.reply(), reply);
+    *slot = Slot::of_box(session);
+    size
+}
+
+/// Copies the reply to the last line again. Answers its size, `NONE` where there is none, or `CLOSED`.
+#[unsafe(no_mangle)]
+pub extern "C" fn roskevad_reply(alloc: Global, slot: &mut Slot, reply: &mut [u8]) -> usize
+    ensures kept { slot.new.held.kept ≡ slot.old.held.kept }
+    ensures size { result ≡ told_size (option_map last_reply slot.old.held.kept) }
+    ensures copied { reply.new ≡ told_bytes (option_map last_reply slot.old.held.kept) reply.old }
+{
+    let Some(session) = slot.take(alloc) else {
+        return CLOSED;
+    };
+    let size = copy_reply(session.reply(), reply);
+    *slot = Slot::of_box(session);
+    size
+}
+
+/// Puts bytes under a name, in place of those that are there. Answers `DONE`, `NO_MEMORY`, `BAD_NAME` or `CLOSED`; but for
+/// `DONE` all is as it was.
+#[unsafe(no_mangle)]
+pub extern "C" fn roskevad_put_file(
+    alloc: Global,
+    slot: &mut Slot,
+    name: &[u8],
+    bytes: &[u8],
+) -> usize
+    ensures { Puts name.now bytes.now slot.old.held.kept result slot.new.held.kept }
+{
+    let Some(mut session) = slot.take(alloc) else {
+        return CLOSED;
+    };
+    let answer = match spelled(name) {
+        Some(name) => match session.put_file(name, bytes) {
+            Ok(()) => DONE,
+            Err(_) => NO_MEMORY,
+        },
+        None => BAD_NAME,
+    };
+    *slot = Slot::of_box(session);
+    answer
+}
+
+/// Copies the bytes under a name. Answers how many there are, `NONE` where there is no file of that name, or `CLOSED`.
+#[unsafe(no_mangle)]
+pub extern "C" fn roskevad_file(
+    alloc: Global,
+    slot: &mut Slot,
+    name: &[u8],
+    bytes: &mut [u8],
+) -> usize
+    ensures kept { slot.new.held.kept ≡ slot.old.held.kept }
+    ensures size { result ≡ told_size (option_map (file_in name.now) slot.old.held.kept) }
+    ensures copied { bytes.new ≡ told_bytes (option_map (file_in name.now) slot.old.held.kept) bytes.old }
+{
+    let Some(session) = slot.take(alloc) else {
+        return CLOSED;
+    };
+    let size = match spelled(name) {
+        Some(name) => copy_bytes(session.file(name), bytes),
+        None => NONE,
+    };
+    *slot = Slot::of_box(session);
+    size
+}
+
+/// Takes a file out. Answers `DONE`, `NONE` where there is no file of that name, or `CLOSED`.
+#[unsafe(no_mangle)]
+pub extern "C" fn roskevad_remove_file(alloc: Global, slot: &mut Slot, name: &[u8]) -> usize
+    ensures found { result ≡ told_number (option_map (is_there name.now) slot.old.held.kept) }
+    ensures removed { slot.new.held.kept ≡ option_map (without name.now) slot.old.held.kept }
+{
+    let Some(mut session) = slot.take(alloc) else {
+        return CLOSED;
+    };
+    let answer = match spelled(name) {
+        Some(name) => {
+            if session.remove_file(name) {
+                DONE
+            } else {
+                NONE
+            }
+        }
+        None => NONE,
+    };
+    *slot = Slot::of_box(session);
+    answer
+}
+
+/// How many files there are, or `CLOSED`.
+#[unsafe(no_mangle)]
+pub extern "C" fn roskevad_file_count(alloc: Global, slot: &mut Slot) -> usize
+    ensures kept { slot.new.held.kept ≡ slot.old.held.kept }
+    ensures told { result ≡ told_number (option_map (λ s. Some (len s.files)) slot.old.held.kept) }
+{
+    let Some(session) = slot.take(alloc) else {
+        return CLOSED;
+    };
+    let count = session.file_count();
+    *slot = Slot::of_box(session);
+    count
+}
+
+/// Copies the name of the file at a place in the order of names, where the first is at 0. Answers its size, `NONE` past the
+/// last one, or `CLOSED`.
+#[unsafe(no_mangle)]
+pub extern "C" fn roskevad_file_name(
+    alloc: Global,
+    slot: &mut Slot,
+    at: usize,
+    name: &mut [u8],
+) -> usize
+    ensures kept { slot.new.held.kept ≡ slot.old.held.kept }
+    ensures size { result ≡ told_size (option_map (λ s. slice_get (keys s.files) at) slot.old.held.kept) }
+    ensures copied { name.new ≡ told_bytes (option_map (λ s. slice_get (keys s.files) at) slot.old.held.kept) name.old }
+{
+    let Some(session) = slot.take(alloc) else {
+        return CLOSED;
+    };
+    let size = match session.file_name(at) {
+        Some(found) => copy_bytes(Some(found.as_bytes()), name),
+        None => NONE,
+    };
+    *slot = Slot::of_box(session);
+    size
+}
+
+/// How many runs the selection of the active document has, 0 where no document is active, or `CLOSED`.
+#[unsafe(no_mangle)]
+pub extern "C" fn roskevad_selection_count(alloc: Global, slot: &mut Slot) -> usize
+    ensures kept { slot.new.held.kept ≡ slot.old.held.kept }
+    ensures told { TellsCount slot.old.held.kept result }
+{
+    let Some(session) = slot.take(alloc) else {
+        return CLOSED;
+    };
+    let count = session.selection_count();
+    *slot = Slot::of_box(session);
+    count
+}
+
+/// Gives out the run at a place of that selection, in row order, where the first is at 0. Answers `DONE`, `NONE` past the
+/// last one, or `CLOSED`; but for `DONE` the run is as it was.
+#[unsafe(no_mangle)]
+pub extern "C" fn roskevad_selection_run(
+    alloc: Global,
+    slot: &mut Slot,
+    at: usize,
+    run: &mut SelectionRun,
+) -> usize
+    ensures kept { slot.new.held.kept ≡ slot.old.held.kept }
+    ensures told { TellsRun slot.old.held.kept at result run.old run.new }
+{
+    let Some(session) = slot.take(alloc) else {
+        return CLOSED;
+    };
+    let answer = match session.selection_run(at) {
+        Some(found) => {
+            *run = SelectionRun {
+                row: found.y,
+                column: found.x,
+                count: found.len,
+            };
+            DONE
+        }
+        None => NONE,
+    };
+    *slot = Slot::of_box(session);
+    answer
+}
+
+/// The index at which the active document counts as clean, `NONE` where that was lost or no document is active, or
+/// `CLOSED`.
+#[unsafe(no_mangle)]
+pub extern "C" fn roskevad_clean_index(alloc: Global, slot: &mut Slot) -> usize
+    ensures kept { slot.new.held.kept ≡ slot.old.held.kept }
+    ensures told { result ≡ told_number (option_map (λ s. clean_index_of (active_of s.machine)) slot.old.held.kept) }
+{
+    let Some(session) = slot.take(alloc) else {
+        return CLOSED;
+    };
+    let answer = session.clean_index().unwrap_or(NONE);
+    *slot = Slot::of_box(session);
+    answer
+}
+
+/// Whether the step at this place of the active document is a macro: 1 or 0, `NONE` past the last one or where no document
+/// is active, or `CLOSED`. The first step is at 0.
+#[unsafe(no_mangle)]
+pub extern "C" fn roskevad_is_macro(alloc: Global, slot: &mut Slot, at: usize) -> usize
+    ensures kept { slot.new.held.kept ≡ slot.old.held.kept }
+    ensures told { TellsOfStep (option_map (λ s. has_step (active_of s.machine) at) slot.old.held.kept) result }
+{
+    let Some(session) = slot.take(alloc) else {
+        return CLOSED;
+    };
+    let answer = match session.is_macro(at) {
+        Some(true) => 1,
+        Some(false) => 0,
+        None => NONE,
+    };
+    *slot = Slot::of_box(session);
+    answer
+}
+
+/// Closes a slot, and gives back its memory. A closed one stays closed.
+#[unsafe(no_mangle)]
+pub extern "C" fn roskevad_close(alloc: Global, slot: &mut Slot)
+    ensures { slot.new.held.kept ≡ None }
+{
+    let _ = slot.take(alloc);
+}
+
+/// Copies the version of the library, and answers its size.
+#[unsafe(no_mangle)]
+pub extern "C" fn roskevad_version(version: &mut [u8]) -> usize
+    ensures size { result ≡ size_of (Some (codes "0.1.0")) }
+    ensures copied { version.new ≡ filled (Some (codes "0.1.0")) version.old }
+{
+    copy_bytes(Some(b"0.1.0"), version)
+}

@@ -1,0 +1,44 @@
+-- A session, as contracts see it.
+use Rattle.std.specs.Prelude.{◌≡◌, ℕ, List, [], Bool, true, false, Option, None, Some, is_some}
+use Rattle.std.specs.Ordering.{nat_cmp}
+use Rattle.std.specs.Cmp.Lexicographic.{slice_cmp}
+use Rattle.std.specs.FinMap.{code}
+use Rattle.std.specs.Coded.{Coded, coded_ℕ, coded_list}
+use Rattle.region.specs.Cells.{set_of}
+use Rattle.region.specs.Runs.{IsMaximalRuns}
+use Rattle.region.specs.declared.runs.Run.{Run}
+use Rattle.undo_stack.specs.History.{History, current}
+use Rattle.undo_stack.specs.Reading.{text_at}
+use Rattle.session.specs.declared.reply.Reply.{Reply}
+use Rattle.editor.specs.Machine.{Machine, Workspace, workspace}
+use Rattle.map_store.specs.Files.{Files}
+
+-- how files are coded
+abbrev pub files_code : Coded Files
+files_code = code {R = slice_cmp nat_cmp} (coded_list coded_ℕ) (coded_list coded_ℕ)
+
+-- the machine, the files, and the reply to the last line, where it had one
+pub record SessionParts : Type 0 where
+  pub machine : Machine
+  pub files : Files
+  pub reply : Option Reply
+
+-- the machine over these files, which are kept in memory: no call of their store fails, and each does what it says
+abbrev pub workspace_of : SessionParts → Workspace
+workspace_of s = workspace s.machine (record { files = s.files; failures = 0; honest = true })
+
+-- ---- of the active document, where there is one
+-- the position at which it counts as clean
+abbrev pub clean_index_of : Option History → Option ℕ
+clean_index_of None = None
+clean_index_of (Some h) = h.clean
+
+-- whether it has a step at that place
+abbrev pub has_step : Option History → ℕ → Bool
+has_step None at = false
+has_step (Some h) at = is_some (text_at h at)
+
+-- the runs of its selection, in row order
+abbrev pub AreRunsOf : Option History → List Run → Type 0
+AreRunsOf None runs = runs ≡ []
+AreRunsOf (Some h) runs = IsMaximalRuns runs × (set_of runs ≡ (current h).selection)

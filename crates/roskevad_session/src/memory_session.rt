@@ -1,0 +1,178 @@
+use editor::{Edit, Editor};
+use map_store::{MapStore, MemoryStore};
+use region::Run;
+use session::Reply;
+use session_run::step;
+use std::alloc::{AllocError, Global};
+use std::marker::Model;
+use undo_stack::Stack;
+
+/// An editor, and the files that its lines open and save, in memory.
+///
+/// A caller sees the machine that the editor stands for, the files, and the reply to the last line.
+#[derive(Drop)]
+pub struct Session {
+    editor: Editor<Edit>,
+    store: MemoryStore,
+    // The reply to the last line, where it had one.
+    reply: Option<Reply>,
+    alloc: Global,
+}
+
+impl Model for Session {
+    ghost use Rattle.std.specs.Coded.{codes};
+    ghost use Rattle.map_model.specs.Document.{document_code};
+    ghost use Rattle.roskevad_session.specs.Parts.{SessionParts, files_code};
+
+    ghost Value = { SessionParts };
+
+    ghost coded = { Prim.hlevel (codes, document_code, files_code) };
+
+    ghost use Rattle.editor.specs.Editors.{IsSound, machine_of};
+    ghost use Rattle.editor.specs.Planning.{edit_change};
+    ghost use Rattle.map_store.specs.Kept.{files_of};
+
+    ghost view = { λ s. record { machine = machine_of edit_change s.editor; files = files_of s.store.files; reply = s.reply } };
+
+    ghost invariant = { λ s. IsSound edit_change s.editor };
+}
+
+impl Session {
+    ghost use Rattle.std.specs.Prelude.{◌≡◌, ◌≤◌, IfOk, IfErr, None, slice_get};
+    ghost use Rattle.std.specs.FinMap.{contains_key, empty, get, insert, keys, len, remove};
+    ghost use Rattle.std.specs.Option.{option_copied};
+    ghost use Rattle.undo_stack.specs.declared.limits.TheConstants.{MAX_LIMIT};
+    ghost use Rattle.editor.specs.Machine.{started_machine};
+    ghost use Rattle.editor.specs.Steps.{StepIn};
+    ghost use Rattle.roskevad_session.specs.Parts.{workspace_of};
+
+    /// A session with no documents and no files. The limit is the undo limit of each document when it is made, at most
+    /// 1,000,000, where 0 stands for none. Takes no memory.
+    pub fn new(alloc: Global, limit: usize) -> Session
+        requires { limit ≤ MAX_LIMIT }
+        ensures { result ≡ record { machine = started_machine limit; files = empty; reply = None } }
+    {
+        Session {
+            editor: Editor::new(alloc, limit),
+            store: MemoryStore::new(alloc),
+            reply: None,
+            alloc,
+        }
+    }
+
+    /// Does what a line asks for, and keeps the reply to it until the next line. The line has no newline at its end.
+    pub fn step(&mut self, line: &[u8])
+        ensures { StepIn line.now (workspace_of self.old) self.new.reply (workspace_of self.new) }
+    {
+        let put = |edit: Edit| -> Option<Edit>
+            ensures { result ≡ Some edit }
+        { Some(edit) };
+        self.reply = step(self.alloc, &mut self.editor, &mut self.store, line, &put);
+    }
+
+    /// The reply to the last line, and `None` where that line was quiet or there was none.
+    pub fn reply(&self) -> Option<&Reply>
+        ensures { option_copied result ≡ self.now.reply }
+    {
+        self.reply.as_ref()
+    }
+
+    /// Puts bytes under a name, in place of those that are there. Where there is no memory the session is as it was.
+    pub fn put_file(&mut self, name: &str, bytes: &[u8]) -> Result<(), AllocError>
+        ensures put { IfOk result (λ _. self.new ≡ record self.old { files = insert self.old.files name.now bytes.now }) }
+        ensures kept { IfErr result (λ _. self.new ≡ self.old) }
+    {
+        self.store
+            .store(self.alloc, name, bytes)
+            .map_err(|_| AllocError)
+    }
+
+    /// The bytes of a file, and `None` where there is none of that name.
+    pub fn file(&self, name: &str) -> Option<&[u8]>
+        ensures { option_copied result ≡ get self.now.files name.now }
+    {
+        self.store.file(name)
+    }
+
+    /// Takes a file out, and says whether there was one of that name.
+    pub fn remove_file(&mut self, name: &str) -> bool
+        ensures found { result ≡ contains_key self.old.files name.now }
+        ensures removed { self.new ≡ record self.old { files = remove self.old.files name.now } }
+    {
+        self.store.remove(name)
+    }
+
+    /// How many files there are.
+    pub fn file_count(&self) -> usize
+        ensures { result ≡ len self.now.files }
+    {
+        self.store.count()
+    }
+
+    /// The name of the file at a place in the order of names, where the first is at 0, and `None` past the last one.
+    pub fn file_name(&self, at: usize) -> Option<&str>
+        ensures { option_copied result ≡ slice_get (keys self.now.files) at }
+    {
+        self.store.name(at)
+    }
+}
+
+// What no line tells of the active document.
+impl Session {
+    ghost use Rattle.std.specs.Prelude.{◌≡◌, List, IfSome, is_some, length, slice_get};
+    ghost use Rattle.std.specs.Option.{option_map};
+    ghost use Rattle.undo_stack.specs.Stacks.{history, Holds};
+    ghost use Rattle.editor.specs.Machine.{active_of};
+    ghost use Rattle.editor.specs.Planning.{edit_change};
+    ghost use Rattle.region.specs.declared.runs.Run.{Run as RunOf};
+    ghost use Rattle.roskevad_session.specs.Parts.{clean_index_of, has_step, AreRunsOf};
+
+    // The stack of the active document.
+    fn active(&self) -> Option<&Stack<Edit>>
+        ensures active { option_map (λ stack. history edit_change stack.now) result ≡ active_of self.now.machine }
+        ensures held { IfSome result (λ stack. Holds edit_change stack.now) }
+    {
+        self.editor.group().active()
+    }
+
+    /// The index at which the active document counts as clean, and `None` where that was lost or no document is active.
+    pub fn clean_index(&self) -> Option<usize>
+        ensures { result ≡ clean_index_of (active_of self.now.machine) }
+    {
+        match self.active() {
+            Some(stack) => stack.clean_index(),
+            None => None,
+        }
+    }
+
+    /// Whether the step at this place of the active document is a macro, where the first step is at 0, and `None` past the
+    /// last one or where no document is active. An open macro stands last.
+    pub fn is_macro(&self, at: usize) -> Option<bool>
+        ensures { is_some result ≡ has_step (active_of self.now.machine) at }
+    {
+        match self.active() {
+            Some(stack) => stack.is_macro(at),
+            None => None,
+        }
+    }
+
+    /// How many runs the selection of the active document has, and 0 where no document is active.
+    pub fn selection_count(&self) -> usize
+        ensures { (runs : List RunOf) × AreRunsOf (active_of self.now.machine) runs × (result ≡ length runs) }
+    {
+        match self.active() {
+            Some(stack) => stack.document().selection().rows().count(),
+            None => 0,
+        }
+    }
+
+    /// The run at a place of that selection, in row order, and `None` past the last one.
+    pub fn selection_run(&self, at: usize) -> Option<Run>
+        ensures { (runs : List RunOf) × AreRunsOf (active_of self.now.machine) runs × (result ≡ slice_get runs at) }
+    {
+        match self.active() {
+            Some(stack) => stack.document().selection().rows().nth(at),
+            None => None,
+        }
+    }
+}
