@@ -1,0 +1,92 @@
+/* Opens a map, draws a fence, takes it back, draws it again and saves the map. From the top of a clone:
+ *
+ *   cc -O2 -Iinclude examples/fence.c lib/libroskevad.a -o fence
+ *   ./fence examples/maps/layers.tmj fenced.tmj
+ *   rm fence fenced.tmj
+ */
+#include <stdio.h>
+#include <stdlib.h>
+#include <string.h>
+
+#include "roskevad.h"
+
+/* Says what is wrong, and ends. */
+static void stop(const char *what)
+{
+    fprintf(stderr, "fence: %s\n", what);
+    exit(1);
+}
+
+/* The bytes of a file, which the caller frees. */
+static char *read_file(const char *path, size_t *size)
+{
+    FILE *file = fopen(path, "rb");
+    if (!file || fseek(file, 0, SEEK_END) != 0)
+        stop("the map cannot be read");
+    long end = ftell(file);
+    char *bytes = end < 0 ? NULL : malloc((size_t)end + 1);
+    if (!bytes)
+        stop("no memory");
+    rewind(file);
+    *size = fread(bytes, 1, (size_t)end, file);
+    fclose(file);
+    return bytes;
+}
+
+static void write_file(const char *path, const char *bytes, size_t size)
+{
+    FILE *file = fopen(path, "wb");
+    if (!file || fwrite(bytes, 1, size, file) != size || fclose(file) != 0)
+        stop("the map cannot be written");
+}
+
+/* Steps a line, shows its reply, and ends where it is refused. */
+static void step(roskevad_slot *slot, const char *line)
+{
+    char reply[256];
+    size_t size = roskevad_editor_step(slot, line, strlen(line), reply, sizeof reply);
+    if (size == ROSKEVAD_NONE || size == ROSKEVAD_IS_CLOSED || size > sizeof reply)
+        stop("a reply of another form");
+    printf("%s => %.*s\n", line, (int)size, reply);
+    if (size >= 3 && memcmp(reply, "no ", 3) == 0)
+        stop("a line was refused");
+}
+
+/* Writes a file of the session into a file of the folder. */
+static void save(roskevad_slot *slot, const char *name, const char *path)
+{
+    size_t size = roskevad_editor_file(slot, name, strlen(name), NULL, 0);
+    if (size == ROSKEVAD_NONE)
+        stop("nothing was saved");
+    char *bytes = malloc(size + 1);
+    if (!bytes)
+        stop("no memory");
+    roskevad_editor_file(slot, name, strlen(name), bytes, size);
+    write_file(path, bytes, size);
+    free(bytes);
+}
+
+int main(int count, char **words)
+{
+    if (count != 3)
+        stop("fence MAP FENCED_MAP");
+    roskevad_slot slot = ROSKEVAD_CLOSED;
+    if (roskevad_editor_open(&slot, 0) != ROSKEVAD_DONE)
+        stop("no memory");
+    size_t size;
+    char *bytes = read_file(words[1], &size);
+    if (roskevad_editor_put_file(&slot, "map.tmj", 7, bytes, size) != ROSKEVAD_DONE)
+        stop("no memory");
+    free(bytes);
+    step(&slot, "open map map.tmj");
+    step(&slot, "begin Fence");
+    step(&slot, "stamp 1 0 0 4 7,7,7,7");
+    step(&slot, "stamp 1 0 2 4 7,7,7,7");
+    step(&slot, "end");
+    step(&slot, "undo");
+    step(&slot, "redo");
+    step(&slot, "save map.tmj");
+    save(&slot, "map.tmj", words[2]);
+    roskevad_editor_close(&slot);
+    return 0;
+}

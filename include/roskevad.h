@@ -1,0 +1,174 @@
+/* The map editor as a library: a session in memory, which does the lines that docs/session.md lists.
+ *
+ * Call the functions whose names begin with `roskevad_editor_`. They are `static inline`, and give the library an address also where you
+ * have none: a null pointer is fine with them where the length is 0.
+ *
+ * What rests on the caller, and what nothing checks:
+ *   - A slot is all zero before its first `roskevad_open` (ROSKEVAD_CLOSED, or static storage), and after that only as a call
+ *     left it. It is never copied: the address that it was opened at is the one that it is used and closed at.
+ *   - One call at a time for a slot, and all of its calls on one thread. Two slots know nothing of each other, but one thread
+ *     for each of them at a time is all that is promised.
+ *   - No call from a signal handler, nor from the forked child of a process that has threads.
+ *   - Each pointer is to as many bytes as its length says. What a call writes to overlaps nothing else that it is given.
+ *   - No null pointer for a slot or a run; none at all for the functions `roskevad_*`, also at length 0.
+ *   - malloc, realloc and free are those of one allocator, which aligns to 16 bytes, and the stack has 256 KB left.
+ *
+ * Bytes come out to a buffer of the caller's: they stand at its front where all of them fit, and else the buffer is as it
+ * was. The answer is how many there are, so that a larger buffer can be made: the line is done by then, and is not to be
+ * stepped again, but `roskevad_reply` gives its reply again. */
+#ifndef ROSKEVAD_H
+#define ROSKEVAD_H
+
+#include <stdbool.h>
+#include <stddef.h>
+#include <stdint.h>
+
+#ifdef __cplusplus
+extern "C" {
+#endif
+
+/* The version of this header. `roskevad_version` gives that of the library. */
+#define ROSKEVAD_VERSION "0.1.0"
+
+/* The greatest undo limit. */
+#define ROSKEVAD_GREATEST_LIMIT 1000000
+
+/* What is answered in place of a length, a number or a place. */
+#define ROSKEVAD_DONE ((size_t)0)                    /* it is done, or it is there */
+#define ROSKEVAD_NONE (SIZE_MAX)                     /* there is none: no reply to a quiet line, no such file or place */
+#define ROSKEVAD_IS_CLOSED (SIZE_MAX - 1)            /* the slot is closed */
+#define ROSKEVAD_NO_MEMORY (SIZE_MAX - 2)            /* no memory is left for it, and all is as it was */
+#define ROSKEVAD_TOO_GREAT (SIZE_MAX - 3)            /* the undo limit is above the greatest */
+#define ROSKEVAD_BAD_NAME (SIZE_MAX - 4)             /* no line can spell that name of a file */
+
+/* What a session is kept in. Its fields are the library's. */
+typedef struct roskevad_slot {
+    void *at;
+    bool is_open;
+} roskevad_slot;
+
+#define ROSKEVAD_CLOSED { 0, 0 }
+
+/* A run of cells of a row: a row, the column of its first cell, and how many cells it has. */
+typedef struct roskevad_run {
+    uint32_t row;
+    uint32_t column;
+    uint32_t count;
+} roskevad_run;
+
+/* ---- the library's own names; their pointers are never null */
+size_t roskevad_open(roskevad_slot *slot, size_t limit);
+size_t roskevad_step(roskevad_slot *slot, const uint8_t *line, size_t line_length, uint8_t *reply, size_t room);
+size_t roskevad_reply(roskevad_slot *slot, uint8_t *reply, size_t room);
+size_t roskevad_put_file(roskevad_slot *slot, const uint8_t *name, size_t name_length, const uint8_t *bytes, size_t length);
+size_t roskevad_file(roskevad_slot *slot, const uint8_t *name, size_t name_length, uint8_t *bytes, size_t room);
+size_t roskevad_remove_file(roskevad_slot *slot, const uint8_t *name, size_t name_length);
+size_t roskevad_file_count(roskevad_slot *slot);
+size_t roskevad_file_name(roskevad_slot *slot, size_t at, uint8_t *name, size_t room);
+size_t roskevad_selection_count(roskevad_slot *slot);
+size_t roskevad_selection_run(roskevad_slot *slot, size_t at, roskevad_run *run);
+size_t roskevad_clean_index(roskevad_slot *slot);
+size_t roskevad_is_macro(roskevad_slot *slot, size_t at);
+void roskevad_close(roskevad_slot *slot);
+size_t roskevad_version(uint8_t *version, size_t room);
+
+/* ---- what to call */
+/* An address that is never null: that of a byte of the header's own where there is none. It is neither read nor written. */
+static inline uint8_t *roskevad_somewhere(const void *bytes)
+{
+    static uint8_t nothing;
+    return bytes ? (uint8_t *)bytes : &nothing;
+}
+
+/* Opens a slot, closing it first where it is open. The limit is the undo limit of each document when it is made, where 0
+ * stands for none. ROSKEVAD_DONE, ROSKEVAD_NO_MEMORY or ROSKEVAD_TOO_GREAT; the slot is closed after the last two. */
+static inline size_t roskevad_editor_open(roskevad_slot *slot, size_t limit)
+{
+    return roskevad_open(slot, limit);
+}
+
+/* Does what a line asks for; the line has no newline at its end. The reply's size, ROSKEVAD_NONE where the line is quiet, or
+ * ROSKEVAD_IS_CLOSED. */
+static inline size_t roskevad_editor_step(roskevad_slot *slot, const char *line, size_t line_length, char *reply, size_t room)
+{
+    return roskevad_step(slot, roskevad_somewhere(line), line_length, roskevad_somewhere(reply), room);
+}
+
+/* The reply to the last line again. Its size, ROSKEVAD_NONE where there is none, or ROSKEVAD_IS_CLOSED. */
+static inline size_t roskevad_editor_reply(roskevad_slot *slot, char *reply, size_t room)
+{
+    return roskevad_reply(slot, roskevad_somewhere(reply), room);
+}
+
+/* Puts bytes under a name, in place of those that are there. ROSKEVAD_DONE, ROSKEVAD_NO_MEMORY, ROSKEVAD_BAD_NAME or
+ * ROSKEVAD_IS_CLOSED. */
+static inline size_t roskevad_editor_put_file(roskevad_slot *slot, const char *name, size_t name_length, const void *bytes, size_t length)
+{
+    return roskevad_put_file(slot, roskevad_somewhere(name), name_length, roskevad_somewhere(bytes), length);
+}
+
+/* The bytes under a name. How many there are, ROSKEVAD_NONE where there is no such file, or ROSKEVAD_IS_CLOSED. */
+static inline size_t roskevad_editor_file(roskevad_slot *slot, const char *name, size_t name_length, void *bytes, size_t room)
+{
+    return roskevad_file(slot, roskevad_somewhere(name), name_length, roskevad_somewhere(bytes), room);
+}
+
+/* Takes a file out. ROSKEVAD_DONE, ROSKEVAD_NONE where there is no such file, or ROSKEVAD_IS_CLOSED. */
+static inline size_t roskevad_editor_remove_file(roskevad_slot *slot, const char *name, size_t name_length)
+{
+    return roskevad_remove_file(slot, roskevad_somewhere(name), name_length);
+}
+
+/* How many files there are, or ROSKEVAD_IS_CLOSED. */
+static inline size_t roskevad_editor_file_count(roskevad_slot *slot)
+{
+    return roskevad_file_count(slot);
+}
+
+/* The name of the file at a place in the order of names, from 0. Its size, ROSKEVAD_NONE or ROSKEVAD_IS_CLOSED. */
+static inline size_t roskevad_editor_file_name(roskevad_slot *slot, size_t at, char *name, size_t room)
+{
+    return roskevad_file_name(slot, at, roskevad_somewhere(name), room);
+}
+
+/* How many runs the selection of the active document has, 0 where none is active, or ROSKEVAD_IS_CLOSED. */
+static inline size_t roskevad_editor_selection_count(roskevad_slot *slot)
+{
+    return roskevad_selection_count(slot);
+}
+
+/* The run at a place of that selection, in row order, from 0. ROSKEVAD_DONE, ROSKEVAD_NONE or ROSKEVAD_IS_CLOSED. */
+static inline size_t roskevad_editor_selection_run(roskevad_slot *slot, size_t at, roskevad_run *run)
+{
+    return roskevad_selection_run(slot, at, run);
+}
+
+/* The index at which the active document counts as clean, ROSKEVAD_NONE or ROSKEVAD_IS_CLOSED. */
+static inline size_t roskevad_editor_clean_index(roskevad_slot *slot)
+{
+    return roskevad_clean_index(slot);
+}
+
+/* Whether the step at this place of the active document, from 0, is a macro: 1, 0, ROSKEVAD_NONE or ROSKEVAD_IS_CLOSED. */
+static inline size_t roskevad_editor_is_macro(roskevad_slot *slot, size_t at)
+{
+    return roskevad_is_macro(slot, at);
+}
+
+/* Closes a slot, and gives back its memory. A closed one stays closed. */
+static inline void roskevad_editor_close(roskevad_slot *slot)
+{
+    roskevad_close(slot);
+}
+
+/* The version of the library. Its size. */
+static inline size_t roskevad_editor_version(char *version, size_t room)
+{
+    return roskevad_version(roskevad_somewhere(version), room);
+}
+
+#ifdef __cplusplus
+}
+#endif
+
+#endif

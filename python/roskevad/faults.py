@@ -1,0 +1,22 @@
+"""What an editor raises."""
+from .forms import forms_of
+
+
+class Refused(Exception):
+    """A line was refused, and nothing was done.
+
+    `code` is the number of the refusal, `words` what it says, and `line` the line. Where the line is of no command, or is not
+    as its command has it, `forms` are the forms to write it in.
+    """
+
+    def __init__(self, code: int, words: str, line: str):
+        self.code = code
+        self.words = words
+        self.line = line
+        self.forms = forms_of(line) if code in (3, 4) else ()
+        told = f'{code} {words}: {line[:200]}'
+        super().__init__('\n  '.join([told, *self.forms]))
+
+
+class Closed(Exception):
+    """The editor was closed, or this process is a fork of the one that opened it."""

@@ -1,0 +1,69 @@
+"""Loads the library, and declares its functions."""
+import ctypes
+from pathlib import Path
+
+#: The version of this package, which that of the library must be.
+VERSION = '0.1.0'
+
+DONE = 0
+NONE = 2**64 - 1
+CLOSED = 2**64 - 2
+NO_MEMORY = 2**64 - 3
+TOO_GREAT = 2**64 - 4
+BAD_NAME = 2**64 - 5
+
+
+class Slot(ctypes.Structure):
+    """What a session is kept in. All zero is a closed one."""
+
+    _fields_ = [('at', ctypes.c_void_p), ('is_open', ctypes.c_bool)]
+
+
+class SelectionRun(ctypes.Structure):
+    """A run of cells of a row."""
+
+    _fields_ = [('row', ctypes.c_uint32), ('column', ctypes.c_uint32), ('count', ctypes.c_uint32)]
+
+
+_SIZE, _SLOT, _BYTES = ctypes.c_size_t, ctypes.POINTER(Slot), ctypes.c_char_p
+_ROOM = ctypes.c_void_p
+_PARAMETERS = {
+    'open': [_SLOT, _SIZE],
+    'step': [_SLOT, _BYTES, _SIZE, _ROOM, _SIZE],
+    'reply': [_SLOT, _ROOM, _SIZE],
+    'put_file': [_SLOT, _BYTES, _SIZE, _BYTES, _SIZE],
+    'file': [_SLOT, _BYTES, _SIZE, _ROOM, _SIZE],
+    'remove_file': [_SLOT, _BYTES, _SIZE],
+    'file_count': [_SLOT],
+    'file_name': [_SLOT, _SIZE, _ROOM, _SIZE],
+    'selection_count': [_SLOT],
+    'selection_run': [_SLOT, _SIZE, ctypes.POINTER(SelectionRun)],
+    'clean_index': [_SLOT],
+    'is_macro': [_SLOT, _SIZE],
+    'close': [_SLOT],
+    'version': [_ROOM, _SIZE],
+}
+
+
+def library_path() -> Path:
+    """The library beside this file, where the package is installed, and else that of the clone."""
+    here = Path(__file__).resolve().parent
+    beside = here / 'libroskevad.so'
+    return beside if beside.exists() else here.parent.parent / 'lib' / 'libroskevad.so'
+
+
+def load() -> ctypes.CDLL:
+    """The library. Raises ImportError where it is of another version, and OSError where it cannot be loaded."""
+    library = ctypes.CDLL(str(library_path()))
+    for name, parameters in _PARAMETERS.items():
+        function = getattr(library, f'roskevad_{name}')
+        function.argtypes = parameters
+        function.restype = None if name == 'close' else _SIZE
+    room = ctypes.create_string_buffer(32)
+    size = library.roskevad_version(room, 32)
+    if room.raw[:size] != VERSION.encode():
+        raise ImportError(f'roskevad {VERSION} found the library {room.raw[:size]!r}')
+    return library
+
+
+LIBRARY = load()
