@@ -67,6 +67,23 @@ class Run:
         self.replies += times([spelled(reply) for _, reply in rows if reply is not None], count)
 
 
+class Script(Run):
+    """A run that is told line by line."""
+
+    def put(self, name, data):
+        """A file of the folder before the run."""
+        self.before[name] = self.after[name] = data
+
+    def say(self, line, reply):
+        """A line and its reply, or None for a quiet one."""
+        self.session += line.encode() + b'\n'
+        self.replies += reply.encode() + b'\n' if reply is not None else b''
+
+    def save(self, name, text):
+        self.say(f'save {name}', f'saved {name} {len(text)}')
+        self.after[name] = text
+
+
 def file_of(text):
     """A file's name in the folder of a run, and its bytes, which are those of a file of the repository."""
     name, path = text.decode().split(' ')
@@ -122,6 +139,23 @@ def all_runs():
 def text_of(tree):
     """The text of JSON that is written for a tree: compact, with the members of each object in byte order of their names."""
     return json.dumps(tree, sort_keys=True, ensure_ascii=False, separators=(',', ':')).encode()
+
+
+def layers_in(layers):
+    """The layers of a list and those within its groups, in drawing order."""
+    for layer in layers:
+        yield layer
+        if layer['type'] == 'group':
+            yield from layers_in(layer['layers'])
+
+
+def written(data):
+    """The text of a map that Tiled saved as it is written, from that of its file."""
+    tree = json.loads(data)
+    tree.update(version='1.10', infinite=False)
+    for layer in layers_in(tree['layers']):
+        layer.pop('compression', None)
+    return text_of(tree)
 
 
 def files_in(folder):

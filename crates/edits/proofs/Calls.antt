@@ -3,7 +3,7 @@ use Rattle.std.proofs.Common.{◌≡◌, inl, inr, ℕ, ◌/◌, ◌%◌, ◌*�
 use Rattle.std.specs.FinSet as set
 use Rattle.region.specs.Cells.{cell_cmp}
 use Rattle.map_model.specs.declared.parts.Body.{Body}
-use Rattle.map_model.specs.declared.parts.Body.TheVariants.{Tiles, Objects, Other}
+use Rattle.map_model.specs.declared.parts.Body.TheVariants.{Tiles, Objects, Other, Group'}
 use Rattle.map_model.specs.declared.parts.Layer.{Layer}
 use Rattle.map_model.specs.declared.parts.MapParts.{MapParts}
 use Rattle.map_model.specs.declared.edit.CellEdit.{CellEdit}
@@ -43,6 +43,7 @@ tiles_of_found (Some l) tiles e = by_body l.body e
     by_body (Tiles f cells) e = (tt, cc)
     by_body (Objects os) e = cc
     by_body Other e = cc
+    by_body (Group' s r) e = cc
 
 -- the values that an edit finds
 pub IsTheLayer-found : (m : MapParts) (id : ℕ) (tiles : List ℕ) → IsWellFormed m → tiles_or_fault (layer_of m id) ≡ Ok tiles → IsTheLayer m id tiles

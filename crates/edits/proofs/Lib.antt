@@ -12,6 +12,7 @@ pub mod Overs
 pub mod Reaches
 pub mod Reaching
 pub mod Resized
+pub mod ResizedTrees
 pub mod RowOrder
 pub mod SelectedPlaces
 pub mod RowParts

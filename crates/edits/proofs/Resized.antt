@@ -1,5 +1,5 @@
 -- A document on the canvas of its new size.
-use Rattle.std.proofs.Common.{◌≡◌, ℕ, ℤ, pos, negsuc, zero, suc, ◌+◌, ◌*◌, ◌≤◌, ◌<◌, ◌≤ℤ◌, ◌*ℤ◌, ◌-ℤ◌, neg_ℤ, List, [], ◌∷◌, ◌++◌, length, map, get_or, Bool, true, false, cond, ◌&&◌, nat_lt, Option, Some, None, option_and_then, IfSome, refl, sym, ap, ◌∙◌, arith, append_assoc, length-append}
+use Rattle.std.proofs.Common.{◌≡◌, ℕ, ℤ, pos, negsuc, zero, suc, ◌+◌, ◌*◌, ◌≤◌, ◌<◌, ◌≤ℤ◌, ◌*ℤ◌, ◌-ℤ◌, neg_ℤ, List, [], ◌∷◌, length, map, Bool, true, false, cond, ◌&&◌, nat_lt, Option, Some, None, option_and_then, IfSome, refl, sym, ap, ◌∙◌, arith, length-append}
 use Rattle.std.specs.Int.Signed.{le_z_yes}
 use Rattle.std.specs.Prelude.{T, int_le, slice_get, unsigned_abs}
 use Rattle.std.specs.FinSet as set
@@ -7,7 +7,6 @@ use Rattle.std.specs.List.{list_all, flat_map, range_with_len}
 use Rattle.std.specs.Option.{unwrap_or}
 use Rattle.std.proofs.Math.IntN.{negsuc-*ℤ-pos}
 use Rattle.std.proofs.Math.Nat.{mul-le-mul}
-use Rattle.std.proofs.Math.Seq.{get_or-append_seam}
 use Rattle.std.proofs.lemmas.Bool.Decides.{nat_tests}
 use Rattle.std.proofs.lemmas.Int.{ints}
 use Rattle.std.proofs.lemmas.List.{length-map, map-append}
@@ -16,45 +15,22 @@ use Rattle.region.specs.Cells.{cell_cmp, in_moved_cut, in_rectangle, has_at, rec
 use Rattle.region.specs.Equality.{cell_cmp_total}
 use Rattle.region.proofs.Members.{cell_cmp-same, contains-rectangle}
 use Rattle.map_model.specs.declared.canvas.Canvas.{Canvas}
-use Rattle.map_model.specs.declared.limits.TheConstants.{MAX_PIXELS, MAX_TILE_SIDE}
+use Rattle.map_model.specs.declared.limits.TheConstants.{MAX_GROUPS, MAX_PIXELS, MAX_TILE_SIDE}
 use Rattle.map_model.specs.declared.parts.Body.{Body}
-use Rattle.map_model.specs.declared.parts.Body.TheVariants.{Tiles, Objects, Other}
+use Rattle.map_model.specs.declared.parts.Body.TheVariants.{Tiles, Objects, Other, Group'}
 use Rattle.map_model.specs.declared.parts.Layer.{Layer}
 use Rattle.map_model.specs.declared.parts.Object.{Object}
-use Rattle.map_model.specs.Canvas.{lists_in, lists_of, tile_layers, object_moved, body_on, layers_on, with_canvas, IsShift, AreCells, MayBeMoved, BodyMayBeMoved, IsCanvasOf}
-use Rattle.map_model.specs.Bodies.{body_with_tiles}
+use Rattle.map_model.specs.Canvas.{lists_in, lists_of, tile_layers, with_canvas, IsShift, AreCells, MayBeDrawn, MayBeMoved, BodyMayBeMoved, IsCanvasOf}
 use Rattle.map_model.specs.Document.{DocumentParts, IsDocument}
-use Rattle.map_model.specs.Keeping.{layer_level, object_level}
+use Rattle.map_model.specs.Groups.{all_drawn}
+use Rattle.map_model.specs.Keeping.{object_level}
 use Rattle.map_model.specs.Lists.{Each}
-use Rattle.map_model.specs.Objects.{objects_in, objects_of, body_with_objects}
-use Rattle.map_model.specs.WellFormed.{IsSize, IsTileValue, IsPixels, IsObject, IsBody, IsLayer}
+use Rattle.map_model.specs.Objects.{objects_in}
+use Rattle.map_model.specs.WellFormed.{IsSize, IsTileValue, IsPixels, IsObject, IsBody, IsDrawn}
 use Rattle.map_model.proofs.Listings.{Each-append}
 use Rattle.edits.specs.Blocks.{ValueBlock, offset, value_in}
-use Rattle.edits.specs.Resizing.{row, table, value_at, layer_block, resized_values, pixels_right, pixels_down, are_pixels, stays, all_stay, objects_stay, resized_layer, resized_selection, resized, IsDistance}
-
--- ---- layers
-body-with : (c : Canvas) (f : List ℕ → List ℕ) (place : ℕ) (b : Body) → ((e : List ℕ) → lists_in b ≡ e ∷ [] → get_or c.layers place e ≡ f e)
-    → body_on c place b ≡ body_with_objects (map (object_moved c.right c.down)) (body_with_tiles f b)
-body-with c f place (Tiles e own) h = ap (Tiles e) (h own refl)
-body-with c f place (Objects os) h = refl
-body-with c f place Other h = refl
-
--- a layer with f of its values, or with its objects moved
-abbrev layer-with : (List ℕ → List ℕ) → ℤ → ℤ → Layer → Layer
-layer-with f right down l = record l { body = body_with_objects (map (object_moved right down)) (body_with_tiles f l.body) }
-
-layers-with : (c : Canvas) (f : List ℕ → List ℕ) (front : List (List ℕ)) (place : ℕ) (ls : List Layer) → c.layers ≡ front ++ map f (flat_map lists_of ls) → place ≡ length front
-    → layers_on c place ls ≡ map (layer-with f c.right c.down) ls
-layers-with c f front place [] held is = refl
-layers-with c f front place (l ∷ ls) held is =
-    let cut : c.layers ≡ front ++ (map f (lists_of l) ++ map f (flat_map lists_of ls)) = held ∙ ap (λ xs. front ++ xs) (map-append f (lists_of l) (flat_map lists_of ls)) in
-    let next : place + length (lists_of l) ≡ length (front ++ map f (lists_of l)) = omega (arith, length-append front (map f (lists_of l)), length-map (lists_of l) f) in
-    let rest = layers-with c f (front ++ map f (lists_of l)) (place + length (lists_of l)) ls (cut ∙ sym (append_assoc front (map f (lists_of l)) (map f (flat_map lists_of ls)))) next in
-    let own = λ (cells : List ℕ) (only : lists_in l.body ≡ cells ∷ []).
-    let at : c.layers ≡ front ++ (f cells ∷ map f (flat_map lists_of ls)) = cut ∙ ap (λ xs. front ++ (map f xs ++ map f (flat_map lists_of ls))) only in
-    ap (λ xs. get_or xs place cells) at ∙ ap (λ k. get_or (front ++ (f cells ∷ map f (flat_map lists_of ls))) k cells) is
-    ∙ get_or-append_seam front (f cells) (map f (flat_map lists_of ls)) cells in
-    λ i. record l { body = body-with c f place l.body own i } ∷ rest i
+use Rattle.edits.specs.Resizing.{row, table, drawn_stays, each_under, value_at, layer_block, resized_values, pixels_right, pixels_down, are_pixels, stays, all_stay, objects_stay, resized_layer, resized_selection, resized, IsDistance}
+use Rattle.edits.proofs.ResizedTrees.{layer-with, layers-with}
 
 -- ---- the values of a table
 length-table : (f : ℕ → ℕ → ℕ) (width height : ℕ) → length (table f width height) ≡ width * height
@@ -99,13 +75,25 @@ layer-cells : (level size more : ℕ) (f : List ℕ → List ℕ) → ((cells : 
 layer-cells level size more f good (Tiles e own) h = (good own h.1, tt)
 layer-cells level size more f good (Objects os) h = tt
 layer-cells level size more f good Other h = tt
+layer-cells level size more f good (Group' s r) h = tt
 
-layers-cells : (level size more : ℕ) (f : List ℕ → List ℕ) → ((cells : List ℕ) → Each IsTileValue cells → AreCells more (f cells)) → (ls : List Layer) → Each (IsLayer level size) ls
-    → Each (AreCells more) (map f (flat_map lists_of ls))
-layers-cells level size more f good [] h = tt
-layers-cells level size more f good (l ∷ ls) h =
-    rw (map-append f (lists_of l) (flat_map lists_of ls))
-    (Each-append (AreCells more) (map f (lists_of l)) (map f (flat_map lists_of ls)) (layer-cells level size more f good l.body h.0.body) (layers-cells level size more f good ls h.1))
+layers-cells : (size more : ℕ) (f : List ℕ → List ℕ) → ((cells : List ℕ) → Each IsTileValue cells → AreCells more (f cells)) → (ds : List (ℕ × Layer)) → Each (IsDrawn size) ds
+    → Each (AreCells more) (map f (flat_map lists_of ds))
+layers-cells size more f good [] h = tt
+layers-cells size more f good (d ∷ ds) h =
+    rw (map-append f (lists_of d) (flat_map lists_of ds))
+    (Each-append (AreCells more) (map f (lists_of d)) (map f (flat_map lists_of ds)) (layer-cells d.0 size more f good d.1.body h.0.body) (layers-cells size more f good ds h.1))
+
+own-cells : (level size : ℕ) (b : Body) → IsBody level size b → Each (AreCells size) (lists_in b)
+own-cells level size (Tiles e own) h = (h, tt)
+own-cells level size (Objects os) h = tt
+own-cells level size Other h = tt
+own-cells level size (Group' s r) h = tt
+
+-- the cells of each tile layer are as many as those of the map
+pub drawn-cells : (size : ℕ) (ds : List (ℕ × Layer)) → Each (IsDrawn size) ds → Each (AreCells size) (flat_map lists_of ds)
+drawn-cells size [] h = tt
+drawn-cells size (d ∷ ds) h = Each-append (AreCells size) (lists_of d) (flat_map lists_of ds) (own-cells d.0 size d.1.body h.0.body) (drawn-cells size ds h.1)
 
 and-left : (a b : Bool) → (a && b) ≡ true → a ≡ true
 and-left true b e = refl
@@ -147,14 +135,14 @@ body-may : (right down : ℤ) (level size : ℕ) (b : Body) → IsBody level siz
 body-may right down level size (Tiles e own) h stay = tt
 body-may right down level size (Objects os) h stay = objects-may right down (object_level level) os h.1 stay
 body-may right down level size Other h stay = tt
+body-may right down level size (Group' s r) h stay = tt
 
-layers-may : (right down : ℤ) (level size : ℕ) (ls : List Layer) → Each (IsLayer level size) ls → list_all (λ l. all_stay right down (objects_of l)) ls ≡ true
-    → Each (λ l. BodyMayBeMoved right down l.body) ls
-layers-may right down level size [] h stay = tt
-layers-may right down level size (l ∷ ls) h stay =
-    let first = and-left (all_stay right down (objects_in l.body)) (list_all (λ k. all_stay right down (objects_of k)) ls) stay in
-    let rest = and-right (all_stay right down (objects_in l.body)) (list_all (λ k. all_stay right down (objects_of k)) ls) stay in
-    (body-may right down level size l.body h.0.body first, layers-may right down level size ls h.1 rest)
+layers-may : (right down : ℤ) (size : ℕ) (ds : List (ℕ × Layer)) → Each (IsDrawn size) ds → list_all (drawn_stays right down) ds ≡ true → Each (MayBeDrawn right down) ds
+layers-may right down size [] h stay = tt
+layers-may right down size (d ∷ ds) h stay =
+    let first = and-left (drawn_stays right down d) (list_all (drawn_stays right down) ds) stay in
+    let rest = and-right (drawn_stays right down d) (list_all (drawn_stays right down) ds) stay in
+    (body-may right down d.0 size d.1.body h.0.body first, layers-may right down size ds h.1 rest)
 
 within-map : (width height : ℕ) (q : ℕ × ℕ) → (nat_lt q.0 width && nat_lt q.1 height) ≡ in_rectangle 0 0 width height q
 within-map width height q = grind (arith, nat_tests)
@@ -190,9 +178,9 @@ module _ (d : DocumentParts) (width height : ℕ) (dx dy : ℤ) (lists : List (L
   pub canvas-resized : with_canvas (record { width = width; height = height; layers = lists; selection = s; right = right; down = down }) d ≡ resized d width height dx dy
   canvas-resized =
       let c : Canvas = record { width = width; height = height; layers = lists; selection = s; right = right; down = down } in
-      let on = layers-with c (resized_values d.map width height dx dy) [] 0 d.map.layers laid refl in
-      let moved : map (layer-with (resized_values d.map width height dx dy) right down) d.map.layers ≡ map (resized_layer d.map width height dx dy) d.map.layers
-      = λ i. map (layer-with (resized_values d.map width height dx dy) (right_is i) (down_is i)) d.map.layers in
+      let on = layers-with c (resized_values d.map width height dx dy) MAX_GROUPS d.map.layers laid in
+      let moved : map (each_under MAX_GROUPS (layer-with (resized_values d.map width height dx dy) right down)) d.map.layers ≡ map (each_under MAX_GROUPS (resized_layer d.map width height dx dy)) d.map.layers
+      = λ i. map (each_under MAX_GROUPS (layer-with (resized_values d.map width height dx dy) (right_is i) (down_is i))) d.map.layers in
       λ i. record { map = record d.map { width = width; height = height; layers = (on ∙ moved) i }; selection = selection-is i }
 
   pub canvas-fits : IsDocument d → IsSize width height → objects_stay right down d.map ≡ true → IsShift right → IsShift down
@@ -202,13 +190,13 @@ module _ (d : DocumentParts) (width height : ℕ) (dx dy : ℤ) (lists : List (L
       record {
         size = size;
         count = ap length laid ∙ length-map (tile_layers d.map) f;
-        cells = rw laid (layers-cells layer_level (d.map.width * d.map.height) (width * height) f (λ own range.
+        cells = rw laid (layers-cells (d.map.width * d.map.height) (width * height) f (λ own range.
             (length-table (value_at (layer_block d.map dx dy own)) width height, Each-table IsTileValue (value_at (layer_block d.map dx dy own)) (λ x y. value-range (layer_block d.map dx dy own) x y range) width height))
-            d.map.layers h.map.layers.each);
+            (all_drawn d.map.layers) h.map.layers.each);
         selection = λ q one.
             let both = and-left (nat_lt q.0 width && nat_lt q.1 height) (has_at d.selection (pos q.0 -ℤ dx) (pos q.1 -ℤ dy)) (sym (cells q) ∙ one) in
             (less q.0 width (and-left (nat_lt q.0 width) (nat_lt q.1 height) both), less q.1 height (and-right (nat_lt q.0 width) (nat_lt q.1 height) both));
         right = right_fits;
         down = down_fits;
-        objects = layers-may right down layer_level (d.map.width * d.map.height) d.map.layers h.map.layers.each stay;
+        objects = layers-may right down (d.map.width * d.map.height) (all_drawn d.map.layers) h.map.layers.each stay;
       }

@@ -7,7 +7,8 @@ use Rattle.map_model.specs.declared.parts.LayerKind.{LayerKind}
 use Rattle.map_model.specs.declared.parts.MapParts.{MapParts}
 use Rattle.map_model.specs.declared.place.LayerPlace.{LayerPlace}
 use Rattle.map_model.specs.Document.{DocumentParts, with_map}
-use Rattle.map_model.specs.Layers.{layer_place, layer_at, last_place, sibling_place, with_layer_at, without_layer_at, layer_with_name, layer_with_visible, with_next_ids}
+use Rattle.map_model.specs.Groups.{all_drawn}
+use Rattle.map_model.specs.Layers.{layer_place, layer_at, last_place, sibling_count, sibling_place, with_layer_at, without_layer_at, layer_with_name, layer_with_visible, with_next_ids}
 use Rattle.map_model.specs.NewMap.{new_layer}
 use Rattle.map_model.specs.Parts.{layer_of, with_layer}
 use Rattle.map_model.specs.Steps.{◌>>=◌, ◌>>◌, check}
@@ -23,9 +24,9 @@ with_last l m = with_next_ids (m.next_layer_id + 1) m.next_object_id (with_layer
 abbrev pub next_layer : LayerKind → List ℕ → MapParts → Layer
 next_layer kind name m = new_layer kind m.next_layer_id name (m.width * m.height)
 
--- there may be one more layer, and one more id
+-- there may be one more layer, those in groups counted too, and one more id
 abbrev pub has_room : MapParts → Bool
-has_room m = nat_lt (length m.layers) MAX_LAYERS && nat_lt m.next_layer_id MAX_NEXT_ID
+has_room m = nat_lt (length (all_drawn m.layers)) MAX_LAYERS && nat_lt m.next_layer_id MAX_NEXT_ID
 
 abbrev pub after_add : DocumentParts → LayerKind → List ℕ → Result DocumentParts EditFault
 after_add d kind name = do
@@ -51,7 +52,7 @@ with_layer_moved from to m = put_in (layer_at m from) to (without_layer_at from 
 abbrev pub after_move : DocumentParts → ℕ → ℕ → Result DocumentParts EditFault
 after_move d id to = do
   from ← ok_or (layer_place d.map id) NoSuchLayer
-  check (nat_lt to (length d.map.layers)) OutOfRange
+  check (nat_lt to (sibling_count d.map from)) OutOfRange
   Ok (with_map (with_layer_moved from (sibling_place from to)) d)
 
 -- ---- a layer changed where it stands

@@ -2,7 +2,7 @@
 use Rattle.std.specs.Prelude.{ℕ, List, Bool, ◌||◌, nat_eq, Option, is_some, Result, Ok, Err}
 use Rattle.std.specs.Option.{ok_or}
 use Rattle.map_model.specs.declared.parts.Body.{Body}
-use Rattle.map_model.specs.declared.parts.Body.TheVariants.{Tiles, Objects, Other}
+use Rattle.map_model.specs.declared.parts.Body.TheVariants.{Tiles, Objects, Other, Group'}
 use Rattle.map_model.specs.declared.parts.Layer.{Layer}
 use Rattle.map_model.specs.declared.parts.MapParts.{MapParts}
 use Rattle.map_model.specs.Tilesets.{tileset_of}
@@ -14,6 +14,7 @@ abbrev pub body_tiles_or_fault : Body → Result (List ℕ) EditFault
 body_tiles_or_fault (Tiles e cells) = Ok cells
 body_tiles_or_fault (Objects os) = Err LayerOfAnotherKind
 body_tiles_or_fault Other = Err LayerOfAnotherKind
+body_tiles_or_fault (Group' s r) = Err LayerOfAnotherKind
 
 -- the values of a tile layer
 abbrev pub tiles_or_fault : Option Layer → Result (List ℕ) EditFault

@@ -5,12 +5,13 @@ use Rattle.std.specs.FinSet as set
 use Rattle.std.specs.List.{list_all, range_with_len}
 use Rattle.std.specs.Option.{unwrap_or}
 use Rattle.region.specs.Cells.{cell_cmp, has_at, rectangle}
-use Rattle.map_model.specs.declared.limits.TheConstants.{MAX_PIXELS}
+use Rattle.map_model.specs.declared.limits.TheConstants.{MAX_GROUPS, MAX_PIXELS}
 use Rattle.map_model.specs.declared.parts.Layer.{Layer}
 use Rattle.map_model.specs.declared.parts.MapParts.{MapParts}
 use Rattle.map_model.specs.declared.parts.Object.{Object}
 use Rattle.map_model.specs.Canvas.{object_moved, placing_moved}
 use Rattle.map_model.specs.Document.{DocumentParts}
+use Rattle.map_model.specs.Groups.{all_drawn, layer_with_layers}
 use Rattle.map_model.specs.Objects.{objects_of, layer_with_objects}
 use Rattle.map_model.specs.Parts.{layer_with_tiles}
 use Rattle.map_model.specs.Sizes.{is_size}
@@ -60,17 +61,30 @@ abbrev pub all_stay : ℤ → ℤ → Option (List Object) → Bool
 all_stay right down None = true
 all_stay right down (Some os) = list_all (stays right down) os
 
+-- each object of a layer, with its level
+abbrev pub drawn_stays : ℤ → ℤ → ℕ × Layer → Bool
+drawn_stays right down d = all_stay right down (objects_of d.1)
+
 -- each object of the map does
 abbrev pub objects_stay : ℤ → ℤ → MapParts → Bool
-objects_stay right down m = list_all (λ l. all_stay right down (objects_of l)) m.layers
+objects_stay right down m = list_all (drawn_stays right down) (all_drawn m.layers)
 
 -- ---- the map
 abbrev pub resized_layer : MapParts → ℕ → ℕ → ℤ → ℤ → Layer → Layer
 resized_layer m width height dx dy l =
     layer_with_objects (map (object_moved (pixels_right m dx) (pixels_down m dy))) (layer_with_tiles (resized_values m width height dx dy) l)
 
+-- f of a layer, and of those that stand in it, in as many groups as there is room for
+unfoldable pub each_under : ℕ → (Layer → Layer) → Layer → Layer
+each_under zero f l = f l
+each_under (suc room) f l = layer_with_layers (map (each_under room f)) (f l)
+
 abbrev pub resized_map : ℕ → ℕ → ℤ → ℤ → MapParts → MapParts
-resized_map width height dx dy m = record m { width = width; height = height; layers = map (resized_layer m width height dx dy) m.layers }
+resized_map width height dx dy m = record m {
+  width = width;
+  height = height;
+  layers = map (each_under MAX_GROUPS (resized_layer m width height dx dy)) m.layers;
+}
 
 -- the cells of the new map whose old cell is selected
 abbrev pub resized_selection : ℕ → ℕ → ℤ → ℤ → set.FinSet cell_cmp → set.FinSet cell_cmp

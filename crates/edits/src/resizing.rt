@@ -1,22 +1,23 @@
 // A map is resized.
 ghost use Rattle.std.specs.Prelude.{◌≡◌, ◌+ℤ◌, ◌*◌, ◌≤◌, ◌++◌, true, Ok, IfOk, IfErr, OnOk, map};
-ghost use Rattle.std.specs.List.{list_all};
+ghost use Rattle.std.specs.List.{flat_map, list_all};
 ghost use Rattle.std.specs.Option.{option_map};
 ghost use Rattle.command_api.specs.Making.{IsRefusalOf};
 ghost use Rattle.map_model.specs.declared.limits.TheConstants.{MAX_SIDE};
-ghost use Rattle.map_model.specs.Canvas.{lists_in, tile_layers, with_canvas, IsCanvasOf, IsShift};
+ghost use Rattle.map_model.specs.Canvas.{lists_in, lists_of, lists_under, tile_layers, with_canvas, AreCells, IsCanvasOf, IsShift};
+ghost use Rattle.map_model.specs.Groups.{drawn, tree};
 ghost use Rattle.map_model.specs.Keeping.{layer_level};
 ghost use Rattle.map_model.specs.Lists.{Each};
 ghost use Rattle.map_model.specs.Objects.{objects_in};
-ghost use Rattle.map_model.specs.WellFormed.{IsBody, IsLayer, IsSize, IsTileSize};
-ghost use Rattle.edits.specs.Resizing.{after_resize, all_stay, are_pixels, objects_stay, pixels_down, pixels_right, resized, resized_values, stays, IsDistance};
+ghost use Rattle.map_model.specs.WellFormed.{IsSize, IsTileSize};
+ghost use Rattle.edits.specs.Resizing.{after_resize, all_stay, are_pixels, drawn_stays, objects_stay, pixels_down, pixels_right, resized, resized_values, stays, IsDistance};
 
 use crate::block::Block;
 use crate::laying::laid_cells;
 use command_api::EditFault;
 use link_chain::Chain;
-use map_model::limits::MAX_PIXELS;
-use map_model::{Body, Canvas, Cells, Document, LayerCells, MapParts, Object, is_size};
+use map_model::limits::{MAX_GROUPS, MAX_PIXELS};
+use map_model::{Body, Canvas, Cells, Document, Layer, LayerCells, MapParts, Object, is_size};
 use std::alloc::{AllocError, Global};
 
 // The size of a new map, and where the old one begins on it.
@@ -75,6 +76,41 @@ fn all_stay(body: &Body, shift: &Shift) -> bool
         Body::Objects(objects) => each_stays(objects, shift),
         Body::Tiles(_, _) => true,
         Body::Other => true,
+        Body::Group(_) => true,
+    }
+}
+
+// Whether each object of some layers does, and of those that stand in them, in as many groups as there is room for.
+#[cycle(stay)]
+fn layers_stay(layers: &Chain<Layer>, shift: &Shift, room: usize) -> bool
+    requires right { IsShift shift.now.right }
+    requires down { IsShift shift.now.down }
+    ensures { result ≡ list_all (drawn_stays shift.now.right shift.now.down) (drawn room layer_level layers.now) }
+{
+    for layer in layers.iter() {
+        if !layer_stays(layer, shift, room) {
+            return false;
+        }
+    }
+    true
+}
+
+// The same of one layer, and those that stand in it.
+#[cycle(stay)]
+fn layer_stays(layer: &Layer, shift: &Shift, room: usize) -> bool
+    requires right { IsShift shift.now.right }
+    requires down { IsShift shift.now.down }
+    ensures { result ≡ list_all (drawn_stays shift.now.right shift.now.down) (tree room layer_level layer.now) }
+{
+    if !all_stay(&layer.body, shift) {
+        return false;
+    }
+    if room == 0 {
+        return true;
+    }
+    match layer.body.layers() {
+        Some(inside) => layers_stay(inside, shift, room - 1),
+        None => true,
     }
 }
 
@@ -84,10 +120,7 @@ fn objects_stay(parts: &MapParts, shift: &Shift) -> bool
     requires down { IsShift shift.now.down }
     ensures { result ≡ objects_stay shift.now.right shift.now.down parts.now }
 {
-    parts
-        .layers
-        .iter()
-        .all(|layer| all_stay(&layer.body, shift))
+    layers_stay(&parts.layers, shift, MAX_GROUPS)
 }
 
 // The pixels by which objects are moved where the old map begins so many columns and rows further on.
@@ -112,7 +145,7 @@ fn push_cells(
     parts: &MapParts,
     to: Resizing,
 ) -> Result<(), AllocError>
-    requires body { IsBody layer_level (parts.now.width * parts.now.height) body.now }
+    requires cells { Each (AreCells (parts.now.width * parts.now.height)) (lists_in body.now) }
     requires width { to.width ≤ MAX_SIDE }
     requires height { to.height ≤ MAX_SIDE }
     ensures { OnOk result (lists.new.items ≡ lists.old.items ++ map (resized_values parts.now to.width to.height to.dx to.dy) (lists_in body.now)) }
@@ -131,17 +164,61 @@ fn push_cells(
     Ok(())
 }
 
+// Adds those of each tile layer of some layers, and of those that stand in them, in as many groups as there is room for.
+#[cycle(push)]
+fn push_layers(
+    alloc: Global,
+    lists: &mut Vec<Cells>,
+    layers: &Chain<Layer>,
+    parts: &MapParts,
+    to: Resizing,
+    room: usize,
+) -> Result<(), AllocError>
+    requires cells { Each (AreCells (parts.now.width * parts.now.height)) (flat_map lists_of (drawn room layer_level layers.now)) }
+    requires width { to.width ≤ MAX_SIDE }
+    requires height { to.height ≤ MAX_SIDE }
+    ensures { OnOk result (lists.new.items ≡ lists.old.items ++ map (resized_values parts.now to.width to.height to.dx to.dy) (flat_map lists_of (drawn room layer_level layers.now))) }
+{
+    for layer in layers.iter() {
+        push_layer(alloc, lists, layer, parts, to, room)?;
+    }
+    Ok(())
+}
+
+// The same for one layer, and those that stand in it.
+#[cycle(push)]
+fn push_layer(
+    alloc: Global,
+    lists: &mut Vec<Cells>,
+    layer: &Layer,
+    parts: &MapParts,
+    to: Resizing,
+    room: usize,
+) -> Result<(), AllocError>
+    requires cells { Each (AreCells (parts.now.width * parts.now.height)) (lists_under room layer.now) }
+    requires width { to.width ≤ MAX_SIDE }
+    requires height { to.height ≤ MAX_SIDE }
+    ensures { OnOk result (lists.new.items ≡ lists.old.items ++ map (resized_values parts.now to.width to.height to.dx to.dy) (lists_under room layer.now)) }
+{
+    push_cells(alloc, lists, &layer.body, parts, to)?;
+    if room == 0 {
+        return Ok(());
+    }
+    match layer.body.layers() {
+        Some(inside) => push_layers(alloc, lists, inside, parts, to, room - 1),
+        None => Ok(()),
+    }
+}
+
 // The cells of each tile layer of a map in one of the new size.
 fn resized_layers(alloc: Global, parts: &MapParts, to: Resizing) -> Result<LayerCells, AllocError>
-    requires layers { Each (IsLayer layer_level (parts.now.width * parts.now.height)) parts.now.layers }
+    requires cells { Each (AreCells (parts.now.width * parts.now.height)) (tile_layers parts.now) }
     requires width { to.width ≤ MAX_SIDE }
     requires height { to.height ≤ MAX_SIDE }
     ensures { IfOk result (λ lists. lists ≡ map (resized_values parts.now to.width to.height to.dx to.dy) (tile_layers parts.now)) }
 {
     let mut lists = Vec::with_capacity(alloc, parts.layers.len())?;
-    for layer in parts.layers.iter() {
-        push_cells(alloc, &mut lists, &layer.body, parts, to)?;
-    }
+    push_layers(alloc, &mut lists, &parts.layers, parts, to, MAX_GROUPS)?;
     Ok(LayerCells::new(lists))
 }
 

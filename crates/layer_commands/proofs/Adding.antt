@@ -7,8 +7,9 @@ use Rattle.map_model.specs.declared.parts.LayerKind.{LayerKind}
 use Rattle.map_model.specs.declared.parts.LayerKind.TheVariants as kinds
 use Rattle.map_model.specs.declared.parts.MapParts.{MapParts}
 use Rattle.map_model.specs.Document.{DocumentParts}
+use Rattle.map_model.specs.Groups.{all_drawn, inside}
 use Rattle.map_model.specs.NewMap.{new_layer}
-use Rattle.map_model.specs.WellFormed.{IsWellFormed, object_ids_of}
+use Rattle.map_model.specs.WellFormed.{IsWellFormed, object_ids_in}
 use Rattle.map_model.proofs.Keeps.{numbered-keeps}
 use Rattle.map_model.proofs.NewMaps.{new_layer-IsLayer}
 use Rattle.command_api.specs.Making.{Makes}
@@ -20,21 +21,26 @@ new_layer-id : (kind : LayerKind) (id : ℕ) (name : List ℕ) (size : ℕ) → 
 new_layer-id kinds.Tile id name size = refl
 new_layer-id kinds.Object id name size = refl
 
-new_layer-objects : (kind : LayerKind) (id : ℕ) (name : List ℕ) (size : ℕ) → object_ids_of (new_layer kind id name size) ≡ []
+new_layer-objects : (kind : LayerKind) (id : ℕ) (name : List ℕ) (size : ℕ) → object_ids_in (new_layer kind id name size).body ≡ []
 new_layer-objects kinds.Tile id name size = refl
 new_layer-objects kinds.Object id name size = refl
 
-with_next-IsWellFormed : (kind : LayerKind) (name : List ℕ) (m : MapParts) → length m.layers < MAX_LAYERS → m.next_layer_id < MAX_NEXT_ID → IsWellFormed m
+new_layer-inside : (kind : LayerKind) (id : ℕ) (name : List ℕ) (size : ℕ) → inside (new_layer kind id name size) ≡ []
+new_layer-inside kinds.Tile id name size = refl
+new_layer-inside kinds.Object id name size = refl
+
+with_next-IsWellFormed : (kind : LayerKind) (name : List ℕ) (m : MapParts) → length (all_drawn m.layers) < MAX_LAYERS → m.next_layer_id < MAX_NEXT_ID → IsWellFormed m
     → IsWellFormed (with_last (next_layer kind name m) m)
 with_next-IsWellFormed kind name m few below h =
     numbered-keeps m (length m.layers) (next_layer kind name m) few below (new_layer-IsLayer kind m.next_layer_id name (m.width * m.height))
-    (new_layer-id kind m.next_layer_id name (m.width * m.height)) (new_layer-objects kind m.next_layer_id name (m.width * m.height)) h
+    (new_layer-id kind m.next_layer_id name (m.width * m.height)) (new_layer-objects kind m.next_layer_id name (m.width * m.height))
+    (new_layer-inside kind m.next_layer_id name (m.width * m.height)) h
 
-pub add_made : (d : DocumentParts) (kind : LayerKind) (name : List ℕ) (loose : Option Layer) → loose ≡ Some (next_layer kind name d.map) → length d.map.layers < MAX_LAYERS
+pub add_made : (d : DocumentParts) (kind : LayerKind) (name : List ℕ) (loose : Option Layer) → loose ≡ Some (next_layer kind name d.map) → length (all_drawn d.map.layers) < MAX_LAYERS
     → d.map.next_layer_id < MAX_NEXT_ID → IsWellFormed d.map
     → Makes add_names d (after_add d kind name) (add_change (record { id = d.map.next_layer_id; layer = Some loose }))
 add_made d kind name loose is few below h =
     rw is (
     link_made refl (record { ready = (refl, refl); before = h; after = with_next-IsWellFormed kind name d.map few below h })
-    (rw (lt-ltb (length d.map.layers) MAX_LAYERS few, lt-ltb d.map.next_layer_id MAX_NEXT_ID below) refl)
+    (rw (lt-ltb (length (all_drawn d.map.layers)) MAX_LAYERS few, lt-ltb d.map.next_layer_id MAX_NEXT_ID below) refl)
     )

@@ -1,5 +1,5 @@
 -- What each command is and does.
-use Rattle.std.specs.Prelude.{false, None, IsSome, codes}
+use Rattle.std.specs.Prelude.{◌≡◌, false, None, IsSome, codes}
 use Rattle.map_model.specs.declared.parts.MapParts.{MapParts}
 use Rattle.map_model.specs.declared.place.LayerPlace.{LayerPlace}
 use Rattle.map_model.specs.Canvas.{with_canvas, IsCanvasOf}
@@ -59,8 +59,9 @@ abbrev pub remove_change : RemoveLayer → Change
 remove_change c = change_of (remove_exchange c)
 
 -- ---- move
--- there are layers at both places, and the map with the one moved is well formed
+-- there are layers at both places, which are places among the same layers, and the map with the one moved is well formed
 pub record CanBeMoved (from to : LayerPlace) (m : MapParts) : Type 0 where
+  pub among : to.parent ≡ from.parent
   pub there : IsSome (layer_at m from)
   pub room : IsSome (layer_at m to)
   pub before : IsWellFormed m

@@ -11,7 +11,7 @@ use map_model::limits::{MAX_LAYERS, MAX_NEXT_ID};
 use map_model::{Document, Layer, LayerKind, MapText};
 use std::alloc::{AllocError, Global};
 
-/// A layer is added behind the last one. While it is not in the map, the command owns it.
+/// A layer is added behind the last one that stands in no group. While it is not in the map, the command owns it.
 #[derive(Drop)]
 pub struct AddLayer {
     id: u32,
@@ -22,7 +22,7 @@ impl AddLayer {
     /// The command that adds an empty layer, not made yet. It takes the next layer id, and all the memory that its turns
     /// will need. The document stays as it is.
     ///
-    /// Refused where there are 256 layers, or the next layer id is 2,147,483,647; and then where there is no memory.
+    /// Refused where there are 256 layers, those in groups counted too, or the next layer id is 2,147,483,647; and then where there is no memory.
     pub fn new(
         alloc: Global,
         document: &Document,
@@ -32,8 +32,9 @@ impl AddLayer {
         ensures command { IfOk result (λ c. Makes add_names document.now (after_add document.now kind name.now) (add_change c)) }
         ensures refusal { IfErr result (IsRefusalOf (after_add document.now kind name.now)) }
     {
-        let parts = document.map().parts();
-        if parts.layers.len() >= MAX_LAYERS || parts.next_layer_id >= MAX_NEXT_ID {
+        let map = document.map();
+        let parts = map.parts();
+        if map.layer_count() >= MAX_LAYERS || parts.next_layer_id >= MAX_NEXT_ID {
             return Err(EditFault::TooMany);
         }
         let size = parts.width as usize * parts.height as usize;

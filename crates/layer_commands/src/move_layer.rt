@@ -8,7 +8,7 @@ use edits::EditFault;
 use map_model::{Document, LayerPlace};
 use std::mem;
 
-/// A layer is moved to another place.
+/// A layer is moved to another place among its siblings: the layers of its group, or those that stand in no group.
 #[derive(Drop)]
 pub struct MoveLayer {
     from: LayerPlace,
@@ -19,7 +19,8 @@ impl MoveLayer {
     /// The command that takes the layer with an id out and puts it in at a place, which is its zero-based place in the
     /// result; not made yet. The document stays as it is.
     ///
-    /// Refused where there is no such layer, and then where the place is not below the number of layers.
+    /// Refused where there is no such layer, and then where the place is not below the number of its siblings, itself
+    /// included.
     pub fn new(document: &Document, layer: u32, place: u32) -> Result<MoveLayer, EditFault>
         ensures command { IfOk result (λ c. Makes move_names document.now (after_move document.now layer place) (move_change c)) }
         ensures refusal { IfErr result (λ fault. after_move document.now layer place ≡ Err fault) }
@@ -29,7 +30,7 @@ impl MoveLayer {
             return Err(EditFault::NoSuchLayer);
         };
         let at = place as usize;
-        if at >= map.parts().layers.len() {
+        if at >= map.sibling_count(from) {
             return Err(EditFault::OutOfRange);
         }
         Ok(MoveLayer {

@@ -8,7 +8,7 @@ use edits::EditFault;
 use link_chain::Loose;
 use map_model::{Document, Layer, LayerPlace};
 
-/// A layer is removed, also the last one that there is. While it is not in the map, the command owns it, and puts it
+/// A layer is removed, with all that stand in it, and also the last one that there is. While it is not in the map, the command owns it, and puts it
 /// back at its old place.
 #[derive(Drop)]
 pub struct RemoveLayer {

@@ -16,18 +16,18 @@ pub whole_again : (low high n : ℕ) → low ≤ n → n ≤ high → whole_at l
 unfolding whole_at
 whole_again low high n a b = rw (le-leb low n a, le-leb n high b) refl
 
+pub items_len-items_by : {A : Type 0} (tree : A → Data) (xs : List A) → items_len (items_by tree xs) ≡ length xs
+items_len-items_by tree [] = refl
+items_len-items_by tree (x ∷ xs) = ap suc (items_len-items_by tree xs)
+
 module _ {A : Type 0} (tree : A → Data) (read : Data → Result A MapRefusal) where
   pub each_again : (xs : List A) → Each (λ x. read (tree x) ≡ Ok x) xs → each read (items_by tree xs) ≡ Ok xs
   each_again [] h = refl
   each_again (x ∷ xs) h = rw (h.0, each_again xs h.1) refl
 
-  pub items_len-items_by : (xs : List A) → items_len (items_by tree xs) ≡ length xs
-  items_len-items_by [] = refl
-  items_len-items_by (x ∷ xs) = ap suc (items_len-items_by xs)
-
   pub entries_again : (most : ℕ) (xs : List A) → length xs ≤ most → Each (λ x. read (tree x) ≡ Ok x) xs → entries_at most read (array (items_by tree xs)) ≡ Ok xs
   entries_again most xs few h =
-      let fits : nat_le (items_len (items_by tree xs)) most ≡ true = rw (items_len-items_by xs) (le-leb (length xs) most few) in
+      let fits : nat_le (items_len (items_by tree xs)) most ≡ true = rw (items_len-items_by tree xs) (le-leb (length xs) most few) in
       rw fits (each_again xs h)
 
 pub all_weaker : {A : Type 0} (P Q : A → Type 0) → ((x : A) → P x → Q x) → (xs : List A) → Each P xs → Each Q xs

@@ -15,19 +15,20 @@ use Rattle.map_model.specs.declared.limits.TheConstants.{MAX_SIDE, MAX_CELLS, MA
 use Rattle.map_model.specs.declared.parts.Property.{Property}
 use Rattle.map_model.specs.declared.parts.Object.{Object}
 use Rattle.map_model.specs.declared.parts.Body.{Body}
-use Rattle.map_model.specs.declared.parts.Body.TheVariants.{Tiles, Objects, Other}
+use Rattle.map_model.specs.declared.parts.Body.TheVariants.{Tiles, Objects, Other, Group'}
 use Rattle.map_model.specs.declared.parts.Layer.{Layer}
 use Rattle.map_model.specs.declared.parts.MapParts.{MapParts}
+use Rattle.map_model.specs.Groups.{all_drawn}
 use Rattle.map_model.specs.Lists.{Each}
-use Rattle.map_model.specs.Keeping.{AreKept, map_level, layer_level, object_level, map_names}
-use Rattle.map_model.specs.WellFormed.{IsSize, IsTileSize, IsTileset, AreProperties, IsObject, IsBody, IsLayer, IsWellFormed, names_of_property, ids_of, layer_ids, ids_of_object, object_ids_in, object_ids_of, object_ids, first_ids_of}
+use Rattle.map_model.specs.Keeping.{AreKept, map_level, object_level, map_names}
+use Rattle.map_model.specs.WellFormed.{IsSize, IsTileSize, IsTileset, AreProperties, IsObject, IsBody, IsDrawn, IsLayer, IsWellFormed, names_of_property, ids_of, layer_ids, ids_of_object, object_ids_in, object_ids_of, object_ids, first_ids_of}
 use Rattle.map_json.specs.Members.{without, without_all}
 use Rattle.map_json.specs.declared.fault.MapRefusal.TheVariants.{Fraction, Infinite, IdUsedTwice, OverLimit, NotAMap}
 use Rattle.map_json.specs.Steps.{required, absent_means}
 use Rattle.map_json.specs.Scalars.{whole_at, truth_at}
 use Rattle.map_json.specs.Entries.{entries_at}
-use Rattle.map_json.specs.Reading.{property_at, properties_of, tileset_at, layer_at}
-use Rattle.map_json.specs.Distinctness.{are_distinct, lists_in, lists_of_layer, property_lists, are_named_apart, has_no_double, are_below_next}
+use Rattle.map_json.specs.Reading.{property_at, properties_of, tileset_at, map_layers_at}
+use Rattle.map_json.specs.Distinctness.{are_distinct, lists_in, lists_of_drawn, lists_of_layer, property_lists, are_named_apart, has_no_double, are_below_next}
 use Rattle.map_json.specs.Maps.{version_has_fraction, has_fraction, is_map_type, parts_of, consistent, map_of}
 use Rattle.map_json.proofs.Fine.{AreFineMembers, IsReadTree}
 use Rattle.map_json.proofs.FineLemmas.{IsFine-get_member, members_have_float-fine, members_depth-fine, AreFineMembers-read, AreReadMembers-without, members_depth-without}
@@ -35,7 +36,7 @@ use Rattle.map_json.proofs.MembersLemmas.{get_member-without, LacksAll-without_a
 use Rattle.map_json.proofs.Words.{both}
 use Rattle.map_json.proofs.Sound.{by_bind, by_check, ok_is, ok_or_ok, required_ok, required_whole_sound, entries_sound, WereRead, properties_sound}
 use Rattle.map_json.proofs.Owners.{WasReadObject, tileset_sound}
-use Rattle.map_json.proofs.Layers.{WasReadBody, WasReadLayer, layer_sound}
+use Rattle.map_json.proofs.Layers.{WasReadBody, WasReadDrawn, WasReadLayer, map_layers_sound}
 use Rattle.map_json.proofs.Apart.{either_false, Distinct-numbers, Distinct-texts, Each-flat_map, AreIds-read}
 
 -- ---- names that differ within each owner
@@ -52,23 +53,25 @@ IsBody-read : (level size : ℕ) (b : Body) → WasReadBody level size b → lis
 IsBody-read level size (Tiles e cells) h f = h
 IsBody-read level size (Objects os) h f = (h.0, Each-IsObject (object_level level) os h.1 f)
 IsBody-read level size Other h f = tt
+IsBody-read level size (Group' s r) h f = h
 
 IsLayer-read : (level size : ℕ) (l : Layer) → WasReadLayer level size l → list_all are_named_apart (lists_of_layer l) ≡ true → IsLayer level size l
 IsLayer-read level size l h e =
     let f = both (are_named_apart l.properties) (list_all are_named_apart (lists_in l.body)) e in
     record { properties = AreProperties-read level l.properties h.properties f.0; kept = h.kept; body = IsBody-read level size l.body h.body f.1 }
 
-Each-IsLayer : (level size : ℕ) (ls : List Layer) → Each (WasReadLayer level size) ls → list_all are_named_apart (flat_map lists_of_layer ls) ≡ true → Each (IsLayer level size) ls
-Each-IsLayer level size [] h e = tt
-Each-IsLayer level size (l ∷ ls) h e =
-    let f = both (list_all are_named_apart (lists_of_layer l)) (list_all are_named_apart (flat_map lists_of_layer ls)) (sym (list_all-append are_named_apart (lists_of_layer l) (flat_map lists_of_layer ls)) ∙ e) in
-    (IsLayer-read level size l h.0 f.0, Each-IsLayer level size ls h.1 f.1)
+Each-IsDrawn : (size : ℕ) (ds : List (ℕ × Layer)) → Each (WasReadDrawn size) ds → list_all are_named_apart (flat_map lists_of_drawn ds) ≡ true → Each (IsDrawn size) ds
+Each-IsDrawn size [] h e = tt
+Each-IsDrawn size (d ∷ ds) h e =
+    let f = both (list_all are_named_apart (lists_of_drawn d)) (list_all are_named_apart (flat_map lists_of_drawn ds)) (sym (list_all-append are_named_apart (lists_of_drawn d) (flat_map lists_of_drawn ds)) ∙ e) in
+    (IsLayer-read d.0 size d.1 h.0 f.0, Each-IsDrawn size ds h.1 f.1)
 
 -- ---- ids from 1 on
 low_in : (level size : ℕ) (b : Body) → WasReadBody level size b → Each (λ id. 1 ≤ id) (object_ids_in b)
 low_in level size (Tiles e cells) h = tt
 low_in level size (Objects os) h = Each-flat_map (λ id. 1 ≤ id) (WasReadObject (object_level level)) ids_of_object (λ o g. (g.low, tt)) os h.1
 low_in level size Other h = tt
+low_in level size (Group' s r) h = tt
 
 -- ---- the members but the version
 without_less : (o : Ordering) (n : ℕ) (l : List ℕ) (d : Data) (rest : Members) → AreFineMembers n (match_ordering o (member l d rest) rest (member l d rest)) → AreFineMembers n rest
@@ -114,8 +117,8 @@ record WasReadMap (m : MapParts) : Type 0 where
   next_layer_high : m.next_layer_id ≤ MAX_NEXT_ID
   next_object_low : 1 ≤ m.next_object_id
   next_object_high : m.next_object_id ≤ MAX_NEXT_ID
-  layers_few : length m.layers ≤ MAX_LAYERS
-  layers : Each (WasReadLayer layer_level (m.width * m.height)) m.layers
+  layers_few : length (all_drawn m.layers) ≤ MAX_LAYERS
+  layers : Each (WasReadDrawn (m.width * m.height)) (all_drawn m.layers)
   tilesets_few : length m.tilesets ≤ MAX_TILESETS
   tilesets : Each IsTileset m.tilesets
   properties : WereRead map_level m.properties
@@ -134,7 +137,7 @@ parts_sound ms m fine e =
     by_check (not infinite) Infinite _ m e6 (λ finite e7.
     by_bind (required (whole_at 1 MAX_NEXT_ID) (get_member NEXT_LAYER_ID.now ms)) _ m e7 (λ next_layer_id next_layer_is e8.
     by_bind (required (whole_at 1 MAX_NEXT_ID) (get_member NEXT_OBJECT_ID.now ms)) _ m e8 (λ next_object_id next_object_is e9.
-    by_bind (required (entries_at MAX_LAYERS (layer_at width height)) (get_member LAYERS.now ms)) _ m e9 (λ layers layers_is e10.
+    by_bind (required (map_layers_at width height) (get_member LAYERS.now ms)) _ m e9 (λ layers layers_is e10.
     by_bind (required (entries_at MAX_TILESETS tileset_at) (get_member TILESETS.now ms)) _ m e10 (λ tilesets tilesets_is e11.
     by_bind (properties_of ms) _ m e11 (λ properties properties_is e12.
     let w = required_whole_sound 1 MAX_SIDE (get_member WIDTH.now ms) width width_is in
@@ -143,9 +146,9 @@ parts_sound ms m fine e =
     let th = required_whole_sound 1 MAX_TILE_SIDE (get_member TILE_HEIGHT.now ms) tile_height tile_height_is in
     let next_layer = required_whole_sound 1 MAX_NEXT_ID (get_member NEXT_LAYER_ID.now ms) next_layer_id next_layer_is in
     let next_object = required_whole_sound 1 MAX_NEXT_ID (get_member NEXT_OBJECT_ID.now ms) next_object_id next_object_is in
-    let layers_in = required_ok (entries_at MAX_LAYERS (layer_at width height)) (get_member LAYERS.now ms) layers layers_is in
+    let layers_in = required_ok (map_layers_at width height) (get_member LAYERS.now ms) layers layers_is in
     let layers_fine = IsFine-get_member 126 LAYERS.now others layers_in.0 fine (get_member-without LAYERS.now VERSION.now ms refl ∙ layers_in.1) in
-    let layers_read = entries_sound (WasReadLayer layer_level (width * height)) (layer_at width height) 125 (layer_sound layer_level 120 (omega arith) width height) MAX_LAYERS layers_in.0 layers layers_fine layers_in.2 in
+    let layers_read = map_layers_sound width height layers_in.0 layers layers_fine layers_in.2 in
     let tilesets_in = required_ok (entries_at MAX_TILESETS tileset_at) (get_member TILESETS.now ms) tilesets tilesets_is in
     let tilesets_fine = IsFine-get_member 126 TILESETS.now others tilesets_in.0 fine (get_member-without TILESETS.now VERSION.now ms refl ∙ tilesets_in.1) in
     let tilesets_read = entries_sound IsTileset tileset_at 125 (tileset_sound 124 (omega arith)) MAX_TILESETS tilesets_in.0 tilesets tilesets_fine tilesets_in.2 in
@@ -183,7 +186,7 @@ IsWellFormed-read m h apart below =
     let a = both (layers_apart && objects_apart && tilesets_apart) named_apart apart in
     let b = both (layers_apart && objects_apart) tilesets_apart a.0 in
     let c = both layers_apart objects_apart b.0 in
-    let d = both (are_named_apart m.properties) (list_all are_named_apart (flat_map lists_of_layer m.layers)) a.1 in
+    let d = both (are_named_apart m.properties) (list_all are_named_apart (flat_map lists_of_drawn (all_drawn m.layers))) a.1 in
     let f = both (list_all (λ id. nat_lt id m.next_layer_id) (layer_ids m.layers)) (list_all (λ id. nat_lt id m.next_object_id) (object_ids m.layers)) below in
     let size = m.width * m.height in
     record {
@@ -191,11 +194,11 @@ IsWellFormed-read m h apart below =
       tile_size = h.tile_size;
       layers = record {
         few = h.layers_few;
-        each = Each-IsLayer layer_level size m.layers h.layers d.1;
+        each = Each-IsDrawn size (all_drawn m.layers) h.layers d.1;
         layer_ids = AreIds-read m.next_layer_id (layer_ids m.layers) h.next_layer_low h.next_layer_high
-            (Each-flat_map (λ id. 1 ≤ id) (WasReadLayer layer_level size) ids_of (λ l g. (g.low, tt)) m.layers h.layers) c.0 f.0;
+            (Each-flat_map (λ id. 1 ≤ id) (WasReadDrawn size) ids_of (λ x g. (g.low, tt)) (all_drawn m.layers) h.layers) c.0 f.0;
         object_ids = AreIds-read m.next_object_id (object_ids m.layers) h.next_object_low h.next_object_high
-            (Each-flat_map (λ id. 1 ≤ id) (WasReadLayer layer_level size) object_ids_of (λ l g. low_in layer_level size l.body g.body) m.layers h.layers) c.1 f.1;
+            (Each-flat_map (λ id. 1 ≤ id) (WasReadDrawn size) object_ids_of (λ x g. low_in x.0 size x.1.body g.body) (all_drawn m.layers) h.layers) c.1 f.1;
       };
       tilesets = record { few = h.tilesets_few; each = h.tilesets; distinct = Distinct-numbers (flat_map first_ids_of m.tilesets) b.1 };
       properties = AreProperties-read map_level m.properties h.properties d.0;

@@ -1,18 +1,24 @@
 -- A map's members, with its layers in the place of an empty array.
-use Rattle.std.proofs.Common.{◌≡◌, ℕ, List, [], ◌∷◌, ◌++◌, Option, Some, None, option_map, Ordering, Less, Equal, Greater, nat_cmp, is_eq, Bool, true, false, bytes_eq, refl, sym, ap, ◌∙◌}
+use Rattle.std.proofs.Common.{◌≡◌, ℕ, zero, suc, List, [], ◌∷◌, ◌++◌, Option, Some, None, option_map, Ordering, Less, Equal, Greater, nat_cmp, is_eq, Bool, true, false, bytes_eq, refl, sym, ap, ◌∙◌}
 use Rattle.std.specs.Prelude.{codes, if◌then◌else◌}
 use Rattle.std.specs.Cmp.Lexicographic.{slice_cmp}
 use Rattle.std.specs.Ordering.{match_ordering}
 use Rattle.std.proofs.lemmas.Bool.{false≢true}
 use Rattle.std.proofs.lemmas.Map.Text.{is_eq-slice_cmp}
 use Rattle.std.proofs.lemmas.Slice.Eq.{bytes_eq-Decides}
-use Rattle.serde_json.specs.Data.{Data, array, no_items, string, Members, no_members, member, put}
+use Rattle.serde_json.specs.Data.{Data, array, boolean, no_items, object, string, Members, no_members, member, put}
 use Rattle.serde_json.specs.Find.{get_member}
-use Rattle.map_model.specs.declared.names.TheConstants.{TYPE, PROPERTIES, LAYERS, TILESETS, VERSION}
+use Rattle.map_model.specs.declared.names.TheConstants.{ID, NAME, VISIBLE, TYPE, PROPERTIES, LAYERS, TILESETS, VERSION}
+use Rattle.map_model.specs.declared.parts.Body.{Body}
+use Rattle.map_model.specs.declared.parts.Body.TheVariants.{Tiles, Objects, Other, Group'}
+use Rattle.map_model.specs.declared.parts.Layer.{Layer}
 use Rattle.map_model.specs.declared.parts.MapParts.{MapParts}
-use Rattle.map_json.specs.Appending.{frame_of, in_place, layers_tree, replaced}
+use Rattle.map_model.specs.Groups.{group_in, inside}
+use Rattle.map_model.specs.Keeping.{layer_names}
+use Rattle.map_model.specs.Lists.{Each, or_empty}
+use Rattle.map_json.specs.Appending.{frame_of, in_place, layer_frame, replaced}
 use Rattle.map_json.specs.Members.{Own, put_some, with_own}
-use Rattle.map_json.specs.Trees.{array_by, map_own, own_around, plain_own, properties_member, tileset_tree}
+use Rattle.map_json.specs.Trees.{array_by, layer_own, layer_tree, layers_tree, own_around, plain_own, properties_member, tileset_tree, whole_tree}
 use Rattle.map_json.proofs.MembersLemmas.{same_name}
 
 -- ---- members that are put
@@ -72,7 +78,58 @@ own_in_place-own_around d m =
     (optional_stays d (properties_member m.properties))
 
 -- the members of a map are its frame's, with the layers in their place
-pub replaced-frame_of : (m : MapParts) → get_member LAYERS.now m.kept ≡ None → replaced LAYERS.now (layers_tree m) (frame_of m) ≡ with_own (map_own m) m.kept
-replaced-frame_of m absent =
-    replaced-with_own LAYERS.now (layers_tree m) (own_around (array no_items) m) m.kept
-    ∙ rw (replaced-absent LAYERS.now (layers_tree m) m.kept absent) (ap (λ own. with_own own m.kept) (own_in_place-own_around (layers_tree m) m))
+pub replaced-frame_of : (d : Data) (m : MapParts) → get_member LAYERS.now m.kept ≡ None → replaced LAYERS.now d (frame_of m) ≡ with_own (own_around d m) m.kept
+replaced-frame_of d m absent =
+    replaced-with_own LAYERS.now d (own_around (array no_items) m) m.kept
+    ∙ rw (replaced-absent LAYERS.now d m.kept absent) (ap (λ own. with_own own m.kept) (own_in_place-own_around d m))
+
+-- ---- a group's own
+own_in_place-layer_own : (width height : ℕ) (d : Data) (l : Layer) (b : Body) (ls : List Layer) → group_in b ≡ Some ls
+    → own_in_place LAYERS.now d (layer_own width height (array no_items) (record l { body = b })) ≡ layer_own width height d (record l { body = b })
+unfolding own_in_place
+own_in_place-layer_own width height d l (Tiles e cells) ls g = cc
+own_in_place-layer_own width height d l (Objects os) ls g = cc
+own_in_place-layer_own width height d l Other ls g = cc
+own_in_place-layer_own width height d l (Group' s r) ls g =
+    ap (λ o. (TYPE.now, Some (string (codes "group"))) ∷ (ID.now, Some (whole_tree l.id)) ∷ (NAME.now, Some (string l.name)) ∷ (VISIBLE.now, Some (boolean l.visible))
+    ∷ (PROPERTIES.now, o) ∷ (LAYERS.now, Some d) ∷ [])
+    (optional_stays d (properties_member l.properties))
+
+layers_absent : (b : Body) (ls : List Layer) (kept : Members) → group_in b ≡ Some ls → Each (λ name. get_member name kept ≡ None) (layer_names b) → get_member LAYERS.now kept ≡ None
+layers_absent (Tiles e cells) ls kept g h = cc
+layers_absent (Objects os) ls kept g h = cc
+layers_absent Other ls kept g h = cc
+layers_absent (Group' s r) ls kept g h = h.1.1.1.1.1.0
+
+-- the members of a group are its frame's, with the layers in their place
+pub replaced-layer_frame : (width height : ℕ) (d : Data) (l : Layer) (ls : List Layer) → group_in l.body ≡ Some ls → Each (λ name. get_member name l.kept ≡ None) (layer_names l.body)
+    → replaced LAYERS.now d (layer_frame width height l) ≡ with_own (layer_own width height d l) l.kept
+replaced-layer_frame width height d l ls g h =
+    replaced-with_own LAYERS.now d (layer_own width height (array no_items) l) l.kept
+    ∙ rw (replaced-absent LAYERS.now d l.kept (layers_absent l.body ls l.kept g h)) (ap (λ own. with_own own l.kept) (own_in_place-layer_own width height d l l.body ls g))
+
+-- a layer's own members, where it is no group
+layer_own-other : (width height : ℕ) (d e : Data) (l : Layer) (b : Body) → group_in b ≡ None → layer_own width height d (record l { body = b }) ≡ layer_own width height e (record l { body = b })
+layer_own-other width height d e l (Tiles c cells) g = refl
+layer_own-other width height d e l (Objects os) g = refl
+layer_own-other width height d e l Other g = refl
+layer_own-other width height d e l (Group' s r) g = cc
+
+-- the tree of a layer is its frame's, where it is no group or has no room for layers in it
+pub layer_tree-frame : (room width height : ℕ) (l : Layer) → group_in l.body ≡ None → object (layer_frame width height l) ≡ layer_tree room width height l
+unfolding layer_tree
+layer_tree-frame zero width height l g = refl
+layer_tree-frame (suc room) width height l g = ap (λ own. object (with_own own l.kept)) (layer_own-other width height (array no_items) (layers_tree room width height (inside l)) l l.body g)
+
+pub layer_tree-room : (room width height : ℕ) (l : Layer) → room ≡ 0 → object (layer_frame width height l) ≡ layer_tree room width height l
+unfolding layer_tree
+layer_tree-room room width height l none = rw none refl
+
+-- the tree of a group
+pub layer_tree-group : (room less width height : ℕ) (l : Layer) (ls : List Layer) → room ≡ suc less → group_in l.body ≡ Some ls → Each (λ name. get_member name l.kept ≡ None) (layer_names l.body)
+    → object (replaced LAYERS.now (layers_tree less width height ls) (layer_frame width height l)) ≡ layer_tree room width height l
+unfolding layer_tree
+layer_tree-group room less width height l ls more g h =
+    ap object (replaced-layer_frame width height (layers_tree less width height ls) l ls g h)
+    ∙ (ap (λ o. object (with_own (layer_own width height (layers_tree less width height (or_empty o)) l) l.kept)) (sym g)
+    ∙ ap (λ n. layer_tree n width height l) (sym more))

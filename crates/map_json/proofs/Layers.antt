@@ -1,35 +1,43 @@
 -- What was read is well formed: layers and what they hold, but for what must differ over the whole map.
-use Rattle.std.proofs.Common.{◌≡◌, ℕ, suc, ◌+◌, ◌-◌, ◌*◌, ◌≤◌, [], length, true, Ok, subst, arith}
+use Rattle.std.proofs.Common.{◌≡◌, ℕ, zero, suc, ◌+◌, ◌-◌, ◌*◌, ◌<◌, ◌≤◌, List, [], ◌∷◌, length, true, None, Ok, refl, sym, ap, ◌∙◌, subst, arith}
+use Rattle.std.specs.Prelude.{nat_le}
 use Rattle.std.specs.Option.{ok_or}
-use Rattle.serde_json.specs.Data.{Data, Members}
-use Rattle.serde_json.specs.Find.{get_member, as_object}
-use Rattle.map_model.specs.declared.names.TheConstants.{ID, NAME, TYPE, VISIBLE, WIDTH, HEIGHT, ENCODING, COMPRESSION, DATA, OBJECTS}
-use Rattle.map_model.specs.declared.limits.TheConstants.{MAX_DEPTH, MAX_OBJECTS, MAX_NEXT_ID}
+use Rattle.std.proofs.lemmas.Bool.{leb-true}
+use Rattle.serde_json.specs.Data.{Data, Items, no_items, item, Members}
+use Rattle.serde_json.specs.Events.{items_len}
+use Rattle.serde_json.specs.Find.{get_member, as_object, as_array}
+use Rattle.map_model.specs.declared.names.TheConstants.{ID, NAME, TYPE, VISIBLE, WIDTH, HEIGHT, LAYERS, ENCODING, COMPRESSION, DATA, OBJECTS}
+use Rattle.map_model.specs.declared.limits.TheConstants.{MAX_DEPTH, MAX_GROUPS, MAX_LAYERS, MAX_OBJECTS, MAX_NEXT_ID}
 use Rattle.map_model.specs.declared.parts.Encoding.TheVariants.{Array}
 use Rattle.map_model.specs.declared.parts.Body.{Body}
-use Rattle.map_model.specs.declared.parts.Body.TheVariants.{Tiles, Objects, Other}
+use Rattle.map_model.specs.declared.parts.Body.TheVariants.{Tiles, Objects, Other, Group, Group'}
 use Rattle.map_model.specs.declared.parts.Layer.{Layer}
+use Rattle.map_model.specs.Groups.{all_drawn, bare, body_with_layers, drawn, group_in, tree}
 use Rattle.map_model.specs.Lists.{Each}
-use Rattle.map_model.specs.Keeping.{AreKept, layer_names, object_level, property_level}
+use Rattle.map_model.specs.Keeping.{AreKept, body_names, deepest_level, inner_level, layer_level, layer_names, object_level, property_level}
+use Rattle.map_model.specs.Steps.{◌>>=◌, ◌>>◌, check}
 use Rattle.map_model.specs.WellFormed.{IsTileValue}
+use Rattle.map_model.proofs.Trees.{below}
 use Rattle.map_json.specs.Members.{without_all}
 use Rattle.map_json.specs.declared.body.LayerType.{LayerType}
-use Rattle.map_json.specs.declared.body.LayerType.TheVariants.{TileLayer, ObjectGroup, ImageLayer}
-use Rattle.map_json.specs.declared.fault.MapRefusal.TheVariants.{MemberOfAnotherKind}
+use Rattle.map_json.specs.declared.body.LayerType.TheVariants.{TileLayer, ObjectGroup, ImageLayer, GroupLayer}
+use Rattle.map_json.specs.declared.fault.MapRefusal.TheVariants.{MemberOfAnotherKind, OverLimit}
 use Rattle.map_json.specs.Steps.{required, absent_means}
 use Rattle.map_json.specs.Scalars.{text_at, truth_at}
-use Rattle.map_json.specs.Entries.{entries_at}
-use Rattle.map_json.specs.Reading.{id_at, properties_of, object_at, type_at, encoding_at, compression_at, same_at, cells_at, tiles_of, objects_of, body_by, layer_at}
-use Rattle.map_json.proofs.Fine.{IsFine, AreFineMembers}
+use Rattle.map_json.specs.Entries.{Counting, each_counted, entries_at}
+use Rattle.map_json.specs.Reading.{id_at, properties_of, object_at, type_at, encoding_at, compression_at, same_at, cells_at, tiles_of, objects_of, body_by, layer_by, layers_at, map_layers_at}
+use Rattle.map_json.proofs.DrawnLayers.{Each-both, Each-tree, length-drawn, drawn_in, below-drawn_in, drawn_in-none, drawn_in-Group}
+use Rattle.map_json.proofs.Fine.{IsFine, AreFineItems, AreFineMembers}
 use Rattle.map_json.proofs.FineLemmas.{IsFine-get_member}
-use Rattle.map_json.proofs.Sound.{by_bind, by_step, ok_is, ok_or_ok, required_ok, object_fine, kept_sound, required_whole_sound, entries_sound, cells_tree_sound, WereRead, properties_sound}
+use Rattle.map_json.proofs.Sound.{by_bind, by_check, by_step, ok_is, ok_or_ok, required_ok, array_fine, object_fine, kept_sound, required_whole_sound, entries_sound, cells_tree_sound, WereRead, properties_sound}
 use Rattle.map_json.proofs.Owners.{WasReadObject, object_sound}
 
--- what a layer at this level holds, on a map of so many cells; whether names of properties differ is told apart
+-- what a layer at this level holds itself, on a map of so many cells; whether names of properties differ is told apart
 abbrev pub WasReadBody : ℕ → ℕ → Body → Type 0
 WasReadBody level size (Tiles e cells) = (length cells ≡ size) × Each IsTileValue cells
 WasReadBody level size (Objects os) = (length os ≤ MAX_OBJECTS) × Each (WasReadObject (object_level level)) os
 WasReadBody level size Other = Unit {0}
+WasReadBody level size (Group' s r) = level < deepest_level
 
 pub record WasReadLayer (level size : ℕ) (l : Layer) : Type 0 where
   pub low : 1 ≤ l.id
@@ -37,42 +45,176 @@ pub record WasReadLayer (level size : ℕ) (l : Layer) : Type 0 where
   pub kept : AreKept level (layer_names l.body) l.kept
   pub body : WasReadBody level size l.body
 
-body_sound : (level n : ℕ) → property_level (object_level level) + n ≤ MAX_DEPTH → (kind : LayerType) (width height : ℕ) (ms : Members) (b : Body)
-    → AreFineMembers (suc (suc (suc (suc n)))) ms → body_by kind width height ms ≡ Ok b → WasReadBody level (width * height) b
+-- a layer with its level
+abbrev pub WasReadDrawn : ℕ → ℕ × Layer → Type 0
+WasReadDrawn size d = WasReadLayer d.0 size d.1
+
+-- so many layers more, which were read, and not too many in all
+record WereCounted (size before after : ℕ) (more : List (ℕ × Layer)) : Type 0 where
+  sum : after ≡ before + length more
+  each : Each (WasReadDrawn size) more
+  few : before ≤ MAX_LAYERS → after ≤ MAX_LAYERS
+
+none_counted : (size count : ℕ) → WereCounted size count count []
+none_counted size count = record { sum = omega arith; each = tt; few = λ h. h }
+
+-- ---- other layers in a layer
+module _ (f : List Layer → List Layer) where
+  body_names-with : (b : Body) → body_names (body_with_layers f b) ≡ body_names b
+  body_names-with (Tiles e cells) = refl
+  body_names-with (Objects os) = refl
+  body_names-with Other = refl
+  body_names-with (Group' s r) = refl
+
+  WasReadBody-with : (level size : ℕ) (b : Body) → WasReadBody level size (body_with_layers f b) ≡ WasReadBody level size b
+  WasReadBody-with level size (Tiles e cells) = refl
+  WasReadBody-with level size (Objects os) = refl
+  WasReadBody-with level size Other = refl
+  WasReadBody-with level size (Group' s r) = refl
+
+WasReadLayer-bare : (level size : ℕ) (l : Layer) → WasReadLayer level size l → WasReadLayer level size (bare l)
+WasReadLayer-bare level size l h = record {
+  low = h.low;
+  properties = h.properties;
+  kept = rw (body_names-with (λ ls. []) l.body) h.kept;
+  body = rw (WasReadBody-with (λ ls. []) level size l.body) h.body;
+}
+
+-- ---- layers one after another
+-- a layer that was read with so many counted before it, and those in it
+abbrev LayerRead : ℕ → ℕ → ℕ → ℕ → ℕ × Layer → Type 0
+LayerRead room level size count r = WasReadLayer level size r.1 × WereCounted size count r.0 (below room level r.1)
+
+module _ (room level n size : ℕ) (read : Counting Layer) (sound : (count : ℕ) (d : Data) (r : ℕ × Layer) → IsFine n d → read count d ≡ Ok r → LayerRead room level size count r) where
+  -- what was read of an array: after stands before its length was added
+  record EachRead (ds : Items) (count : ℕ) (r : ℕ × List Layer) : Type 0 where
+    long : length r.1 ≡ items_len ds
+    sum : r.0 + length r.1 ≡ count + length (drawn room level r.1)
+    each : Each (WasReadDrawn size) (drawn room level r.1)
+    few : count ≤ MAX_LAYERS → r.0 ≤ MAX_LAYERS
+
+  each_more : (d : Data) (ds : Items) (count : ℕ) (x : ℕ × Layer) (xs : ℕ × List Layer) → LayerRead room level size count x → EachRead ds x.0 xs → EachRead (item d ds) count (xs.0, x.1 ∷ xs.1)
+  each_more d ds count x xs h more = record {
+    long = ap suc more.long;
+    sum = omega (arith, length-drawn room level x.1 xs.1, h.1.sum, more.sum);
+    each = Each-both (WasReadDrawn size) (tree room level x.1) (drawn room level xs.1) (Each-tree (WasReadDrawn size) room level x.1 (WasReadLayer-bare level size x.1 h.0) h.1.each) more.each;
+    few = λ le. more.few (h.1.few le);
+  }
+
+  each_counted_sound : (ds : Items) (count : ℕ) (r : ℕ × List Layer) → AreFineItems n ds → each_counted read count ds ≡ Ok r → EachRead ds count r
+  each_counted_sound no_items count r fine e = subst (EachRead no_items count) (ok_is (count, []) r e) (record { long = refl; sum = refl; each = tt; few = λ le. le })
+  each_counted_sound (item d ds) count r fine e =
+      by_bind (read count d) _ r e (λ x x_is e1.
+      by_bind (each_counted read x.0 ds) _ r e1 (λ xs xs_is e2.
+      subst (EachRead (item d ds) count) (ok_is (xs.0, x.1 ∷ xs.1) r e2)
+      (each_more d ds count x xs (sound count d x fine.0 x_is) (each_counted_sound ds x.0 xs fine.1 xs_is))))
+
+  array_sound : (d : Data) (count : ℕ) (r : ℕ × List Layer) → IsFine (suc n) d
+      → (ok_or (as_array d) MemberOfAnotherKind >>= λ ds. check (nat_le (count + items_len ds) MAX_LAYERS) OverLimit >> each_counted read (count + items_len ds) ds) ≡ Ok r
+      → WereCounted size count r.0 (drawn room level r.1)
+  array_sound d count r fine e =
+      by_bind (ok_or (as_array d) MemberOfAnotherKind) _ r e (λ ds ds_is e1.
+      by_check (nat_le (count + items_len ds) MAX_LAYERS) OverLimit _ r e1 (λ fits e2.
+      let all = each_counted_sound ds (count + items_len ds) r (array_fine n d ds fine (ok_or_ok (as_array d) MemberOfAnotherKind ds ds_is)) e2 in
+      let few = all.few (leb-true (count + items_len ds) MAX_LAYERS fits) in
+      record { sum = omega (arith, all.long, all.sum); each = all.each; few = λ le. few }))
+
+-- ---- layers within layers
+-- what a body holds that was read, and the layers in it
+abbrev BodyRead : ℕ → ℕ → ℕ → ℕ → ℕ × Body → Type 0
+BodyRead room level size count r = WasReadBody level size r.1 × WereCounted size count r.0 (drawn_in room level r.1)
+
+-- the layers of a group, by a reader with this room
+abbrev IsInner : ℕ → ℕ → ℕ → ℕ → Counting (List Layer) → Type 0
+IsInner room level n size inner = (d : Data) (count : ℕ) (ls : ℕ × List Layer) → IsFine n d → inner count d ≡ Ok ls → BodyRead room level size count (ls.0, Group ls.1)
+
+alone : (room level size count : ℕ) (b : Body) → group_in b ≡ None → WasReadBody level size b → BodyRead room level size count (count, b)
+alone room level size count b none h = (h, subst (WereCounted size count count) (sym (drawn_in-none room level b none)) (none_counted size count))
+
+body_sound : (room level n : ℕ) → property_level (object_level level) + n ≤ MAX_DEPTH → (inner : Counting (List Layer)) (kind : LayerType) (width height count : ℕ) (ms : Members) (r : ℕ × Body)
+    → IsInner room level (suc (suc (suc (suc n)))) (width * height) inner → AreFineMembers (suc (suc (suc (suc n)))) ms → body_by inner kind width height count ms ≡ Ok r → BodyRead room level (width * height) count r
 unfolding tiles_of objects_of
-body_sound level n room TileLayer width height ms b h e =
-    by_bind (absent_means Array encoding_at (get_member ENCODING.now ms)) _ b e (λ encoding encoding_is e1.
+body_sound room level n deep inner TileLayer width height count ms r sound h e =
+    by_bind (tiles_of width height ms) _ r e (λ b b_is last.
+    by_bind (absent_means Array encoding_at (get_member ENCODING.now ms)) _ b b_is (λ encoding encoding_is e1.
     by_step (absent_means tt compression_at (get_member COMPRESSION.now ms)) _ b e1 (λ e2.
     by_step (absent_means tt (same_at width) (get_member WIDTH.now ms)) _ b e2 (λ e3.
     by_step (absent_means tt (same_at height) (get_member HEIGHT.now ms)) _ b e3 (λ e4.
     by_bind (required (cells_at encoding (width * height)) (get_member DATA.now ms)) _ b e4 (λ cells cells_is e5.
     let found = required_ok (cells_at encoding (width * height)) (get_member DATA.now ms) cells cells_is in
-    subst (WasReadBody level (width * height)) (ok_is (Tiles encoding cells) b e5) (cells_tree_sound encoding (width * height) found.0 cells found.2))))))
-body_sound level n room ObjectGroup width height ms b h e =
-    by_bind (required (entries_at MAX_OBJECTS object_at) (get_member OBJECTS.now ms)) _ b e (λ objects objects_is e1.
+    let made = alone room level (width * height) count (Tiles encoding cells) refl (cells_tree_sound encoding (width * height) found.0 cells found.2) in
+    subst (BodyRead room level (width * height) count) (ap (λ c. (count, c)) (ok_is (Tiles encoding cells) b e5) ∙ ok_is (count, b) r last) made))))))
+body_sound room level n deep inner ObjectGroup width height count ms r sound h e =
+    by_bind (objects_of ms) _ r e (λ b b_is last.
+    by_bind (required (entries_at MAX_OBJECTS object_at) (get_member OBJECTS.now ms)) _ b b_is (λ objects objects_is e1.
     let found = required_ok (entries_at MAX_OBJECTS object_at) (get_member OBJECTS.now ms) objects objects_is in
     let fine = IsFine-get_member (suc (suc (suc (suc n)))) OBJECTS.now ms found.0 h found.1 in
-    subst (WasReadBody level (width * height)) (ok_is (Objects objects) b e1)
-    (entries_sound (WasReadObject (object_level level)) object_at (suc (suc (suc n))) (object_sound (object_level level) n room) MAX_OBJECTS found.0 objects fine found.2))
-body_sound level n room ImageLayer width height ms b h e = subst (WasReadBody level (width * height)) (ok_is Other b e) tt
+    let made = alone room level (width * height) count (Objects objects) refl
+    (entries_sound (WasReadObject (object_level level)) object_at (suc (suc (suc n))) (object_sound (object_level level) n deep) MAX_OBJECTS found.0 objects fine found.2) in
+    subst (BodyRead room level (width * height) count) (ap (λ c. (count, c)) (ok_is (Objects objects) b e1) ∙ ok_is (count, b) r last) made))
+body_sound room level n deep inner ImageLayer width height count ms r sound h e =
+    subst (BodyRead room level (width * height) count) (ok_is (count, Other) r e) (alone room level (width * height) count Other refl tt)
+body_sound room level n deep inner GroupLayer width height count ms r sound h e =
+    by_bind (required (inner count) (get_member LAYERS.now ms)) _ r e (λ ls ls_is e1.
+    let found = required_ok (inner count) (get_member LAYERS.now ms) ls ls_is in
+    let fine = IsFine-get_member (suc (suc (suc (suc n)))) LAYERS.now ms found.0 h found.1 in
+    subst (BodyRead room level (width * height) count) (ok_is (ls.0, Group ls.1) r e1) (sound found.0 count ls fine found.2))
 
-pub layer_sound : (level n : ℕ) → property_level (object_level level) + n ≤ MAX_DEPTH → (width height : ℕ) (d : Data) (l : Layer) → IsFine (suc (suc (suc (suc (suc n))))) d → layer_at width height d ≡ Ok l
-    → WasReadLayer level (width * height) l
-unfolding layer_at
-layer_sound level n room width height d l fine e =
-    by_bind (ok_or (as_object d) MemberOfAnotherKind) _ l e (λ ms object e1.
-    by_bind (required type_at (get_member TYPE.now ms)) _ l e1 (λ type type_is e2.
-    by_bind (required id_at (get_member ID.now ms)) _ l e2 (λ id id_is e3.
-    by_bind (absent_means [] text_at (get_member NAME.now ms)) _ l e3 (λ name name_is e4.
-    by_bind (absent_means true truth_at (get_member VISIBLE.now ms)) _ l e4 (λ visible visible_is e5.
-    by_bind (properties_of ms) _ l e5 (λ properties properties_is e6.
-    by_bind (body_by type width height ms) _ l e6 (λ body body_is e7.
+one_sound : (room level n : ℕ) → property_level (object_level level) + n ≤ MAX_DEPTH → (inner : Counting (List Layer)) (width height count : ℕ) (d : Data) (r : ℕ × Layer)
+    → IsInner room level (suc (suc (suc (suc n)))) (width * height) inner → IsFine (suc (suc (suc (suc (suc n))))) d → layer_by inner width height count d ≡ Ok r → LayerRead room level (width * height) count r
+unfolding layer_by
+one_sound room level n deep inner width height count d r sound fine e =
+    by_bind (ok_or (as_object d) MemberOfAnotherKind) _ r e (λ ms object e1.
+    by_bind (required type_at (get_member TYPE.now ms)) _ r e1 (λ type type_is e2.
+    by_bind (required id_at (get_member ID.now ms)) _ r e2 (λ id id_is e3.
+    by_bind (absent_means [] text_at (get_member NAME.now ms)) _ r e3 (λ name name_is e4.
+    by_bind (absent_means true truth_at (get_member VISIBLE.now ms)) _ r e4 (λ visible visible_is e5.
+    by_bind (properties_of ms) _ r e5 (λ properties properties_is e6.
+    by_bind (body_by inner type width height count ms) _ r e6 (λ body body_is e7.
     let members = object_fine (suc (suc (suc (suc n)))) d ms fine (ok_or_ok (as_object d) MemberOfAnotherKind ms object) in
     let range = required_whole_sound 1 (MAX_NEXT_ID - 1) (get_member ID.now ms) id id_is in
-    let made : WasReadLayer level (width * height) (record { id = id; name = name; visible = visible; properties = properties; kept = without_all (layer_names body) ms; body = body }) = record {
+    let held = body_sound room level n deep inner type width height count ms body sound members body_is in
+    let l : Layer = record { id = id; name = name; visible = visible; properties = properties; kept = without_all (layer_names body.1) ms; body = body.1 } in
+    let made : WasReadLayer level (width * height) l = record {
       low = range.0;
       properties = properties_sound level (suc (suc n)) (omega arith) ms properties members properties_is;
-      kept = kept_sound level (suc (suc (suc (suc n)))) (layer_names body) ms (omega arith) members;
-      body = body_sound level n room type width height ms body members body_is;
+      kept = kept_sound level (suc (suc (suc (suc n)))) (layer_names body.1) ms (omega arith) members;
+      body = held.0;
     } in
-    subst (WasReadLayer level (width * height)) (ok_is (record { id = id; name = name; visible = visible; properties = properties; kept = without_all (layer_names body) ms; body = body }) l e7) made)))))))
+    subst (LayerRead room level (width * height) count) (ok_is (body.0, l) r e7) (made, subst (WereCounted (width * height) count body.0) (sym (below-drawn_in room level l)) held.1))))))))
+
+-- a group with room for layers, which a reader of one room less reads
+inner_sound : (room level n width height : ℕ) → level + 2 * suc room ≡ deepest_level
+    → ((count : ℕ) (d : Data) (r : ℕ × Layer) → IsFine n d → layer_by (layers_at room width height) width height count d ≡ Ok r → LayerRead room (inner_level level) (width * height) count r)
+    → IsInner (suc room) level (suc n) (width * height) (layers_at (suc room) width height)
+unfolding layers_at
+inner_sound room level n width height place one d count ls fine e =
+    let all = array_sound room (inner_level level) n (width * height) (layer_by (layers_at room width height) width height) one d count ls fine e in
+    (omega (arith, place), subst (WereCounted (width * height) count ls.0) (sym (drawn_in-Group room level ls.1)) all)
+
+no_room_sound : (level n width height : ℕ) → IsInner 0 level n (width * height) (layers_at 0 width height)
+unfolding layers_at
+no_room_sound level n width height d count ls fine e =
+    by_bind (ok_or (as_array d) MemberOfAnotherKind) _ ls e (λ ds ds_is e1. absurd cc)
+
+layer_sound : (room level n width height : ℕ) → level + 2 * room ≡ deepest_level → property_level (object_level level) + n ≡ MAX_DEPTH → (count : ℕ) (d : Data) (r : ℕ × Layer)
+    → IsFine (suc (suc (suc (suc (suc n))))) d → layer_by (layers_at room width height) width height count d ≡ Ok r → LayerRead room level (width * height) count r
+layer_sound zero level n width height place deep count d r fine e =
+    one_sound 0 level n (omega (arith, deep)) (layers_at 0 width height) width height count d r (no_room_sound level (suc (suc (suc (suc n)))) width height) fine e
+layer_sound (suc room) level n width height place deep count d r fine e =
+    let m = n - 2 in
+    let long : suc (suc (suc n)) ≡ suc (suc (suc (suc (suc m)))) = omega (arith, place, deep) in
+    let one = λ (k : ℕ) (x : Data) (y : ℕ × Layer) (f : IsFine (suc (suc (suc n))) x) (g : layer_by (layers_at room width height) width height k x ≡ Ok y).
+    layer_sound room (inner_level level) m width height (omega (arith, place)) (omega (arith, place, deep)) k x y (subst (λ i. IsFine i x) long f) g in
+    one_sound (suc room) level n (omega (arith, deep)) (layers_at (suc room) width height) width height count d r (inner_sound room level (suc (suc (suc n))) width height place one) fine e
+
+-- the layers of a map
+pub map_layers_sound : (width height : ℕ) (d : Data) (ls : List Layer) → IsFine 126 d → map_layers_at width height d ≡ Ok ls
+    → (length (all_drawn ls) ≤ MAX_LAYERS) × Each (WasReadDrawn (width * height)) (all_drawn ls)
+unfolding layers_at
+map_layers_sound width height d ls fine e =
+    by_bind (layers_at (suc MAX_GROUPS) width height 0 d) _ ls e (λ r r_is e1.
+    let all = array_sound MAX_GROUPS layer_level 125 (width * height) (layer_by (layers_at MAX_GROUPS width height) width height)
+    (λ count x y f g. layer_sound MAX_GROUPS layer_level 120 width height refl refl count x y f g) d 0 r fine r_is in
+    let few = all.few (omega arith) in
+    subst (λ ks. (length (all_drawn ks) ≤ MAX_LAYERS) × Each (WasReadDrawn (width * height)) (all_drawn ks)) (ok_is r.1 ls e1) (omega (arith, all.sum, few), all.each))

@@ -22,3 +22,9 @@ pub mod MapLaw
 pub mod Returning
 pub mod Frames
 pub mod RoundTrip
+pub mod Gathered
+pub mod Rooms
+pub mod Named
+pub mod DrawnLayers
+pub mod Written
+pub mod LayerLaw

@@ -11,7 +11,7 @@ use Rattle.map_json.specs.declared.fault.MapRefusal.{MapRefusal}
 use Rattle.map_json.specs.declared.fault.MapFault.{MapFault}
 use Rattle.map_json.specs.declared.fault.MapFault.TheVariants.{Memory, Refused}
 use Rattle.map_json.specs.Steps.{Fails}
-use Rattle.map_json.specs.Entries.{each}
+use Rattle.map_json.specs.Entries.{each, each_counted}
 use Rattle.map_json.specs.Cells.{cell_of, cells_of}
 
 module _ {A : Type 0} where
@@ -37,6 +37,27 @@ module _ {A : Type 0} where
   pub refused_entry : (read : Data → Result A MapRefusal) (front : List A) (d : Data) (ds : Items) (e : MapFault) → Fails e (read d) → Fails e (with_front front (each read (item d ds)))
   refused_entry read front d ds Memory h = tt
   refused_entry read front d ds (Refused f) h = rw h refl
+
+  -- the same of entries that are counted
+  abbrev pub counted_front : List A → Result (ℕ × List A) MapRefusal → Result (ℕ × List A) MapRefusal
+  counted_front front (Ok xs) = Ok (xs.0, front ++ xs.1)
+  counted_front front (Err f) = Err f
+
+  pub counted_front-none : (r : Result (ℕ × List A) MapRefusal) → counted_front [] r ≡ r
+  counted_front-none (Ok xs) = refl
+  counted_front-none (Err f) = refl
+
+  regroup_counted : (front : List A) (x : A) (r : Result (ℕ × List A) MapRefusal) → counted_front front (r >>= λ xs. Ok (xs.0, x ∷ xs.1)) ≡ counted_front (front ++ x ∷ []) r
+  regroup_counted front x (Ok xs) = ap (λ (ys : List A). Ok (xs.0, ys)) (sym (append_assoc front (x ∷ []) xs.1))
+  regroup_counted front x (Err f) = refl
+
+  pub counted_front-entry : (read : ℕ → Data → Result (ℕ × A) MapRefusal) (front : List A) (count then : ℕ) (d : Data) (ds : Items) (x : A) → read count d ≡ Ok (then, x)
+      → counted_front front (each_counted read count (item d ds)) ≡ counted_front (front ++ x ∷ []) (each_counted read then ds)
+  counted_front-entry read front count then d ds x e = rw e (regroup_counted front x (each_counted read then ds))
+
+  pub refused_counted : (read : ℕ → Data → Result (ℕ × A) MapRefusal) (front : List A) (count : ℕ) (d : Data) (ds : Items) (e : MapFault) → Fails e (read count d) → Fails e (counted_front front (each_counted read count (item d ds)))
+  refused_counted read front count d ds Memory h = tt
+  refused_counted read front count d ds (Refused f) h = rw h refl
 
 -- ---- cells
 

@@ -1,5 +1,5 @@
 -- What is written has whole numbers alone, and nests no deeper than a reader allows.
-use Rattle.std.proofs.Common.{◌≡◌, ℕ, suc, ◌+◌, ◌*◌, ◌≤◌, ℤ, pos, negsuc, List, [], ◌∷◌, Option, Some, None, Ordering, Less, Equal, Greater, nat_cmp, Bool, false, refl, arith}
+use Rattle.std.proofs.Common.{◌≡◌, ℕ, zero, suc, ◌+◌, ◌-◌, ◌*◌, ◌≤◌, ℤ, pos, negsuc, List, [], ◌∷◌, Option, Some, None, Ordering, Less, Equal, Greater, nat_cmp, Bool, false, refl, subst, arith}
 use Rattle.std.specs.Prelude.{codes}
 use Rattle.std.specs.Option.{option_map}
 use Rattle.std.specs.Cmp.Lexicographic.{slice_cmp}
@@ -7,7 +7,7 @@ use Rattle.std.specs.Ordering.{match_ordering}
 use Rattle.serde_json.specs.Data.{Data, boolean, number, string, array, object, no_items, Items, Members, no_members, member, put, depth, items_depth, members_depth}
 use Rattle.serde_json.specs.Find.{of_integer}
 use Rattle.serde_json.specs.Written.{has_float, items_have_float, members_have_float}
-use Rattle.map_model.specs.declared.limits.TheConstants.{MAX_DEPTH}
+use Rattle.map_model.specs.declared.limits.TheConstants.{MAX_DEPTH, MAX_GROUPS}
 use Rattle.map_model.specs.declared.parts.Encoding.{Encoding}
 use Rattle.map_model.specs.declared.parts.Encoding.TheVariants.{Array, Base64}
 use Rattle.map_model.specs.declared.parts.PropValue.{PropValue}
@@ -15,16 +15,19 @@ use Rattle.map_model.specs.declared.parts.PropValue.TheVariants as values
 use Rattle.map_model.specs.declared.parts.Property.{Property}
 use Rattle.map_model.specs.declared.parts.Object.{Object}
 use Rattle.map_model.specs.declared.parts.Body.{Body}
-use Rattle.map_model.specs.declared.parts.Body.TheVariants.{Tiles, Objects, Other}
+use Rattle.map_model.specs.declared.parts.Body.TheVariants.{Tiles, Objects, Other, Group'}
 use Rattle.map_model.specs.declared.parts.Layer.{Layer}
 use Rattle.map_model.specs.declared.parts.Tileset.{Tileset}
 use Rattle.map_model.specs.declared.parts.MapParts.{MapParts}
+use Rattle.map_model.specs.Groups.{drawn, inside, tree}
 use Rattle.map_model.specs.Lists.{Each}
-use Rattle.map_model.specs.Keeping.{AreKept, map_level, layer_level, tileset_level, object_level, property_level, tileset_names, object_names, property_names, layer_names, map_names}
-use Rattle.map_model.specs.WellFormed.{IsValue, IsProperty, AreProperties, IsObject, IsBody, IsLayer, IsTileset, IsWellFormed}
+use Rattle.map_model.specs.Keeping.{AreKept, deepest_level, inner_level, map_level, layer_level, tileset_level, object_level, property_level, tileset_names, object_names, property_names, layer_names, map_names}
+use Rattle.map_model.specs.WellFormed.{IsValue, IsProperty, AreProperties, IsObject, IsBody, IsDrawn, IsLayer, IsTileset, IsWellFormed}
+use Rattle.map_model.proofs.GroupBodies.{IsLayer-without}
 use Rattle.map_json.specs.Members.{with_own, put_some}
-use Rattle.map_json.specs.Trees.{items_by, array_by, whole_tree, value_tree, property_own, property_tree, properties_member, object_own, object_tree, tileset_own, tileset_tree, cells_tree, encoding_member, body_own, layer_own, layer_tree, own_around, tree_of}
-use Rattle.map_json.specs.Appending.{frame_of, layers_tree}
+use Rattle.map_json.specs.Trees.{items_by, array_by, whole_tree, value_tree, property_own, property_tree, properties_member, object_own, object_tree, tileset_own, tileset_tree, cells_tree, encoding_member, body_own, layer_own, layer_tree, layers_tree, own_around, tree_of}
+use Rattle.map_json.specs.Appending.{AreWritten, frame_of, layer_frame}
+use Rattle.map_json.proofs.DrawnLayers.{Each-left, Each-right, tree-Each}
 use Rattle.map_json.proofs.Own.{put_whole}
 
 -- each number is whole, and nothing is more than n deep
@@ -156,26 +159,75 @@ encoding_plain : (n : ℕ) (e : Encoding) → IsPlainOwn n (encoding_member e)
 encoding_plain n Array = tt
 encoding_plain n Base64 = text_plain n (codes "base64")
 
-body_plain : (level n size width height : ℕ) → property_level (object_level level) + n ≡ MAX_DEPTH → (b : Body) → IsBody level size b → ArePlainOwn (suc (suc (suc (suc n)))) (body_own width height b)
-body_plain level n size width height room (Tiles e cells) h =
+body_plain : (level n size width height : ℕ) → property_level (object_level level) + n ≡ MAX_DEPTH → (d : Data) → IsPlain (suc (suc (suc (suc n)))) d → (b : Body) → IsBody level size b
+    → ArePlainOwn (suc (suc (suc (suc n)))) (body_own width height d b)
+body_plain level n size width height room d layers (Tiles e cells) h =
     let m = suc (suc (suc (suc n))) in
     (encoding_plain m e, (tt, (whole_plain m width, (whole_plain m height, (cells_plain (suc (suc (suc n))) e cells, tt)))))
-body_plain level n size width height room (Objects os) h =
+body_plain level n size width height room d layers (Objects os) h =
     (array_plain (IsObject (object_level level)) (suc (suc (suc n))) object_tree (object_tree_plain (object_level level) n room) os h.1, tt)
-body_plain level n size width height room Other h = tt
+body_plain level n size width height room d layers Other h = tt
+body_plain level n size width height room d layers (Group' s r) h = (layers, tt)
 
-layer_plain : (level n size width height : ℕ) → property_level (object_level level) + n ≡ MAX_DEPTH → (l : Layer) → IsLayer level size l → IsPlain (suc (suc (suc (suc (suc n))))) (layer_tree width height l)
-unfolding layer_tree
-layer_plain level n size width height room l h =
+-- a layer, with this for the layers of a group
+own_plain : (level n size width height : ℕ) → property_level (object_level level) + n ≡ MAX_DEPTH → (d : Data) → IsPlain (suc (suc (suc (suc n)))) d → (l : Layer) → IsLayer level size l
+    → IsPlain (suc (suc (suc (suc (suc n))))) (object (with_own (layer_own width height d l) l.kept))
+own_plain level n size width height room d layers l h =
     let m = suc (suc (suc (suc n))) in
-    object_plain m (layer_own width height l) l.kept
-    ((refl, omega arith), (whole_plain m l.id, (text_plain m l.name, (truth_plain m l.visible, (properties_plain level (suc (suc n)) (omega arith) l.properties h.properties, body_plain level n size width height room l.body h.body)))))
+    object_plain m (layer_own width height d l) l.kept
+    ((refl, omega arith), (whole_plain m l.id, (text_plain m l.name, (truth_plain m l.visible, (properties_plain level (suc (suc n)) (omega arith) l.properties h.properties, body_plain level n size width height room d layers l.body h.body)))))
     (kept_plain level m (layer_names l.body) l.kept (omega arith) h.kept)
 
+-- ---- layers within layers
+module _ (room level n width height : ℕ) (one : (l : Layer) → Each (IsDrawn (width * height)) (tree room level l) → IsPlain n (layer_tree room width height l)) where
+  layers_plain : (ls : List Layer) → Each (IsDrawn (width * height)) (drawn room level ls) → ArePlainItems n (items_by (layer_tree room width height) ls)
+  layers_plain [] h = (refl, omega arith)
+  layers_plain (l ∷ ls) h =
+      let own = one l (Each-left (IsDrawn (width * height)) (tree room level l) (drawn room level ls) h) in
+      let more = layers_plain ls (Each-right (IsDrawn (width * height)) (tree room level l) (drawn room level ls) h) in
+      let a = own.1 in
+      let b = more.1 in
+      (rw (own.0, more.0) refl, omega arith)
+
+own_IsLayer : (room level size : ℕ) (l : Layer) → Each (IsDrawn size) (tree room level l) → IsLayer level size l
+own_IsLayer room level size l h = IsLayer-without (λ ls. []) level size l (tree-Each (IsDrawn size) room level l h).0
+
+layer_plain : (room level n width height : ℕ) → level + 2 * room ≡ deepest_level → property_level (object_level level) + n ≡ MAX_DEPTH → (l : Layer) → Each (IsDrawn (width * height)) (tree room level l)
+    → IsPlain (suc (suc (suc (suc (suc n))))) (layer_tree room width height l)
+unfolding layer_tree
+layer_plain zero level n width height place deep l h = own_plain level n (width * height) width height deep (array no_items) (refl, omega arith) l (own_IsLayer 0 level (width * height) l h)
+layer_plain (suc room) level n width height place deep l h =
+    let m = n - 2 in
+    let long : suc (suc (suc (suc (suc m)))) ≡ suc (suc (suc n)) = omega (arith, place, deep) in
+    let one = λ (k : Layer) (g : Each (IsDrawn (width * height)) (tree room (inner_level level) k)).
+    subst (λ i. IsPlain i (layer_tree room width height k)) long (layer_plain room (inner_level level) m width height (omega (arith, place)) (omega (arith, place, deep)) k g) in
+    let items = layers_plain room (inner_level level) (suc (suc (suc n))) width height one (inside l) (tree-Each (IsDrawn (width * height)) (suc room) level l h).1 in
+    let below = items.1 in
+    own_plain level n (width * height) width height deep (layers_tree room width height (inside l)) (items.0, omega (arith, below)) l (own_IsLayer (suc room) level (width * height) l h)
+
+-- layers of a map, where so many groups may still stand in one another
+AreWritten-plain : (room width height : ℕ) (ls : List Layer) → AreWritten room (width * height) ls → IsPlain 126 (layers_tree room width height ls)
+AreWritten-plain room width height ls h =
+    let n = 123 - h.level in
+    let items = layers_plain room h.level (suc (suc (suc (suc (suc n))))) width height (layer_plain room h.level n width height h.place (omega (arith, h.place))) ls h.each in
+    let deep = items.1 in
+    (items.0, omega (arith, h.place, h.high, deep))
+
+-- the frame of one of them
+pub layer_frame_plain : (room width height : ℕ) (l : Layer) → AreWritten room (width * height) (l ∷ []) → IsPlain 127 (object (layer_frame width height l))
+layer_frame_plain room width height l h =
+    let n = 123 - h.level in
+    let own = own_IsLayer room h.level (width * height) l (Each-left (IsDrawn (width * height)) (tree room h.level l) [] h.each) in
+    let frame = own_plain h.level n (width * height) width height (omega (arith, h.place)) (array no_items) (refl, omega arith) l own in
+    let deep = frame.1 in
+    (frame.0, omega (arith, h.place, h.high, deep))
+
 -- the layers of a well-formed map
-pub layers_tree_plain : (m : MapParts) → IsWellFormed m → IsPlain 126 (layers_tree m)
-layers_tree_plain m h =
-    array_plain (IsLayer layer_level (m.width * m.height)) 125 (layer_tree m.width m.height) (layer_plain layer_level 120 (m.width * m.height) m.width m.height refl) m.layers h.layers.each
+pub layers_AreWritten : (m : MapParts) → IsWellFormed m → AreWritten MAX_GROUPS (m.width * m.height) m.layers
+layers_AreWritten m h = record { level = layer_level; high = omega arith; place = refl; each = h.layers.each }
+
+map_layers_plain : (m : MapParts) → IsWellFormed m → IsPlain 126 (layers_tree MAX_GROUPS m.width m.height m.layers)
+map_layers_plain m h = AreWritten-plain MAX_GROUPS m.width m.height m.layers (layers_AreWritten m h)
 
 -- its members, with this for its layers
 around_plain : (d : Data) (m : MapParts) → IsPlain 126 d → IsWellFormed m → IsPlain 127 (object (with_own (own_around d m) m.kept))
@@ -215,7 +267,7 @@ around_plain d m layers h =
 -- the tree of a well-formed map
 pub tree_plain : (m : MapParts) → IsWellFormed m → IsPlain 127 (tree_of m)
 unfolding tree_of
-tree_plain m h = around_plain (layers_tree m) m (layers_tree_plain m h) h
+tree_plain m h = around_plain (layers_tree MAX_GROUPS m.width m.height m.layers) m (map_layers_plain m h) h
 
 -- and its frame
 pub frame_plain : (m : MapParts) → IsWellFormed m → IsPlain 127 (object (frame_of m))

@@ -133,7 +133,7 @@ chosen false r f x e = absurd cc
 
 -- ---- arrays
 
-array_fine : (n : ℕ) (d : Data) (ds : Items) → IsFine (suc n) d → as_array d ≡ Some ds → AreFineItems n ds
+pub array_fine : (n : ℕ) (d : Data) (ds : Items) → IsFine (suc n) d → as_array d ≡ Some ds → AreFineItems n ds
 array_fine n (array es) ds h e = let s : es ≡ ds = cc in subst (λ (x : Items). AreFineItems n x) s h
 array_fine n null ms h e = absurd cc
 array_fine n (boolean b) ms h e = absurd cc

@@ -1,13 +1,18 @@
 -- For private clauses: a text that grows by one value after another, and what stays true of it.
-use Rattle.std.specs.Prelude.{◌≡◌, IsUtf8, ℕ, List, ◌++◌, if◌then◌else◌, Some}
+use Rattle.std.specs.Prelude.{◌≡◌, IsUtf8, ℕ, ◌+◌, ◌*◌, ◌≤◌, List, ◌++◌, if◌then◌else◌, Some}
 use Rattle.std.specs.Str.{bytes_eq}
 use Rattle.json.specs.Tree.{HasNumbers}
 use Rattle.serde_json.specs.Data.{Data, array, Members, no_members, member, no_items}
 use Rattle.serde_json.specs.Read.{of_json}
 use Rattle.serde_json.specs.Written.{compact_text, outline}
 use Rattle.map_model.specs.declared.parts.MapParts.{MapParts}
+use Rattle.map_model.specs.declared.parts.Layer.{Layer}
+use Rattle.map_model.specs.Groups.{drawn}
+use Rattle.map_model.specs.Keeping.{deepest_level, layer_level}
+use Rattle.map_model.specs.Lists.{Each}
+use Rattle.map_model.specs.WellFormed.{IsDrawn}
 use Rattle.map_json.specs.Members.{with_own}
-use Rattle.map_json.specs.Trees.{array_by, layer_tree, own_around}
+use Rattle.map_json.specs.Trees.{layer_own, own_around}
 
 -- the value's text is UTF-8, and its JSON reads as the value
 pub record Returns (d : Data) : Type 0 where
@@ -28,9 +33,16 @@ abbrev pub replaced : List ℕ → Data → Members → Members
 replaced k d no_members = no_members
 replaced k d (member l e ms) = member l (in_place k d l e) (replaced k d ms)
 
--- the array of a map's layers
-abbrev pub layers_tree : MapParts → Data
-layers_tree m = array_by (layer_tree m.width m.height) m.layers
+-- layers as a map of so many cells has them, where so many groups may still stand in one another
+pub record AreWritten (room size : ℕ) (ls : List Layer) : Type 0 where
+  pub level : ℕ
+  pub high : layer_level ≤ level
+  pub place : level + 2 * room ≡ deepest_level
+  pub each : Each (IsDrawn size) (drawn room level ls)
+
+-- the members of a layer, with an empty array for the layers of a group
+abbrev pub layer_frame : ℕ → ℕ → Layer → Members
+layer_frame width height l = with_own (layer_own width height (array no_items) l) l.kept
 
 -- the members of a map, with an empty array for its layers
 abbrev pub frame_of : MapParts → Members

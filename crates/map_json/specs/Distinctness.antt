@@ -1,13 +1,14 @@
 -- Whether what must differ does: layer ids, object ids and first ids over the whole map, and names within one owner.
-use Rattle.std.specs.Prelude.{◌==◌, ◌&&◌, List, [], ◌∷◌, map, Bool, true, not, nat_lt}
+use Rattle.std.specs.Prelude.{ℕ, ◌==◌, ◌&&◌, List, [], ◌∷◌, map, Bool, true, not, nat_lt}
 use Rattle.std.specs.List.{list_any, list_all, flat_map}
 use Rattle.std.specs.Str.{bytes_eq}
 use Rattle.map_model.specs.declared.parts.Property.{Property}
 use Rattle.map_model.specs.declared.parts.Object.{Object}
 use Rattle.map_model.specs.declared.parts.Body.{Body}
-use Rattle.map_model.specs.declared.parts.Body.TheVariants.{Tiles, Objects, Other}
+use Rattle.map_model.specs.declared.parts.Body.TheVariants.{Tiles, Objects, Other, Group'}
 use Rattle.map_model.specs.declared.parts.Layer.{Layer}
 use Rattle.map_model.specs.declared.parts.MapParts.{MapParts}
+use Rattle.map_model.specs.Groups.{all_drawn}
 use Rattle.map_model.specs.WellFormed.{layer_ids, object_ids, first_ids_of, names_of_property}
 
 -- no element is there twice, by this test
@@ -15,17 +16,21 @@ abbrev pub are_distinct : {A : Type 0} → (A → A → Bool) → List A → Boo
 are_distinct eq [] = true
 are_distinct eq (x ∷ xs) = not (list_any (eq x) xs) && are_distinct eq xs
 
--- the lists of properties of objects, of a layer and of a map
+-- the lists of properties of objects, of a layer without those in it, and of a map
 abbrev pub lists_in : Body → List (List Property)
 lists_in (Tiles e cells) = []
 lists_in (Objects os) = map (λ (o : Object). o.properties) os
 lists_in Other = []
+lists_in (Group' s r) = []
 
 abbrev pub lists_of_layer : Layer → List (List Property)
 lists_of_layer l = l.properties ∷ lists_in l.body
 
+abbrev pub lists_of_drawn : ℕ × Layer → List (List Property)
+lists_of_drawn d = lists_of_layer d.1
+
 abbrev pub property_lists : MapParts → List (List Property)
-property_lists m = m.properties ∷ flat_map lists_of_layer m.layers
+property_lists m = m.properties ∷ flat_map lists_of_drawn (all_drawn m.layers)
 
 -- no name stands twice in a list of properties
 abbrev pub are_named_apart : List Property → Bool

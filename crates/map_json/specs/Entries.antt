@@ -18,3 +18,12 @@ abbrev pub entries_at : {A : Type 0} → ℕ → (Data → Result A MapRefusal) 
 entries_at most read d = do
   ds ← ok_or (as_array d) MemberOfAnotherKind
   if nat_le (items_len ds) most then each read ds else Err OverLimit
+
+-- a reader that is told how many layers were counted before, and tells how many then
+abbrev pub Counting : Type 0 → Type 0
+Counting A = ℕ → Data → Result (ℕ × A) MapRefusal
+
+-- each entry in turn, by such a reader
+abbrev pub each_counted : {A : Type 0} → Counting A → ℕ → Items → Result (ℕ × List A) MapRefusal
+each_counted read count no_items = Ok (count, [])
+each_counted read count (item d ds) = read count d >>= (λ x. each_counted read x.0 ds >>= (λ xs. Ok (xs.0, x.1 ∷ xs.1)))

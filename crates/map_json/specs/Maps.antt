@@ -7,7 +7,7 @@ use Rattle.serde_json.specs.Find.{as_object, as_str, get_member}
 use Rattle.serde_json.specs.Read.{read}
 use Rattle.serde_json.specs.Written.{has_float, members_have_float}
 use Rattle.map_model.specs.declared.names.TheConstants.{TYPE, WIDTH, HEIGHT, TILE_WIDTH, TILE_HEIGHT, INFINITE, NEXT_LAYER_ID, NEXT_OBJECT_ID, LAYERS, TILESETS, VERSION}
-use Rattle.map_model.specs.declared.limits.TheConstants.{MAX_SIDE, MAX_CELLS, MAX_TILE_SIDE, MAX_LAYERS, MAX_TILESETS, MAX_NEXT_ID}
+use Rattle.map_model.specs.declared.limits.TheConstants.{MAX_SIDE, MAX_CELLS, MAX_TILE_SIDE, MAX_TILESETS, MAX_NEXT_ID}
 use Rattle.map_model.specs.declared.parts.MapParts.{MapParts}
 use Rattle.map_model.specs.Keeping.{map_names}
 use Rattle.map_model.specs.Steps.{◌>>=◌, ◌>>◌, check}
@@ -19,7 +19,7 @@ use Rattle.map_json.specs.Steps.{required, absent_means}
 use Rattle.map_json.specs.Scalars.{whole_at, truth_at}
 use Rattle.map_json.specs.Entries.{entries_at}
 use Rattle.map_json.specs.Members.{without, without_all}
-use Rattle.map_json.specs.Reading.{properties_of, tileset_at, layer_at}
+use Rattle.map_json.specs.Reading.{properties_of, tileset_at, map_layers_at}
 use Rattle.map_json.specs.Distinctness.{has_no_double, are_below_next}
 
 -- ---- fractions
@@ -64,7 +64,7 @@ parts_of ms = do
   check (not infinite) Infinite
   next_layer_id ← required (whole_at 1 MAX_NEXT_ID) (get_member NEXT_LAYER_ID.now ms)
   next_object_id ← required (whole_at 1 MAX_NEXT_ID) (get_member NEXT_OBJECT_ID.now ms)
-  layers ← required (entries_at MAX_LAYERS (layer_at width height)) (get_member LAYERS.now ms)
+  layers ← required (map_layers_at width height) (get_member LAYERS.now ms)
   tilesets ← required (entries_at MAX_TILESETS tileset_at) (get_member TILESETS.now ms)
   properties ← properties_of ms
   Ok (record {

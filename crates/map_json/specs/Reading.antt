@@ -1,11 +1,12 @@
 -- What the tree of each owner says: properties, objects, tilesets and layers, member by member in this order.
-use Rattle.std.specs.Prelude.{ℕ, ◌-◌, ◌*◌, ◌==◌, ℤ, neg_ℤ, List, [], codes, true, if◌then◌else◌, ⊤, Option, Some, None, Result, Ok, Err}
+use Rattle.std.specs.Prelude.{ℕ, zero, suc, ◌+◌, ◌-◌, ◌*◌, ◌==◌, nat_le, ℤ, neg_ℤ, List, [], codes, true, if◌then◌else◌, ⊤, Option, Some, None, Result, Ok, Err}
 use Rattle.std.specs.Str.{bytes_eq}
 use Rattle.std.specs.Option.{ok_or}
 use Rattle.serde_json.specs.Data.{Num, Data, null, boolean, number, string, array, object, Members}
-use Rattle.serde_json.specs.Find.{as_object, as_number, as_u64, as_i64, as_str, get_member}
-use Rattle.map_model.specs.declared.names.TheConstants.{ID, NAME, TYPE, VISIBLE, PROPERTIES, WIDTH, HEIGHT, ENCODING, COMPRESSION, DATA, OBJECTS, X, Y, GID, FIRST_ID, SOURCE, VALUE}
-use Rattle.map_model.specs.declared.limits.TheConstants.{MAX_NEXT_ID, MAX_PIXELS, MAX_PROPERTIES, MAX_OBJECTS, MAX_FIRST_ID}
+use Rattle.serde_json.specs.Events.{items_len}
+use Rattle.serde_json.specs.Find.{as_object, as_array, as_number, as_u64, as_i64, as_str, get_member}
+use Rattle.map_model.specs.declared.names.TheConstants.{ID, NAME, TYPE, VISIBLE, PROPERTIES, WIDTH, HEIGHT, LAYERS, ENCODING, COMPRESSION, DATA, OBJECTS, X, Y, GID, FIRST_ID, SOURCE, VALUE}
+use Rattle.map_model.specs.declared.limits.TheConstants.{MAX_LAYERS, MAX_GROUPS, MAX_NEXT_ID, MAX_PIXELS, MAX_PROPERTIES, MAX_OBJECTS, MAX_FIRST_ID}
 use Rattle.map_model.specs.declared.parts.Encoding.{Encoding}
 use Rattle.map_model.specs.declared.parts.Encoding.TheVariants.{Array, Base64}
 use Rattle.map_model.specs.declared.parts.PropValue.{PropValue}
@@ -14,18 +15,18 @@ use Rattle.map_model.specs.declared.parts.Property.{Property}
 use Rattle.map_model.specs.declared.parts.Placing.{Placing}
 use Rattle.map_model.specs.declared.parts.Object.{Object}
 use Rattle.map_model.specs.declared.parts.Body.{Body}
-use Rattle.map_model.specs.declared.parts.Body.TheVariants.{Tiles, Objects, Other}
+use Rattle.map_model.specs.declared.parts.Body.TheVariants.{Tiles, Objects, Other, Group}
 use Rattle.map_model.specs.declared.parts.Layer.{Layer}
 use Rattle.map_model.specs.declared.parts.Tileset.{Tileset}
 use Rattle.map_model.specs.Keeping.{layer_names, object_names, tileset_names, property_names}
 use Rattle.map_model.specs.Steps.{◌>>=◌, ◌>>◌, check}
 use Rattle.map_json.specs.declared.body.LayerType.{LayerType}
-use Rattle.map_json.specs.declared.body.LayerType.TheVariants.{TileLayer, ObjectGroup, ImageLayer}
+use Rattle.map_json.specs.declared.body.LayerType.TheVariants.{TileLayer, ObjectGroup, ImageLayer, GroupLayer}
 use Rattle.map_json.specs.declared.fault.MapRefusal.{MapRefusal}
-use Rattle.map_json.specs.declared.fault.MapRefusal.TheVariants.{MemberOfAnotherKind, Compressed, BadData}
+use Rattle.map_json.specs.declared.fault.MapRefusal.TheVariants.{MemberOfAnotherKind, Compressed, BadData, OverLimit}
 use Rattle.map_json.specs.Steps.{required, absent_means, optional}
 use Rattle.map_json.specs.Scalars.{whole_at, signed_at, text_at, truth_at}
-use Rattle.map_json.specs.Entries.{entries_at}
+use Rattle.map_json.specs.Entries.{Counting, each_counted, entries_at}
 use Rattle.map_json.specs.Members.{without_all}
 use Rattle.map_json.specs.Cells.{array_cells_at, base64_cells_at}
 
@@ -99,6 +100,7 @@ type_at d = do
   if bytes_eq s (codes "tilelayer") then Ok TileLayer
       else if bytes_eq s (codes "objectgroup") then Ok ObjectGroup
       else if bytes_eq s (codes "imagelayer") then Ok ImageLayer
+      else if bytes_eq s (codes "group") then Ok GroupLayer
       else Err MemberOfAnotherKind
 
 unfoldable pub encoding_at : Data → Result Encoding MapRefusal
@@ -137,19 +139,37 @@ objects_of ms = do
   objects ← required (entries_at MAX_OBJECTS object_at) (get_member OBJECTS.now ms)
   Ok (Objects objects)
 
--- what a layer of this type holds, on a map of this size
-abbrev pub body_by : LayerType → ℕ → ℕ → Members → Result Body MapRefusal
-body_by TileLayer width height ms = tiles_of width height ms
-body_by ObjectGroup width height ms = objects_of ms
-body_by ImageLayer width height ms = Ok Other
+-- what a layer of this type holds, on a map of this size; where it is a group, inner reads its layers
+abbrev pub body_by : Counting (List Layer) → LayerType → ℕ → ℕ → ℕ → Members → Result (ℕ × Body) MapRefusal
+body_by inner TileLayer width height count ms = tiles_of width height ms >>= λ body. Ok (count, body)
+body_by inner ObjectGroup width height count ms = objects_of ms >>= λ body. Ok (count, body)
+body_by inner ImageLayer width height count ms = Ok (count, Other)
+body_by inner GroupLayer width height count ms = required (inner count) (get_member LAYERS.now ms) >>= λ ls. Ok (ls.0, Group ls.1)
 
-unfoldable pub layer_at : ℕ → ℕ → Data → Result Layer MapRefusal
-layer_at width height d = do
+-- a layer, on a map of this size
+unfoldable pub layer_by : Counting (List Layer) → ℕ → ℕ → Counting Layer
+layer_by inner width height count d = do
   ms ← ok_or (as_object d) MemberOfAnotherKind
   type ← required type_at (get_member TYPE.now ms)
   id ← required id_at (get_member ID.now ms)
   name ← absent_means [] text_at (get_member NAME.now ms)
   visible ← absent_means true truth_at (get_member VISIBLE.now ms)
   properties ← properties_of ms
-  body ← body_by type width height ms
-  Ok (record { id = id; name = name; visible = visible; properties = properties; kept = without_all (layer_names body) ms; body = body })
+  body ← body_by inner type width height count ms
+  Ok (body.0, record { id = id; name = name; visible = visible; properties = properties; kept = without_all (layer_names body.1) ms; body = body.1 })
+
+-- an array of layers, where so many such arrays may stand in one another, itself among them
+--
+-- Its length is added to those of the arrays that were reached before it, and no map has more layers than MAX_LAYERS.
+unfoldable pub layers_at : ℕ → ℕ → ℕ → Counting (List Layer)
+layers_at zero width height count d = do
+  ds ← ok_or (as_array d) MemberOfAnotherKind
+  Err OverLimit
+layers_at (suc room) width height count d = do
+  ds ← ok_or (as_array d) MemberOfAnotherKind
+  check (nat_le (count + items_len ds) MAX_LAYERS) OverLimit
+  each_counted (layer_by (layers_at room width height) width height) (count + items_len ds) ds
+
+-- the layers of a map: an array, and those of groups within as many groups as may stand in one another
+abbrev pub map_layers_at : ℕ → ℕ → Data → Result (List Layer) MapRefusal
+map_layers_at width height d = layers_at (suc MAX_GROUPS) width height 0 d >>= λ ls. Ok ls.1

@@ -1,5 +1,5 @@
 -- What is written for a map: its tree, and the text of that tree. The own members of each owner stand in the reader's order.
-use Rattle.std.specs.Prelude.{ℕ, ◌++◌, List, [], ◌∷◌, codes, false, Option, Some, None}
+use Rattle.std.specs.Prelude.{ℕ, zero, suc, ◌++◌, List, [], ◌∷◌, codes, false, Option, Some, None}
 use Rattle.std.specs.Option.{option_map}
 use Rattle.std.specs.Int.{w32, to_le_bytes}
 use Rattle.base64.specs.Engines.{standard}
@@ -8,6 +8,7 @@ use Rattle.serde_json.specs.Data.{Data, boolean, number, string, array, object, 
 use Rattle.serde_json.specs.Find.{of_integer}
 use Rattle.serde_json.specs.Written.{compact_text}
 use Rattle.map_model.specs.declared.names.TheConstants.{ID, NAME, TYPE, VISIBLE, PROPERTIES, WIDTH, HEIGHT, TILE_WIDTH, TILE_HEIGHT, INFINITE, NEXT_LAYER_ID, NEXT_OBJECT_ID, LAYERS, TILESETS, VERSION, ENCODING, COMPRESSION, DATA, OBJECTS, X, Y, GID, FIRST_ID, SOURCE, VALUE}
+use Rattle.map_model.specs.declared.limits.TheConstants.{MAX_GROUPS}
 use Rattle.map_model.specs.declared.parts.Encoding.{Encoding}
 use Rattle.map_model.specs.declared.parts.Encoding.TheVariants.{Array, Base64}
 use Rattle.map_model.specs.declared.parts.PropValue.{PropValue}
@@ -15,10 +16,11 @@ use Rattle.map_model.specs.declared.parts.PropValue.TheVariants as values
 use Rattle.map_model.specs.declared.parts.Property.{Property}
 use Rattle.map_model.specs.declared.parts.Object.{Object}
 use Rattle.map_model.specs.declared.parts.Body.{Body}
-use Rattle.map_model.specs.declared.parts.Body.TheVariants.{Tiles, Objects, Other}
+use Rattle.map_model.specs.declared.parts.Body.TheVariants.{Tiles, Objects, Other, Group'}
 use Rattle.map_model.specs.declared.parts.Layer.{Layer}
 use Rattle.map_model.specs.declared.parts.Tileset.{Tileset}
 use Rattle.map_model.specs.declared.parts.MapParts.{MapParts}
+use Rattle.map_model.specs.Groups.{inside}
 use Rattle.map_json.specs.Members.{Own, with_own}
 
 abbrev pub items_by : {A : Type 0} → (A → Data) → List A → Items
@@ -91,22 +93,30 @@ abbrev pub type_word : Body → List ℕ
 type_word (Tiles e cells) = codes "tilelayer"
 type_word (Objects os) = codes "objectgroup"
 type_word Other = codes "imagelayer"
+type_word (Group' s r) = codes "group"
 
-abbrev pub body_own : ℕ → ℕ → Body → Own
-body_own width height (Tiles e cells) =
+-- the members of a layer's kind, with this for the layers of a group
+abbrev pub body_own : ℕ → ℕ → Data → Body → Own
+body_own width height layers (Tiles e cells) =
     (ENCODING.now, encoding_member e) ∷ (COMPRESSION.now, None) ∷ (WIDTH.now, Some (whole_tree width)) ∷ (HEIGHT.now, Some (whole_tree height))
     ∷ (DATA.now, Some (cells_tree e cells)) ∷ []
-body_own width height (Objects os) = (OBJECTS.now, Some (array_by object_tree os)) ∷ []
-body_own width height Other = []
+body_own width height layers (Objects os) = (OBJECTS.now, Some (array_by object_tree os)) ∷ []
+body_own width height layers Other = []
+body_own width height layers (Group' s r) = (LAYERS.now, Some layers) ∷ []
 
-abbrev pub layer_own : ℕ → ℕ → Layer → Own
-layer_own width height l =
+abbrev pub layer_own : ℕ → ℕ → Data → Layer → Own
+layer_own width height layers l =
     ((TYPE.now, Some (string (type_word l.body))) ∷ (ID.now, Some (whole_tree l.id)) ∷ (NAME.now, Some (string l.name))
     ∷ (VISIBLE.now, Some (boolean l.visible)) ∷ (PROPERTIES.now, properties_member l.properties) ∷ [])
-    ++ body_own width height l.body
+    ++ body_own width height layers l.body
 
-unfoldable pub layer_tree : ℕ → ℕ → Layer → Data
-layer_tree width height l = object (with_own (layer_own width height l) l.kept)
+-- a layer in which layers may stand in so many groups
+unfoldable pub layer_tree : ℕ → ℕ → ℕ → Layer → Data
+layer_tree zero width height l = object (with_own (layer_own width height (array no_items) l) l.kept)
+layer_tree (suc room) width height l = object (with_own (layer_own width height (array_by (layer_tree room width height) (inside l)) l) l.kept)
+
+abbrev pub layers_tree : ℕ → ℕ → ℕ → List Layer → Data
+layers_tree room width height ls = array_by (layer_tree room width height) ls
 
 -- ---- maps
 -- the own members of a map that are no lists
@@ -136,7 +146,7 @@ abbrev pub own_around : Data → MapParts → Own
 own_around layers m = plain_own m ++ lists_own layers m
 
 abbrev pub map_own : MapParts → Own
-map_own m = own_around (array_by (layer_tree m.width m.height) m.layers) m
+map_own m = own_around (layers_tree MAX_GROUPS m.width m.height m.layers) m
 
 -- the tree of a map, and its text
 unfoldable pub tree_of : MapParts → Data

@@ -1,4 +1,4 @@
-// What a layer holds, by its type.
+// What a layer holds, by its type: a tile layer and an object layer.
 ghost use Rattle.std.specs.Prelude.{◌≡◌, ◌*◌, ◌≤◌, option_map, IfOk};
 ghost use Rattle.serde_json.specs.View.{view as data_of};
 ghost use Rattle.map_model.specs.Keeping.{body_names};
@@ -6,7 +6,7 @@ ghost use Rattle.map_model.specs.declared.limits.TheConstants.{MAX_CELLS};
 ghost use Rattle.map_model.specs.declared.parts.Encoding.TheVariants.{Array};
 ghost use Rattle.map_json.specs.Members.{without_all};
 ghost use Rattle.map_json.specs.Steps.{Gives, required, absent_means};
-ghost use Rattle.map_json.specs.Reading.{type_at, encoding_at, compression_at, same_at, cells_at, tiles_of, objects_of, body_by};
+ghost use Rattle.map_json.specs.Reading.{type_at, encoding_at, compression_at, same_at, cells_at, tiles_of, objects_of};
 
 use crate::cells::{array_cells, base64_cells};
 use crate::entries::required_entries;
@@ -24,6 +24,7 @@ pub enum LayerType {
     TileLayer,
     ObjectGroup,
     ImageLayer,
+    GroupLayer,
 }
 
 /// The type of a layer, which must be there.
@@ -40,6 +41,8 @@ pub fn layer_type(member: Option<&Value>) -> Result<LayerType, MapRefusal>
                 Ok(LayerType::ObjectGroup)
             } else if text == "imagelayer" {
                 Ok(LayerType::ImageLayer)
+            } else if text == "group" {
+                Ok(LayerType::GroupLayer)
             } else {
                 Err(MapRefusal::MemberOfAnotherKind)
             }
@@ -121,8 +124,9 @@ fn cells(
     }
 }
 
+/// What a tile layer holds; its members are taken out.
 #[tactic(auto, using(crate::proofs::MembersLemmas::takes), unfolding(crate::specs::Reading::tiles_of))]
-fn tiles(alloc: Global, size: Size, members: &mut JsonObject) -> Result<Body, MapFault>
+pub fn tiles(alloc: Global, size: Size, members: &mut JsonObject) -> Result<Body, MapFault>
     requires { size.width * size.height ≤ MAX_CELLS }
     ensures value { Gives result (tiles_of size.width size.height members.old) }
     ensures kept { IfOk result (λ body. members.new ≡ without_all (body_names body) members.old) }
@@ -141,8 +145,9 @@ fn tiles(alloc: Global, size: Size, members: &mut JsonObject) -> Result<Body, Ma
     Ok(Body::Tiles(encoding, cells))
 }
 
+/// What an object layer holds; its members are taken out.
 #[tactic(auto, unfolding(crate::specs::Reading::objects_of))]
-fn objects(alloc: Global, size: Size, members: &mut JsonObject) -> Result<Body, MapFault>
+pub fn objects(alloc: Global, size: Size, members: &mut JsonObject) -> Result<Body, MapFault>
     requires { size.width * size.height ≤ MAX_CELLS }
     ensures value { Gives result (objects_of members.old) }
     ensures kept { IfOk result (λ body. members.new ≡ without_all (body_names body) members.old) }
@@ -150,22 +155,4 @@ fn objects(alloc: Global, size: Size, members: &mut JsonObject) -> Result<Body, 
     let objects = members.take(names::OBJECTS);
     let objects = required_entries(alloc, size, MAX_OBJECTS, objects)?;
     Ok(Body::Objects(objects))
-}
-
-/// What a layer of this type holds; its members are taken out.
-pub fn body(
-    alloc: Global,
-    size: Size,
-    kind: LayerType,
-    members: &mut JsonObject,
-) -> Result<Body, MapFault>
-    requires { size.width * size.height ≤ MAX_CELLS }
-    ensures value { Gives result (body_by kind size.width size.height members.old) }
-    ensures kept { IfOk result (λ body. members.new ≡ without_all (body_names body) members.old) }
-{
-    match kind {
-        LayerType::TileLayer => tiles(alloc, size, members),
-        LayerType::ObjectGroup => objects(alloc, size, members),
-        LayerType::ImageLayer => Ok(Body::Other),
-    }
 }

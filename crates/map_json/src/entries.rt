@@ -25,7 +25,8 @@ pub trait Entry {
         ensures { Gives result (reads size (data_of value)) };
 }
 
-fn array_of(value: Value) -> Option<Vec<Value>>
+/// The entries of a value, where it is an array.
+pub fn array_of(value: Value) -> Option<Vec<Value>>
     ensures { option_map (λ values. items_view values.items) result ≡ as_array (data_of value) }
 {
     match value {

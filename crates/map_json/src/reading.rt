@@ -8,17 +8,16 @@ ghost use Rattle.map_json.specs.Members.{without_all};
 ghost use Rattle.map_json.specs.Steps.{Gives};
 ghost use Rattle.map_json.specs.Maps.{is_map_type, parts_of, consistent, map_of, Says};
 
-use crate::doubles::{are_below_next, has_no_double};
+use crate::doubles::{are_below_next, has_no_double, ids_of_map};
 use crate::entries::required_entries;
 use crate::fault::{MapFault, MapRefusal};
 use crate::fractions::has_fraction;
 use crate::json_object::JsonObject;
+use crate::layer::map_layers;
 use crate::property::properties_or_none;
 use crate::scalar::{required_whole, truth_or};
 use crate::size::Size;
-use map_model::limits::{
-    MAX_CELLS, MAX_LAYERS, MAX_NEXT_ID, MAX_SIDE, MAX_TILE_SIDE, MAX_TILESETS,
-};
+use map_model::limits::{MAX_CELLS, MAX_NEXT_ID, MAX_SIDE, MAX_TILE_SIDE, MAX_TILESETS};
 use map_model::{Map, MapParts, names};
 use serde_json::Value;
 use std::alloc::Global;
@@ -78,7 +77,7 @@ fn parts_of(alloc: Global, members: JsonObject) -> Result<MapParts, MapFault>
     let next_layer_id = required_whole(members.get(names::NEXT_LAYER_ID), 1, MAX_NEXT_ID)?;
     let next_object_id = required_whole(members.get(names::NEXT_OBJECT_ID), 1, MAX_NEXT_ID)?;
     let members = map_members(members);
-    let layers = required_entries(alloc, size, MAX_LAYERS, members.layers)?;
+    let layers = map_layers(alloc, size, members.layers)?;
     let tilesets = required_entries(alloc, size, MAX_TILESETS, members.tilesets)?;
     let properties = properties_or_none(alloc, size, members.properties)?;
     Ok(MapParts {
@@ -99,10 +98,13 @@ fn parts_of(alloc: Global, members: JsonObject) -> Result<MapParts, MapFault>
 fn consistent(alloc: Global, parts: MapParts) -> Result<MapParts, MapFault>
     ensures { Gives result (consistent parts) }
 {
-    if !has_no_double(alloc, &parts)? {
+    let ids = ids_of_map(alloc, &parts)?;
+    // A fault of the doubles comes before one of this.
+    let below = are_below_next(&parts, &ids);
+    if !has_no_double(alloc, &parts, ids)? {
         return Err(MapFault::Refused(MapRefusal::IdUsedTwice));
     }
-    if !are_below_next(&parts) {
+    if !below {
         return Err(MapFault::Refused(MapRefusal::OverLimit));
     }
     Ok(parts)

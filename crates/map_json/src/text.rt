@@ -1,21 +1,23 @@
 // The text of a map. It goes out a member and a layer at a time, so that no more than one layer's tree stands in memory.
-ghost use Rattle.std.specs.Prelude.{◌≡◌, ◌++◌, ◌∷◌, [], ◌≤◌, false, Ok, IfOk, OnOk};
+// Of a group that tree is its members but its layers.
+ghost use Rattle.std.specs.Prelude.{◌≡◌, ◌++◌, ◌*◌, ◌∷◌, [], ◌≤◌, false, Ok, IfOk, OnOk};
 ghost use Rattle.json.specs.Print.{quoted};
-ghost use Rattle.serde_json.specs.Data.{object, depth, items_depth, members_depth};
+ghost use Rattle.serde_json.specs.Data.{object, depth, members_depth};
 ghost use Rattle.serde_json.specs.Read.{max_depth};
 ghost use Rattle.serde_json.specs.View.{view as data_of};
-ghost use Rattle.serde_json.specs.Written.{comma_if, has_float, items_have_float, members_have_float};
+ghost use Rattle.serde_json.specs.Written.{comma_if, has_float, members_have_float};
 ghost use Rattle.map_model.specs.declared.names.TheConstants.{LAYERS};
-ghost use Rattle.map_json.specs.Appending.{Appends, in_place, layers_tree, replaced};
+ghost use Rattle.map_json.specs.Appending.{Appends, AreWritten, in_place, replaced};
 ghost use Rattle.map_json.specs.Maps.{IsTreeOf, map_of};
 ghost use Rattle.map_json.specs.RoundTrip.{WrittenIsRead};
-ghost use Rattle.map_json.specs.Trees.{array_by, items_by, layer_tree, text_of, tree_of};
+ghost use Rattle.map_json.specs.Trees.{layer_tree, layers_tree, text_of, tree_of};
 
 use crate::json_object::JsonObject;
 use crate::size::Size;
-use crate::writing::{Tree, frame_of, text_tree};
+use crate::writing::{frame_of, layer_frame, text_tree};
 use link_chain::Chain;
-use map_model::{Layer, Map, MapParts, names};
+use map_model::limits::MAX_GROUPS;
+use map_model::{Layer, Map, names};
 use serde_json::Value;
 use std::alloc::{AllocError, Global};
 
@@ -50,66 +52,94 @@ fn push_name(alloc: Global, text: &mut Vec<u8>, later: bool, name: &str) -> Resu
     Ok(())
 }
 
-// Puts the array of layers.
+// Puts the array of layers, in which layers may stand in so many groups.
+#[cycle(pushes)]
 fn push_layers(
     alloc: Global,
     text: &mut Vec<u8>,
     size: Size,
+    room: usize,
     layers: &Chain<Layer>,
 ) -> Result<(), AllocError>
-    requires whole { items_have_float (items_by (layer_tree size.width size.height) layers.now) ≡ false }
-    requires shallow { items_depth (items_by (layer_tree size.width size.height) layers.now) ≤ max_depth }
-    ensures { OnOk result (Appends (array_by (layer_tree size.width size.height) layers.now) text.old.items text.new.items) }
+    requires { AreWritten room (size.width * size.height) layers.now }
+    ensures { OnOk result (Appends (layers_tree room size.width size.height layers.now) text.old.items text.new.items) }
 {
     text.push(b'[')?;
     let mut later = false;
     for layer in layers.iter() {
         push_comma(text, later)?;
-        push_value(alloc, text, &layer.tree(alloc, size)?)?;
+        push_layer(alloc, text, size, room, layer)?;
         later = true;
     }
     text.push(b']')?;
     Ok(())
 }
 
-// Puts the value of a member of the map: the layers, or what stands there.
+// Puts a layer: as a whole, or a group's members with its layers in their place.
+#[cycle(pushes)]
+fn push_layer(
+    alloc: Global,
+    text: &mut Vec<u8>,
+    size: Size,
+    room: usize,
+    layer: &Layer,
+) -> Result<(), AllocError>
+    requires { AreWritten room (size.width * size.height) (layer.now ∷ []) }
+    ensures { OnOk result (Appends (layer_tree room size.width size.height layer.now) text.old.items text.new.items) }
+{
+    let frame = layer_frame(alloc, size, layer)?;
+    if room > 0 {
+        if let Some(inside) = layer.body.layers() {
+            return push_framed(alloc, text, size, room - 1, inside, &frame);
+        }
+    }
+    push_value(alloc, text, &frame.into_value())
+}
+
+// Puts the value of a member: the layers, or what stands there.
+#[cycle(pushes)]
 fn push_member(
     alloc: Global,
     text: &mut Vec<u8>,
-    map: &MapParts,
+    size: Size,
+    room: usize,
+    layers: &Chain<Layer>,
     name: &str,
     value: &Value,
 ) -> Result<(), AllocError>
-    requires layers_whole { has_float (layers_tree map.now) ≡ false }
-    requires layers_shallow { depth (layers_tree map.now) ≤ max_depth }
+    requires layers { AreWritten room (size.width * size.height) layers.now }
     requires whole { has_float (data_of value.now) ≡ false }
     requires shallow { depth (data_of value.now) ≤ max_depth }
-    ensures { OnOk result (Appends (in_place LAYERS.now (layers_tree map.now) name.now (data_of value.now)) text.old.items text.new.items) }
+    ensures { OnOk result (Appends (in_place LAYERS.now (layers_tree room size.width size.height layers.now) name.now (data_of value.now))
+        text.old.items text.new.items) }
 {
     if name == names::LAYERS {
-        return push_layers(alloc, text, Size::of_map(map), &map.layers);
+        return push_layers(alloc, text, size, room, layers);
     }
     push_value(alloc, text, value)
 }
 
-// Puts the map's object: the members of its frame, and the layers in their place.
-fn push_map(
+// Puts the object of a map or a group: the members of its frame, and its layers in their place.
+#[cycle(pushes)]
+fn push_framed(
     alloc: Global,
     text: &mut Vec<u8>,
-    map: &MapParts,
+    size: Size,
+    room: usize,
+    layers: &Chain<Layer>,
     frame: &JsonObject,
 ) -> Result<(), AllocError>
-    requires layers_whole { has_float (layers_tree map.now) ≡ false }
-    requires layers_shallow { depth (layers_tree map.now) ≤ max_depth }
+    requires layers { AreWritten room (size.width * size.height) layers.now }
     requires whole { members_have_float frame.now ≡ false }
     requires shallow { members_depth frame.now ≤ max_depth }
-    ensures { OnOk result (Appends (object (replaced LAYERS.now (layers_tree map.now) frame.now)) text.old.items text.new.items) }
+    ensures { OnOk result (Appends (object (replaced LAYERS.now (layers_tree room size.width size.height layers.now) frame.now))
+        text.old.items text.new.items) }
 {
     text.push(b'{')?;
     let mut later = false;
     for (name, value) in frame.members().iter() {
         push_name(alloc, text, later, name.as_str())?;
-        push_member(alloc, text, map, name.as_str(), value)?;
+        push_member(alloc, text, size, room, layers, name.as_str(), value)?;
         later = true;
     }
     text.push(b'}')?;
@@ -125,7 +155,8 @@ pub fn write_map(alloc: Global, map: &Map) -> Result<Vec<u8>, AllocError>
     let parts = map.parts();
     let frame = frame_of(alloc, parts)?;
     let mut text = Vec::new(alloc);
-    push_map(alloc, &mut text, parts, &frame)?;
+    let size = Size::of_map(parts);
+    push_framed(alloc, &mut text, size, MAX_GROUPS, &parts.layers, &frame)?;
     Ok(text)
 }
 

@@ -6,8 +6,8 @@ ghost use Rattle.serde_json.specs.View.{view as data_of};
 ghost use Rattle.serde_json.specs.Find.{of_integer};
 ghost use Rattle.map_json.specs.Members.{with_own};
 ghost use Rattle.map_model.specs.declared.parts.Body.TheVariants.{Tiles};
-ghost use Rattle.map_json.specs.Trees.{plain_own, lists_own, array_by, whole_tree, value_tree, property_own, property_tree, properties_member, object_tree, tileset_tree, bytes_of, cells_tree, encoding_member, body_own, type_word, layer_tree};
-ghost use Rattle.map_json.specs.Appending.{frame_of};
+ghost use Rattle.map_json.specs.Trees.{plain_own, lists_own, array_by, whole_tree, value_tree, property_own, property_tree, properties_member, object_tree, tileset_tree, bytes_of, cells_tree, encoding_member, body_own, type_word};
+ghost use Rattle.map_json.specs.Appending.{frame_of, layer_frame};
 
 use crate::json_object::JsonObject;
 use crate::size::Size;
@@ -227,7 +227,7 @@ fn put_tiles(
     members: &mut JsonObject,
 ) -> Result<(), AllocError>
     ensures { OnOk result
-        (members.new ≡ with_own (body_own size.width size.height (Tiles encoding cells.now)) members.old) }
+        (members.new ≡ with_own (body_own size.width size.height (array no_items) (Tiles encoding cells.now)) members.old) }
 {
     let data = cells_tree(alloc, encoding, cells)?;
     members.put(alloc, names::DATA, data)?;
@@ -237,7 +237,7 @@ fn put_tiles(
     members.put_some(alloc, names::ENCODING, encoding)
 }
 
-// Puts the members of a layer's kind.
+// Puts the members of a layer's kind, with an empty array for the layers of a group.
 fn put_body(
     alloc: Global,
     size: Size,
@@ -245,7 +245,7 @@ fn put_body(
     members: &mut JsonObject,
 ) -> Result<(), AllocError>
     ensures { OnOk result
-        (members.new ≡ with_own (body_own size.width size.height body.now) members.old) }
+        (members.new ≡ with_own (body_own size.width size.height (array no_items) body.now) members.old) }
 {
     match body {
         Body::Tiles(encoding, cells) => {
@@ -257,6 +257,7 @@ fn put_body(
             array_by(alloc, size, objects)?,
         ),
         Body::Other => Ok(()),
+        Body::Group(_) => members.put(alloc, names::LAYERS, Value::from(Vec::new(alloc))),
     }
 }
 
@@ -267,24 +268,27 @@ fn type_word(body: &Body) -> &'static str
         Body::Tiles(_, _) => "tilelayer",
         Body::Objects(_) => "objectgroup",
         Body::Other => "imagelayer",
+        Body::Group(_) => "group",
     }
 }
 
-impl Tree for Layer {
-    ghost tree = { λ size. layer_tree size.width size.height };
-
-    #[tactic(auto, unfolding(crate::specs::Trees::layer_tree))]
-    fn tree(&self, alloc: Global, size: Size) -> Result<Value, AllocError> {
-        let mut members = JsonObject::from_kept(alloc, &self.kept)?;
-        put_body(alloc, size, &self.body, &mut members)?;
-        let properties = properties_member(alloc, size, &self.properties)?;
-        members.put_some(alloc, names::PROPERTIES, properties)?;
-        members.put(alloc, names::VISIBLE, Value::from(self.visible))?;
-        members.put(alloc, names::NAME, text_tree(alloc, self.name.as_str())?)?;
-        members.put(alloc, names::ID, Value::from(self.id))?;
-        members.put(alloc, names::TYPE, text_tree(alloc, type_word(&self.body))?)?;
-        Ok(members.into_value())
-    }
+/// The members of a layer, with an empty array for the layers of a group.
+pub fn layer_frame(alloc: Global, size: Size, layer: &Layer) -> Result<JsonObject, AllocError>
+    ensures { IfOk result (λ frame. frame ≡ layer_frame size.width size.height layer.now) }
+{
+    let mut members = JsonObject::from_kept(alloc, &layer.kept)?;
+    put_body(alloc, size, &layer.body, &mut members)?;
+    let properties = properties_member(alloc, size, &layer.properties)?;
+    members.put_some(alloc, names::PROPERTIES, properties)?;
+    members.put(alloc, names::VISIBLE, Value::from(layer.visible))?;
+    members.put(alloc, names::NAME, text_tree(alloc, layer.name.as_str())?)?;
+    members.put(alloc, names::ID, Value::from(layer.id))?;
+    members.put(
+        alloc,
+        names::TYPE,
+        text_tree(alloc, type_word(&layer.body))?,
+    )?;
+    Ok(members)
 }
 
 // Puts the members of a map that are no lists.

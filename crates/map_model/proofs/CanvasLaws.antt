@@ -1,25 +1,27 @@
 -- Documents that are put on a canvas, and turned back.
-use Rattle.std.proofs.Common.{◌≡◌, ℕ, ◌+◌, ◌*◌, ℤ, ◌+ℤ◌, neg_ℤ, List, [], ◌∷◌, ◌++◌, length, map, get_or, Option, Some, None, option_map, refl, sym, ap, ◌∙◌, arith, append_assoc, length-append}
+use Rattle.std.proofs.Common.{◌≡◌, ℕ, ◌+◌, ◌*◌, ℤ, ◌+ℤ◌, neg_ℤ, suc, List, [], ◌∷◌, ◌++◌, append-nil, length, map, get_or, Option, Some, None, option_map, refl, sym, ap, ◌∙◌, arith, append_assoc, length-append}
 use Rattle.std.specs.List.{flat_map}
 use Rattle.std.proofs.Math.IntN.{+ℤ-neg_ℤ_cancel}
 use Rattle.std.proofs.Math.Seq.{get_or-append_seam}
 use Rattle.std.proofs.lemmas.Int.{ints}
 use Rattle.std.proofs.lemmas.List.{length-map}
 use Rattle.map_model.specs.declared.canvas.Canvas.{Canvas}
+use Rattle.map_model.specs.declared.limits.TheConstants.{MAX_GROUPS}
 use Rattle.map_model.specs.declared.parts.Body.{Body}
-use Rattle.map_model.specs.declared.parts.Body.TheVariants.{Tiles, Objects, Other}
+use Rattle.map_model.specs.declared.parts.Body.TheVariants.{Tiles, Objects, Other, Group'}
 use Rattle.map_model.specs.declared.parts.Layer.{Layer}
 use Rattle.map_model.specs.declared.parts.Object.{Object}
 use Rattle.map_model.specs.declared.parts.MapParts.{MapParts}
 use Rattle.std.specs.FinSet as set
 use Rattle.region.specs.Cells.{cell_cmp}
-use Rattle.map_model.specs.Canvas.{with_lists, lists_in, lists_of, tile_layers, object_moved, body_on, layer_on, layers_on, map_on, with_canvas, canvas_back, IsShift, AreCells, MayBeMoved, BodyMayBeMoved, IsCanvasOf}
+use Rattle.map_model.specs.Canvas.{with_lists, lists_in, lists_of, tile_layers, object_moved, body_on, layer_on, layers_on, map_on, with_canvas, canvas_back, IsShift, AreCells, MayBeMoved, BodyMayBeMoved, MayBeDrawn, IsCanvasOf}
 use Rattle.map_model.specs.Document.{DocumentParts, IsDocument}
+use Rattle.map_model.specs.Groups.{all_drawn}
 use Rattle.map_model.specs.Keeping.{body_names, layer_level, object_level}
 use Rattle.map_model.specs.Lists.{Each}
-use Rattle.map_model.proofs.CanvasSteps.{length-layers_on}
+use Rattle.map_model.proofs.CanvasTrees.{Turns, back_layers, drawn_on, drawn-layers_on}
 use Rattle.map_model.proofs.Listings.{Each-append, Each-front, Each-rest}
-use Rattle.map_model.specs.WellFormed.{IsBody, IsLayer, IsObject, ids_of, ids_of_object, object_ids_in, object_ids_of}
+use Rattle.map_model.specs.WellFormed.{IsBody, IsDrawn, IsObject, ids_of, ids_of_object, object_ids_in, object_ids_of}
 
 -- ---- turned back
 number-back : (o : Option ℤ) (by : ℤ) → option_map (λ z. z +ℤ neg_ℤ by) (option_map (λ z. z +ℤ by) o) ≡ o
@@ -35,42 +37,33 @@ objects-back right down (o ∷ os) =
 abbrev held : Canvas → DocumentParts → List (List ℕ) → Canvas
 held c d lists = record (canvas_back c d) { layers = lists }
 
-body-back : (c : Canvas) (d : DocumentParts) (front rest : List (List ℕ)) (place : ℕ) (b : Body) → place ≡ length front
-    → body_on (held c d (front ++ (lists_in b ++ rest))) place (body_on c place b) ≡ b
+-- a body that was put on the canvas is put back
+body-back : (c : Canvas) (d : DocumentParts) → Turns (held c d) c
 body-back c d front rest place (Tiles e own) is =
     ap (Tiles e) (ap (λ k. get_or (front ++ own ∷ rest) k (get_or c.layers place own)) is ∙ get_or-append_seam front own rest (get_or c.layers place own))
 body-back c d front rest place (Objects os) is = ap Objects (objects-back c.right c.down os)
 body-back c d front rest place Other is = refl
+body-back c d front rest place (Group' s r) is = refl
 
-lists-on : (c : Canvas) (place : ℕ) (b : Body) → length (lists_in (body_on c place b)) ≡ length (lists_in b)
-lists-on c place (Tiles e own) = refl
-lists-on c place (Objects os) = refl
-lists-on c place Other = refl
-
-layers-back : (c : Canvas) (d : DocumentParts) (front : List (List ℕ)) (place : ℕ) (ls : List Layer) → place ≡ length front
-    → layers_on (held c d (front ++ flat_map lists_of ls)) place (layers_on c place ls) ≡ ls
-layers-back c d front place [] is = refl
-layers-back c d front place (l ∷ ls) is =
-    let next : place + length (lists_of l) ≡ length (front ++ lists_of l) = omega (arith, length-append front (lists_of l)) in
-    let rest = layers-back c d (front ++ lists_of l) (place + length (lists_of l)) ls next in
-    let later : layers_on (held c d (front ++ (lists_of l ++ flat_map lists_of ls))) (place + length (lists_in (body_on c place l.body))) (layers_on c (place + length (lists_of l)) ls) ≡ ls
-    = rw (lists-on c place l.body, ← append_assoc front (lists_of l) (flat_map lists_of ls)) rest in
-    λ i. record l { body = body-back c d front (flat_map lists_of ls) place l.body is i } ∷ later i
+layers-back : (c : Canvas) (d : DocumentParts) (ls : List Layer) → layers_on MAX_GROUPS (held c d (flat_map lists_of (all_drawn ls))) 0 (layers_on MAX_GROUPS c 0 ls) ≡ ls
+layers-back c d ls =
+    ap (λ xs. layers_on MAX_GROUPS (held c d xs) 0 (layers_on MAX_GROUPS c 0 ls)) (sym (append-nil (flat_map lists_of (all_drawn ls))))
+    ∙ back_layers (held c d) c (body-back c d) MAX_GROUPS [] [] 0 ls refl
 
 pub canvas-turned : (c : Canvas) (d : DocumentParts) → with_canvas (canvas_back c d) (with_canvas c d) ≡ d
-canvas-turned c d = ap (λ ls. record d { map = record d.map { layers = ls } }) (layers-back c d [] 0 d.map.layers refl)
+canvas-turned c d = ap (λ ls. record d { map = record d.map { layers = ls } }) (layers-back c d d.map.layers)
 
 -- ---- the cells of the canvas are those of the tile layers
-lists-laid : (c : Canvas) (front rest : List (List ℕ)) (place : ℕ) (ls : List Layer) → c.layers ≡ front ++ rest → place ≡ length front
-    → length rest ≡ length (flat_map lists_of ls) → flat_map lists_of (layers_on c place ls) ≡ rest
+lists-laid : (c : Canvas) (front rest : List (List ℕ)) (place : ℕ) (ls : List (ℕ × Layer)) → c.layers ≡ front ++ rest → place ≡ length front
+    → length rest ≡ length (flat_map lists_of ls) → flat_map lists_of (drawn_on c place ls) ≡ rest
 lists-laid c front [] place [] held is count = refl
 lists-laid c front (cells ∷ rest) place [] held is count = absurd (omega arith)
-lists-laid c front rest place (l ∷ ls) held is count = by_body l.body rest held count (λ next more. lists-laid c next more (place + length (lists_of l)) ls)
+lists-laid c front rest place (l ∷ ls) held is count = by_body l.1.body rest held count (λ next more. lists-laid c next more (place + length (lists_of l)) ls)
   where
     by_body : (b : Body) (rest : List (List ℕ)) → c.layers ≡ front ++ rest → length rest ≡ length (lists_in b ++ flat_map lists_of ls)
         → ((next more : List (List ℕ)) → c.layers ≡ next ++ more → place + length (lists_in b) ≡ length next → length more ≡ length (flat_map lists_of ls)
-        → flat_map lists_of (layers_on c (place + length (lists_in b)) ls) ≡ more)
-        → lists_in (body_on c place b) ++ flat_map lists_of (layers_on c (place + length (lists_in b)) ls) ≡ rest
+        → flat_map lists_of (drawn_on c (place + length (lists_in b)) ls) ≡ more)
+        → lists_in (body_on c place b) ++ flat_map lists_of (drawn_on c (place + length (lists_in b)) ls) ≡ rest
     by_body (Tiles e own) [] at many later = absurd (omega arith)
     by_body (Tiles e own) (cells ∷ more) at many later =
         let first : get_or c.layers place own ≡ cells =
@@ -79,9 +72,10 @@ lists-laid c front rest place (l ∷ ls) held is count = by_body l.body rest hel
         λ i. first i ∷ later (front ++ cells ∷ []) more (at ∙ sym (append_assoc front (cells ∷ []) more)) next (omega arith) i
     by_body (Objects os) more at many later = later front more at (omega arith) many
     by_body Other more at many later = later front more at (omega arith) many
+    by_body (Group' s r) more at many later = later front more at (omega arith) many
 
 pub tile_layers-on : (c : Canvas) (m : MapParts) → length c.layers ≡ length (tile_layers m) → tile_layers (map_on c m) ≡ c.layers
-tile_layers-on c m count = lists-laid c [] c.layers 0 m.layers refl refl count
+tile_layers-on c m count = ap (flat_map lists_of) (drawn-layers_on MAX_GROUPS c layer_level 0 m.layers) ∙ lists-laid c [] c.layers 0 (all_drawn m.layers) refl refl count
 
 -- ---- what stays of a layer
 object_ids-moved : (right down : ℤ) (os : List Object) → flat_map ids_of_object (map (object_moved right down) os) ≡ flat_map ids_of_object os
@@ -92,14 +86,16 @@ object_ids-on : (c : Canvas) (place : ℕ) (b : Body) → object_ids_in (body_on
 object_ids-on c place (Tiles e own) = refl
 object_ids-on c place (Objects os) = object_ids-moved c.right c.down os
 object_ids-on c place Other = refl
+object_ids-on c place (Group' s r) = refl
 
 body_names-on : (c : Canvas) (place : ℕ) (b : Body) → body_names (body_on c place b) ≡ body_names b
 body_names-on c place (Tiles e own) = refl
 body_names-on c place (Objects os) = refl
 body_names-on c place Other = refl
+body_names-on c place (Group' s r) = refl
 
-flat-on : (c : Canvas) (g : Layer → List ℕ) → ((place : ℕ) (l : Layer) → g (layer_on c place l) ≡ g l) → (place : ℕ) (ls : List Layer)
-    → flat_map g (layers_on c place ls) ≡ flat_map g ls
+flat-on : (c : Canvas) (g : ℕ × Layer → List ℕ) → ((place : ℕ) (d : ℕ × Layer) → g (d.0, layer_on c place d.1) ≡ g d) → (place : ℕ) (ls : List (ℕ × Layer))
+    → flat_map g (drawn_on c place ls) ≡ flat_map g ls
 flat-on c g same place [] = refl
 flat-on c g same place (l ∷ ls) = λ i. same place l i ++ flat-on c g same (place + length (lists_of l)) ls i
 
@@ -116,32 +112,40 @@ IsBody-on c place level old size (Tiles e own) h may cells = cells.0
 IsBody-on c place level old size (Objects os) h may cells =
     (rw (length-map os (object_moved c.right c.down)) h.0, objects-on c.right c.down (object_level level) os h.1 may)
 IsBody-on c place level old size Other h may cells = tt
+IsBody-on c place level old size (Group' s r) h may cells = h
 
-layers-on : (c : Canvas) (place level old size : ℕ) (ls : List Layer) → Each (IsLayer level old) ls → Each (λ l. BodyMayBeMoved c.right c.down l.body) ls
-    → Each (AreCells size) (flat_map lists_of (layers_on c place ls)) → Each (IsLayer level size) (layers_on c place ls)
-layers-on c place level old size [] h may cells = tt
-layers-on c place level old size (l ∷ ls) h may cells =
-    let own = Each-front (AreCells size) (lists_in (body_on c place l.body)) (flat_map lists_of (layers_on c (place + length (lists_of l)) ls)) cells in
-    let rest = Each-rest (AreCells size) (lists_in (body_on c place l.body)) (flat_map lists_of (layers_on c (place + length (lists_of l)) ls)) cells in (
-      record { properties = h.0.properties; kept = rw (body_names-on c place l.body) h.0.kept; body = IsBody-on c place level old size l.body h.0.body may.0 own },
-      layers-on c (place + length (lists_of l)) level old size ls h.1 may.1 rest,
+layers-on : (c : Canvas) (place old size : ℕ) (ds : List (ℕ × Layer)) → Each (IsDrawn old) ds → Each (MayBeDrawn c.right c.down) ds
+    → Each (AreCells size) (flat_map lists_of (drawn_on c place ds)) → Each (IsDrawn size) (drawn_on c place ds)
+layers-on c place old size [] h may cells = tt
+layers-on c place old size (d ∷ ds) h may cells =
+    let l = d.1 in
+    let own = Each-front (AreCells size) (lists_in (body_on c place l.body)) (flat_map lists_of (drawn_on c (place + length (lists_of d)) ds)) cells in
+    let rest = Each-rest (AreCells size) (lists_in (body_on c place l.body)) (flat_map lists_of (drawn_on c (place + length (lists_of d)) ds)) cells in (
+      record { properties = h.0.properties; kept = rw (body_names-on c place l.body) h.0.kept; body = IsBody-on c place d.0 old size l.body h.0.body may.0 own },
+      layers-on c (place + length (lists_of d)) old size ds h.1 may.1 rest,
     )
+
+length-drawn_on : (c : Canvas) (place : ℕ) (ds : List (ℕ × Layer)) → length (drawn_on c place ds) ≡ length ds
+length-drawn_on c place [] = refl
+length-drawn_on c place (d ∷ ds) = ap suc (length-drawn_on c (place + length (lists_of d)) ds)
 
 pub on-IsDocument : (c : Canvas) (d : DocumentParts) → IsCanvasOf d c → IsDocument d → IsDocument (with_canvas c d)
 on-IsDocument c d fits h =
     let m = d.map in
     let size = c.width * c.height in
-    let cells : Each (AreCells size) (flat_map lists_of (layers_on c 0 m.layers)) = rw (tile_layers-on c m fits.count) fits.cells in
+    let on = drawn-layers_on MAX_GROUPS c layer_level 0 m.layers in
+    let ds = all_drawn m.layers in
+    let cells : Each (AreCells size) (flat_map lists_of (drawn_on c 0 ds)) = rw (← on, tile_layers-on c m fits.count) fits.cells in
     record {
       map = record {
         size = fits.size;
         tile_size = h.map.tile_size;
-        layers = record {
-          few = rw (length-layers_on c 0 m.layers) h.map.layers.few;
-          each = layers-on c 0 layer_level (m.width * m.height) size m.layers h.map.layers.each fits.objects cells;
-          layer_ids = rw (flat-on c ids_of (λ place l. refl) 0 m.layers) h.map.layers.layer_ids;
-          object_ids = rw (flat-on c object_ids_of (λ place l. object_ids-on c place l.body) 0 m.layers) h.map.layers.object_ids;
-        };
+        layers = rw on (record {
+          few = rw (length-drawn_on c 0 ds) h.map.layers.few;
+          each = layers-on c 0 (m.width * m.height) size ds h.map.layers.each fits.objects cells;
+          layer_ids = rw (flat-on c ids_of (λ place l. refl) 0 ds) h.map.layers.layer_ids;
+          object_ids = rw (flat-on c object_ids_of (λ place l. object_ids-on c place l.1.body) 0 ds) h.map.layers.object_ids;
+        });
         tilesets = h.map.tilesets;
         properties = h.map.properties;
         kept = h.map.kept;
@@ -161,22 +165,22 @@ body-may : (c : Canvas) (place level size : ℕ) (b : Body) → IsBody level siz
 body-may c place level size (Tiles e own) h = tt
 body-may c place level size (Objects os) h = objects-may c.right c.down (object_level level) os h.1
 body-may c place level size Other h = tt
+body-may c place level size (Group' s r) h = tt
 
-layers-may : (c : Canvas) (place level size : ℕ) (ls : List Layer) → Each (IsLayer level size) ls
-    → Each (λ l. BodyMayBeMoved (neg_ℤ c.right) (neg_ℤ c.down) l.body) (layers_on c place ls)
-layers-may c place level size [] h = tt
-layers-may c place level size (l ∷ ls) h =
-    (body-may c place level size l.body h.0.body, layers-may c (place + length (lists_of l)) level size ls h.1)
+layers-may : (c : Canvas) (place size : ℕ) (ds : List (ℕ × Layer)) → Each (IsDrawn size) ds → Each (MayBeDrawn (neg_ℤ c.right) (neg_ℤ c.down)) (drawn_on c place ds)
+layers-may c place size [] h = tt
+layers-may c place size (d ∷ ds) h = (body-may c place d.0 size d.1.body h.0.body, layers-may c (place + length (lists_of d)) size ds h.1)
 
 body-cells : (level size : ℕ) (b : Body) → IsBody level size b → Each (AreCells size) (lists_in b)
 body-cells level size (Tiles e own) h = (h, tt)
 body-cells level size (Objects os) h = tt
 body-cells level size Other h = tt
+body-cells level size (Group' s r) h = tt
 
-layers-cells : (level size : ℕ) (ls : List Layer) → Each (IsLayer level size) ls → Each (AreCells size) (flat_map lists_of ls)
-layers-cells level size [] h = tt
-layers-cells level size (l ∷ ls) h =
-    Each-append (AreCells size) (lists_of l) (flat_map lists_of ls) (body-cells level size l.body h.0.body) (layers-cells level size ls h.1)
+layers-cells : (size : ℕ) (ds : List (ℕ × Layer)) → Each (IsDrawn size) ds → Each (AreCells size) (flat_map lists_of ds)
+layers-cells size [] h = tt
+layers-cells size (d ∷ ds) h =
+    Each-append (AreCells size) (lists_of d) (flat_map lists_of ds) (body-cells d.0 size d.1.body h.0.body) (layers-cells size ds h.1)
 
 pub back-IsCanvasOf : (c : Canvas) (d : DocumentParts) → IsCanvasOf d c → IsDocument d → IsCanvasOf (with_canvas c d) (canvas_back c d)
 back-IsCanvasOf c d fits h =
@@ -184,21 +188,21 @@ back-IsCanvasOf c d fits h =
     record {
       size = h.map.size;
       count = sym (ap length (tile_layers-on c d.map fits.count) ∙ fits.count);
-      cells = layers-cells layer_level size d.map.layers h.map.layers.each;
+      cells = layers-cells size (all_drawn d.map.layers) h.map.layers.each;
       selection = h.selection;
       right = IsShift-neg c.right fits.right;
       down = IsShift-neg c.down fits.down;
-      objects = layers-may c 0 layer_level size d.map.layers h.map.layers.each;
+      objects = rw (drawn-layers_on MAX_GROUPS c layer_level 0 d.map.layers) (layers-may c 0 size (all_drawn d.map.layers) h.map.layers.each);
     }
 
 -- ---- the document as its parts were exchanged
 pub on-parts : (c back : Canvas) (d : DocumentParts) (m : MapParts) (selection : set.FinSet cell_cmp) (width height : ℕ) (lists : List (List ℕ)) (ls : List Layer) → m ≡ d.map
-    → back ≡ with_lists lists c → width ≡ back.width → height ≡ back.height → ls ≡ layers_on c 0 m.layers → selection ≡ back.selection
+    → back ≡ with_lists lists c → width ≡ back.width → height ≡ back.height → ls ≡ layers_on MAX_GROUPS c 0 m.layers → selection ≡ back.selection
     → record { map = record m { width = width; height = height; layers = ls }; selection = selection } ≡ with_canvas c d
 on-parts c back d m selection width height lists ls is held wide high laid selected =
     let wide_is : width ≡ c.width = wide ∙ ap (λ b. b.width) held in
     let high_is : height ≡ c.height = high ∙ ap (λ b. b.height) held in
-    let laid_is : ls ≡ layers_on c 0 d.map.layers = laid ∙ ap (λ n. layers_on c 0 n.layers) is in
+    let laid_is : ls ≡ layers_on MAX_GROUPS c 0 d.map.layers = laid ∙ ap (λ n. layers_on MAX_GROUPS c 0 n.layers) is in
     let selected_is : selection ≡ c.selection = selected ∙ ap (λ b. b.selection) held in
     λ i. record { map = record (is i) { width = wide_is i; height = high_is i; layers = laid_is i }; selection = selected_is i }
 

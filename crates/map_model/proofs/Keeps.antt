@@ -1,22 +1,30 @@
 -- Changes that keep a map well formed, and where its cells stand.
-use Rattle.std.proofs.Common.{◌≡◌, ◌≢◌, ℕ, ◌+◌, ◌*◌, ◌<◌, List, [], ◌∷◌, length, Bool, true, false, cond, Option, Some, None, IsSomeAnd, find, refl, ◌∙◌, subst, arith}
-use Rattle.std.specs.List.{slice_get, slice_set, position, insert, remove}
+use Rattle.std.proofs.Common.{◌≡◌, ◌≢◌, ℕ, zero, suc, ◌+◌, ◌*◌, ◌^◌, ◌<◌, ◌≤◌, List, [], ◌∷◌, ◌++◌, append-nil, append_assoc, length, length-append, take, drop, Bool, true, false, cond, find, Option, Some, None, IsSome, IsSomeAnd, option_and_then, refl, sym, ap, ◌∙◌, subst, arith}
+use Rattle.std.specs.List.{flat_map, slice_get, insert, remove}
 use Rattle.std.proofs.lemmas.Nat.{mul-add-lt}
-use Rattle.map_model.specs.declared.limits.TheConstants.{MAX_LAYERS, MAX_NEXT_ID}
+use Rattle.std.proofs.lemmas.Grind.{flat_map-append}
+use Rattle.map_model.specs.declared.limits.TheConstants.{MAX_GROUPS, MAX_LAYERS, MAX_NEXT_ID}
 use Rattle.map_model.specs.declared.parts.Body.{Body}
-use Rattle.map_model.specs.declared.parts.Body.TheVariants.{Tiles, Objects, Other}
+use Rattle.map_model.specs.declared.parts.Body.TheVariants.{Tiles, Objects, Other, Group'}
 use Rattle.map_model.specs.declared.parts.Layer.{Layer}
 use Rattle.map_model.specs.declared.parts.MapParts.{MapParts}
 use Rattle.map_model.specs.declared.edit.CellEdit.{CellEdit}
-use Rattle.map_model.specs.Lists.{Each, change_first}
+use Rattle.map_model.specs.declared.place.LayerPlace.{LayerPlace}
+use Rattle.std.specs.FinSet as set
+use Rattle.region.specs.Cells.{cell_cmp}
+use Rattle.map_model.specs.Document.{IsSelectionOf}
+use Rattle.map_model.specs.Lists.{Each, or_empty}
 use Rattle.map_model.specs.Bodies.{IsTiles, tiles_of, body_with_tiles}
 use Rattle.map_model.specs.CellEdits.{IsBelow}
-use Rattle.map_model.specs.Keeping.{body_names, layer_level}
-use Rattle.map_model.specs.Layers.{layer_with_name, layer_with_visible, with_next_ids}
-use Rattle.map_model.specs.Parts.{has_id, layer_of, HasTiles, tiles_of_layer, tiles_in, layer_with_tiles, IsWithin}
-use Rattle.map_model.specs.WellFormed.{IsId, IsTileValue, IsBody, IsLayer, AreLayers, IsWellFormed, ids_of, object_ids_in, object_ids_of, layer_ids, object_ids}
-use Rattle.map_model.proofs.Changes.{length-change_first, Each-change_first, Each-insert, Each-remove, length-insert, length-remove_le, set-at_position, within-removed, slice_get-within, Each-at}
-use Rattle.map_model.proofs.Listings.{AreNewIds, AreIds-insert, AreIds-remove, AreIds-change_first, AreNewIds-taken}
+use Rattle.map_model.specs.Groups.{all_drawn, bare, change_among, drawn, group_in, group_of, inside, layer_with_layers, tree}
+use Rattle.map_model.specs.Keeping.{body_names, deepest_level, inner_level, layer_level}
+use Rattle.map_model.specs.Layers.{layer_at, layer_with_name, layer_with_visible, siblings_of, with_next_ids, with_siblings, without_layer_at}
+use Rattle.map_model.specs.Parts.{layer_of, HasTiles, tiles_of_layer, tiles_in, layer_with_tiles, IsWithin}
+use Rattle.map_model.specs.Properties.{level_by, level_of}
+use Rattle.map_model.specs.WellFormed.{IsId, AreIds, IsTileValue, IsBody, IsDrawn, IsLayer, AreDrawn, AreLayers, IsWellFormed, ids_of, object_ids_in, object_ids_of, object_ids}
+use Rattle.map_model.proofs.GroupBodies.{IsLayer-with, IsLayer-without, bare-with, group_of-with, object_ids-with}
+use Rattle.map_model.proofs.Listings.{Each-append, Each-front, Each-rest, IsReplaced, flat-IsReplaced, insert-IsReplaced, remove-IsReplaced, take-one, AreNewIds, AreNewIds-none, AreIds-replaced, AreNewIds-piece}
+use Rattle.map_model.proofs.Trees.{Stands, below, change_among-none, stands, tree-is}
 
 -- ---- other layers in the place of a map's
 pub layers-IsWellFormed : (m : MapParts) (ls : List Layer) → AreLayers (m.width * m.height) m.next_layer_id m.next_object_id ls → IsWellFormed m → IsWellFormed (record m { layers = ls })
@@ -29,27 +37,148 @@ layers-IsWellFormed m ls are h = record {
   kept = h.kept;
 }
 
+-- ---- lists in drawing order, with a piece replaced
+length-pieces : {X : Type 0} {front piece new rest xs ys : List X} → IsReplaced front piece new rest xs ys → length ys + length piece ≡ length xs + length new
+length-pieces {front = front} {piece = piece} {new = new} {rest = rest} r =
+    let was = ap length r.was ∙ length-append front (piece ++ rest) in
+    let now = ap length r.now ∙ length-append front (new ++ rest) in
+    omega (arith, was, now, length-append piece rest, length-append new rest)
+
+-- a piece within a longer list
+pub IsReplaced-within : {X : Type 0} {front piece new rest xs ys : List X} (before behind : List X) → IsReplaced front piece new rest xs ys
+    → IsReplaced (before ++ front) piece new (rest ++ behind) (before ++ (xs ++ behind)) (before ++ (ys ++ behind))
+IsReplaced-within {X = X} {front = front} {piece = piece} {new = new} {rest = rest} before behind r = record {
+  was = ap (λ zs. before ++ (zs ++ behind)) r.was ∙ ap (λ zs. before ++ zs) (longer piece) ∙ sym (append_assoc before front (piece ++ (rest ++ behind)));
+  now = ap (λ zs. before ++ (zs ++ behind)) r.now ∙ ap (λ zs. before ++ zs) (longer new) ∙ sym (append_assoc before front (new ++ (rest ++ behind)));
+}
+  where
+    longer : (p : List X) → (front ++ (p ++ rest)) ++ behind ≡ front ++ (p ++ (rest ++ behind))
+    longer p = append_assoc front (p ++ rest) behind ∙ ap (λ zs. front ++ zs) (append_assoc p rest behind)
+
+IsReplaced-as : {X : Type 0} {front piece new rest xs ys vs ws : List X} → vs ≡ xs → ws ≡ ys → IsReplaced front piece new rest xs ys → IsReplaced front piece new rest vs ws
+IsReplaced-as e f r = record { was = e ∙ r.was; now = f ∙ r.now }
+
+-- what is the same of the old piece and the new one is the same of both lists
+flat-same : {X A : Type 0} (g : X → List A) {front piece new rest xs ys : List X} → IsReplaced front piece new rest xs ys → flat_map g new ≡ flat_map g piece → flat_map g ys ≡ flat_map g xs
+flat-same g {front = front} {rest = rest} r same =
+    let f = flat-IsReplaced g r in
+    f.now ∙ ap (λ p. flat_map g front ++ (p ++ flat_map g rest)) same ∙ sym f.was
+
+module _ {size next next_object : ℕ} {front piece new rest xs ys : List (ℕ × Layer)} (r : IsReplaced front piece new rest xs ys) (h : AreDrawn size next next_object xs) where
+  was-each : Each (IsDrawn size) (front ++ (piece ++ rest))
+  was-each = rw (← r.was) h.each
+
+  pub piece-IsDrawn : Each (IsDrawn size) piece
+  piece-IsDrawn = Each-front (IsDrawn size) piece rest (Each-rest (IsDrawn size) front (piece ++ rest) was-each)
+
+  now-each : Each (IsDrawn size) new → Each (IsDrawn size) ys
+  now-each k =
+      rw r.now (Each-append (IsDrawn size) front (new ++ rest) (Each-front (IsDrawn size) front (piece ++ rest) was-each)
+      (Each-append (IsDrawn size) new rest k (Each-rest (IsDrawn size) piece rest (Each-rest (IsDrawn size) front (piece ++ rest) was-each))))
+
+  -- another piece, as long, with the same ids of layers
+  pub AreDrawn-changed : length new ≡ length piece → Each (IsDrawn size) new → flat_map ids_of new ≡ flat_map ids_of piece → AreIds next_object (flat_map object_ids_of ys) → AreDrawn size next next_object ys
+  AreDrawn-changed long k same objects = record {
+    few = let lengths = length-pieces r in omega (arith, lengths, long, h.few);
+    each = now-each k;
+    layer_ids = rw (flat-same ids_of r same) h.layer_ids;
+    object_ids = objects;
+  }
+
+  -- another piece with new ids
+  pub AreDrawn-replaced : length xs + length new ≤ MAX_LAYERS → Each (IsDrawn size) new → AreNewIds next (flat_map ids_of new) (flat_map ids_of front ++ flat_map ids_of rest)
+      → AreNewIds next_object (flat_map object_ids_of new) (flat_map object_ids_of front ++ flat_map object_ids_of rest) → AreDrawn size next next_object ys
+  AreDrawn-replaced few k ids objects = record {
+    few = let lengths = length-pieces r in omega (arith, lengths, few);
+    each = now-each k;
+    layer_ids = AreIds-replaced (flat-IsReplaced ids_of r) h.layer_ids ids;
+    object_ids = AreIds-replaced (flat-IsReplaced object_ids_of r) h.object_ids objects;
+  }
+
+-- without the piece
+pub AreDrawn-taken : {size next next_object : ℕ} {front piece rest xs ys : List (ℕ × Layer)} → IsReplaced front piece [] rest xs ys → AreDrawn size next next_object xs → AreDrawn size next next_object ys
+AreDrawn-taken {next = next} {next_object = next_object} {front = front} {rest = rest} r h =
+    AreDrawn-replaced r h (omega (arith, h.few)) tt (AreNewIds-none next (flat_map ids_of front ++ flat_map ids_of rest)) (AreNewIds-none next_object (flat_map object_ids_of front ++ flat_map object_ids_of rest))
+
+-- with the piece at another place
+pub AreDrawn-moved : {size next next_object : ℕ} {front piece rest before behind xs ys zs : List (ℕ × Layer)} → IsReplaced front piece [] rest xs ys → IsReplaced before [] piece behind ys zs
+    → AreDrawn size next next_object xs → AreDrawn size next next_object zs
+AreDrawn-moved {next = next} {next_object = next_object} {front = front} {piece = piece} {rest = rest} {before = before} {behind = behind} r q h =
+    let between : front ++ rest ≡ before ++ behind = sym r.now ∙ q.was in
+    AreDrawn-replaced q (AreDrawn-taken r h) (let lengths = length-pieces r in omega (arith, lengths, h.few)) (piece-IsDrawn r h)
+    (rw (← flat_map-append ids_of before behind, ← between, flat_map-append ids_of front rest) (AreNewIds-piece (flat-IsReplaced ids_of r) h.layer_ids))
+    (rw (← flat_map-append object_ids_of before behind, ← between, flat_map-append object_ids_of front rest) (AreNewIds-piece (flat-IsReplaced object_ids_of r) h.object_ids))
+
 -- ---- the layer with an id
--- a change of a layer that keeps its ids and keeps it one of the map's layers
+-- what is drawn behind a layer, where the same layers stand in it
+below-same : (room level : ℕ) (l k : Layer) → inside k ≡ inside l → below room level k ≡ below room level l
+below-same zero level l k same = refl
+below-same (suc room) level l k same = ap (drawn room (inner_level level)) same
+
+module _ {id room level : ℕ} {l : Layer} {xs : List (ℕ × Layer)} {ys : (Layer → Layer) → List (ℕ × Layer)} (s : Stands id room level l xs ys) where
+  -- the layer alone is replaced, where the same layers stand in it
+  pub own-IsReplaced : (f : Layer → Layer) → inside (f l) ≡ inside l
+      → IsReplaced s.front ((s.own_level, bare l) ∷ []) ((s.own_level, bare (f l)) ∷ []) (below s.own_room s.own_level l ++ s.rest) xs (ys f)
+  own-IsReplaced f same = record {
+    was = s.was ∙ ap (λ t. s.front ++ (t ++ s.rest)) (tree-is s.own_room s.own_level l);
+    now = s.now f ∙ ap (λ t. s.front ++ (t ++ s.rest)) (tree-is s.own_room s.own_level (f l) ∙ ap (λ t. (s.own_level, bare (f l)) ∷ t) (below-same s.own_room s.own_level l (f l) same));
+  }
+
+-- where the layer with an id stands in a map
+pub layer-Stands : (m : MapParts) (id : ℕ) (l : Layer) → layer_of m id ≡ Some l → Stands id MAX_GROUPS layer_level l (all_drawn m.layers) (λ f. all_drawn (change_among id MAX_GROUPS f m.layers))
+layer-Stands m id l e = stands id MAX_GROUPS layer_level m.layers l e
+
+pub level_of-found : (m : MapParts) (id : ℕ) (l : Layer) (e : layer_of m id ≡ Some l) → level_of m id ≡ (layer-Stands m id l e).own_level
+level_of-found m id l e = ap level_by (layer-Stands m id l e).first
+
+-- it is one of the map's layers
+pub layer_of-IsLayer : (m : MapParts) (id : ℕ) (l : Layer) → layer_of m id ≡ Some l → IsWellFormed m → IsLayer (level_of m id) (m.width * m.height) l
+layer_of-IsLayer m id l e h =
+    let own = piece-IsDrawn (own-IsReplaced (layer-Stands m id l e) (λ k. k) refl) h.layers in
+    rw (level_of-found m id l e) (IsLayer-without (λ ls. []) (layer-Stands m id l e).own_level (m.width * m.height) l own.0)
+
+-- that layer with f of it in its place, where the same layers stand in it
+pub changed-keeps : (id : ℕ) (f : Layer → Layer) (l : Layer) (m : MapParts) → layer_of m id ≡ Some l → inside (f l) ≡ inside l → (f l).id ≡ l.id
+    → IsLayer (level_of m id) (m.width * m.height) (f l) → AreIds m.next_object_id (object_ids (change_among id MAX_GROUPS f m.layers)) → IsWellFormed m
+    → IsWellFormed (record m { layers = change_among id MAX_GROUPS f m.layers })
+changed-keeps id f l m e same own_id is ids h =
+    let s = layer-Stands m id l e in
+    let here : IsLayer s.own_level (m.width * m.height) (f l) = rw (← level_of-found m id l e) is in
+    layers-IsWellFormed m (change_among id MAX_GROUPS f m.layers)
+    (AreDrawn-changed (own-IsReplaced s f same) h.layers refl (IsLayer-with (λ ls. []) s.own_level (m.width * m.height) (f l) here, tt) (ap (λ n. n ∷ []) own_id) ids) h
+
+-- its objects' ids replaced in those of all
+pub object_ids-IsReplaced : (id : ℕ) (f : Layer → Layer) (l : Layer) (m : MapParts) (e : layer_of m id ≡ Some l) → inside (f l) ≡ inside l
+    → (front : List ℕ) × ((rest : List ℕ) × IsReplaced front (object_ids_in l.body) (object_ids_in (f l).body) rest (object_ids m.layers) (object_ids (change_among id MAX_GROUPS f m.layers)))
+object_ids-IsReplaced id f l m e same =
+    let r = flat-IsReplaced object_ids_of (own-IsReplaced (layer-Stands m id l e) f same) in
+    let was = append-nil (object_ids_in (bare l).body) ∙ object_ids-with (λ ls. []) l.body in
+    let now = append-nil (object_ids_in (bare (f l)).body) ∙ object_ids-with (λ ls. []) (f l).body in
+    let s = layer-Stands m id l e in
+    (flat_map object_ids_of s.front, (flat_map object_ids_of (below s.own_room s.own_level l ++ s.rest), rw (was, now) at r))
+
+-- a change of a layer that keeps its ids and what stands in it, and keeps it one of the map's layers
 pub record KeepsLayers (f : Layer → Layer) : Type 0 where
-  pub ids : (l : Layer) → ids_of (f l) ≡ ids_of l
-  pub object_ids : (l : Layer) → object_ids_of (f l) ≡ object_ids_of l
+  pub ids : (l : Layer) → (f l).id ≡ l.id
+  pub inside : (l : Layer) → inside (f l) ≡ inside l
+  pub object_ids : (l : Layer) → object_ids_in (f l).body ≡ object_ids_in l.body
   pub layers : (level size : ℕ) (l : Layer) → IsLayer level size l → IsLayer level size (f l)
 
-pub with_layer-keeps : (id : ℕ) (f : Layer → Layer) (m : MapParts) (layers : List Layer) → layers ≡ change_first (has_id id) f m.layers → KeepsLayers f
+pub with_layer-keeps : (id : ℕ) (f : Layer → Layer) (m : MapParts) (layers : List Layer) → layers ≡ change_among id MAX_GROUPS f m.layers → KeepsLayers f
     → IsWellFormed m → IsWellFormed (record m { layers = layers })
-with_layer-keeps id f m layers is k h =
-    let size = m.width * m.height in
-    layers-IsWellFormed m layers (rw is (record {
-      few = rw length-change_first h.layers.few;
-      each = Each-change_first (has_id id) f (IsLayer layer_level size) (k.layers layer_level size) m.layers h.layers.each;
-      layer_ids = AreIds-change_first ids_of m.next_layer_id (has_id id) f k.ids m.layers h.layers.layer_ids;
-      object_ids = AreIds-change_first object_ids_of m.next_object_id (has_id id) f k.object_ids m.layers h.layers.object_ids;
-    })) h
+with_layer-keeps id f m layers is k h = rw is (by_layer (layer_of m id) refl)
+  where
+    by_layer : (o : Option Layer) → layer_of m id ≡ o → IsWellFormed (record m { layers = change_among id MAX_GROUPS f m.layers })
+    by_layer None e = rw (change_among-none id MAX_GROUPS f m.layers e) h
+    by_layer (Some l) e =
+        let r = object_ids-IsReplaced id f l m e (k.inside l) in
+        let same : object_ids (change_among id MAX_GROUPS f m.layers) ≡ object_ids m.layers = r.1.1.now ∙ ap (λ p. r.0 ++ (p ++ r.1.0)) (k.object_ids l) ∙ sym r.1.1.was in
+        changed-keeps id f l m e (k.inside l) (k.ids l) (k.layers (level_of m id) (m.width * m.height) l (layer_of-IsLayer m id l e h)) (rw same h.layers.object_ids) h
 
 pub layer_with_visible-keeps : (visible : Bool) → KeepsLayers (layer_with_visible visible)
 layer_with_visible-keeps visible = record {
   ids = λ l. refl;
+  inside = λ l. refl;
   object_ids = λ l. refl;
   layers = λ level size l h. record { properties = h.properties; kept = h.kept; body = h.body };
 }
@@ -57,6 +186,7 @@ layer_with_visible-keeps visible = record {
 pub layer_with_name-keeps : (name : List ℕ) → KeepsLayers (layer_with_name name)
 layer_with_name-keeps name = record {
   ids = λ l. refl;
+  inside = λ l. refl;
   object_ids = λ l. refl;
   layers = λ level size l h. record { properties = h.properties; kept = h.kept; body = h.body };
 }
@@ -71,20 +201,30 @@ IsBody-tiles : (f : List ℕ → List ℕ) → KeepsTiles f → (level size : �
 IsBody-tiles f k level size (Tiles e cells) h = (k.count cells ∙ h.0, k.range cells h.1)
 IsBody-tiles f k level size (Objects os) h = h
 IsBody-tiles f k level size Other h = h
+IsBody-tiles f k level size (Group' s r) h = h
 
 body_names-tiles : (f : List ℕ → List ℕ) (b : Body) → body_names (body_with_tiles f b) ≡ body_names b
 body_names-tiles f (Tiles e cells) = refl
 body_names-tiles f (Objects os) = refl
 body_names-tiles f Other = refl
+body_names-tiles f (Group' s r) = refl
 
 object_ids-tiles : (f : List ℕ → List ℕ) (b : Body) → object_ids_in (body_with_tiles f b) ≡ object_ids_in b
 object_ids-tiles f (Tiles e cells) = refl
 object_ids-tiles f (Objects os) = refl
 object_ids-tiles f Other = refl
+object_ids-tiles f (Group' s r) = refl
+
+group_in-tiles : (f : List ℕ → List ℕ) (b : Body) → group_in (body_with_tiles f b) ≡ group_in b
+group_in-tiles f (Tiles e cells) = refl
+group_in-tiles f (Objects os) = refl
+group_in-tiles f Other = refl
+group_in-tiles f (Group' s r) = refl
 
 layer_with_tiles-keeps : (f : List ℕ → List ℕ) → KeepsTiles f → KeepsLayers (layer_with_tiles f)
 layer_with_tiles-keeps f k = record {
   ids = λ l. refl;
+  inside = λ l. ap or_empty (group_in-tiles f l.body);
   object_ids = λ l. object_ids-tiles f l.body;
   layers = λ level size l h. record {
     properties = h.properties;
@@ -93,7 +233,7 @@ layer_with_tiles-keeps f k = record {
   };
 }
 
-pub with_tiles-keeps : (id : ℕ) (f : List ℕ → List ℕ) (m : MapParts) (layers : List Layer) → layers ≡ change_first (has_id id) (layer_with_tiles f) m.layers
+pub with_tiles-keeps : (id : ℕ) (f : List ℕ → List ℕ) (m : MapParts) (layers : List Layer) → layers ≡ change_among id MAX_GROUPS (layer_with_tiles f) m.layers
     → KeepsTiles f → IsWellFormed m → IsWellFormed (record m { layers = layers })
 with_tiles-keeps id f m layers is k h = with_layer-keeps id (layer_with_tiles f) m layers is (layer_with_tiles-keeps f k) h
 
@@ -109,6 +249,7 @@ length-tiles_of : (level size : ℕ) (b : Body) → IsTiles b → IsBody level s
 length-tiles_of level size (Tiles e cells) t h = h.0
 length-tiles_of level size (Objects os) t h = absurd t
 length-tiles_of level size Other t h = absurd t
+length-tiles_of level size (Group' s r) t h = absurd t
 
 -- a tile layer has a value for each cell of the map
 pub length-tiles_in : (m : MapParts) (id : ℕ) → HasTiles m id → IsWellFormed m → length (tiles_in m id) ≡ m.width * m.height
@@ -116,8 +257,7 @@ length-tiles_in m id t h = by_layer (layer_of m id) refl t
   where
     by_layer : (o : Option Layer) → layer_of m id ≡ o → IsSomeAnd o (λ l. IsTiles l.body) → length (tiles_of_layer o) ≡ m.width * m.height
     by_layer None e q = absurd q
-    by_layer (Some l) e q =
-        length-tiles_of layer_level (m.width * m.height) l.body q (Each-found (has_id id) (IsLayer layer_level (m.width * m.height)) m.layers l e h.layers.each).body
+    by_layer (Some l) e q = length-tiles_of (level_of m id) (m.width * m.height) l.body q (layer_of-IsLayer m id l e h).body
 
 pub place-within : (m : MapParts) (id x y place : ℕ) → place ≡ y * m.width + x → x < m.width → y < m.height → HasTiles m id → IsWellFormed m → place < length (tiles_in m id)
 place-within m id x y place is column row t h =
@@ -129,48 +269,91 @@ pub places-within : (m : MapParts) (id : ℕ) (es : List CellEdit) → Each (IsW
 places-within m id [] h t w = tt
 places-within m id (e ∷ es) h t w = (place-within m id e.x e.y (e.y * m.width + e.x) refl h.0.0 h.0.1 t w, places-within m id es h.1 t w)
 
--- a layer at its place, with another body
-pub set-body : (p : Layer → Bool) (f : List ℕ → List ℕ) (layers : List Layer) (place : ℕ) (l : Layer) (body : Body) → position p layers ≡ Some place → slice_get layers place ≡ Some l
-    → body ≡ body_with_tiles f l.body → slice_set layers place (record l { body = body }) ≡ change_first p (layer_with_tiles f) layers
-set-body p f layers place l body e g is = rw is (set-at_position p (layer_with_tiles f) layers place l e g)
-
 -- ---- layers that come and go
--- a layer that may be put into a map
-pub record IsNewLayer (m : MapParts) (l : Layer) : Type 0 where
-  pub few : length m.layers < MAX_LAYERS
-  pub layer : IsLayer layer_level (m.width * m.height) l
-  pub ids : AreNewIds m.next_layer_id (ids_of l) (layer_ids m.layers)
-  pub object_ids : AreNewIds m.next_object_id (object_ids_of l) (object_ids m.layers)
+-- the layers ls of a parent stand within all layers in drawing order, with these before and behind them
+pub record StandAmong (m : MapParts) (parent : Option ℕ) (ls : List Layer) : Type 0 where
+  pub room : ℕ
+  pub level : ℕ
+  pub front : List (ℕ × Layer)
+  pub rest : List (ℕ × Layer)
+  pub was : all_drawn m.layers ≡ front ++ (drawn room level ls ++ rest)
+  pub now : (f : List Layer → List Layer) → all_drawn (with_siblings parent f m).layers ≡ front ++ (drawn room level (f ls) ++ rest)
 
-pub insert-keeps : (m : MapParts) (k : ℕ) (l : Layer) → IsNewLayer m l → IsWellFormed m → IsWellFormed (record m { layers = insert m.layers k l })
-insert-keeps m k l new h =
-    layers-IsWellFormed m (insert m.layers k l) (record {
-      few = rw length-insert new.few;
-      each = Each-insert _ m.layers k l new.layer h.layers.each;
-      layer_ids = AreIds-insert ids_of m.next_layer_id m.layers k l new.ids h.layers.layer_ids;
-      object_ids = AreIds-insert object_ids_of m.next_object_id m.layers k l new.object_ids h.layers.object_ids;
-    }) h
+-- a group has room for layers in it
+has_room : (room level deep : ℕ) (size : ℕ) (b : Body) (ls : List Layer) → group_in b ≡ Some ls → IsBody level size b → level + 2 * room ≡ deepest_level → (r : ℕ) × (room ≡ suc r)
+has_room zero level deep size (Tiles e cells) ls g h d = cc
+has_room zero level deep size (Objects os) ls g h d = cc
+has_room zero level deep size Other ls g h d = cc
+has_room zero level deep size (Group' s r) ls g h d = absurd (omega (arith, h, d))
+has_room (suc room) level deep size b ls g h d = (room, refl)
 
-pub remove-keeps : (m : MapParts) (k : ℕ) (layers : List Layer) → layers ≡ remove m.layers k → IsWellFormed m → IsWellFormed (record m { layers = layers })
-remove-keeps m k layers is h =
-    layers-IsWellFormed m layers (rw is (record {
-      few = let less = length-remove_le m.layers k in omega (arith, h.layers.few);
-      each = Each-remove _ m.layers k h.layers.each;
-      layer_ids = AreIds-remove ids_of m.next_layer_id m.layers k h.layers.layer_ids;
-      object_ids = AreIds-remove object_ids_of m.next_object_id m.layers k h.layers.object_ids;
-    })) h
+pub siblings-StandAmong : (m : MapParts) (parent : Option ℕ) (ls : List Layer) → siblings_of m parent ≡ Some ls → IsWellFormed m → StandAmong m parent ls
+siblings-StandAmong m None ls e h =
+    let is : m.layers ≡ ls = cc in
+    record {
+      room = MAX_GROUPS;
+      level = layer_level;
+      front = [];
+      rest = [];
+      was = ap all_drawn is ∙ sym (append-nil (drawn MAX_GROUPS layer_level ls));
+      now = λ f. ap (λ ks. all_drawn (f ks)) is ∙ sym (append-nil (drawn MAX_GROUPS layer_level (f ls)));
+    }
+siblings-StandAmong m (Some id) ls e h = by_layer (layer_of m id) refl e
+  where
+    by_room : (l : Layer) (found : layer_of m id ≡ Some l) → group_of l ≡ Some ls → (room level : ℕ) (front rest : List (ℕ × Layer)) → all_drawn m.layers ≡ front ++ (tree room level l ++ rest)
+        → ((f : Layer → Layer) → all_drawn (change_among id MAX_GROUPS f m.layers) ≡ front ++ (tree room level (f l) ++ rest)) → (r : ℕ) × (room ≡ suc r) → StandAmong m (Some id) ls
+    by_room l found g room level front rest was now more = record {
+      room = more.0;
+      level = inner_level level;
+      front = front ++ ((level, bare l) ∷ []);
+      rest = rest;
+      was = was ∙ pieces l (ap or_empty g) refl;
+      now = λ f. now (layer_with_layers f) ∙ pieces (layer_with_layers f l) (ap or_empty (group_of-with f l ls g)) (bare-with f l);
+    }
+      where
+        pieces : (k : Layer) {ks : List Layer} → inside k ≡ ks → bare k ≡ bare l → front ++ (tree room level k ++ rest) ≡ (front ++ ((level, bare l) ∷ [])) ++ (drawn more.0 (inner_level level) ks ++ rest)
+        pieces k are same =
+            ap (λ n. front ++ (tree n level k ++ rest)) more.1 ∙ ap (λ t. front ++ (t ++ rest)) (tree-is (suc more.0) level k)
+            ∙ (λ i. front ++ (((level, same i) ∷ drawn more.0 (inner_level level) (are i)) ++ rest))
+            ∙ sym (append_assoc front ((level, bare l) ∷ []) _)
 
--- the map with the layer of one place at another
-pub moved-keeps : (m : MapParts) (from to : ℕ) (l : Layer) → slice_get m.layers from ≡ Some l → IsWellFormed m
-    → IsWellFormed (record m { layers = insert (remove m.layers from) to l })
-moved-keeps m from to l e h =
-    let less = within-removed m.layers from (slice_get-within m.layers from l e) in
-    insert-keeps (record m { layers = remove m.layers from }) to l (record {
-      few = omega (arith, h.layers.few, less.1);
-      layer = Each-at (IsLayer layer_level (m.width * m.height)) m.layers from l e h.layers.each;
-      ids = AreNewIds-taken ids_of m.next_layer_id m.layers from l e h.layers.layer_ids;
-      object_ids = AreNewIds-taken object_ids_of m.next_object_id m.layers from l e h.layers.object_ids;
-    }) (remove-keeps m from (remove m.layers from) refl h)
+    by_layer : (o : Option Layer) → layer_of m id ≡ o → option_and_then group_of o ≡ Some ls → StandAmong m (Some id) ls
+    by_layer None found g = cc
+    by_layer (Some l) found g =
+        let s = layer-Stands m id l found in
+        let body = (layer_of-IsLayer m id l found h).body in
+        let here : IsBody s.own_level (m.width * m.height) l.body = rw (← level_of-found m id l found) body in
+        by_room l found g s.own_room s.own_level s.front s.rest s.was s.now (has_room s.own_room s.own_level 0 (m.width * m.height) l.body ls g here (s.deep))
+
+module _ (m : MapParts) (parent : Option ℕ) (ls : List Layer) (e : siblings_of m parent ≡ Some ls) (h : IsWellFormed m) where
+  siblings-IsWellFormed : (f : List Layer → List Layer) → AreLayers (m.width * m.height) m.next_layer_id m.next_object_id (with_siblings parent f m).layers → IsWellFormed (with_siblings parent f m)
+  siblings-IsWellFormed f are = by_parent parent are
+    where
+      by_parent : (p : Option ℕ) → AreLayers (m.width * m.height) m.next_layer_id m.next_object_id (with_siblings p f m).layers → IsWellFormed (with_siblings p f m)
+      by_parent None k = layers-IsWellFormed m (f m.layers) k h
+      by_parent (Some id) k = layers-IsWellFormed m (change_among id MAX_GROUPS (layer_with_layers f) m.layers) k h
+
+  -- the map without one of the layers of a parent
+  pub removed-keeps : (k : ℕ) → IsWellFormed (with_siblings parent (λ ks. remove ks k) m)
+  removed-keeps k =
+      let s = siblings-StandAmong m parent ls e h in
+      siblings-IsWellFormed (λ ks. remove ks k)
+      (AreDrawn-taken (IsReplaced-as s.was (s.now (λ ks. remove ks k)) (IsReplaced-within s.front s.rest (flat-IsReplaced (tree s.room s.level) (remove-IsReplaced ls k)))) h.layers)
+
+  -- the map with one of the layers of a parent at another place among them
+  pub moved-keeps : (from to : ℕ) (l : Layer) → slice_get ls from ≡ Some l → IsWellFormed (with_siblings parent (λ ks. insert (remove ks from) to l) m)
+  moved-keeps from to l there =
+      let s = siblings-StandAmong m parent ls e h in
+      let gone = IsReplaced-as s.was (s.now (λ ks. remove ks from)) (IsReplaced-within s.front s.rest (flat-IsReplaced (tree s.room s.level) (rw (take-one ls from l there) at (remove-IsReplaced ls from)))) in
+      let back = IsReplaced-as (s.now (λ ks. remove ks from)) (s.now (λ ks. insert (remove ks from) to l)) (IsReplaced-within s.front s.rest (flat-IsReplaced (tree s.room s.level) (insert-IsReplaced (remove ls from) to l))) in
+      siblings-IsWellFormed (λ ks. insert (remove ks from) to l) (AreDrawn-moved gone back h.layers)
+
+pub remove-keeps : (m : MapParts) (place : LayerPlace) → IsSome (layer_at m place) → IsWellFormed m → IsWellFormed (without_layer_at place m)
+remove-keeps m place there h = by_siblings (siblings_of m place.parent) refl there
+  where
+    by_siblings : (o : Option (List Layer)) → siblings_of m place.parent ≡ o → IsSome (option_and_then (λ ls. slice_get ls place.at) o) → IsWellFormed (without_layer_at place m)
+    by_siblings None e q = cc
+    by_siblings (Some ls) e q = removed-keeps m place.parent ls e h place.at
 
 -- ---- the next ids
 pub Each-IsId-suc : (next : ℕ) (ids : List ℕ) → Each (IsId next) ids → Each (IsId (next + 1)) ids
@@ -192,7 +375,7 @@ raised-keeps m l h = record {
     layer_ids = record {
       next_low = omega arith;
       next_high = omega arith;
-      each = Each-IsId-suc m.next_layer_id (layer_ids m.layers) h.layers.layer_ids.each;
+      each = Each-IsId-suc m.next_layer_id (flat_map ids_of (all_drawn m.layers)) h.layers.layer_ids.each;
       distinct = h.layers.layer_ids.distinct;
     };
     object_ids = h.layers.object_ids;
@@ -202,18 +385,53 @@ raised-keeps m l h = record {
   kept = h.kept;
 }
 
--- a layer without objects and with the next id, put in at a place
-pub numbered-keeps : (m : MapParts) (k : ℕ) (l : Layer) → length m.layers < MAX_LAYERS → m.next_layer_id < MAX_NEXT_ID → IsLayer layer_level (m.width * m.height) l
-    → l.id ≡ m.next_layer_id → object_ids_of l ≡ [] → IsWellFormed m
+-- a layer in which none stands
+pub tree-alone : (room level : ℕ) (l : Layer) → inside l ≡ [] → tree room level l ≡ (level, bare l) ∷ []
+tree-alone zero level l none = tree-is zero level l
+tree-alone (suc room) level l none = tree-is (suc room) level l ∙ ap (λ ks. (level, bare l) ∷ drawn room (inner_level level) ks) none
+
+-- a layer without objects and layers, with the next id, put in at a place in no group
+pub numbered-keeps : (m : MapParts) (k : ℕ) (l : Layer) → length (all_drawn m.layers) < MAX_LAYERS → m.next_layer_id < MAX_NEXT_ID → IsLayer layer_level (m.width * m.height) l
+    → l.id ≡ m.next_layer_id → object_ids_in l.body ≡ [] → inside l ≡ [] → IsWellFormed m
     → IsWellFormed (record (with_next_ids (m.next_layer_id + 1) m.next_object_id m) { layers = insert m.layers k l })
-numbered-keeps m k l few below layer id none h =
-    insert-keeps (with_next_ids (m.next_layer_id + 1) m.next_object_id m) k l (record {
-      few = few;
-      layer = layer;
-      ids = rw id (record {
-        each = (record { low = h.layers.layer_ids.next_low; high = omega arith }, tt);
-        distinct = (tt, tt);
-        apart = (Each-apart m.next_layer_id (layer_ids m.layers) h.layers.layer_ids.each, tt);
-      });
-      object_ids = rw none (record { each = tt; distinct = tt; apart = tt });
-    }) (raised-keeps m below h)
+numbered-keeps m k l few below layer id none alone h =
+    let raised = raised-keeps m below h in
+    let own : drawn MAX_GROUPS layer_level (l ∷ []) ≡ (layer_level, bare l) ∷ [] = append-nil (tree MAX_GROUPS layer_level l) ∙ tree-alone MAX_GROUPS layer_level l alone in
+    let r = rw own at (flat-IsReplaced (tree MAX_GROUPS layer_level) (insert-IsReplaced m.layers k l)) in
+    let was : flat_map ids_of (drawn MAX_GROUPS layer_level (take k m.layers) ++ drawn MAX_GROUPS layer_level (drop k m.layers)) ≡ flat_map ids_of (all_drawn m.layers) = ap (flat_map ids_of) (sym r.was) in
+    layers-IsWellFormed (with_next_ids (m.next_layer_id + 1) m.next_object_id m) (insert m.layers k l)
+    (AreDrawn-replaced r raised.layers (omega (arith, few)) (IsLayer-with (λ ls. []) layer_level (m.width * m.height) l layer, tt)
+    (rw (← flat_map-append ids_of (drawn MAX_GROUPS layer_level (take k m.layers)) (drawn MAX_GROUPS layer_level (drop k m.layers)), was, id) (record {
+      each = (record { low = h.layers.layer_ids.next_low; high = omega arith }, tt);
+      distinct = (tt, tt);
+      apart = (Each-apart m.next_layer_id (flat_map ids_of (all_drawn m.layers)) h.layers.layer_ids.each, tt);
+    }))
+    (rw (object_ids-with (λ ls. []) l.body, none) (AreNewIds-none m.next_object_id _))) raised
+
+-- ---- what stays with other layers
+-- the selection lies in the map with other layers too
+pub with_siblings-IsSelectionOf : (parent : Option ℕ) (f : List Layer → List Layer) (m : MapParts) (selection : set.FinSet cell_cmp) → IsSelectionOf m selection → IsSelectionOf (with_siblings parent f m) selection
+with_siblings-IsSelectionOf None f m selection h = h
+with_siblings-IsSelectionOf (Some id) f m selection h = h
+
+-- no more layers stand among siblings than in the map
+length-drawn_le : (room level : ℕ) (ls : List Layer) → length ls ≤ length (drawn room level ls)
+length-drawn_le room level [] = omega arith
+length-drawn_le room level (l ∷ ls) =
+    let later = length-drawn_le room level ls in
+    let own = ap length (tree-is room level l) in
+    omega (arith, later, own, length-append (tree room level l) (drawn room level ls))
+
+pub siblings_of-few : (m : MapParts) (parent : Option ℕ) (ls : List Layer) → siblings_of m parent ≡ Some ls → IsWellFormed m → length ls ≤ MAX_LAYERS
+siblings_of-few m parent ls e h =
+    let s = siblings-StandAmong m parent ls e h in
+    let long = ap length s.was in
+    let own = length-drawn_le s.room s.level ls in
+    omega (arith, h.layers.few, long, own, length-append s.front (drawn s.room s.level ls ++ s.rest), length-append (drawn s.room s.level ls) s.rest)
+
+pub siblings_of-room : (m : MapParts) (place : LayerPlace) → IsSomeAnd (siblings_of m place.parent) (λ ls. place.at ≤ length ls) → IsWellFormed m → IsSomeAnd (siblings_of m place.parent) (λ ls. length ls + 1 < 2 ^ 63)
+siblings_of-room m place there h = by_siblings (siblings_of m place.parent) refl there
+  where
+    by_siblings : (o : Option (List Layer)) → siblings_of m place.parent ≡ o → IsSomeAnd o (λ ls. place.at ≤ length ls) → IsSomeAnd o (λ ls. length ls + 1 < 2 ^ 63)
+    by_siblings None e q = q
+    by_siblings (Some ls) e q = let few = siblings_of-few m place.parent ls e h in omega (arith, few)

@@ -1,10 +1,15 @@
+pub mod GroupBodies
+pub mod Trees
+pub mod TreeChanges
 pub mod CanvasLaws
 pub mod CanvasSteps
+pub mod CanvasTrees
 pub mod CellEdits
 pub mod Changes
 pub mod FoundLaws
 pub mod Keeps
 pub mod Listings
+pub mod Lookups
 pub mod NewMaps
 pub mod ObjectKeeps
 pub mod ObjectPlaces
@@ -16,5 +21,8 @@ pub mod StayPut
 pub mod TilesetChanges
 pub mod TilesetLemmas
 pub mod Turns
+pub mod Walks
+pub mod TreeWalks
+pub mod FirstChanges
 pub mod PropertyKeeps
 pub mod PropertyLaws

@@ -81,7 +81,7 @@ drop-one (x ∷ xs) (suc k) = drop-one xs k
 pub remove-IsReplaced : {X : Type 0} (xs : List X) (k : ℕ) → IsReplaced (take k xs) (take 1 (drop k xs)) [] (drop (suc k) xs) xs (remove xs k)
 remove-IsReplaced xs k = record { was = sym (take-append-drop k xs) ∙ ap (λ ys. take k xs ++ ys) (drop-one xs k); now = refl }
 
-take-one : {X : Type 0} (xs : List X) (k : ℕ) (x : X) → slice_get xs k ≡ Some x → take 1 (drop k xs) ≡ x ∷ []
+pub take-one : {X : Type 0} (xs : List X) (k : ℕ) (x : X) → slice_get xs k ≡ Some x → take 1 (drop k xs) ≡ x ∷ []
 take-one [] zero x e = cc
 take-one [] (suc k) x e = cc
 take-one (y ∷ ys) zero x e = let same : y ≡ x = cc in ap (λ z. z ∷ []) same

@@ -1,20 +1,24 @@
 -- New layers, objects, tilesets and maps are well formed.
-use Rattle.std.proofs.Common.{◌≡◌, ℕ, zero, suc, ◌≤◌, ◌*◌, List, [], ◌∷◌, true, not, ◌&&◌, Option, Some, None, is_some, refl, arith}
+use Rattle.std.proofs.Common.{◌≡◌, ℕ, zero, suc, ◌≤◌, ◌*◌, List, [], ◌∷◌, true, not, ◌&&◌, Option, Some, None, is_some, append-nil, refl, ◌∙◌, arith}
 use Rattle.std.specs.Prelude.{replicate, codes}
 use Rattle.std.specs.List.{list_all}
 use Rattle.std.proofs.lemmas.List.{length-replicate}
 use Rattle.serde_json.specs.Data.{Data, Members, no_members}
 use Rattle.serde_json.specs.Find.{get_member}
-use Rattle.map_model.specs.declared.limits.TheConstants.{MAX_FIRST_ID}
+use Rattle.map_model.specs.declared.limits.TheConstants.{MAX_FIRST_ID, MAX_GROUPS}
+use Rattle.map_model.specs.declared.parts.Layer.{Layer}
 use Rattle.map_model.specs.declared.parts.Encoding.TheVariants.{Array}
 use Rattle.map_model.specs.declared.parts.Body.TheVariants.{Tiles, Objects}
 use Rattle.map_model.specs.declared.parts.LayerKind.{LayerKind}
 use Rattle.map_model.specs.declared.parts.LayerKind.TheVariants as kinds
 use Rattle.map_model.specs.declared.parts.Placing.{Placing}
-use Rattle.map_model.specs.Keeping.{layer_level, object_level, map_level, map_names, layer_names, object_names, tileset_names}
+use Rattle.map_model.specs.Keeping.{deepest_level, layer_level, object_level, map_level, map_names, layer_names, object_names, tileset_names}
+use Rattle.map_model.specs.Groups.{all_drawn, bare, inside, tree}
 use Rattle.map_model.specs.Lists.{Each}
-use Rattle.map_model.specs.NewMap.{external_tileset, new_layer, new_map, tile_layer_members, object_layer_members, map_members, new_object, object_members}
+use Rattle.map_model.specs.NewMap.{empty_layer, external_tileset, new_layer, new_map, tile_layer_members, object_layer_members, map_members, new_object, object_members}
 use Rattle.map_model.specs.WellFormed.{IsTileset, IsTileValue, IsLayer, IsSize, IsTileSize, IsWellFormed, AreProperties, IsPlacing, IsObject}
+use Rattle.map_model.proofs.GroupBodies.{IsLayer-with}
+use Rattle.map_model.proofs.Keeps.{tree-alone}
 
 Each-replicate : {X : Type 0} (P : X → Type 0) (n : ℕ) (x : X) → P x → Each P (replicate n x)
 Each-replicate P zero x p = tt
@@ -50,13 +54,17 @@ pub external_tileset-IsTileset : (first_id : ℕ) (source : List ℕ) → 1 ≤ 
 external_tileset-IsTileset first_id source low high = record { low = low; high = high; kept = record { unread = unread-test no_members tileset_names refl; whole = refl; shallow = omega arith } }
 
 -- a new object is one of a layer
-pub new_object-IsObject : (id : ℕ) (placing : Placing) (name : List ℕ) → IsPlacing placing → IsObject (object_level layer_level) (new_object id placing name)
-new_object-IsObject id placing name h = record {
+pub new_object-IsObject : (level id : ℕ) (placing : Placing) (name : List ℕ) → level ≤ deepest_level → IsPlacing placing → IsObject (object_level level) (new_object id placing name)
+new_object-IsObject level id placing name low h = record {
   placing = h;
   gid = tt;
-  properties = no_properties (object_level layer_level);
-  kept = record { unread = unread-test object_members object_names refl; whole = refl; shallow = omega arith };
+  properties = no_properties (object_level level);
+  kept = record { unread = unread-test object_members object_names refl; whole = refl; shallow = omega (arith, low) };
 }
+
+-- one layer, in which none stands
+alone : (l : Layer) → inside l ≡ [] → all_drawn (l ∷ []) ≡ (layer_level, bare l) ∷ []
+alone l none = append-nil (tree MAX_GROUPS layer_level l) ∙ tree-alone MAX_GROUPS layer_level l none
 
 -- the map of the line `new`
 pub new_map-IsWellFormed : (width height tile_width tile_height : ℕ) (source : List ℕ) → IsSize width height → IsTileSize tile_width tile_height
@@ -64,12 +72,12 @@ pub new_map-IsWellFormed : (width height tile_width tile_height : ℕ) (source :
 new_map-IsWellFormed width height tile_width tile_height source size tile_size = record {
   size = size;
   tile_size = tile_size;
-  layers = record {
+  layers = rw (alone (empty_layer 1 (codes "Tile Layer 1") (width * height)) refl) (record {
     few = omega arith;
-    each = (new_layer-IsLayer kinds.Tile 1 (codes "Tile Layer 1") (width * height), tt);
+    each = (IsLayer-with (λ ls. []) layer_level (width * height) (empty_layer 1 (codes "Tile Layer 1") (width * height)) (new_layer-IsLayer kinds.Tile 1 (codes "Tile Layer 1") (width * height)), tt);
     layer_ids = record { next_low = omega arith; next_high = omega arith; each = (record { low = omega arith; high = omega arith }, tt); distinct = (tt, tt) };
     object_ids = record { next_low = omega arith; next_high = omega arith; each = tt; distinct = tt };
-  };
+  });
   tilesets = record {
     few = omega arith;
     each = (external_tileset-IsTileset 1 source (omega arith) (omega arith), tt);

@@ -1,24 +1,26 @@
 -- Changes of the objects of a layer that keep a map well formed.
-use Rattle.std.proofs.Common.{◌≡◌, ℕ, zero, suc, ◌+◌, ◌*◌, ◌<◌, ◌≤◌, List, [], ◌∷◌, ◌++◌, append_assoc, length, Bool, true, false, cond, Option, Some, None, IsSome, IsSomeAnd, option_map, option_and_then, find, refl, sym, ap, ◌∙◌, subst, arith}
-use Rattle.std.specs.List.{slice_get, slice_set, position, insert, remove, flat_map}
-use Rattle.map_model.specs.declared.limits.TheConstants.{MAX_OBJECTS, MAX_NEXT_ID}
+use Rattle.std.proofs.Common.{◌≡◌, ℕ, zero, suc, ◌+◌, ◌*◌, ◌<◌, ◌≤◌, List, [], ◌∷◌, ◌++◌, append_assoc, length, Option, Some, None, IsSome, IsSomeAnd, option_map, option_and_then, refl, sym, ap, ◌∙◌, subst, arith}
+use Rattle.std.specs.List.{slice_get, slice_set, insert, remove, flat_map}
+use Rattle.map_model.specs.declared.limits.TheConstants.{MAX_GROUPS, MAX_OBJECTS, MAX_NEXT_ID}
 use Rattle.map_model.specs.declared.parts.Body.{Body}
-use Rattle.map_model.specs.declared.parts.Body.TheVariants.{Tiles, Objects, Other}
+use Rattle.map_model.specs.declared.parts.Body.TheVariants.{Tiles, Objects, Other, Group'}
 use Rattle.map_model.specs.declared.parts.Layer.{Layer}
 use Rattle.map_model.specs.declared.parts.MapParts.{MapParts}
 use Rattle.map_model.specs.declared.parts.Object.{Object}
 use Rattle.map_model.specs.declared.parts.Placing.{Placing}
 use Rattle.map_model.specs.declared.place.ObjectPlace.{ObjectPlace}
-use Rattle.map_model.specs.Keeping.{body_names, layer_level, object_level}
+use Rattle.map_model.specs.Keeping.{body_names, object_level}
 use Rattle.map_model.specs.Layers.{with_next_ids}
-use Rattle.map_model.specs.Lists.{Each, change_first, change_at}
+use Rattle.map_model.specs.Groups.{group_in}
+use Rattle.map_model.specs.Lists.{Each, change_at, or_empty}
 use Rattle.map_model.specs.Objects.{objects_in, objects_of, body_with_objects, layer_with_objects, objects_of_layer, object_at, with_objects, without_object_at, with_object, object_placing, object_with_placing}
-use Rattle.map_model.specs.Parts.{has_id}
-use Rattle.map_model.specs.WellFormed.{IsId, AreIds, IsPlacing, IsObject, IsBody, IsLayer, IsWellFormed, ids_of, ids_of_object, object_ids_in, object_ids_of, object_ids}
-use Rattle.map_model.proofs.Changes.{length-change_first, Each-insert, Each-remove, length-insert, length-remove_le, slice_get-within, set-at_position, Each-at}
-use Rattle.map_model.proofs.Keeps.{KeepsLayers, layers-IsWellFormed, with_layer-keeps, Each-found, Each-IsId-suc, Each-apart}
-use Rattle.map_model.proofs.Turns.{change_first-along}
-use Rattle.map_model.proofs.Listings.{IsReplaced, insert-IsReplaced, remove-IsReplaced, flat-IsReplaced, AreNewIds, AreNewIds-none, AreIds-replaced, AreIds-change_first}
+use Rattle.map_model.specs.Parts.{layer_of}
+use Rattle.map_model.specs.Properties.{level_of}
+use Rattle.map_model.specs.WellFormed.{IsId, AreIds, IsPlacing, IsObject, IsBody, IsLayer, IsWellFormed, ids_of_object, object_ids_in, object_ids}
+use Rattle.map_model.proofs.Changes.{Each-insert, Each-remove, length-insert, length-remove_le, slice_get-within, Each-at}
+use Rattle.map_model.proofs.Keeps.{KeepsLayers, changed-keeps, layer_of-IsLayer, object_ids-IsReplaced, with_layer-keeps, Each-IsId-suc, Each-apart}
+use Rattle.map_model.proofs.TreeChanges.{change_among-along}
+use Rattle.map_model.proofs.Listings.{IsReplaced, insert-IsReplaced, remove-IsReplaced, flat-IsReplaced, AreNewIds, AreNewIds-none, AreIds-replaced}
 
 -- ---- the object at a place
 -- a change of an object that keeps its id and keeps it one of a layer's objects
@@ -48,21 +50,31 @@ object_ids-change_at : (k : ℕ) (f : Object → Object) → ((o : Object) → (
 object_ids-change_at k f same (Tiles e cells) = refl
 object_ids-change_at k f same (Objects os) = ids-change_at k f same os
 object_ids-change_at k f same Other = refl
+object_ids-change_at k f same (Group' s r) = refl
 
 body_names-objects : (g : List Object → List Object) (b : Body) → body_names (body_with_objects g b) ≡ body_names b
 body_names-objects g (Tiles e cells) = refl
 body_names-objects g (Objects os) = refl
 body_names-objects g Other = refl
+body_names-objects g (Group' s r) = refl
+
+pub group_in-objects : (g : List Object → List Object) (b : Body) → group_in (body_with_objects g b) ≡ group_in b
+group_in-objects g (Tiles e cells) = refl
+group_in-objects g (Objects os) = refl
+group_in-objects g Other = refl
+group_in-objects g (Group' s r) = refl
 
 IsBody-change_at : (k : ℕ) (f : Object → Object) → KeepsObjects f → (level size : ℕ) (b : Body) → IsBody level size b → IsBody level size (body_with_objects (change_at k f) b)
 IsBody-change_at k f keeps level size (Tiles e cells) h = h
 IsBody-change_at k f keeps level size (Objects os) h =
     (rw (length-change_at k f os) h.0, Each-change_at (IsObject (object_level level)) k f os (λ o e. keeps.objects (object_level level) o) h.1)
 IsBody-change_at k f keeps level size Other h = h
+IsBody-change_at k f keeps level size (Group' s r) h = h
 
 layer_with_object-keeps : (k : ℕ) (f : Object → Object) → KeepsObjects f → KeepsLayers (layer_with_objects (change_at k f))
 layer_with_object-keeps k f keeps = record {
   ids = λ l. refl;
+  inside = λ l. ap or_empty (group_in-objects (change_at k f) l.body);
   object_ids = λ l. object_ids-change_at k f keeps.ids l.body;
   layers = λ level size l h. record {
     properties = h.properties;
@@ -94,29 +106,21 @@ IsLayer-objects g os level size l e few each h = record {
     by_body (Tiles t cells) q k = k
     by_body (Objects own) q k = let is : own ≡ os = cc in rw is (few, each)
     by_body Other q k = k
+    by_body (Group' s r) q k = k
 
--- where the layer is found, it alone changes
-pub Each-change_first-found : {X : Type 0} (p : X → Bool) (f : X → X) (P : X → Type 0) (xs : List X) → ((x : X) → find p xs ≡ Some x → P x → P (f x)) → Each P xs → Each P (change_first p f xs)
-Each-change_first-found p f P [] keeps h = tt
-Each-change_first-found {X = X} p f P (x ∷ xs) keeps h = by_test (p x) keeps (λ k. Each-change_first-found p f P xs k h.1)
-  where
-    by_test : (b : Bool) → ((y : X) → cond b (Some x) (find p xs) ≡ Some y → P y → P (f y)) → (((y : X) → find p xs ≡ Some y → P y → P (f y)) → Each P (change_first p f xs))
-        → Each P (cond b (f x ∷ xs) (x ∷ change_first p f xs))
-    by_test true k later = (k x refl h.0, h.1)
-    by_test false k later = (h.0, later k)
+-- where there is an object layer, there is a layer
+pub found_layer : (os : List Object) (o : Option Layer) → option_and_then objects_of o ≡ Some os → (l : Layer) × ((o ≡ Some l) × (objects_of l ≡ Some os))
+found_layer os None e = cc
+found_layer os (Some l) e = (l, (refl, e))
 
 -- other objects in the place of those of the layer with the id
 with_objects-keeps : (layer : ℕ) (g : List Object → List Object) (os : List Object) (m : MapParts) → objects_of_layer m layer ≡ Some os → length (g os) ≤ MAX_OBJECTS
-    → Each (IsObject (object_level layer_level)) (g os) → AreIds m.next_object_id (object_ids (with_objects layer g m).layers) → IsWellFormed m → IsWellFormed (with_objects layer g m)
+    → Each (IsObject (object_level (level_of m layer))) (g os) → AreIds m.next_object_id (object_ids (with_objects layer g m).layers) → IsWellFormed m → IsWellFormed (with_objects layer g m)
 with_objects-keeps layer g os m e few each ids h =
-    let size = m.width * m.height in
-    layers-IsWellFormed m (with_objects layer g m).layers (record {
-      few = rw length-change_first h.layers.few;
-      each = Each-change_first-found (has_id layer) (layer_with_objects g) (IsLayer layer_level size) m.layers
-          (λ l f. IsLayer-objects g os layer_level size l (ap (option_and_then objects_of) (sym f) ∙ e) few each) h.layers.each;
-      layer_ids = AreIds-change_first ids_of m.next_layer_id (has_id layer) (layer_with_objects g) (λ l. refl) m.layers h.layers.layer_ids;
-      object_ids = ids;
-    }) h
+    let found = found_layer os (layer_of m layer) e in
+    let l = found.0 in
+    changed-keeps layer (layer_with_objects g) l m found.1.0 (ap or_empty (group_in-objects g l.body)) refl
+    (IsLayer-objects g os (level_of m layer) (m.width * m.height) l found.1.1 few each (layer_of-IsLayer m layer l found.1.0 h)) ids h
 
 -- ---- the ids of all objects
 -- for some lists before and behind it, a piece of the list xs is replaced, which gives ys
@@ -150,16 +154,9 @@ HasReplaced-behind {piece = piece} {new = new} more r = (
   ),
 )
 
--- what the first that passes gives is replaced in what all give
-HasReplaced-change_first : {X : Type 0} {piece new : List ℕ} (g : X → List ℕ) (p : X → Bool) (f : X → X) (xs : List X) (x : X) → find p xs ≡ Some x → HasReplaced piece new (g x) (g (f x))
-    → HasReplaced piece new (flat_map g xs) (flat_map g (change_first p f xs))
-HasReplaced-change_first g p f [] x e r = cc
-HasReplaced-change_first {piece = piece} {new = new} g p f (y ∷ ys) x e r = by_test (p y) e (λ q. HasReplaced-change_first g p f ys x q r)
-  where
-    by_test : (b : Bool) → cond b (Some y) (find p ys) ≡ Some x → (find p ys ≡ Some x → HasReplaced piece new (flat_map g ys) (flat_map g (change_first p f ys)))
-        → HasReplaced piece new (g y ++ flat_map g ys) (flat_map g (cond b (f y ∷ ys) (y ∷ change_first p f ys)))
-    by_test true q later = let is : x ≡ y = cc in HasReplaced-before (flat_map g ys) (subst (λ z. HasReplaced piece new (g z) (g (f z))) is r)
-    by_test false q later = HasReplaced-behind (g y) (later q)
+-- a piece of a piece
+HasReplaced-inner : {piece new front was now rest xs ys : List ℕ} → IsReplaced front was now rest xs ys → HasReplaced piece new was now → HasReplaced piece new xs ys
+HasReplaced-inner {piece = piece} {new = new} {front = front} {rest = rest} r inner = rw (r.was, r.now) (HasReplaced-behind front (HasReplaced-before rest inner))
 
 HasReplaced-layer : {piece new : List ℕ} (g : List Object → List Object) (os : List Object) (b : Body) → objects_in b ≡ Some os → HasReplaced piece new (flat_map ids_of_object os) (flat_map ids_of_object (g os))
     → HasReplaced piece new (object_ids_in b) (object_ids_in (body_with_objects g b))
@@ -167,29 +164,28 @@ HasReplaced-layer g os (Tiles t cells) e r = cc
 HasReplaced-layer {piece = piece} {new = new} g os (Objects own) e r =
     let is : os ≡ own = cc in subst (λ ps. HasReplaced piece new (flat_map ids_of_object ps) (flat_map ids_of_object (g ps))) is r
 HasReplaced-layer g os Other e r = cc
-
--- where there is an object layer, there is a layer
-found_layer : (os : List Object) (o : Option Layer) → option_and_then objects_of o ≡ Some os → (l : Layer) × ((o ≡ Some l) × (objects_of l ≡ Some os))
-found_layer os None e = cc
-found_layer os (Some l) e = (l, (refl, e))
+HasReplaced-layer g os (Group' s k) e r = cc
 
 HasReplaced-objects : {piece new : List ℕ} (layer : ℕ) (g : List Object → List Object) (os : List Object) (m : MapParts) → objects_of_layer m layer ≡ Some os
     → HasReplaced piece new (flat_map ids_of_object os) (flat_map ids_of_object (g os)) → HasReplaced piece new (object_ids m.layers) (object_ids (with_objects layer g m).layers)
 HasReplaced-objects layer g os m e r =
-    let found = found_layer os (find (has_id layer) m.layers) e in
-    HasReplaced-change_first object_ids_of (has_id layer) (layer_with_objects g) m.layers found.0 found.1.0 (HasReplaced-layer g os found.0.body found.1.1 r)
+    let found = found_layer os (layer_of m layer) e in
+    let l = found.0 in
+    let replaced = object_ids-IsReplaced layer (layer_with_objects g) l m found.1.0 (ap or_empty (group_in-objects g l.body)) in
+    HasReplaced-inner replaced.1.1 (HasReplaced-layer g os l.body found.1.1 r)
 
 -- ---- objects that come and go
 -- the objects of a layer of a well-formed map
-pub objects_of_layer-IsBody : (m : MapParts) (layer : ℕ) (os : List Object) → objects_of_layer m layer ≡ Some os → IsWellFormed m → IsBody layer_level (m.width * m.height) (Objects os)
+pub objects_of_layer-IsBody : (m : MapParts) (layer : ℕ) (os : List Object) → objects_of_layer m layer ≡ Some os → IsWellFormed m → IsBody (level_of m layer) (m.width * m.height) (Objects os)
 objects_of_layer-IsBody m layer os e h =
-    let found = found_layer os (find (has_id layer) m.layers) e in
-    by_body found.0.body found.1.1 (Each-found (has_id layer) (IsLayer layer_level (m.width * m.height)) m.layers found.0 found.1.0 h.layers.each).body
+    let found = found_layer os (layer_of m layer) e in
+    by_body found.0.body found.1.1 (layer_of-IsLayer m layer found.0 found.1.0 h).body
   where
-    by_body : (b : Body) → objects_in b ≡ Some os → IsBody layer_level (m.width * m.height) b → IsBody layer_level (m.width * m.height) (Objects os)
+    by_body : (b : Body) → objects_in b ≡ Some os → IsBody (level_of m layer) (m.width * m.height) b → IsBody (level_of m layer) (m.width * m.height) (Objects os)
     by_body (Tiles t cells) q k = cc
-    by_body (Objects own) q k = let is : own ≡ os = cc in subst (λ ps. IsBody layer_level (m.width * m.height) (Objects ps)) is k
+    by_body (Objects own) q k = let is : own ≡ os = cc in subst (λ ps. IsBody (level_of m layer) (m.width * m.height) (Objects ps)) is k
     by_body Other q k = cc
+    by_body (Group' s r) q k = cc
 
 pub objects_of_layer-few : (m : MapParts) (layer k : ℕ) → IsSomeAnd (objects_of_layer m layer) (λ os. k ≤ length os) → IsWellFormed m → IsSomeAnd (objects_of_layer m layer) (λ os. length os ≤ MAX_OBJECTS)
 objects_of_layer-few m layer k room h = by_objects (objects_of_layer m layer) refl room
@@ -203,10 +199,10 @@ listed : (k : ℕ) (o : Object) (option : Option (List Object)) → option_and_t
 listed k o None e = cc
 listed k o (Some os) e = (os, (refl, e))
 
-pub object_at-IsObject : (m : MapParts) (place : ObjectPlace) (o : Object) → object_at m place ≡ Some o → IsWellFormed m → IsObject (object_level layer_level) o
+pub object_at-IsObject : (m : MapParts) (place : ObjectPlace) (o : Object) → object_at m place ≡ Some o → IsWellFormed m → IsObject (object_level (level_of m place.layer)) o
 object_at-IsObject m place o e h =
     let found = listed place.at o (objects_of_layer m place.layer) e in
-    Each-at (IsObject (object_level layer_level)) found.0 place.at o found.1.1 (objects_of_layer-IsBody m place.layer found.0 found.1.0 h).1
+    Each-at (IsObject (object_level (level_of m place.layer))) found.0 place.at o found.1.1 (objects_of_layer-IsBody m place.layer found.0 found.1.0 h).1
 
 -- the placing of an object is one
 pub object_at-IsPlacing : (m : MapParts) (place : ObjectPlace) (placing : Placing) → option_map object_placing (object_at m place) ≡ Some placing → IsWellFormed m → IsPlacing placing
@@ -229,16 +225,20 @@ object_at-within m place there = by_objects (objects_of_layer m place.layer) the
 
 -- an object changed at its place, where the change keeps that one alone
 pub with_object-keeps_there : (place : ObjectPlace) (f : Object → Object) (o : Object) (m : MapParts) → object_at m place ≡ Some o → ((p : Object) → (f p).id ≡ p.id)
-    → IsObject (object_level layer_level) (f o) → IsWellFormed m → IsWellFormed (with_object place f m)
+    → IsObject (object_level (level_of m place.layer)) (f o) → IsWellFormed m → IsWellFormed (with_object place f m)
 with_object-keeps_there place f o m e same is h =
     let found = listed place.at o (objects_of_layer m place.layer) e in
     let os = found.0 in
+    let level = object_level (level_of m place.layer) in
     let old = objects_of_layer-IsBody m place.layer os found.1.0 h in
+    let layer = found_layer os (layer_of m place.layer) found.1.0 in
+    let l = layer.0 in
+    let r = object_ids-IsReplaced place.layer (layer_with_objects (change_at place.at f)) l m layer.1.0 (ap or_empty (group_in-objects (change_at place.at f) l.body)) in
+    let ids : object_ids (with_object place f m).layers ≡ object_ids m.layers = r.1.1.now ∙ ap (λ p. r.0 ++ (p ++ r.1.0)) (object_ids-change_at place.at f same l.body) ∙ sym r.1.1.was in
     with_objects-keeps place.layer (change_at place.at f) os m found.1.0 (rw (length-change_at place.at f os) old.0)
-    (Each-change_at (IsObject (object_level layer_level)) place.at f os
-    (λ p q k. let own : o ≡ p = cc (found.1.1, q) in subst (λ z. IsObject (object_level layer_level) (f z)) own is) old.1)
-    (AreIds-change_first object_ids_of m.next_object_id (has_id place.layer) (layer_with_objects (change_at place.at f))
-    (λ l. object_ids-change_at place.at f same l.body) m.layers h.layers.object_ids) h
+    (Each-change_at (IsObject level) place.at f os
+    (λ p q k. let own : o ≡ p = cc (found.1.1, q) in subst (λ z. IsObject level (f z)) own is) old.1)
+    (rw ids h.layers.object_ids) h
 
 pub without_object_at-keeps : (place : ObjectPlace) (m : MapParts) → IsSome (object_at m place) → IsWellFormed m → IsWellFormed (without_object_at place m)
 without_object_at-keeps place m there h = by_objects (objects_of_layer m place.layer) refl there
@@ -280,7 +280,7 @@ next_id-AreNewIds next id ids is low h =
 
 -- an object with the next id, put in at a place of the objects that g gives for those of the layer
 pub numbered_object-keeps : (m : MapParts) (layer : ℕ) (g : List Object → List Object) (os : List Object) (k : ℕ) (o : Object) → objects_of_layer m layer ≡ Some os → g os ≡ insert os k o
-    → length os < MAX_OBJECTS → m.next_object_id < MAX_NEXT_ID → IsObject (object_level layer_level) o → o.id ≡ m.next_object_id → IsWellFormed m
+    → length os < MAX_OBJECTS → m.next_object_id < MAX_NEXT_ID → IsObject (object_level (level_of m layer)) o → o.id ≡ m.next_object_id → IsWellFormed m
     → IsWellFormed (with_next_ids m.next_layer_id (m.next_object_id + 1) (with_objects layer g m))
 numbered_object-keeps m layer g os k o e is few below object id h =
     let kept = raised_object-keeps m below h in
@@ -295,26 +295,16 @@ numbered_object-keeps m layer g os k o e is few below object id h =
 pub with_objects-along : (m : MapParts) (layer : ℕ) (f g : List Object → List Object) (os : List Object) → objects_of_layer m layer ≡ Some os → f os ≡ g os → with_objects layer f m ≡ with_objects layer g m
 with_objects-along m layer f g os e same =
     ap (λ ls. record m { layers = ls })
-    (change_first-along (has_id layer) (layer_with_objects f) (layer_with_objects g) m.layers
+    (change_among-along layer (layer_with_objects f) (layer_with_objects g) MAX_GROUPS m.layers
     (λ l found. ap (λ b. record l { body = b }) (by_body l.body (ap (option_and_then objects_of) (sym found) ∙ e))))
   where
     by_body : (b : Body) → objects_in b ≡ Some os → body_with_objects f b ≡ body_with_objects g b
     by_body (Tiles t cells) q = refl
     by_body (Objects own) q = let is : own ≡ os = cc in ap Objects (rw is same)
     by_body Other q = refl
+    by_body (Group' s r) q = refl
 
--- ---- a change of the objects, where the layer stands
--- a layer at its place, with another body
-pub set-objects : (p : Layer → Bool) (g : List Object → List Object) (layers : List Layer) (place : ℕ) (l : Layer) (body : Body) → position p layers ≡ Some place → slice_get layers place ≡ Some l
-    → body ≡ body_with_objects g l.body → slice_set layers place (record l { body = body }) ≡ change_first p (layer_with_objects g) layers
-set-objects p g layers place l body e f is = rw is (set-at_position p (layer_with_objects g) layers place l e f)
-
-pub set-objects_loose : (p : Layer → Bool) (g : Object → List Object → List Object) (loose : Option Object) (layers : List Layer) (place : ℕ) (l : Layer) (body : Body) → position p layers ≡ Some place
-    → slice_get layers place ≡ Some l → IsSomeAnd loose (λ o. body ≡ body_with_objects (g o) l.body)
-    → IsSomeAnd loose (λ o. slice_set layers place (record l { body = body }) ≡ change_first p (layer_with_objects (g o)) layers)
-set-objects_loose p g None layers place l body e f is = is
-set-objects_loose p g (Some o) layers place l body e f is = set-objects p (g o) layers place l body e f is
-
+-- ---- a write at a place
 pub slice_set-change_at : {X : Type 0} (f : X → X) (xs : List X) (k : ℕ) (x : X) → slice_get xs k ≡ Some x → slice_set xs k (f x) ≡ change_at k f xs
 slice_set-change_at f [] zero x e = cc
 slice_set-change_at f [] (suc k) x e = cc

@@ -1,8 +1,9 @@
 -- The laws of parts.
-use Rattle.std.proofs.Common.{◌≡◌, ℕ, zero, suc, List, [], ◌∷◌, nat_eq, Bool, Option, Some, None, option_map, option_and_then, find, refl, sym, ap, ◌∙◌, subst}
+use Rattle.std.proofs.Common.{◌≡◌, ℕ, zero, suc, List, [], ◌∷◌, Bool, Option, Some, None, option_map, option_and_then, find, refl, sym, ap, ◌∙◌, subst}
 use Rattle.std.specs.List.{slice_get}
+use Rattle.map_model.specs.declared.limits.TheConstants.{MAX_GROUPS}
 use Rattle.map_model.specs.declared.parts.Body.{Body}
-use Rattle.map_model.specs.declared.parts.Body.TheVariants.{Tiles, Objects, Other}
+use Rattle.map_model.specs.declared.parts.Body.TheVariants.{Tiles, Objects, Other, Group'}
 use Rattle.map_model.specs.declared.parts.Layer.{Layer}
 use Rattle.map_model.specs.declared.parts.Object.{Object}
 use Rattle.map_model.specs.declared.place.ObjectPlace.{ObjectPlace}
@@ -10,11 +11,13 @@ use Rattle.map_model.specs.Document.{DocumentParts, with_selection}
 use Rattle.map_model.specs.Layers.{layer_name, layer_with_name, layer_visible, layer_with_visible}
 use Rattle.map_model.specs.Lists.{change_at}
 use Rattle.map_model.specs.Objects.{objects_of, objects_in, body_with_objects, object_at, object_placing, object_with_placing}
-use Rattle.map_model.specs.Parts.{has_id, layer_of}
-use Rattle.map_model.proofs.Turns.{change_first-change_first, find-change_first, change_first-along, change_first-same}
-use Rattle.map_model.specs.Part.{Part, IsLawfulPart, AreApart, whole, inner, of_first, of_place, layers, of_layer, objects, layer_objects, of_object, next_layer_id, next_object_id, name, visible, selection, tilesets, placing, put}
+use Rattle.map_model.specs.Parts.{layer_of}
+use Rattle.map_model.proofs.GroupBodies.{group_of-with, body_with_layers-along, body_with_layers-same, body_with_layers-twice}
+use Rattle.map_model.proofs.TreeChanges.{layer_among-change_among, change_among-change_among, change_among-along, change_among-same}
+use Rattle.map_model.proofs.FirstChanges.{change_first-change_first, find-change_first, change_first-along, change_first-same}
+use Rattle.map_model.specs.Part.{Part, IsLawfulPart, AreApart, whole, inner, of_first, of_place, layers, group, siblings, of_layer, objects, layer_objects, of_object, next_layer_id, next_object_id, name, visible, selection, tilesets, placing, put}
 
-some-eq : {V : Type 0} (v w : V) → Some v ≡ Some w → v ≡ w
+pub some-eq : {V : Type 0} (v w : V) → Some v ≡ Some w → v ≡ w
 some-eq v w e = cc
 
 -- where a part of a part is, the outer one is
@@ -61,7 +64,7 @@ change_at-change_at f g [] (suc k) = refl
 change_at-change_at f g (x ∷ xs) zero = refl
 change_at-change_at f g (x ∷ xs) (suc k) = ap (λ ys. x ∷ ys) (change_at-change_at f g xs k)
 
-change_at-along : {A : Type 0} (f g : A → A) (xs : List A) (k : ℕ) → ((a : A) → slice_get xs k ≡ Some a → f a ≡ g a) → change_at k f xs ≡ change_at k g xs
+pub change_at-along : {A : Type 0} (f g : A → A) (xs : List A) (k : ℕ) → ((a : A) → slice_get xs k ≡ Some a → f a ≡ g a) → change_at k f xs ≡ change_at k g xs
 change_at-along f g [] zero e = refl
 change_at-along f g [] (suc k) e = refl
 change_at-along f g (x ∷ xs) zero e = ap (λ y. y ∷ xs) (e x refl)
@@ -105,7 +108,34 @@ pub layers-next_layer_id : AreApart layers next_layer_id
 layers-next_layer_id = record { get-left = λ g d. refl; get-right = λ f d. refl; swapped = λ f g d. refl }
 
 pub of_layer-laws : {V : Type 0} (id : ℕ) (p : Part Layer V) → ((f : V → V) (l : Layer) → (p.update f l).id ≡ l.id) → IsLawfulPart p → IsLawfulPart (of_layer id p)
-of_layer-laws id p stays ps = inner-laws layers (of_first (has_id id) p) layers-laws (of_first-laws (has_id id) p (λ f l. ap (λ n. nat_eq n id) (stays f l)) ps)
+of_layer-laws id p stays ps = record {
+  get-update = λ f v d e. let s = within p.get v (layer_of d.map id) e in
+      ap (option_and_then p.get) (layer_among-change_among id (p.update f) (stays f) MAX_GROUPS d.map.layers ∙ ap (option_map (p.update f)) s.1.0) ∙ ps.get-update f v s.0 s.1.1;
+  update-same = λ f v d e same. let s = within p.get v (layer_of d.map id) e in
+      ap (λ ls. record d { map = record d.map { layers = ls } })
+      (change_among-along id (p.update f) (λ k. k) MAX_GROUPS d.map.layers
+      (λ k q. let found : s.0 ≡ k = some-eq s.0 k (sym s.1.0 ∙ q) in subst (λ j. p.update f j ≡ j) found (ps.update-same f v s.0 s.1.1 same))
+      ∙ change_among-same id MAX_GROUPS d.map.layers);
+  update-update = λ f g d.
+      ap (λ ls. record d { map = record d.map { layers = ls } })
+      (change_among-change_among id (p.update g) (stays g) MAX_GROUPS (p.update f) d.map.layers
+      ∙ change_among-along id (λ k. p.update f (p.update g k)) (p.update (λ v. f (g v))) MAX_GROUPS d.map.layers (λ k q. ps.update-update f g k));
+}
+
+-- ---- groups
+pub group-laws : IsLawfulPart group
+group-laws = record {
+  get-update = λ f ls l e. group_of-with f l ls e;
+  update-same = λ f ls l e q. λ i. record l {
+    body = (body_with_layers-along f (λ ks. ks) l.body
+        (λ ks h. let own : ls ≡ ks = some-eq ls ks (sym e ∙ h) in subst (λ js. f js ≡ js) own q) ∙ body_with_layers-same l.body) i;
+  };
+  update-update = λ f g l. λ i. record l { body = body_with_layers-twice f g l.body i };
+}
+
+pub siblings-laws : (parent : Option ℕ) → IsLawfulPart (siblings parent)
+siblings-laws None = layers-laws
+siblings-laws (Some id) = of_layer-laws id group (λ f l. refl) group-laws
 
 pub name-laws : (id : ℕ) → IsLawfulPart (of_layer id name)
 name-laws id = of_layer-laws id name (λ f l. refl) (whole-laws layer_name layer_with_name (λ v l. refl) (λ l. refl) (λ v w l. refl))
@@ -130,16 +160,19 @@ objects-laws = record {
     got f os (Tiles e cells) h = cc
     got f os (Objects own) h = let is : own ≡ os = cc in ap (λ ps. Some (f ps)) is
     got f os Other h = cc
+    got f os (Group' s r) h = cc
 
     same : (f : List Object → List Object) (os : List Object) (b : Body) → objects_in b ≡ Some os → f os ≡ os → body_with_objects f b ≡ b
     same f os (Tiles e cells) h q = refl
     same f os (Objects own) h q = let is : os ≡ own = cc in ap Objects (rw is at q)
     same f os Other h q = refl
+    same f os (Group' s r) h q = refl
 
     twice : (f g : List Object → List Object) (b : Body) → body_with_objects f (body_with_objects g b) ≡ body_with_objects (λ os. f (g os)) b
     twice f g (Tiles e cells) = refl
     twice f g (Objects own) = refl
     twice f g Other = refl
+    twice f g (Group' s r) = refl
 
 pub layer_objects-laws : (id : ℕ) → IsLawfulPart (layer_objects id)
 layer_objects-laws id = of_layer-laws id objects (λ f l. refl) objects-laws

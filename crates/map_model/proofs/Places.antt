@@ -1,33 +1,165 @@
 -- The place of the layer with an id.
-use Rattle.std.proofs.Common.{◌≡◌, ◌≢◌, ℕ, zero, suc, ◌+◌, ◌<◌, List, [], ◌∷◌, length, true, false, nat_eq, Option, Some, None, IsSome, option_map, refl, ap, ◌∙◌, subst, arith}
+use Rattle.std.proofs.Common.{◌≡◌, ◌≢◌, ℕ, zero, suc, ◌+◌, ◌<◌, List, [], ◌∷◌, ◌++◌, length, true, false, nat_eq, Option, Some, None, is_some, IsSome, option_map, option_and_then, ◌⊎◌, inl, inr, refl, sym, ap, ◌∙◌, subst, arith}
 use Rattle.std.specs.List.{flat_map, position_from, slice_get}
 use Rattle.std.proofs.lemmas.Bool.Decides.{nat_tests}
+use Rattle.std.proofs.lemmas.Grind.{flat_map-append}
 use Rattle.std.proofs.lemmas.Iterator.Adapters.{position_from-zero}
-use Rattle.map_model.specs.Lists.{Each, Distinct}
 use Rattle.std.specs.List.{position}
 use Rattle.std.proofs.lemmas.List.Quantifiers.{position-Some}
+use Rattle.map_model.specs.declared.limits.TheConstants.{MAX_GROUPS}
+use Rattle.map_model.specs.declared.parts.Layer.{Layer}
 use Rattle.map_model.specs.declared.parts.MapParts.{MapParts}
 use Rattle.map_model.specs.declared.place.LayerPlace.{LayerPlace}
-use Rattle.map_model.specs.Layers.{layer_at, layer_place, top_place}
+use Rattle.map_model.specs.Groups.{drawn, find_one, group_of, has_id, holds, inside, layer_among, tree}
+use Rattle.map_model.specs.Keeping.{inner_level, layer_level}
+use Rattle.map_model.specs.Layers.{layer_at, layer_place, place_among, place_under}
+use Rattle.map_model.specs.Lists.{Each, Distinct, first_some, or_else, or_empty}
 use Rattle.map_model.specs.NewMap.{empty_object_layer}
-use Rattle.map_model.specs.Parts.{has_id}
+use Rattle.map_model.specs.WellFormed.{IsWellFormed, ids_of}
 use Rattle.map_model.proofs.Changes.{slice_get-Some}
+use Rattle.map_model.proofs.Listings.{Each-front, Each-rest, Distinct-front, Distinct-rest, Apart-pieces}
+use Rattle.map_model.proofs.Trees.{Stands, find_one-is, stands_one, stands, tree-is}
+use Rattle.map_model.proofs.Walks.{find_one-own}
 
+-- ---- ids in a tree
+-- what each id of the list has, the id of the layer that stands in it has
+stands-id : {id room level : ℕ} {l : Layer} {xs : List (ℕ × Layer)} {ys : (Layer → Layer) → List (ℕ × Layer)} (P : ℕ → Type 0) → Stands id room level l xs ys → Each P (flat_map ids_of xs) → P id
+stands-id {id = id} {l = l} P s h =
+    let is : l.id ≡ id = grind (arith, nat_tests, s.has) in
+    let all : Each P (flat_map ids_of (s.front ++ (tree s.own_room s.own_level l ++ s.rest))) = rw (← s.was) h in
+    let behind = Each-rest P (flat_map ids_of s.front) (flat_map ids_of (tree s.own_room s.own_level l ++ s.rest)) (rw (flat_map-append ids_of s.front (tree s.own_room s.own_level l ++ s.rest)) at all) in
+    let own : Each P (flat_map ids_of (tree s.own_room s.own_level l)) =
+    Each-front P (flat_map ids_of (tree s.own_room s.own_level l)) (flat_map ids_of s.rest) (rw (flat_map-append ids_of (tree s.own_room s.own_level l) s.rest) at behind) in
+    subst P is (rw (tree-is s.own_room s.own_level l) at own).0
+
+-- where each id is another, no layer is found
+found-none : (id room level : ℕ) (l : Layer) → Each (λ n. n ≢ id) (flat_map ids_of (tree room level l)) → find_one id room l ≡ None
+found-none id room level l h = by_found (find_one id room l) refl
+  where
+    by_found : (o : Option Layer) → find_one id room l ≡ o → o ≡ None
+    by_found None e = refl
+    by_found (Some k) e = absurd (stands-id (λ n. n ≢ id) (stands_one id room level k l e) h refl)
+
+-- what each id has, that of a layer of the list has
+Each-tree_id : (P : ℕ → Type 0) (room level : ℕ) (ls : List Layer) (k : ℕ) (l : Layer) → slice_get ls k ≡ Some l → Each P (flat_map ids_of (drawn room level ls)) → P l.id
+Each-tree_id P room level [] zero l e h = cc
+Each-tree_id P room level [] (suc k) l e h = cc
+Each-tree_id P room level (x ∷ xs) zero l e h =
+    let same : x ≡ l = cc in
+    let own = Each-front P (flat_map ids_of (tree room level x)) (flat_map ids_of (drawn room level xs)) (rw (flat_map-append ids_of (tree room level x) (drawn room level xs)) at h) in
+    subst (λ (y : Layer). P y.id) same (rw (tree-is room level x) at own).0
+Each-tree_id P room level (x ∷ xs) (suc k) l e h =
+    Each-tree_id P room level xs k l e (Each-rest P (flat_map ids_of (tree room level x)) (flat_map ids_of (drawn room level xs)) (rw (flat_map-append ids_of (tree room level x) (drawn room level xs)) at h))
+
+-- an id of the second list is none of the first one's
+Each-apart_from : (id : ℕ) (ns ids : List ℕ) → ((n : ℕ) → Each (λ i. n ≢ i) ids → n ≢ id) → Each (λ n. Each (λ i. n ≢ i) ids) ns → Each (λ n. n ≢ id) ns
+Each-apart_from id [] ids at h = tt
+Each-apart_from id (n ∷ ns) ids at h = (at n h.0, Each-apart_from id ns ids at h.1)
+
+-- ---- a layer stands at the place
 abbrev at_of : Option LayerPlace → ℕ
 at_of None = 0
 at_of (Some place) = place.at
 
--- a layer stands there
-pub layer_place-there : (m : MapParts) (id : ℕ) (place : LayerPlace) → layer_place m id ≡ Some place → IsSome (layer_at m place)
-layer_place-there m id place e = by_position (position (has_id id) m.layers) refl e
+abbrev parent_of : Option LayerPlace → Option ℕ
+parent_of None = None
+parent_of (Some place) = place.parent
+
+-- one of these layers stands there, or one that stands in a group among them
+abbrev StandsAt : ℕ → Option ℕ → List Layer → LayerPlace → Type 0
+StandsAt room parent ls place =
+    ((place.parent ≡ parent) × IsSome (slice_get ls place.at))
+    ⊎ ((g : Layer) × ((place.parent ≡ Some g.id) × ((layer_among g.id room ls ≡ Some g) × IsSome (option_and_then (λ ks. slice_get ks place.at) (group_of g)))))
+
+own_place : (id : ℕ) (parent : Option ℕ) (ls : List Layer) (place : LayerPlace) → option_map (place_under parent) (position (has_id id) ls) ≡ Some place
+    → (place.parent ≡ parent) × IsSome (slice_get ls place.at)
+own_place id parent ls place e = by_position (position (has_id id) ls) refl e
   where
-    by_position : (o : Option ℕ) → position (has_id id) m.layers ≡ o → option_map top_place o ≡ Some place → IsSome (layer_at m place)
+    by_position : (o : Option ℕ) → position (has_id id) ls ≡ o → option_map (place_under parent) o ≡ Some place → (place.parent ≡ parent) × IsSome (slice_get ls place.at)
     by_position None f q = cc
     by_position (Some at) f q =
         let same : at ≡ place.at = ap at_of q in
-        let found = position-Some (has_id id) m.layers at (empty_object_layer 0 []) f in
-        let there = slice_get-Some m.layers place.at (subst (λ k. k < length m.layers) same found.0) in
-        rw there.1 refl
+        let found = position-Some (has_id id) ls at (empty_object_layer 0 []) f in
+        let there = slice_get-Some ls place.at (subst (λ k. k < length ls) same found.0) in
+        (sym (ap parent_of q), rw there.1 refl)
+
+inside-group : (l : Layer) (at : ℕ) → IsSome (slice_get (inside l) at) → IsSome (option_and_then (λ ks. slice_get ks at) (group_of l))
+inside-group l at h = by_group (group_of l) h
+  where
+    none : (at : ℕ) → IsSome {T = Layer} (slice_get [] at) → ⊥
+    none zero q = cc
+    none (suc at) q = cc
+
+    by_group : (o : Option (List Layer)) → IsSome (slice_get (or_empty o) at) → IsSome (option_and_then (λ ks. slice_get ks at) o)
+    by_group None q = absurd (none at q)
+    by_group (Some ks) q = q
+
+-- the layer that is found among those that stand in one with another id
+found-inside : (room level : ℕ) (l g : Layer) → layer_among g.id room (inside l) ≡ Some g → Distinct (flat_map ids_of (tree (suc room) level l)) → find_one g.id (suc room) l ≡ Some g
+found-inside room level l g e h =
+    let apart : Distinct (l.id ∷ flat_map ids_of (drawn room (inner_level level) (inside l))) = rw (tree-is (suc room) level l) at h in
+    let other : l.id ≢ g.id = stands-id (λ n. l.id ≢ n) (stands g.id room (inner_level level) (inside l) g e) apart.0 in
+    let passed : has_id g.id l ≡ false = grind (arith, nat_tests, other) in
+    find_one-is g.id (suc room) l ∙ rw (passed) e
+
+-- the layers within groups, one after another
+places_within : (id room level : ℕ) → ((l : Layer) (place : LayerPlace) → place_among id room (Some l.id) (inside l) ≡ Some place → Distinct (flat_map ids_of (drawn room (inner_level level) (inside l))) → StandsAt room (Some l.id) (inside l) place)
+    → (ls : List Layer) (place : LayerPlace) → first_some (λ l. place_among id room (Some l.id) (inside l)) ls ≡ Some place → Distinct (flat_map ids_of (drawn (suc room) level ls))
+    → (g : Layer) × ((place.parent ≡ Some g.id) × ((layer_among g.id (suc room) ls ≡ Some g) × IsSome (option_and_then (λ ks. slice_get ks place.at) (group_of g))))
+places_within id room level within [] place e h = cc
+places_within id room level within (l ∷ ls) place e h = by_first (place_among id room (Some l.id) (inside l)) refl e (places_within id room level within ls place)
+  where
+    pieces : Distinct (flat_map ids_of (tree (suc room) level l) ++ flat_map ids_of (drawn (suc room) level ls))
+    pieces = rw (flat_map-append ids_of (tree (suc room) level l) (drawn (suc room) level ls)) at h
+
+    own : Distinct (flat_map ids_of (tree (suc room) level l))
+    own = Distinct-front (flat_map ids_of (tree (suc room) level l)) (flat_map ids_of (drawn (suc room) level ls)) pieces
+
+    by_stands : StandsAt room (Some l.id) (inside l) place
+        → (g : Layer) × ((place.parent ≡ Some g.id) × ((layer_among g.id (suc room) (l ∷ ls) ≡ Some g) × IsSome (option_and_then (λ ks. slice_get ks place.at) (group_of g))))
+    by_stands (inl q) =
+        let here : has_id l.id l ≡ true = grind (arith, nat_tests) in
+        let found : find_one l.id (suc room) l ≡ Some l = find_one-is l.id (suc room) l ∙ rw here refl in
+        (l, (q.0, (ap (λ o. or_else o (layer_among l.id (suc room) ls)) found, inside-group l place.at q.1)))
+    by_stands (inr q) =
+        let found = found-inside room level l q.0 q.1.1.0 own in
+        (q.0, (q.1.0, (ap (λ o. or_else o (layer_among q.0.id (suc room) ls)) found, q.1.1.1)))
+
+    by_first : (o : Option LayerPlace) → place_among id room (Some l.id) (inside l) ≡ o → or_else o (first_some (λ k. place_among id room (Some k.id) (inside k)) ls) ≡ Some place
+        → (first_some (λ k. place_among id room (Some k.id) (inside k)) ls ≡ Some place → Distinct (flat_map ids_of (drawn (suc room) level ls))
+        → (g : Layer) × ((place.parent ≡ Some g.id) × ((layer_among g.id (suc room) ls ≡ Some g) × IsSome (option_and_then (λ ks. slice_get ks place.at) (group_of g)))))
+        → (g : Layer) × ((place.parent ≡ Some g.id) × ((layer_among g.id (suc room) (l ∷ ls) ≡ Some g) × IsSome (option_and_then (λ ks. slice_get ks place.at) (group_of g))))
+    by_first None f q later =
+        let found = later q (Distinct-rest (flat_map ids_of (tree (suc room) level l)) (flat_map ids_of (drawn (suc room) level ls)) pieces) in
+        let g = found.0 in
+        let others = Each-apart_from g.id (flat_map ids_of (tree (suc room) level l)) (flat_map ids_of (drawn (suc room) level ls))
+        (λ n a. stands-id (λ i. n ≢ i) (stands g.id (suc room) level ls g found.1.1.0) a)
+        (Apart-pieces (flat_map ids_of (tree (suc room) level l)) (flat_map ids_of (drawn (suc room) level ls)) pieces) in
+        (g, (found.1.0, (ap (λ o. or_else o (layer_among g.id (suc room) ls)) (found-none g.id (suc room) level l others) ∙ found.1.1.0, found.1.1.1)))
+    by_first (Some p) f q later =
+        let inner : Distinct (l.id ∷ flat_map ids_of (drawn room (inner_level level) (inside l))) = rw (tree-is (suc room) level l) at own in
+        by_stands (within l place (f ∙ q) inner.1)
+
+pub place_among-there : (id room level : ℕ) (parent : Option ℕ) (ls : List Layer) (place : LayerPlace) → place_among id room parent ls ≡ Some place → Distinct (flat_map ids_of (drawn room level ls)) → StandsAt room parent ls place
+unfolding place_among
+place_among-there id zero level parent ls place e h = inl (own_place id parent ls place e)
+place_among-there id (suc room) level parent ls place e h =
+    by_own (option_map (place_under parent) (position (has_id id) ls)) refl e
+    (λ q. places_within id room level (λ l p f d. place_among-there id room (inner_level level) (Some l.id) (inside l) p f d) ls place q h)
+  where
+    by_own : (o : Option LayerPlace) → option_map (place_under parent) (position (has_id id) ls) ≡ o → or_else o (first_some (λ l. place_among id room (Some l.id) (inside l)) ls) ≡ Some place
+        → (first_some (λ l. place_among id room (Some l.id) (inside l)) ls ≡ Some place
+        → (g : Layer) × ((place.parent ≡ Some g.id) × ((layer_among g.id (suc room) ls ≡ Some g) × IsSome (option_and_then (λ ks. slice_get ks place.at) (group_of g)))))
+        → StandsAt (suc room) parent ls place
+    by_own None f q later = inr (later q)
+    by_own (Some p) f q later = inl (own_place id parent ls place (f ∙ q))
+
+pub layer_place-there : (m : MapParts) (id : ℕ) (place : LayerPlace) → layer_place m id ≡ Some place → IsWellFormed m → IsSome (layer_at m place)
+layer_place-there m id place e h = by_stands (place_among-there id MAX_GROUPS layer_level None m.layers place e h.layers.layer_ids.distinct)
+  where
+    by_stands : StandsAt MAX_GROUPS None m.layers place → IsSome (layer_at m place)
+    by_stands (inl q) = rw q.0 q.1
+    by_stands (inr q) = rw (q.1.0, q.1.1.0) q.1.1.1
 
 -- ---- the one element with an id
 module _ {X : Type 0} (id_of : X → ℕ) where
@@ -56,3 +188,25 @@ module _ {X : Type 0} (id_of : X → ℕ) where
   position-only xs k x e h =
       let here : 0 + k ≡ k = omega arith in
       position_from-zero (λ y. nat_eq (id_of y) (id_of x)) xs ∙ position_from-only xs 0 k x e h ∙ ap Some here
+
+-- ---- the first layer that has an id, or one within it
+position_from-holder : (id room level : ℕ) (ls : List Layer) (i k : ℕ) (l : Layer) → slice_get ls k ≡ Some l → l.id ≡ id → Distinct (flat_map ids_of (drawn room level ls)) → position_from (holds id room) i ls ≡ Some (i + k)
+position_from-holder id room level [] i zero l e is h = cc
+position_from-holder id room level [] i (suc k) l e is h = cc
+position_from-holder id room level (x ∷ xs) i zero l e is h =
+    let same : x ≡ l = cc in
+    let own : holds id room x ≡ true = ap is_some (sym (find_one-own id room x (ap (λ (y : Layer). y.id) same ∙ is))) in
+    let here : i ≡ i + 0 = omega arith in
+    rw own (ap Some here)
+position_from-holder id room level (x ∷ xs) i (suc k) l e is h =
+    let pieces : Distinct (flat_map ids_of (tree room level x) ++ flat_map ids_of (drawn room level xs)) = rw (flat_map-append ids_of (tree room level x) (drawn room level xs)) at h in
+    let apart = Apart-pieces (flat_map ids_of (tree room level x)) (flat_map ids_of (drawn room level xs)) pieces in
+    let others = Each-apart_from id (flat_map ids_of (tree room level x)) (flat_map ids_of (drawn room level xs)) (λ n a. subst (λ m. n ≢ m) is (Each-tree_id (λ m. n ≢ m) room level xs k l e a)) apart in
+    let passed : holds id room x ≡ false = ap is_some (found-none id room level x others) in
+    let here : (i + 1) + k ≡ i + suc k = omega arith in
+    rw passed (position_from-holder id room level xs (i + 1) k l e is (Distinct-rest (flat_map ids_of (tree room level x)) (flat_map ids_of (drawn room level xs)) pieces) ∙ ap Some here)
+
+pub position-holder : (id room level : ℕ) (ls : List Layer) (k : ℕ) (l : Layer) → slice_get ls k ≡ Some l → l.id ≡ id → Distinct (flat_map ids_of (drawn room level ls)) → position (holds id room) ls ≡ Some k
+position-holder id room level ls k l e is h =
+    let here : 0 + k ≡ k = omega arith in
+    position_from-zero (holds id room) ls ∙ position_from-holder id room level ls 0 k l e is h ∙ ap Some here

@@ -1,5 +1,5 @@
 -- Changes of properties that keep a map well formed.
-use Rattle.std.proofs.Common.{◌≡◌, ◌≢◌, ℕ, zero, suc, ◌+◌, ◌*◌, ◌<◌, ◌≤◌, List, [], ◌∷◌, length, Bool, true, false, true≢false, cond, Option, Some, None, IsSome, IsSomeAnd, option_map, option_and_then, refl, sym, ap, ◌∙◌, subst, arith}
+use Rattle.std.proofs.Common.{◌≡◌, ◌≢◌, ℕ, zero, suc, ◌+◌, ◌<◌, ◌≤◌, List, [], ◌∷◌, length, Bool, true, false, true≢false, cond, Option, Some, None, IsSome, IsSomeAnd, option_map, option_and_then, refl, sym, ap, ◌∙◌, subst, arith}
 use Rattle.std.specs.Bool.{Decides}
 use Rattle.std.specs.List.{slice_get, slice_set, insert, remove, flat_map, position, position_from}
 use Rattle.std.specs.Str.{bytes_eq}
@@ -9,6 +9,8 @@ use Rattle.std.specs.FinSet as set
 use Rattle.region.specs.Cells.{cell_cmp}
 use Rattle.serde_json.specs.Data.{no_members}
 use Rattle.map_model.specs.declared.limits.TheConstants.{MAX_PROPERTIES}
+use Rattle.map_model.specs.declared.parts.Body.{Body}
+use Rattle.map_model.specs.declared.parts.Body.TheVariants.{Tiles, Objects, Other, Group'}
 use Rattle.map_model.specs.declared.parts.Layer.{Layer}
 use Rattle.map_model.specs.declared.parts.MapParts.{MapParts}
 use Rattle.map_model.specs.declared.parts.Object.{Object}
@@ -19,17 +21,18 @@ use Rattle.map_model.specs.declared.place.OwnerPlace.{OwnerPlace}
 use Rattle.map_model.specs.declared.place.OwnerPlace.TheVariants as places
 use Rattle.map_model.specs.declared.setting.Setting.{Setting}
 use Rattle.map_model.specs.Document.{document_of, IsSelectionOf}
-use Rattle.map_model.specs.Keeping.{layer_level, map_level, object_level, property_level, property_names}
-use Rattle.map_model.specs.Lists.{Each, Distinct, change_at, change_first}
-use Rattle.map_model.specs.Objects.{object_at, objects_of_layer}
-use Rattle.map_model.specs.Parts.{has_id, layer_of}
-use Rattle.map_model.specs.Properties.{has_name, layer_properties, layer_with_properties, new_property, object_properties, object_with_properties, owner_level, properties_of, property_at, property_with_setting, setting_of, with_properties, with_property, with_property_at, without_property_at, IsSetting}
-use Rattle.map_model.specs.WellFormed.{AreProperties, IsLayer, IsObject, IsProperty, IsValue, IsWellFormed, ids_of, names_of_property, object_ids_of}
-use Rattle.map_model.proofs.Changes.{length-change_first, length-insert, length-remove_le, Each-at, Each-insert, Each-remove}
-use Rattle.map_model.proofs.Keeps.{Each-found, layers-IsWellFormed}
-use Rattle.map_model.proofs.Listings.{AreIds-change_first}
+use Rattle.map_model.specs.Keeping.{map_level, object_level, property_level, property_names}
+use Rattle.map_model.specs.Lists.{Each, Distinct, change_at, or_empty}
+use Rattle.map_model.specs.Objects.{body_with_objects, layer_with_objects, object_at, objects_in, objects_of}
+use Rattle.map_model.specs.Parts.{layer_of}
+use Rattle.map_model.specs.Properties.{has_name, layer_properties, layer_with_properties, level_of, new_property, object_properties, object_with_properties, owner_level, properties_of, property_at, property_with_setting, setting_of, with_properties, with_property, with_property_at, without_property_at, IsSetting}
+use Rattle.map_model.specs.WellFormed.{AreProperties, IsProperty, IsValue, IsWellFormed, names_of_property}
+use Rattle.map_model.proofs.Changes.{length-insert, length-remove_le, Each-at, Each-insert, Each-remove}
+use Rattle.map_model.proofs.Keeps.{changed-keeps, layer_of-IsLayer, object_ids-IsReplaced}
+use Rattle.map_model.proofs.Lookups.{level_of-low, level_of-with_layer}
 use Rattle.map_model.proofs.NewMaps.{unread-test}
-use Rattle.map_model.proofs.ObjectKeeps.{length-change_at, Each-change_at, Each-change_first-found, objects_of_layer-IsBody, with_object-keeps_there}
+use Rattle.map_model.proofs.ObjectKeeps.{length-change_at, Each-change_at, group_in-objects, object_at-IsObject, with_object-keeps_there}
+use Rattle.map_model.proofs.PartLaws.{change_at-along, some-eq}
 use Rattle.map_model.proofs.PropertyLaws.{properties-laws, update-along}
 
 -- a write at a place is a change of the element there
@@ -53,22 +56,17 @@ placed : {X Y : Type 0} (f : X → Option Y) (o : Option X) (y : Y) → option_a
 placed f None y e = cc
 placed f (Some x) y e = (x, (refl, e))
 
-IsObject-at : (m : MapParts) (place : ObjectPlace) (o : Object) → object_at m place ≡ Some o → IsWellFormed m → IsObject (object_level layer_level) o
-IsObject-at m place o e h =
-    let found = placed (λ os. slice_get os place.at) (objects_of_layer m place.layer) o e in
-    Each-at (IsObject (object_level layer_level)) found.0 place.at o found.1.1 (objects_of_layer-IsBody m place.layer found.0 found.1.0 h).1
-
-pub AreProperties-of : (owner : OwnerPlace) (ps : List Property) (m : MapParts) → properties_of m owner ≡ Some ps → IsWellFormed m → AreProperties (owner_level owner) ps
+pub AreProperties-of : (owner : OwnerPlace) (ps : List Property) (m : MapParts) → properties_of m owner ≡ Some ps → IsWellFormed m → AreProperties (owner_level m owner) ps
 AreProperties-of places.Map ps m e h = let is : m.properties ≡ ps = cc in subst (AreProperties map_level) is h.properties
 AreProperties-of (places.Layer id) ps m e h =
     let found = mapped layer_properties (layer_of m id) ps e in
-    subst (AreProperties layer_level) found.1.1 (Each-found (has_id id) (IsLayer layer_level (m.width * m.height)) m.layers found.0 found.1.0 h.layers.each).properties
+    subst (AreProperties (level_of m id)) found.1.1 (layer_of-IsLayer m id found.0 found.1.0 h).properties
 AreProperties-of (places.Object place) ps m e h =
     let found = mapped object_properties (object_at m place) ps e in
-    subst (AreProperties (object_level layer_level)) found.1.1 (IsObject-at m place found.0 found.1.0 h).properties
+    subst (AreProperties (object_level (level_of m place.layer))) found.1.1 (object_at-IsObject m place found.0 found.1.0 h).properties
 
 -- the map with others in their place
-pub with_properties-keeps : (owner : OwnerPlace) (f : List Property → List Property) (ps : List Property) (m : MapParts) → properties_of m owner ≡ Some ps → AreProperties (owner_level owner) (f ps)
+pub with_properties-keeps : (owner : OwnerPlace) (f : List Property → List Property) (ps : List Property) (m : MapParts) → properties_of m owner ≡ Some ps → AreProperties (owner_level m owner) (f ps)
     → IsWellFormed m → IsWellFormed (with_properties owner f m)
 with_properties-keeps places.Map f ps m e are h =
     let is : ps ≡ m.properties = cc in
@@ -82,21 +80,15 @@ with_properties-keeps places.Map f ps m e are h =
     }
 with_properties-keeps (places.Layer id) f ps m e are h =
     let found = mapped layer_properties (layer_of m id) ps e in
-    layers-IsWellFormed m (change_first (has_id id) (layer_with_properties f) m.layers) (record {
-      few = rw length-change_first h.layers.few;
-      each = Each-change_first-found (has_id id) (layer_with_properties f) (IsLayer layer_level (m.width * m.height)) m.layers
-          (λ l q k.
-          let same : ps ≡ l.properties = sym found.1.1 ∙ ap layer_properties (some-eq found.0 l (sym found.1.0 ∙ q)) in
-          record { properties = subst (λ qs. AreProperties layer_level (f qs)) same are; kept = k.kept; body = k.body }) h.layers.each;
-      layer_ids = AreIds-change_first ids_of m.next_layer_id (has_id id) (layer_with_properties f) (λ l. refl) m.layers h.layers.layer_ids;
-      object_ids = AreIds-change_first object_ids_of m.next_object_id (has_id id) (layer_with_properties f) (λ l. refl) m.layers h.layers.object_ids;
-    }) h
-  where
-    some-eq : (a b : Layer) → Some a ≡ Some b → a ≡ b
-    some-eq a b q = cc
+    let l = found.0 in
+    let old = layer_of-IsLayer m id l found.1.0 h in
+    let r = object_ids-IsReplaced id (layer_with_properties f) l m found.1.0 refl in
+    changed-keeps id (layer_with_properties f) l m found.1.0 refl refl
+    (record { properties = rw found.1.1 are; kept = old.kept; body = old.body })
+    (rw (r.1.1.now ∙ sym r.1.1.was) h.layers.object_ids) h
 with_properties-keeps (places.Object place) f ps m e are h =
     let found = mapped object_properties (object_at m place) ps e in
-    let old = IsObject-at m place found.0 found.1.0 h in
+    let old = object_at-IsObject m place found.0 found.1.0 h in
     with_object-keeps_there place (object_with_properties f) found.0 m found.1.0 (λ p. refl)
     (record { placing = old.placing; gid = old.gid; properties = rw found.1.1 are; kept = old.kept }) h
 
@@ -172,13 +164,13 @@ AreProperties-change_at level ps k s is h = record {
 }
 
 -- a new property is one of its owner
-pub new_property-IsProperty : (owner : OwnerPlace) (name : List ℕ) (s : Setting) → IsSetting owner s → IsProperty (property_level (owner_level owner)) (new_property name s)
-new_property-IsProperty owner name s is = record { value = is; kept = record { unread = unread-test no_members property_names refl; whole = refl; shallow = by_owner owner } }
+pub new_property-IsProperty : (m : MapParts) (owner : OwnerPlace) (name : List ℕ) (s : Setting) → IsSetting m owner s → IsProperty (property_level (owner_level m owner)) (new_property name s)
+new_property-IsProperty m owner name s is = record { value = is; kept = record { unread = unread-test no_members property_names refl; whole = refl; shallow = by_owner owner } }
   where
-    by_owner : (o : OwnerPlace) → property_level (owner_level o) + 0 ≤ 127
+    by_owner : (o : OwnerPlace) → property_level (owner_level m o) + 0 ≤ 127
     by_owner places.Map = omega arith
-    by_owner (places.Layer id) = omega arith
-    by_owner (places.Object place) = omega arith
+    by_owner (places.Layer id) = omega (arith, level_of-low m id)
+    by_owner (places.Object place) = omega (arith, level_of-low m place.layer)
 
 -- ---- maps with other properties
 some_properties : (o : Option (List Property)) (at : ℕ) → IsSome (option_and_then (λ ps. slice_get ps at) o) → (ps : List Property) × (o ≡ Some ps)
@@ -188,27 +180,27 @@ some_properties (Some ps) at h = (ps, refl)
 pub without_property_at-keeps : (owner : OwnerPlace) (at : ℕ) (m : MapParts) → IsSome (property_at m owner at) → IsWellFormed m → IsWellFormed (without_property_at owner at m)
 without_property_at-keeps owner at m there h =
     let found = some_properties (properties_of m owner) at there in
-    with_properties-keeps owner (λ ps. remove ps at) found.0 m found.1 (AreProperties-remove (owner_level owner) found.0 at (AreProperties-of owner found.0 m found.1 h)) h
+    with_properties-keeps owner (λ ps. remove ps at) found.0 m found.1 (AreProperties-remove (owner_level m owner) found.0 at (AreProperties-of owner found.0 m found.1 h)) h
 
-pub with_setting-keeps : (owner : OwnerPlace) (at : ℕ) (s : Setting) (m : MapParts) → IsSome (property_at m owner at) → IsSetting owner s → IsWellFormed m
+pub with_setting-keeps : (owner : OwnerPlace) (at : ℕ) (s : Setting) (m : MapParts) → IsSome (property_at m owner at) → IsSetting m owner s → IsWellFormed m
     → IsWellFormed (with_property owner at (property_with_setting s) m)
 with_setting-keeps owner at s m there is h =
     let found = some_properties (properties_of m owner) at there in
     with_properties-keeps owner (change_at at (property_with_setting s)) found.0 m found.1
-    (AreProperties-change_at (owner_level owner) found.0 at s is (AreProperties-of owner found.0 m found.1 h)) h
+    (AreProperties-change_at (owner_level m owner) found.0 at s is (AreProperties-of owner found.0 m found.1 h)) h
 
 -- a property that is there has a setting of its owner's
-pub property_at-IsSetting : (owner : OwnerPlace) (at : ℕ) (s : Setting) (m : MapParts) → option_map setting_of (property_at m owner at) ≡ Some s → IsWellFormed m → IsSetting owner s
+pub property_at-IsSetting : (owner : OwnerPlace) (at : ℕ) (s : Setting) (m : MapParts) → option_map setting_of (property_at m owner at) ≡ Some s → IsWellFormed m → IsSetting m owner s
 property_at-IsSetting owner at s m e h =
     let p = mapped setting_of (property_at m owner at) s e in
     let ps = placed (λ qs. slice_get qs at) (properties_of m owner) p.0 p.1.0 in
-    subst (IsSetting owner) p.1.1 (Each-at (IsProperty (property_level (owner_level owner))) ps.0 at p.0 ps.1.1 (AreProperties-of owner ps.0 m ps.1.0 h).each).value
+    subst (IsSetting m owner) p.1.1 (Each-at (IsProperty (property_level (owner_level m owner))) ps.0 at p.0 ps.1.1 (AreProperties-of owner ps.0 m ps.1.0 h).each).value
 
 -- a property with a new name, put in
 pub with_property_at-keeps : (owner : OwnerPlace) (at : ℕ) (p : Property) (ps : List Property) (m : MapParts) → properties_of m owner ≡ Some ps → length ps < MAX_PROPERTIES
-    → IsProperty (property_level (owner_level owner)) p → position (has_name p.name) ps ≡ None → IsWellFormed m → IsWellFormed (with_property_at owner at p m)
+    → IsProperty (property_level (owner_level m owner)) p → position (has_name p.name) ps ≡ None → IsWellFormed m → IsWellFormed (with_property_at owner at p m)
 with_property_at-keeps owner at p ps m e few is new h =
-    with_properties-keeps owner (λ qs. insert qs at p) ps m e (AreProperties-insert (owner_level owner) ps at p few is new (AreProperties-of owner ps m e h)) h
+    with_properties-keeps owner (λ qs. insert qs at p) ps m e (AreProperties-insert (owner_level m owner) ps at p few is new (AreProperties-of owner ps m e h)) h
 
 -- the selection lies in the map with other properties too
 pub with_properties-IsSelectionOf : (owner : OwnerPlace) (f : List Property → List Property) (m : MapParts) (selection : set.FinSet cell_cmp) → IsSelectionOf m selection
@@ -216,6 +208,21 @@ pub with_properties-IsSelectionOf : (owner : OwnerPlace) (f : List Property → 
 with_properties-IsSelectionOf places.Map f m selection h = h
 with_properties-IsSelectionOf (places.Layer id) f m selection h = h
 with_properties-IsSelectionOf (places.Object place) f m selection h = h
+
+-- ---- levels
+placed_level : (own : ObjectPlace) (f : List Property → List Property) (m : MapParts) (id : ℕ) → level_of (with_properties (places.Object own) f m) id ≡ level_of m id
+placed_level own f m id =
+    level_of-with_layer own.layer (layer_with_objects (change_at own.at (object_with_properties f))) (λ l. ap or_empty (group_in-objects (change_at own.at (object_with_properties f)) l.body)) (λ l. refl) m id
+
+-- the levels of owners stay where properties change
+pub owner_level-with_properties : (own : OwnerPlace) (f : List Property → List Property) (m : MapParts) (owner : OwnerPlace) → owner_level (with_properties own f m) owner ≡ owner_level m owner
+owner_level-with_properties own f m places.Map = refl
+owner_level-with_properties places.Map f m (places.Layer id) = refl
+owner_level-with_properties (places.Layer own) f m (places.Layer id) = level_of-with_layer own (layer_with_properties f) (λ l. refl) (λ l. refl) m id
+owner_level-with_properties (places.Object place) f m (places.Layer id) = placed_level place f m id
+owner_level-with_properties places.Map f m (places.Object place) = refl
+owner_level-with_properties (places.Layer own) f m (places.Object place) = ap object_level (level_of-with_layer own (layer_with_properties f) (λ l. refl) (λ l. refl) m place.layer)
+owner_level-with_properties (places.Object own) f m (places.Object place) = ap object_level (placed_level own f m place.layer)
 
 -- ---- what is left behind the lent properties
 module _ (owner : OwnerPlace) (at : ℕ) (ps : List Property) (m : MapParts) (e : properties_of m owner ≡ Some ps) where
@@ -232,3 +239,35 @@ module _ (owner : OwnerPlace) (at : ℕ) (ps : List Property) (m : MapParts) (e 
   lent-setting s p kind value there k v =
       with_properties-along owner (λ own. slice_set ps at (record p { kind = kind; value = value })) (change_at at (property_with_setting s)) ps m e
       (rw (k, v) (set-at_place (property_with_setting s) ps at p there))
+
+-- ---- where a property may be put in
+module _ (at : ℕ) (m : MapParts) where
+  pub room_in_layer : (id : ℕ) → (l : Layer) → layer_of m id ≡ Some l → IsSomeAnd (properties_of m (places.Layer id)) (λ ps. at ≤ length ps) → IsWellFormed m → (at ≤ length l.properties) × (length l.properties ≤ MAX_PROPERTIES)
+  room_in_layer id l e place h = (rw e at place, (layer_of-IsLayer m id l e h).properties.few)
+
+  pub room_in_object : (place : ObjectPlace) (l : Layer) → layer_of m place.layer ≡ Some l → IsSomeAnd (properties_of m (places.Object place)) (λ ps. at ≤ length ps) → IsWellFormed m
+      → IsSomeAnd (option_and_then (λ os. slice_get os place.at) (objects_of l)) (λ o. (at ≤ length o.properties) × (length o.properties ≤ MAX_PROPERTIES))
+  room_in_object place l e room h = by_object (object_at m place) refl (ap (λ o. option_and_then (λ os. slice_get os place.at) (option_and_then objects_of o)) (sym e)) room
+    where
+      by_object : (o : Option Object) → object_at m place ≡ o → option_and_then (λ os. slice_get os place.at) (objects_of l) ≡ object_at m place → IsSomeAnd (option_map object_properties (object_at m place)) (λ ps. at ≤ length ps)
+          → IsSomeAnd (option_and_then (λ os. slice_get os place.at) (objects_of l)) (λ o. (at ≤ length o.properties) × (length o.properties ≤ MAX_PROPERTIES))
+      by_object None f own r = absurd (rw f at r)
+      by_object (Some o) f own r = rw (own, f) (rw f at r, (object_at-IsObject m place o f h).properties.few)
+
+-- ---- what is left behind the lent properties of an object
+module _ (k : ℕ) (ps : List Property) where
+  pub lent-object : (f : List Property → List Property) (b : Body) (new : List Property) → option_map object_properties (option_and_then (λ os. slice_get os k) (objects_in b)) ≡ Some ps → new ≡ f ps
+      → body_with_objects (change_at k (object_with_properties (λ own. new))) b ≡ body_with_objects (change_at k (object_with_properties f)) b
+  lent-object f (Tiles e cells) new has is = refl
+  lent-object f (Objects os) new has is =
+      ap Objects (change_at-along (object_with_properties (λ own. new)) (object_with_properties f) os k
+      (λ o there. let own : o.properties ≡ ps = some-eq o.properties ps (sym (ap (option_map object_properties) there) ∙ has) in
+      λ i. record o { properties = (is ∙ ap f (sym own)) i }))
+  lent-object f Other new has is = refl
+  lent-object f (Group' s r) new has is = refl
+
+  pub lent-object_with : {X : Type 0} (f : X → List Property → List Property) (item : Option X) (b : Body) (new : List Property) → option_map object_properties (option_and_then (λ os. slice_get os k) (objects_in b)) ≡ Some ps
+      → IsSomeAnd item (λ x. new ≡ f x ps)
+      → IsSomeAnd item (λ x. body_with_objects (change_at k (object_with_properties (λ own. new))) b ≡ body_with_objects (change_at k (object_with_properties (f x))) b)
+  lent-object_with f None b new has h = h
+  lent-object_with f (Some x) b new has h = lent-object (f x) b new has h

@@ -5,9 +5,9 @@ use Rattle.std.proofs.lemmas.List.Edits.{length-remove}
 use Rattle.map_model.specs.declared.place.LayerPlace.{LayerPlace}
 use Rattle.map_model.specs.declared.place.ObjectPlace.{ObjectPlace}
 use Rattle.map_model.specs.Document.{DocumentParts}
-use Rattle.map_model.specs.Part.{Part, IsLawfulPart, AreApart, layers, next_layer_id, tilesets, layer_objects, next_object_id}
+use Rattle.map_model.specs.Part.{Part, IsLawfulPart, AreApart, layers, siblings, next_layer_id, tilesets, layer_objects, next_object_id}
 use Rattle.map_model.specs.Slot.{IsLawfulSlot, place_in, next_in, layer_slot, next_layer_slot, tileset_slot, object_slot, next_object_slot}
-use Rattle.map_model.proofs.PartLaws.{layers-laws, next_layer_id-laws, layers-next_layer_id, tilesets-laws, layer_objects-laws, next_object_id-laws, layer_objects-next_object_id}
+use Rattle.map_model.proofs.PartLaws.{layers-laws, siblings-laws, next_layer_id-laws, layers-next_layer_id, tilesets-laws, layer_objects-laws, next_object_id-laws, layer_objects-next_object_id}
 use Rattle.map_model.proofs.Changes.{remove-insert, insert-remove, slice_get-insert, length-insert, slice_get-within, slice_get-Some, within-removed}
 
 -- ---- places in a list
@@ -91,7 +91,7 @@ next_in-laws {X = X} p ids laws id-laws apart id = record {
 
 -- ---- slots of layers
 pub layer_slot-laws : (place : LayerPlace) → IsLawfulSlot (layer_slot place)
-layer_slot-laws place = place_in-laws layers layers-laws place.at
+layer_slot-laws place = place_in-laws (siblings place.parent) (siblings-laws place.parent) place.at
 
 pub next_layer_slot-laws : (id : ℕ) → IsLawfulSlot (next_layer_slot id)
 next_layer_slot-laws = next_in-laws layers next_layer_id layers-laws next_layer_id-laws layers-next_layer_id

@@ -1,12 +1,12 @@
 -- Changes that leave objects, owners and properties at their places.
-use Rattle.std.proofs.Common.{◌≡◌, ℕ, zero, suc, ◌+◌, List, [], ◌∷◌, length, nat_eq, Bool, true, false, cond, Option, Some, None, IsSomeAnd, option_map, option_and_then, find, refl, sym, ap, ◌∙◌, arith}
+use Rattle.std.proofs.Common.{◌≡◌, ℕ, zero, suc, ◌+◌, List, [], ◌∷◌, length, nat_eq, Bool, true, false, cond, Option, Some, None, IsSomeAnd, option_map, option_and_then, refl, sym, ap, ◌∙◌, arith}
 use Rattle.std.specs.List.{insert, remove, position, position_from, slice_get}
 use Rattle.std.proofs.lemmas.Iterator.Adapters.{position_from-zero}
 use Rattle.std.proofs.lemmas.Slice.Eq.{bytes_eq-Decides}
 use Rattle.map_model.specs.declared.owner.Owner.{Owner}
 use Rattle.map_model.specs.declared.owner.Owner.TheVariants as owners
 use Rattle.map_model.specs.declared.parts.Body.{Body}
-use Rattle.map_model.specs.declared.parts.Body.TheVariants.{Tiles, Objects, Other}
+use Rattle.map_model.specs.declared.parts.Body.TheVariants.{Tiles, Objects, Other, Group'}
 use Rattle.map_model.specs.declared.parts.Layer.{Layer}
 use Rattle.map_model.specs.declared.parts.MapParts.{MapParts}
 use Rattle.map_model.specs.declared.parts.Object.{Object}
@@ -17,13 +17,15 @@ use Rattle.map_model.specs.declared.place.OwnerPlace.{OwnerPlace}
 use Rattle.map_model.specs.declared.place.OwnerPlace.TheVariants as places
 use Rattle.map_model.specs.declared.setting.Setting.{Setting}
 use Rattle.map_model.specs.Document.{DocumentParts, with_map}
-use Rattle.map_model.specs.Lists.{change_at, change_first, first_some, or_else}
+use Rattle.map_model.specs.Groups.{bare, body_with_layers}
+use Rattle.map_model.specs.Lists.{change_at, or_empty}
 use Rattle.map_model.specs.Objects.{objects_in, has_object_id, place_of_layer, place_in_layer, object_place, layer_with_objects, with_object, body_with_objects, object_with_placing}
 use Rattle.map_model.specs.Part.{IsLawfulPart, of_object, placing, placing_with_id, put}
-use Rattle.map_model.specs.Parts.{has_id}
 use Rattle.map_model.specs.Properties.{has_name, layer_with_properties, new_property, object_with_properties, owner_place, properties_of, property_at, property_place, property_with_setting, setting_of, with_properties, with_property_at, without_property_at}
 use Rattle.map_model.specs.PropertyParts.{properties, setting_at, setting_named, setting_place, without_setting}
 use Rattle.map_model.proofs.FoundLaws.{found-get, found-keeps, found-laws, found-update}
+use Rattle.map_model.proofs.Lookups.{first_some-with_layer, found-with_layer}
+use Rattle.map_model.proofs.ObjectKeeps.{group_in-objects}
 use Rattle.map_model.proofs.PartLaws.{placing-laws, slice_get-change_at}
 use Rattle.map_model.proofs.PropertyLaws.{properties-laws, setting_at-laws}
 
@@ -31,35 +33,6 @@ some-eq : {X : Type 0} (x y : X) → Some x ≡ Some y → x ≡ y
 some-eq x y e = cc
 
 -- ---- look-ups in a list of which one element has changed
-module _ {X Y : Type 0} (p : X → Bool) (g : X → X) (h : X → Option Y) (same : (x : X) → h (g x) ≡ h x) where
-  first_some-change_first : (xs : List X) → first_some h (change_first p g xs) ≡ first_some h xs
-  first_some-change_first [] = refl
-  first_some-change_first (x ∷ xs) = by_test (p x) (first_some-change_first xs)
-    where
-      by_test : (b : Bool) → first_some h (change_first p g xs) ≡ first_some h xs → first_some h (cond b (g x ∷ xs) (x ∷ change_first p g xs)) ≡ or_else (h x) (first_some h xs)
-      by_test true e = ap (λ o. or_else o (first_some h xs)) (same x)
-      by_test false e = ap (or_else (h x)) e
-
--- whether an element is found stays
-module _ {X Y : Type 0} (p q : X → Bool) (g : X → X) (same : (x : X) → q (g x) ≡ q x) (y : Y) where
-  found-change_first : (xs : List X) → option_map (λ x. y) (find q (change_first p g xs)) ≡ option_map (λ x. y) (find q xs)
-  found-change_first [] = refl
-  found-change_first (x ∷ xs) = by_test (p x) (found-change_first xs)
-    where
-      shown : (b : Bool) (a : X) → option_map (λ x. y) (cond b (Some a) (find q xs)) ≡ option_map (λ x. y) (cond b (Some x) (find q xs))
-      shown true a = refl
-      shown false a = refl
-
-      later : (b : Bool) → option_map (λ x. y) (find q (change_first p g xs)) ≡ option_map (λ x. y) (find q xs)
-          → option_map (λ x. y) (cond b (Some x) (find q (change_first p g xs))) ≡ option_map (λ x. y) (cond b (Some x) (find q xs))
-      later true e = refl
-      later false e = e
-
-      by_test : (b : Bool) → option_map (λ x. y) (find q (change_first p g xs)) ≡ option_map (λ x. y) (find q xs)
-          → option_map (λ x. y) (find q (cond b (g x ∷ xs) (x ∷ change_first p g xs))) ≡ option_map (λ x. y) (cond (q x) (Some x) (find q xs))
-      by_test true e = rw (same x) (shown (q x) (g x))
-      by_test false e = later (q x) e
-
 module _ {X : Type 0} (q : X → Bool) (f : X → X) (same : (x : X) → q (f x) ≡ q x) where
   position_from-change_at : (k i : ℕ) (xs : List X) → position_from q i (change_at k f xs) ≡ position_from q i xs
   position_from-change_at zero i [] = refl
@@ -105,17 +78,19 @@ module _ {X : Type 0} (q : X → Bool) where
 
 -- ---- an object that changes at its place, and keeps its id
 module _ (f : Object → Object) (same : (o : Object) → (f o).id ≡ o.id) (place : ObjectPlace) (id : ℕ) where
-  place_in_layer-change_at : (l : Layer) → place_in_layer id (layer_with_objects (change_at place.at f) l) ≡ place_in_layer id l
-  place_in_layer-change_at l = by_body l.body
+  place_in_layer-change_at : (level : ℕ) (l : Layer) → place_in_layer id (level, bare (layer_with_objects (change_at place.at f) l)) ≡ place_in_layer id (level, bare l)
+  place_in_layer-change_at level l = by_body l.body
     where
-      by_body : (b : Body) → option_map (place_of_layer l) (option_and_then (position (has_object_id id)) (objects_in (body_with_objects (change_at place.at f) b)))
-          ≡ option_map (place_of_layer l) (option_and_then (position (has_object_id id)) (objects_in b))
+      by_body : (b : Body) → option_map (place_of_layer l) (option_and_then (position (has_object_id id)) (objects_in (body_with_layers (λ ls. []) (body_with_objects (change_at place.at f) b))))
+          ≡ option_map (place_of_layer l) (option_and_then (position (has_object_id id)) (objects_in (body_with_layers (λ ls. []) b)))
       by_body (Tiles e cells) = refl
       by_body (Objects os) = ap (option_map (place_of_layer l)) (position-change_at (has_object_id id) f (λ o. ap (λ n. nat_eq n id) (same o)) place.at os)
       by_body Other = refl
+      by_body (Group' s r) = refl
 
   pub object_place-with_object : (m : MapParts) → object_place (with_object place f m) id ≡ object_place m id
-  object_place-with_object m = first_some-change_first (has_id place.layer) (layer_with_objects (change_at place.at f)) (place_in_layer id) place_in_layer-change_at m.layers
+  object_place-with_object =
+      first_some-with_layer place.layer (layer_with_objects (change_at place.at f)) (place_in_layer id) (λ l. ap or_empty (group_in-objects (change_at place.at f) l.body)) place_in_layer-change_at
 
 -- no placing moves an object to another place of its layer
 placing-stays : (id : ℕ) (place : ObjectPlace) (f : Placing → Placing) (d : DocumentParts) → object_place d.map id ≡ Some place → object_place ((of_object place placing).update f d).map id ≡ Some place
@@ -131,12 +106,12 @@ placing_with_id-laws id = found-laws (λ d. object_place d.map id) (λ place. of
 owner_place-with_properties : (owner : Owner) (place : OwnerPlace) (f : List Property → List Property) (m : MapParts) → owner_place (with_properties place f m) owner ≡ owner_place m owner
 owner_place-with_properties owners.Map place f m = refl
 owner_place-with_properties (owners.Layer id) places.Map f m = refl
-owner_place-with_properties (owners.Layer id) (places.Layer own) f m = found-change_first (has_id own) (has_id id) (layer_with_properties f) (λ l. refl) (places.Layer id) m.layers
+owner_place-with_properties (owners.Layer id) (places.Layer own) f m = found-with_layer own (layer_with_properties f) (λ l. refl) (λ l. refl) m (places.Layer id) id
 owner_place-with_properties (owners.Layer id) (places.Object place) f m =
-    found-change_first (has_id place.layer) (has_id id) (layer_with_objects (change_at place.at (object_with_properties f))) (λ l. refl) (places.Layer id) m.layers
+    found-with_layer place.layer (layer_with_objects (change_at place.at (object_with_properties f))) (λ l. ap or_empty (group_in-objects (change_at place.at (object_with_properties f)) l.body)) (λ l. refl) m (places.Layer id) id
 owner_place-with_properties (owners.Object id) places.Map f m = refl
 owner_place-with_properties (owners.Object id) (places.Layer own) f m =
-    ap (option_map places.Object) (first_some-change_first (has_id own) (layer_with_properties f) (place_in_layer id) (λ l. refl) m.layers)
+    ap (option_map places.Object) (first_some-with_layer own (layer_with_properties f) (place_in_layer id) (λ l. refl) (λ level l. refl) m)
 owner_place-with_properties (owners.Object id) (places.Object place) f m = ap (option_map places.Object) (object_place-with_object (object_with_properties f) (λ o. refl) place id m)
 
 -- ---- the property of an owner with a name

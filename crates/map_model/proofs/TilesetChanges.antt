@@ -14,6 +14,7 @@ use Rattle.tile_id.specs.Gid.{base_of}
 use Rattle.map_model.specs.declared.limits.TheConstants.{MAX_TILESETS}
 use Rattle.map_model.specs.declared.parts.Tileset.{Tileset}
 use Rattle.map_model.specs.declared.parts.MapParts.{MapParts}
+use Rattle.map_model.specs.Groups.{all_drawn}
 use Rattle.map_model.specs.Lists.{Each}
 use Rattle.map_model.specs.Tilesets.{tileset_of, best_of, IsTilesetOf, HasNoTileset, has_first_id, tileset_place, is_first, is_value_of, has_uses, values_of, with_tileset_at}
 use Rattle.map_model.specs.Uses.{is_between, nearer, end_of, base_limit}
@@ -199,7 +200,7 @@ position-IsFirstOf m first some h = by_place (tileset_place m first) refl some
 
 -- whether it is in use, by the range
 pub has_uses-range : (m : MapParts) (first : ℕ) → IsSome (tileset_place m first) → IsWellFormed m
-    → has_uses m first ≡ list_any (λ l. list_any (is_between first (end_of first base_limit m.tilesets)) (values_of l)) m.layers
+    → has_uses m first ≡ list_any (λ l. list_any (is_between first (end_of first base_limit m.tilesets)) (values_of l)) (all_drawn m.layers)
 has_uses-range m first some h =
-    list_any-same (is_value_of m first) (is_between first (end_of first base_limit m.tilesets)) (λ value. is_value_of-range m first value (position-IsFirstOf m first some h)) (flat_map values_of m.layers)
-    ∙ list_any-flat_map (is_between first (end_of first base_limit m.tilesets)) values_of m.layers
+    list_any-same (is_value_of m first) (is_between first (end_of first base_limit m.tilesets)) (λ value. is_value_of-range m first value (position-IsFirstOf m first some h)) (flat_map values_of (all_drawn m.layers))
+    ∙ list_any-flat_map (is_between first (end_of first base_limit m.tilesets)) values_of (all_drawn m.layers)

@@ -1,28 +1,32 @@
 -- The values of a layer's body.
 use Rattle.std.specs.Prelude.{ℕ, List, [], Option, None, slice_get}
 use Rattle.map_model.specs.declared.parts.Body.{Body}
-use Rattle.map_model.specs.declared.parts.Body.TheVariants.{Tiles, Objects, Other}
+use Rattle.map_model.specs.declared.parts.Body.TheVariants.{Tiles, Objects, Other, Group'}
 
 -- the body is that of a tile layer
 abbrev pub IsTiles : Body → Type 0
 IsTiles (Tiles e cells) = Unit {0}
 IsTiles (Objects os) = ⊥
 IsTiles Other = ⊥
+IsTiles (Group' s r) = ⊥
 
 -- the values of a tile layer; none for another one
 abbrev pub tiles_of : Body → List ℕ
 tiles_of (Tiles e cells) = cells
 tiles_of (Objects os) = []
 tiles_of Other = []
+tiles_of (Group' s r) = []
 
 -- the value of a tile layer at a place
 abbrev pub tile_at : Body → ℕ → Option ℕ
 tile_at (Tiles e cells) place = slice_get cells place
 tile_at (Objects os) place = None
 tile_at Other place = None
+tile_at (Group' s r) place = None
 
 -- a tile layer with f of its values; another layer as it is
 abbrev pub body_with_tiles : (List ℕ → List ℕ) → Body → Body
 body_with_tiles f (Tiles e cells) = Tiles e (f cells)
 body_with_tiles f (Objects os) = Objects os
 body_with_tiles f Other = Other
+body_with_tiles f (Group' s r) = Group' s r

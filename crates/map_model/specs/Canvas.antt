@@ -1,16 +1,18 @@
 -- Canvases: what a map is drawn on. A map changes places with one when it is resized.
-use Rattle.std.specs.Prelude.{◌≡◌, ℕ, ◌+◌, ◌*◌, ℤ, ◌+ℤ◌, neg_ℤ, ◌≤ℤ◌, List, [], ◌∷◌, length, map, slice_set, slice_index_or, IfSome}
+use Rattle.std.specs.Prelude.{◌≡◌, ℕ, zero, suc, ◌+◌, ◌*◌, ℤ, ◌+ℤ◌, neg_ℤ, ◌≤ℤ◌, List, [], ◌∷◌, ◌++◌, length, map, take, drop, slice_set, slice_index_or, IfSome}
 use Rattle.std.specs.List.{flat_map}
 use Rattle.std.specs.Option.{option_map}
 use Rattle.map_model.specs.declared.canvas.Canvas.{Canvas}
-use Rattle.map_model.specs.declared.limits.TheConstants.{MAX_SHIFT}
+use Rattle.map_model.specs.declared.limits.TheConstants.{MAX_GROUPS, MAX_SHIFT}
 use Rattle.map_model.specs.declared.parts.Body.{Body}
-use Rattle.map_model.specs.declared.parts.Body.TheVariants.{Tiles, Objects, Other}
+use Rattle.map_model.specs.declared.parts.Body.TheVariants.{Tiles, Objects, Other, Group'}
 use Rattle.map_model.specs.declared.parts.Layer.{Layer}
 use Rattle.map_model.specs.declared.parts.MapParts.{MapParts}
 use Rattle.map_model.specs.declared.parts.Object.{Object}
 use Rattle.map_model.specs.declared.parts.Placing.{Placing}
 use Rattle.map_model.specs.Document.{DocumentParts, LiesIn}
+use Rattle.map_model.specs.Groups.{all_drawn, layer_with_layers, tree}
+use Rattle.map_model.specs.Keeping.{layer_level}
 use Rattle.map_model.specs.Lists.{Each}
 use Rattle.map_model.specs.Objects.{objects_in}
 use Rattle.map_model.specs.WellFormed.{IsSize, IsTileValue, IsPlacing}
@@ -21,13 +23,18 @@ abbrev pub lists_in : Body → List (List ℕ)
 lists_in (Tiles e cells) = cells ∷ []
 lists_in (Objects os) = []
 lists_in Other = []
+lists_in (Group' s r) = []
 
-abbrev pub lists_of : Layer → List (List ℕ)
-lists_of l = lists_in l.body
+abbrev pub lists_of : ℕ × Layer → List (List ℕ)
+lists_of d = lists_in d.1.body
+
+-- those of a layer and of those that stand in it
+abbrev pub lists_under : ℕ → Layer → List (List ℕ)
+lists_under room l = flat_map lists_of (tree room layer_level l)
 
 -- the cells of each tile layer, in drawing order
 abbrev pub tile_layers : MapParts → List (List ℕ)
-tile_layers m = flat_map lists_of m.layers
+tile_layers m = flat_map lists_of (all_drawn m.layers)
 
 -- ---- objects that are moved
 -- an object's numbers, moved by so many pixels to the right and down; a number that is absent stays so
@@ -43,17 +50,28 @@ abbrev pub body_on : Canvas → ℕ → Body → Body
 body_on c place (Tiles e own) = Tiles e (slice_index_or c.layers place own)
 body_on c place (Objects os) = Objects (map (object_moved c.right c.down) os)
 body_on c place Other = Other
+body_on c place (Group' s r) = Group' s r
 
 abbrev pub layer_on : Canvas → ℕ → Layer → Layer
 layer_on c place l = record l { body = body_on c place l.body }
 
--- layers behind so many tile layers
-abbrev pub layers_on : Canvas → ℕ → List Layer → List Layer
-layers_on c place [] = []
-layers_on c place (l ∷ ls) = layer_on c place l ∷ layers_on c (place + length (lists_of l)) ls
+-- g of each layer of a list, and of the number of tile layers before it; count tells how many a layer makes
+abbrev pub each_on : (ℕ → Layer → Layer) → (Layer → ℕ) → ℕ → List Layer → List Layer
+each_on g count place [] = []
+each_on g count place (l ∷ ls) = g place l ∷ each_on g count (place + count l) ls
+
+-- a layer behind so many tile layers, and those that stand in it
+unfoldable pub one_on : ℕ → Canvas → ℕ → Layer → Layer
+one_on zero c place l = layer_on c place l
+one_on (suc room) c place l =
+    layer_with_layers (each_on (one_on room c) (λ k. length (lists_under room k)) (place + length (lists_in l.body))) (layer_on c place l)
+
+-- layers behind so many tile layers, and those that stand in them
+abbrev pub layers_on : ℕ → Canvas → ℕ → List Layer → List Layer
+layers_on room c place ls = each_on (one_on room c) (λ l. length (lists_under room l)) place ls
 
 abbrev pub map_on : Canvas → MapParts → MapParts
-map_on c m = record m { width = c.width; height = c.height; layers = layers_on c 0 m.layers }
+map_on c m = record m { width = c.width; height = c.height; layers = layers_on MAX_GROUPS c 0 m.layers }
 
 -- the document with the size, the cells and the selection of a canvas, and its objects moved by the canvas's pixels
 abbrev pub with_canvas : Canvas → DocumentParts → DocumentParts
@@ -92,6 +110,10 @@ MayBeMoved right down o = IsPlacing (placing_moved right down o.placing)
 abbrev pub BodyMayBeMoved : ℤ → ℤ → Body → Type 0
 BodyMayBeMoved right down body = IfSome (objects_in body) (Each (MayBeMoved right down))
 
+-- each object of a layer may be moved
+abbrev pub MayBeDrawn : ℤ → ℤ → ℕ × Layer → Type 0
+MayBeDrawn right down d = BodyMayBeMoved right down d.1.body
+
 -- the document fits on the canvas, which has cells for each of its tile layers
 pub record IsCanvasOf (d : DocumentParts) (c : Canvas) : Type 0 where
   pub size : IsSize c.width c.height
@@ -100,7 +122,7 @@ pub record IsCanvasOf (d : DocumentParts) (c : Canvas) : Type 0 where
   pub selection : LiesIn c.width c.height c.selection
   pub right : IsShift c.right
   pub down : IsShift c.down
-  pub objects : Each (λ l. BodyMayBeMoved c.right c.down l.body) d.map.layers
+  pub objects : Each (MayBeDrawn c.right c.down) (all_drawn d.map.layers)
 
 -- ---- one body at a time
 -- the lists of cells when a body behind so many tile layers has taken its cells and left its own
@@ -108,6 +130,11 @@ abbrev pub lists_after : ℕ → Body → List (List ℕ) → List (List ℕ)
 lists_after place (Tiles e own) lists = slice_set lists place own
 lists_after place (Objects os) lists = lists
 lists_after place Other lists = lists
+lists_after place (Group' s r) lists = lists
+
+-- lists with others in the place of as many of them, from a place on
+abbrev pub lists_left : ℕ → List (List ℕ) → List (List ℕ) → List (List ℕ)
+lists_left place own lists = take place lists ++ (own ++ drop (place + length own) lists)
 
 abbrev pub with_lists : List (List ℕ) → Canvas → Canvas
 with_lists lists c = record c { layers = lists }

@@ -3,14 +3,14 @@
 -- The tree that is written for a map nests at most 127 deep. The map's object is its first level. Each array of layers,
 -- objects, tilesets or properties takes one level more, and each object in it another. What is kept in an object may
 -- nest as deep as the levels below that object allow.
-use Rattle.std.specs.Prelude.{◌≡◌, ℕ, ◌+◌, ◌≤◌, List, [], ◌∷◌, ◌++◌, None, false}
+use Rattle.std.specs.Prelude.{◌≡◌, ℕ, ◌+◌, ◌*◌, ◌≤◌, List, [], ◌∷◌, ◌++◌, None, false}
 use Rattle.serde_json.specs.Data.{Data, null, boolean, number, string, array, object, Members, depth, members_depth}
 use Rattle.serde_json.specs.Find.{get_member, as_i64}
 use Rattle.serde_json.specs.Written.{has_float, members_have_float}
 use Rattle.map_model.specs.declared.names.TheConstants.{ID, NAME, TYPE, VISIBLE, PROPERTIES, WIDTH, HEIGHT, TILE_WIDTH, TILE_HEIGHT, INFINITE, NEXT_LAYER_ID, NEXT_OBJECT_ID, LAYERS, TILESETS, VERSION, ENCODING, COMPRESSION, DATA, OBJECTS, X, Y, GID, FIRST_ID, SOURCE, VALUE}
-use Rattle.map_model.specs.declared.limits.TheConstants.{MAX_DEPTH}
+use Rattle.map_model.specs.declared.limits.TheConstants.{MAX_DEPTH, MAX_GROUPS}
 use Rattle.map_model.specs.declared.parts.Body.{Body}
-use Rattle.map_model.specs.declared.parts.Body.TheVariants.{Tiles, Objects, Other}
+use Rattle.map_model.specs.declared.parts.Body.TheVariants.{Tiles, Objects, Other, Group'}
 use Rattle.map_model.specs.Lists.{Each}
 
 -- ---- how deep the object of an owner stands
@@ -20,6 +20,14 @@ map_level = 1
 -- a layer that stands in no group
 abbrev pub layer_level : ℕ
 layer_level = map_level + 2
+
+-- a layer that stands in a group at this level
+abbrev pub inner_level : ℕ → ℕ
+inner_level group = group + 2
+
+-- a layer that stands in as many groups as may stand in one another, and is no group itself
+abbrev pub deepest_level : ℕ
+deepest_level = layer_level + 2 * MAX_GROUPS
 
 -- an object of a layer at this level
 abbrev pub object_level : ℕ → ℕ
@@ -47,6 +55,7 @@ abbrev pub body_names : Body → List (List ℕ)
 body_names (Tiles e cells) = ENCODING.now ∷ COMPRESSION.now ∷ WIDTH.now ∷ HEIGHT.now ∷ DATA.now ∷ []
 body_names (Objects os) = OBJECTS.now ∷ []
 body_names Other = []
+body_names (Group' s r) = LAYERS.now ∷ []
 
 abbrev pub layer_names : Body → List (List ℕ)
 layer_names body = common_names ++ body_names body

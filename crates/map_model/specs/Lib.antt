@@ -1,6 +1,7 @@
 pub mod Bodies
 pub mod Canvas
 pub mod CellEdits
+pub mod Changing
 pub mod DataCode
 pub mod Difference
 pub mod Document
@@ -21,3 +22,4 @@ pub mod PropertyParts
 pub mod Lending
 pub mod Steps
 pub mod Given
+pub mod Groups

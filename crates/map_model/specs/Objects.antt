@@ -3,12 +3,13 @@ use Rattle.std.specs.Prelude.{ℕ, ◌≤◌, List, Bool, nat_eq, length, Option
 use Rattle.std.specs.Option.{option_map}
 use Rattle.std.specs.List.{insert, remove}
 use Rattle.map_model.specs.declared.parts.Body.{Body}
-use Rattle.map_model.specs.declared.parts.Body.TheVariants.{Tiles, Objects, Other}
+use Rattle.map_model.specs.declared.parts.Body.TheVariants.{Tiles, Objects, Other, Group'}
 use Rattle.map_model.specs.declared.parts.Layer.{Layer}
 use Rattle.map_model.specs.declared.parts.MapParts.{MapParts}
 use Rattle.map_model.specs.declared.parts.Object.{Object}
 use Rattle.map_model.specs.declared.parts.Placing.{Placing}
 use Rattle.map_model.specs.declared.place.ObjectPlace.{ObjectPlace}
+use Rattle.map_model.specs.Groups.{all_drawn}
 use Rattle.map_model.specs.Lists.{change_at, first_some}
 use Rattle.map_model.specs.Parts.{layer_of, with_layer}
 
@@ -18,6 +19,7 @@ abbrev pub objects_in : Body → Option (List Object)
 objects_in (Tiles e cells) = None
 objects_in (Objects os) = Some os
 objects_in Other = None
+objects_in (Group' s r) = None
 
 abbrev pub objects_of : Layer → Option (List Object)
 objects_of l = objects_in l.body
@@ -27,6 +29,7 @@ abbrev pub body_with_objects : (List Object → List Object) → Body → Body
 body_with_objects f (Tiles e cells) = Tiles e cells
 body_with_objects f (Objects os) = Objects (f os)
 body_with_objects f Other = Other
+body_with_objects f (Group' s r) = Group' s r
 
 abbrev pub layer_with_objects : (List Object → List Object) → Layer → Layer
 layer_with_objects f l = record l { body = body_with_objects f l.body }
@@ -45,19 +48,19 @@ abbrev pub sibling_object_place : ObjectPlace → ℕ → ObjectPlace
 sibling_object_place place at = record place { at = at }
 
 -- the place of the object with the id in a layer
-abbrev pub place_in_layer : ℕ → Layer → Option ObjectPlace
-place_in_layer id l = option_map (place_of_layer l) (option_and_then (position (has_object_id id)) (objects_of l))
+abbrev pub place_in_layer : ℕ → ℕ × Layer → Option ObjectPlace
+place_in_layer id d = option_map (place_of_layer d.1) (option_and_then (position (has_object_id id)) (objects_of d.1))
 
--- the place of the object with the id, in the first layer that has one
+-- the place of the object with the id, in the first layer in drawing order that has one
 abbrev pub object_place : MapParts → ℕ → Option ObjectPlace
-object_place m id = first_some (place_in_layer id) m.layers
+object_place m id = first_some (place_in_layer id) (all_drawn m.layers)
 
 -- the object with the id in a layer, behind its place
 abbrev pub found_at : Layer → List Object → ℕ → Option (ObjectPlace × Object)
 found_at l os at = option_map (λ o. (place_of_layer l at, o)) (slice_get os at)
 
-abbrev pub found_in_layer : ℕ → Layer → Option (ObjectPlace × Object)
-found_in_layer id l = option_and_then (λ os. option_and_then (found_at l os) (position (has_object_id id) os)) (objects_of l)
+abbrev pub found_in_layer : ℕ → ℕ × Layer → Option (ObjectPlace × Object)
+found_in_layer id d = option_and_then (λ os. option_and_then (found_at d.1 os) (position (has_object_id id) os)) (objects_of d.1)
 
 -- the objects of the object layer with the id
 abbrev pub objects_of_layer : MapParts → ℕ → Option (List Object)

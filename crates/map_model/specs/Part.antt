@@ -7,11 +7,12 @@ use Rattle.map_model.specs.declared.parts.Object.{Object}
 use Rattle.map_model.specs.declared.parts.Tileset.{Tileset}
 use Rattle.map_model.specs.declared.parts.Placing.{Placing}
 use Rattle.map_model.specs.declared.place.ObjectPlace.{ObjectPlace}
-use Rattle.map_model.specs.Document.{DocumentParts, with_selection}
+use Rattle.map_model.specs.Document.{DocumentParts, with_map, with_selection}
+use Rattle.map_model.specs.Groups.{group_of, layer_with_layers}
 use Rattle.map_model.specs.Layers.{layer_name, layer_with_name, layer_visible, layer_with_visible}
 use Rattle.map_model.specs.Lists.{change_at, change_first}
 use Rattle.map_model.specs.Objects.{objects_of, layer_with_objects, object_place, object_placing, object_with_placing}
-use Rattle.map_model.specs.Parts.{has_id}
+use Rattle.map_model.specs.Parts.{layer_of, with_layer}
 
 -- a part of A: its value, where there is one, and A with a function of that value in its place
 pub record Part (A V : Type 0) : Type 0 where
@@ -70,6 +71,10 @@ visible = whole layer_visible layer_with_visible
 abbrev pub objects : Part Layer (List Object)
 objects = record { get = objects_of; update = layer_with_objects }
 
+-- the layers, where it is a group
+abbrev pub group : Part Layer (List Layer)
+group = record { get = group_of; update = layer_with_layers }
+
 -- ---- parts of an object
 abbrev pub placing : Part Object Placing
 placing = whole object_placing object_with_placing
@@ -81,7 +86,12 @@ layers = whole (λ d. d.map.layers) (λ ls d. record d { map = record d.map { la
 
 -- a part of the layer with an id
 abbrev pub of_layer : {V : Type 0} → ℕ → Part Layer V → Part DocumentParts V
-of_layer id p = inner layers (of_first (has_id id) p)
+of_layer id p = record { get = λ d. option_and_then p.get (layer_of d.map id); update = λ f. with_map (with_layer id (p.update f)) }
+
+-- the layers among which the layers of this parent stand: those of a group, or else the map's own
+abbrev pub siblings : Option ℕ → Part DocumentParts (List Layer)
+siblings None = layers
+siblings (Some id) = of_layer id group
 
 -- the objects of the object layer with an id
 abbrev pub layer_objects : ℕ → Part DocumentParts (List Object)

@@ -1,20 +1,17 @@
 -- What the look-ups and changes of a map give.
-use Rattle.std.specs.Prelude.{ℕ, ◌+◌, ◌*◌, ◌<◌, List, [], Bool, ◌&&◌, nat_eq, nat_lt, if◌then◌else◌, Option, Some, None, option_and_then, IsSomeAnd, find}
+use Rattle.std.specs.Prelude.{ℕ, ◌+◌, ◌*◌, ◌<◌, List, [], ◌&&◌, nat_lt, if◌then◌else◌, Option, Some, None, option_and_then, IsSomeAnd}
 use Rattle.map_model.specs.declared.parts.Layer.{Layer}
 use Rattle.map_model.specs.declared.parts.MapParts.{MapParts}
 use Rattle.map_model.specs.declared.edit.CellEdit.{CellEdit}
 use Rattle.map_model.specs.declared.edit.Side.{Side}
-use Rattle.map_model.specs.Lists.{change_first}
+use Rattle.map_model.specs.declared.limits.TheConstants.{MAX_GROUPS}
+use Rattle.map_model.specs.Groups.{layer_among, change_among}
 use Rattle.map_model.specs.Bodies.{IsTiles, tiles_of, tile_at, body_with_tiles}
 use Rattle.map_model.specs.CellEdits.{with_value, put_values}
 
--- whether a layer has the id
-abbrev pub has_id : ℕ → Layer → Bool
-has_id id l = nat_eq l.id id
-
 -- the layer with the id
 abbrev pub layer_of : MapParts → ℕ → Option Layer
-layer_of m id = find (has_id id) m.layers
+layer_of m id = layer_among id MAX_GROUPS m.layers
 
 -- the map has a tile layer with the id
 abbrev pub HasTiles : MapParts → ℕ → Type 0
@@ -35,7 +32,7 @@ cell_of m id x y = if nat_lt x m.width && nat_lt y m.height then option_and_then
 
 -- the map with f of the layer with the id in its place
 abbrev pub with_layer : ℕ → (Layer → Layer) → MapParts → MapParts
-with_layer id f m = record m { layers = change_first (has_id id) f m.layers }
+with_layer id f m = record m { layers = change_among id MAX_GROUPS f m.layers }
 
 abbrev pub layer_with_tiles : (List ℕ → List ℕ) → Layer → Layer
 layer_with_tiles f l = record l { body = body_with_tiles f l.body }

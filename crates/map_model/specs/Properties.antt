@@ -1,5 +1,5 @@
 -- Properties: whose they are, where they stand, and maps with others.
-use Rattle.std.specs.Prelude.{ℕ, List, Bool, Option, Some, option_and_then, slice_get, position}
+use Rattle.std.specs.Prelude.{ℕ, List, Bool, Option, Some, None, option_and_then, find, slice_get, position}
 use Rattle.std.specs.Option.{option_map}
 use Rattle.std.specs.List.{insert, remove}
 use Rattle.std.specs.Str.{bytes_eq}
@@ -18,6 +18,7 @@ use Rattle.map_model.specs.declared.setting.Scalar.{Scalar}
 use Rattle.map_model.specs.declared.setting.Scalar.TheVariants as scalars
 use Rattle.map_model.specs.declared.setting.Setting.{Setting}
 use Rattle.map_model.specs.Keeping.{map_level, layer_level, object_level, property_level}
+use Rattle.map_model.specs.Groups.{all_drawn, has_id}
 use Rattle.map_model.specs.Lists.{change_at}
 use Rattle.map_model.specs.Objects.{object_at, object_place, with_object}
 use Rattle.map_model.specs.Parts.{layer_of, with_layer}
@@ -56,15 +57,28 @@ owner_place m owners.Map = Some places.Map
 owner_place m (owners.Layer id) = option_map (λ l. places.Layer id) (layer_of m id)
 owner_place m (owners.Object id) = option_map places.Object (object_place m id)
 
+-- the level of a layer that was found
+abbrev pub level_by : Option (ℕ × Layer) → ℕ
+level_by None = layer_level
+level_by (Some d) = d.0
+
+-- whether it is the layer with the id
+abbrev pub is_drawn_with : ℕ → ℕ × Layer → Bool
+is_drawn_with id d = has_id id d.1
+
+-- the level of the layer with the id
+abbrev pub level_of : MapParts → ℕ → ℕ
+level_of m id = level_by (find (is_drawn_with id) (all_drawn m.layers))
+
 -- how deep the object of an owner stands in what is written for a map
-abbrev pub owner_level : OwnerPlace → ℕ
-owner_level places.Map = map_level
-owner_level (places.Layer id) = layer_level
-owner_level (places.Object place) = object_level layer_level
+abbrev pub owner_level : MapParts → OwnerPlace → ℕ
+owner_level m places.Map = map_level
+owner_level m (places.Layer id) = level_of m id
+owner_level m (places.Object place) = object_level (level_of m place.layer)
 
 -- a setting that a property of the owner may have
-abbrev pub IsSetting : OwnerPlace → Setting → Type 0
-IsSetting owner s = IsValue (property_level (owner_level owner)) s.value
+abbrev pub IsSetting : MapParts → OwnerPlace → Setting → Type 0
+IsSetting m owner s = IsValue (property_level (owner_level m owner)) s.value
 
 -- ---- the properties of an owner
 abbrev pub layer_properties : Layer → List Property

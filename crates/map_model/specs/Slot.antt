@@ -7,7 +7,7 @@ use Rattle.map_model.specs.declared.parts.Object.{Object}
 use Rattle.map_model.specs.declared.place.LayerPlace.{LayerPlace}
 use Rattle.map_model.specs.declared.place.ObjectPlace.{ObjectPlace}
 use Rattle.map_model.specs.Document.{DocumentParts}
-use Rattle.map_model.specs.Part.{Part, layers, next_layer_id, tilesets, layer_objects, next_object_id}
+use Rattle.map_model.specs.Part.{Part, layers, siblings, next_layer_id, tilesets, layer_objects, next_object_id}
 
 -- a place at which a thing can stand: the document with one there and without it, and when it is free and filled
 pub record Slot (X : Type 0) : Type 1 where
@@ -46,11 +46,11 @@ next_in p ids id = record {
 }
 
 -- ---- slots of layers
--- the place of a layer
+-- the place of a layer among its siblings
 abbrev pub layer_slot : LayerPlace → Slot Layer
-layer_slot place = place_in layers place.at
+layer_slot place = place_in (siblings place.parent) place.at
 
--- the place behind the last layer
+-- the place behind the last layer that stands in no group
 abbrev pub next_layer_slot : ℕ → Slot Layer
 next_layer_slot id = next_in layers next_layer_id id
 

@@ -2,12 +2,13 @@
 use Rattle.std.specs.Prelude.{ℕ, ◌<◌, ◌≤◌, List, [], ◌∷◌, Bool, false, nat_lt, nat_eq, if◌then◌else◌, Option, Some, None, is_some, Contains, slice_get, position}
 use Rattle.std.specs.List.{flat_map, list_any, insert, remove}
 use Rattle.map_model.specs.declared.parts.Body.{Body}
-use Rattle.map_model.specs.declared.parts.Body.TheVariants.{Tiles, Objects, Other}
+use Rattle.map_model.specs.declared.parts.Body.TheVariants.{Tiles, Objects, Other, Group'}
 use Rattle.map_model.specs.declared.parts.Layer.{Layer}
 use Rattle.map_model.specs.declared.parts.Object.{Object}
 use Rattle.tile_id.specs.Gid.{base_of}
 use Rattle.map_model.specs.declared.parts.Tileset.{Tileset}
 use Rattle.map_model.specs.declared.parts.MapParts.{MapParts}
+use Rattle.map_model.specs.Groups.{all_drawn}
 use Rattle.map_model.specs.Lists.{Each}
 
 -- of the best one so far and another, the one with the greater first id that is not above the base
@@ -68,9 +69,10 @@ abbrev pub values_in : Body → List ℕ
 values_in (Tiles e cells) = cells
 values_in (Objects os) = flat_map gids_of os
 values_in Other = []
+values_in (Group' s r) = []
 
-abbrev pub values_of : Layer → List ℕ
-values_of l = values_in l.body
+abbrev pub values_of : ℕ × Layer → List ℕ
+values_of d = values_in d.1.body
 
 -- whether it is the tileset with the first id
 abbrev pub is_first : ℕ → Option Tileset → Bool
@@ -83,7 +85,7 @@ is_value_of m first_id value = is_first first_id (tileset_of m value)
 
 -- whether a cell or an object has a value of the tileset with the first id
 abbrev pub has_uses : MapParts → ℕ → Bool
-has_uses m first_id = list_any (is_value_of m first_id) (flat_map values_of m.layers)
+has_uses m first_id = list_any (is_value_of m first_id) (flat_map values_of (all_drawn m.layers))
 
 -- whether the tileset with the first id is in use; none where there is no such tileset
 abbrev pub in_use : MapParts → ℕ → Option Bool

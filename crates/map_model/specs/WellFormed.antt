@@ -8,12 +8,13 @@ use Rattle.map_model.specs.declared.parts.Property.{Property}
 use Rattle.map_model.specs.declared.parts.Placing.{Placing}
 use Rattle.map_model.specs.declared.parts.Object.{Object}
 use Rattle.map_model.specs.declared.parts.Body.{Body}
-use Rattle.map_model.specs.declared.parts.Body.TheVariants.{Tiles, Objects, Other}
+use Rattle.map_model.specs.declared.parts.Body.TheVariants.{Tiles, Objects, Other, Group'}
 use Rattle.map_model.specs.declared.parts.Layer.{Layer}
 use Rattle.map_model.specs.declared.parts.Tileset.{Tileset}
 use Rattle.map_model.specs.declared.parts.MapParts.{MapParts}
+use Rattle.map_model.specs.Groups.{all_drawn}
 use Rattle.map_model.specs.Lists.{Each, Distinct}
-use Rattle.map_model.specs.Keeping.{AreKept, IsKeptValue, map_level, layer_level, object_level, tileset_level, property_level, map_names, layer_names, object_names, tileset_names, property_names}
+use Rattle.map_model.specs.Keeping.{AreKept, IsKeptValue, map_level, deepest_level, object_level, tileset_level, property_level, map_names, layer_names, object_names, tileset_names, property_names}
 
 -- ---- sizes
 -- a map is at least 1 cell wide and high
@@ -45,11 +46,11 @@ pub record AreIds (next : ℕ) (ids : List ℕ) : Type 0 where
   pub distinct : Distinct ids
 
 -- the ids of a layer, and those of all layers, in drawing order
-abbrev pub ids_of : Layer → List ℕ
-ids_of l = l.id ∷ []
+abbrev pub ids_of : ℕ × Layer → List ℕ
+ids_of d = d.1.id ∷ []
 
 abbrev pub layer_ids : List Layer → List ℕ
-layer_ids ls = flat_map ids_of ls
+layer_ids ls = flat_map ids_of (all_drawn ls)
 
 -- the ids of an object
 abbrev pub ids_of_object : Object → List ℕ
@@ -60,12 +61,13 @@ abbrev pub object_ids_in : Body → List ℕ
 object_ids_in (Tiles e cells) = []
 object_ids_in (Objects os) = flat_map ids_of_object os
 object_ids_in Other = []
+object_ids_in (Group' s r) = []
 
-abbrev pub object_ids_of : Layer → List ℕ
-object_ids_of l = object_ids_in l.body
+abbrev pub object_ids_of : ℕ × Layer → List ℕ
+object_ids_of d = object_ids_in d.1.body
 
 abbrev pub object_ids : List Layer → List ℕ
-object_ids ls = flat_map object_ids_of ls
+object_ids ls = flat_map object_ids_of (all_drawn ls)
 
 -- ---- properties
 -- a whole number of 64 bits
@@ -118,11 +120,12 @@ pub record IsObject (level : ℕ) (o : Object) : Type 0 where
   pub kept : AreKept level object_names o.kept
 
 -- ---- layers
--- a tile layer has one value for each cell of the map
+-- a tile layer has one value for each cell of the map, and a group leaves room for layers in it
 abbrev pub IsBody : ℕ → ℕ → Body → Type 0
 IsBody level size (Tiles e cells) = (length cells ≡ size) × Each IsTileValue cells
 IsBody level size (Objects os) = (length os ≤ MAX_OBJECTS) × Each (IsObject (object_level level)) os
 IsBody level size Other = Unit {0}
+IsBody level size (Group' s r) = level < deepest_level
 
 -- a layer at this level, of a map of so many cells
 pub record IsLayer (level size : ℕ) (l : Layer) : Type 0 where
@@ -130,12 +133,20 @@ pub record IsLayer (level size : ℕ) (l : Layer) : Type 0 where
   pub kept : AreKept level (layer_names l.body) l.kept
   pub body : IsBody level size l.body
 
--- the layers of a map of so many cells, with these next ids
-pub record AreLayers (size next_layer next_object : ℕ) (ls : List Layer) : Type 0 where
-  pub few : length ls ≤ MAX_LAYERS
-  pub each : Each (IsLayer layer_level size) ls
-  pub layer_ids : AreIds next_layer (layer_ids ls)
-  pub object_ids : AreIds next_object (object_ids ls)
+-- a layer of a map of so many cells, with its level
+abbrev pub IsDrawn : ℕ → ℕ × Layer → Type 0
+IsDrawn size d = IsLayer d.0 size d.1
+
+-- the layers of a map of so many cells, in drawing order and with these next ids
+pub record AreDrawn (size next_layer next_object : ℕ) (ds : List (ℕ × Layer)) : Type 0 where
+  pub few : length ds ≤ MAX_LAYERS
+  pub each : Each (IsDrawn size) ds
+  pub layer_ids : AreIds next_layer (flat_map ids_of ds)
+  pub object_ids : AreIds next_object (flat_map object_ids_of ds)
+
+-- the same of layers and those that stand in them
+abbrev pub AreLayers : ℕ → ℕ → ℕ → List Layer → Type 0
+AreLayers size next_layer next_object ls = AreDrawn size next_layer next_object (all_drawn ls)
 
 -- ---- tilesets
 pub record IsTileset (t : Tileset) : Type 0 where

@@ -18,6 +18,7 @@ impl Body {
             Body::Tiles(_, cells) => Some(cells.as_slice()),
             Body::Objects(_) => None,
             Body::Other => None,
+            Body::Group(_) => None,
         }
     }
 
@@ -29,6 +30,7 @@ impl Body {
             Body::Tiles(_, cells) => cells.as_slice().get(at).copied(),
             Body::Objects(_) => None,
             Body::Other => None,
+            Body::Group(_) => None,
         }
     }
 
@@ -42,6 +44,7 @@ impl Body {
             Body::Tiles(_, cells) => cells.set(at, value),
             Body::Objects(_) => unreachable!(),
             Body::Other => unreachable!(),
+            Body::Group(_) => unreachable!(),
         }
     }
 
@@ -56,6 +59,7 @@ impl Body {
             Body::Tiles(_, cells) => cells.put(width, edits, side),
             Body::Objects(_) => unreachable!(),
             Body::Other => unreachable!(),
+            Body::Group(_) => unreachable!(),
         }
     }
 }

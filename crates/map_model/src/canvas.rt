@@ -2,8 +2,10 @@
 ghost use Rattle.std.specs.Prelude.{◌≡◌, ◌+◌, ◌+ℤ◌, ◌^◌, ◌<◌, ◌≤◌, Some, IfSome, length, map, slice_get, slice_set};
 ghost use Rattle.std.specs.List.{flat_map};
 ghost use Rattle.std.specs.Option.{option_map};
-ghost use Rattle.map_model.specs.Canvas.{body_on, layers_on, lists_after, lists_in, lists_of, object_moved, placing_moved, with_lists, BodyMayBeMoved, MayBeMoved};
-ghost use Rattle.map_model.specs.Lists.{Each};
+ghost use Rattle.map_model.specs.Canvas.{body_on, layers_on, lists_after, lists_in, lists_left, lists_of, lists_under, object_moved, one_on, placing_moved, with_lists, BodyMayBeMoved, MayBeDrawn, MayBeMoved};
+ghost use Rattle.map_model.specs.Groups.{body_with_layers, drawn, group_in, tree};
+ghost use Rattle.map_model.specs.Keeping.{layer_level};
+ghost use Rattle.map_model.specs.Lists.{Each, or_empty};
 ghost use Rattle.map_model.specs.WellFormed.{IsPixels, IsPlacing};
 
 use crate::held::Cells;
@@ -121,19 +123,62 @@ impl Body {
                 place
             }
             Body::Other => place,
+            Body::Group(_) => place,
         }
     }
 }
 
-/// Puts layers on a canvas, which gets their cells.
-pub fn exchange_layers(layers: &mut Chain<Layer>, canvas: &mut Canvas)
-    requires count { length canvas.old.layers ≡ length (flat_map lists_of layers.old) }
-    requires objects { Each (λ l. BodyMayBeMoved canvas.old.right canvas.old.down l.body) layers.old }
-    ensures layers { layers.new ≡ layers_on canvas.old 0 layers.old }
-    ensures canvas { canvas.new ≡ with_lists (flat_map lists_of layers.old) canvas.old }
+/// Puts layers behind so many tile layers on a canvas, which gets their cells, and so those that stand in them, in as many
+/// groups as there is room for. The answer is behind how many tile layers the next layer stands.
+#[cycle(exchange)]
+pub fn exchange_layers(
+    layers: &mut Chain<Layer>,
+    canvas: &mut Canvas,
+    place: usize,
+    room: usize,
+) -> usize
+    requires count { place + length (flat_map lists_of (drawn room layer_level layers.old)) ≤ length canvas.old.layers }
+    requires objects { Each (MayBeDrawn canvas.old.right canvas.old.down) (drawn room layer_level layers.old) }
+    ensures layers { layers.new ≡ layers_on room canvas.old place layers.old }
+    ensures canvas { canvas.new ≡ with_lists (lists_left place (flat_map lists_of (drawn room layer_level layers.old)) canvas.old.layers) canvas.old }
+    ensures next { result ≡ place + length (flat_map lists_of (drawn room layer_level layers.old)) }
 {
-    let mut place = 0;
+    let mut place = place;
     for at in 0..layers.len() {
-        place = layers.get_mut(at).body.exchange(canvas, place);
+        place = exchange_layer(layers.get_mut(at), canvas, place, room);
+    }
+    place
+}
+
+// The same for one layer, and those that stand in it.
+#[cycle(exchange)]
+fn exchange_layer(layer: &mut Layer, canvas: &mut Canvas, place: usize, room: usize) -> usize
+    requires count { place + length (lists_under room layer.old) ≤ length canvas.old.layers }
+    requires objects { Each (MayBeDrawn canvas.old.right canvas.old.down) (tree room layer_level layer.old) }
+    ensures layer { layer.new ≡ one_on room canvas.old place layer.old }
+    ensures canvas { canvas.new ≡ with_lists (lists_left place (lists_under room layer.old) canvas.old.layers) canvas.old }
+    ensures next { result ≡ place + length (lists_under room layer.old) }
+{
+    let place = layer.body.exchange(canvas, place);
+    if room == 0 {
+        return place;
+    }
+    exchange_inside(&mut layer.body, canvas, place, room - 1)
+}
+
+// The same for those that stand in a layer.
+#[cycle(exchange)]
+fn exchange_inside(body: &mut Body, canvas: &mut Canvas, place: usize, room: usize) -> usize
+    requires count { place + length (flat_map lists_of (drawn room layer_level (or_empty (group_in body.old)))) ≤ length canvas.old.layers }
+    requires objects { Each (MayBeDrawn canvas.old.right canvas.old.down) (drawn room layer_level (or_empty (group_in body.old))) }
+    ensures body { body.new ≡ body_with_layers (layers_on room canvas.old place) body.old }
+    ensures canvas { canvas.new ≡ with_lists (lists_left place (flat_map lists_of (drawn room layer_level (or_empty (group_in body.old)))) canvas.old.layers) canvas.old }
+    ensures next { result ≡ place + length (flat_map lists_of (drawn room layer_level (or_empty (group_in body.old)))) }
+{
+    match body {
+        Body::Group(layers) => exchange_layers(layers, canvas, place, room),
+        Body::Tiles(_, _) => place,
+        Body::Objects(_) => place,
+        Body::Other => place,
     }
 }

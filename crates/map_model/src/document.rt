@@ -12,7 +12,7 @@ mod tilesets;
 
 use crate::edit::{CellEdit, Side};
 use crate::held::MapText;
-use crate::layers::{put_in, rename_in, set_in, show_in};
+use crate::layers::{insert_layer_in, put_in, rename_in, set_in, show_in, take_layer_in};
 use crate::map::Map;
 use crate::parts::Layer;
 use crate::place::LayerPlace;
@@ -115,7 +115,7 @@ impl Document {
         ensures document { IsSomeAnd layer (λ l. self.new ≡ with_map (with_layer_at place l) self.old) }
         ensures well_formed { IsDocument self.new }
     {
-        self.map.parts.layers.insert(place.at, layer);
+        insert_layer_in(&mut self.map.parts, place, layer);
     }
 
     /// Takes the layer at a place out; those behind it stand one place lower.
@@ -125,7 +125,7 @@ impl Document {
         ensures document { self.new ≡ with_map (without_layer_at place) self.old }
         ensures well_formed { IsDocument self.new }
     {
-        self.map.parts.layers.take(place.at)
+        take_layer_in(&mut self.map.parts, place)
     }
 
     /// Exchanges the name of the layer with an id and another name.

@@ -8,6 +8,7 @@ ghost use Rattle.map_model.specs.WellFormed.{IsTileValue};
 use crate::edit::{CellEdit, Side};
 use serde_json::Value;
 use std::marker::Model;
+use std::mem;
 use tile_id::Gid;
 
 /// A text of a map, seen as its bytes.
@@ -37,6 +38,16 @@ impl MapText {
         ensures { result.now ≡ self.now }
     {
         self.text.as_str()
+    }
+
+    /// Takes the text out, and leaves an empty one. It takes no memory.
+    pub(crate) fn take(&mut self) -> MapText
+        ensures { result ≡ self.old }
+    {
+        let empty = String::new(*self.text.allocator());
+        MapText {
+            text: mem::replace(&mut self.text, empty),
+        }
     }
 }
 

@@ -1,116 +1,128 @@
-// Changes of the layer with an id in a list of layers.
-ghost use Rattle.std.specs.Prelude.{◌≡◌, ◌<◌, length, position, find, Some, IfSome, IsSome, IsSomeAnd, option_map};
+// Changes of the layer with an id in the layers of a map.
+ghost use Rattle.std.specs.Prelude.{◌≡◌, ◌<◌, ◌≤◌, ◌+◌, ◌^◌, length, Some, IsSome, IsSomeAnd, option_map, option_and_then, slice_get};
+ghost use Rattle.std.specs.List.{insert, remove};
+ghost use Rattle.map_model.specs.declared.limits.TheConstants.{MAX_GROUPS};
 ghost use Rattle.map_model.specs.Bodies.{IsTiles};
 ghost use Rattle.map_model.specs.CellEdits.{HaveRange, IsBelow, put_values, with_value};
-ghost use Rattle.map_model.specs.Layers.{layer_name, layer_with_name, layer_with_visible};
-ghost use Rattle.map_model.specs.Lists.{Distinct, Each, change_first};
-ghost use Rattle.map_model.specs.Parts.{has_id, tiles_of_layer, layer_with_tiles};
+ghost use Rattle.map_model.specs.Groups.{body_with_layers, change_among, group_in, layer_among};
+ghost use Rattle.map_model.specs.Layers.{IsPlaceIn, layer_at, layer_name, layer_with_name, layer_with_visible, siblings_of, with_layer_at, without_layer_at};
+ghost use Rattle.map_model.specs.Lists.{Distinct, Each};
+ghost use Rattle.map_model.specs.Parts.{tiles_of_layer, layer_with_tiles};
 ghost use Rattle.map_model.specs.WellFormed.{layer_ids};
 
 use crate::edit::{CellEdit, Side};
+use crate::groups::change_layer;
 use crate::held::MapText;
-use crate::parts::Layer;
-use link_chain::Chain;
+use crate::parts::{Body, Layer, MapParts};
+use crate::place::LayerPlace;
+use link_chain::{Chain, Loose};
 use std::mem;
 use tile_id::Gid;
 
-/// The place of the layer with an id: at once where the layers were last changed there, or else by a walk.
-pub fn place_in(layers: &Chain<Layer>, id: u32) -> Option<usize>
-    requires { Distinct (layer_ids layers.now) }
-    ensures { result ≡ position (has_id id) layers.now }
-{
-    match place_here(layers, id) {
-        Some(place) => Some(place),
-        None => place_by_walk(layers, id),
-    }
-}
-
-// The place of the layer with an id, by a walk from the first layer on.
-#[inline(never)]
-fn place_by_walk(layers: &Chain<Layer>, id: u32) -> Option<usize>
-    ensures { result ≡ position (has_id id) layers.now }
-{
-    layers.iter().position(|layer| layer.id == id)
-}
-
-/// Sets a value of the tile layer with an id: at once where the layers were last changed there.
+/// Sets a value of the tile layer with an id.
 pub fn set_in(layers: &mut Chain<Layer>, id: u32, at: usize, value: Gid)
     requires distinct { Distinct (layer_ids layers.old) }
-    requires tiles { IsSomeAnd (find (has_id id) layers.old) (λ l. IsTiles l.body) }
-    requires place { at < length (tiles_of_layer (find (has_id id) layers.old)) }
-    ensures { layers.new ≡ change_first (has_id id) (layer_with_tiles (with_value at value)) layers.old }
+    requires tiles { IsSomeAnd (layer_among id MAX_GROUPS layers.old) (λ l. IsTiles l.body) }
+    requires place { at < length (tiles_of_layer (layer_among id MAX_GROUPS layers.old)) }
+    ensures { layers.new ≡ change_among id MAX_GROUPS (layer_with_tiles (with_value at value)) layers.old }
 {
-    match place_here(layers, id) {
-        Some(place) => set_at(layers, id, place, at, value),
-        None => set_by_walk(layers, id, at, value),
-    }
-}
-
-// The place that was last changed, where the layer with the id stands there.
-fn place_here(layers: &Chain<Layer>, id: u32) -> Option<usize>
-    requires { Distinct (layer_ids layers.now) }
-    ensures { IfSome result (λ place. position (has_id id) layers.now ≡ Some place) }
-{
-    let (place, layer) = layers.here()?;
-    if layer.id == id { Some(place) } else { None }
-}
-
-// Sets a value of the tile layer with an id, which stands at this place.
-#[tactic(auto, using(crate::proofs::Changes::places))]
-fn set_at(layers: &mut Chain<Layer>, id: u32, place: usize, at: usize, value: Gid)
-    requires there { position (has_id id) layers.old ≡ Some place }
-    requires tiles { IsSomeAnd (find (has_id id) layers.old) (λ l. IsTiles l.body) }
-    requires place { at < length (tiles_of_layer (find (has_id id) layers.old)) }
-    ensures { layers.new ≡ change_first (has_id id) (layer_with_tiles (with_value at value)) layers.old }
-{
-    layers.get_mut(place).body.set_tile(at, value);
-}
-
-// Sets a value of the tile layer with an id, which is found by a walk.
-#[inline(never)]
-#[tactic(auto, using(crate::proofs::Changes::places))]
-fn set_by_walk(layers: &mut Chain<Layer>, id: u32, at: usize, value: Gid)
-    requires tiles { IsSomeAnd (find (has_id id) layers.old) (λ l. IsTiles l.body) }
-    requires place { at < length (tiles_of_layer (find (has_id id) layers.old)) }
-    ensures { layers.new ≡ change_first (has_id id) (layer_with_tiles (with_value at value)) layers.old }
-{
-    let place = place_by_walk(layers, id).unwrap();
-    set_at(layers, id, place, at, value);
+    change_layer(layers, id, |layer| layer.body.set_tile(at, value));
 }
 
 /// Sets the cells of a list, in the tile layer with an id, to their values on a side.
 #[inline(never)]
-#[tactic(auto, using(crate::proofs::Changes::places))]
 pub fn put_in(layers: &mut Chain<Layer>, id: u32, width: usize, edits: &[CellEdit], side: Side)
     requires distinct { Distinct (layer_ids layers.old) }
-    requires tiles { IsSomeAnd (find (has_id id) layers.old) (λ l. IsTiles l.body) }
-    requires places { Each (IsBelow width (length (tiles_of_layer (find (has_id id) layers.old)))) edits.now }
-    ensures layers { layers.new ≡ change_first (has_id id) (layer_with_tiles (put_values width side edits.now)) layers.old }
+    requires tiles { IsSomeAnd (layer_among id MAX_GROUPS layers.old) (λ l. IsTiles l.body) }
+    requires places { Each (IsBelow width (length (tiles_of_layer (layer_among id MAX_GROUPS layers.old)))) edits.now }
+    ensures layers { layers.new ≡ change_among id MAX_GROUPS (layer_with_tiles (put_values width side edits.now)) layers.old }
     ensures range { HaveRange side edits.now }
 {
-    let place = place_in(layers, id).unwrap();
-    layers.get_mut(place).body.put_tiles(width, edits, side);
+    change_layer(layers, id, |layer| layer.body.put_tiles(width, edits, side));
 }
 
 /// Exchanges the name of the layer with an id and another name.
-#[tactic(auto, using(crate::proofs::Changes::places))]
 pub fn rename_in(layers: &mut Chain<Layer>, id: u32, name: &mut MapText)
     requires distinct { Distinct (layer_ids layers.old) }
-    requires there { IsSome (find (has_id id) layers.old) }
-    ensures given { option_map layer_name (find (has_id id) layers.old) ≡ Some name.new }
-    ensures held { layers.new ≡ change_first (has_id id) (layer_with_name name.old) layers.old }
+    requires there { IsSome (layer_among id MAX_GROUPS layers.old) }
+    ensures given { option_map layer_name (layer_among id MAX_GROUPS layers.old) ≡ Some name.new }
+    ensures held { layers.new ≡ change_among id MAX_GROUPS (layer_with_name name.old) layers.old }
 {
-    let place = place_in(layers, id).unwrap();
-    mem::swap(&mut layers.get_mut(place).name, name);
+    let new = name.take();
+    *name = change_layer(layers, id, |layer| mem::replace(&mut layer.name, new));
 }
 
 /// Shows or hides the layer with an id.
-#[tactic(auto, using(crate::proofs::Changes::places))]
 pub fn show_in(layers: &mut Chain<Layer>, id: u32, visible: bool)
     requires distinct { Distinct (layer_ids layers.old) }
-    requires there { IsSome (find (has_id id) layers.old) }
-    ensures { layers.new ≡ change_first (has_id id) (layer_with_visible visible) layers.old }
+    requires there { IsSome (layer_among id MAX_GROUPS layers.old) }
+    ensures { layers.new ≡ change_among id MAX_GROUPS (layer_with_visible visible) layers.old }
 {
-    let place = place_in(layers, id).unwrap();
-    layers.get_mut(place).visible = visible;
+    change_layer(layers, id, |layer| layer.visible = visible);
+}
+
+/// Puts a layer in at a place.
+#[inline(never)]
+pub fn insert_layer_in(parts: &mut MapParts, place: LayerPlace, layer: Loose<Layer>)
+    requires distinct { Distinct (layer_ids parts.old.layers) }
+    requires place { IsPlaceIn parts.old place }
+    requires few { IsSomeAnd (siblings_of parts.old place.parent) (λ ls. length ls + 1 < 2 ^ 63) }
+    ensures { IsSomeAnd layer (λ l. parts.new ≡ with_layer_at place l parts.old) }
+{
+    match place.parent {
+        None => parts.layers.insert(place.at, layer),
+        Some(group) => change_layer(&mut parts.layers, group, |group| {
+            group.body.insert_layer(place.at, layer)
+        }),
+    }
+}
+
+/// Takes the layer at a place out.
+#[inline(never)]
+pub fn take_layer_in(parts: &mut MapParts, place: LayerPlace) -> Loose<Layer>
+    requires distinct { Distinct (layer_ids parts.old.layers) }
+    requires there { IsSome (layer_at parts.old place) }
+    ensures layer { result ≡ layer_at parts.old place }
+    ensures parts { parts.new ≡ without_layer_at place parts.old }
+{
+    match place.parent {
+        None => parts.layers.take(place.at),
+        Some(group) => {
+            change_layer(
+                &mut parts.layers,
+                group,
+                |group| group.body.take_layer(place.at),
+            )
+        }
+    }
+}
+
+impl Body {
+    // Puts a layer in at a place of a group.
+    fn insert_layer(&mut self, at: usize, layer: Loose<Layer>)
+        requires place { IsSomeAnd (group_in self.old) (λ ls. at ≤ length ls) }
+        requires few { IsSomeAnd (group_in self.old) (λ ls. length ls + 1 < 2 ^ 63) }
+        ensures { IsSomeAnd layer (λ l. self.new ≡ body_with_layers (λ ls. insert ls at l) self.old) }
+    {
+        match self {
+            Body::Group(layers) => layers.insert(at, layer),
+            Body::Tiles(_, _) => unreachable!(),
+            Body::Objects(_) => unreachable!(),
+            Body::Other => unreachable!(),
+        }
+    }
+
+    // Takes the layer at a place of a group out.
+    fn take_layer(&mut self, at: usize) -> Loose<Layer>
+        requires { IsSomeAnd (group_in self.old) (λ ls. at < length ls) }
+        ensures layer { result ≡ option_and_then (λ ls. slice_get ls at) (group_in self.old) }
+        ensures body { self.new ≡ body_with_layers (λ ls. remove ls at) self.old }
+    {
+        match self {
+            Body::Group(layers) => layers.take(at),
+            Body::Tiles(_, _) => unreachable!(),
+            Body::Objects(_) => unreachable!(),
+            Body::Other => unreachable!(),
+        }
+    }
 }

@@ -8,6 +8,7 @@ mod canvas;
 mod create;
 mod document;
 mod edit;
+mod groups;
 mod held;
 mod layers;
 pub mod limits;

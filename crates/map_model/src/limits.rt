@@ -9,8 +9,11 @@ pub const MAX_CELLS: usize = 1_048_576;
 /// The most pixels that a tile is wide or high.
 pub const MAX_TILE_SIDE: u32 = 65_535;
 
-/// The most layers of a map.
+/// The most layers of a map, those in groups and the groups among them.
 pub const MAX_LAYERS: usize = 256;
+
+/// The most groups in which a layer stands.
+pub const MAX_GROUPS: usize = 16;
 
 /// The most objects of a layer.
 pub const MAX_OBJECTS: usize = 4_096;

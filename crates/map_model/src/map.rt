@@ -1,6 +1,7 @@
-ghost use Rattle.std.specs.Prelude.{◌≡◌, ◌+◌, ◌*◌, ◌<◌, None, IfOk, IfSome, IfNone};
+ghost use Rattle.std.specs.Prelude.{◌≡◌, ◌+◌, ◌*◌, ◌<◌, length, None, IfOk, IfSome, IfNone};
 ghost use Rattle.std.specs.Option.{option_copied};
-ghost use Rattle.map_model.specs.Layers.{last_place, layer_place};
+ghost use Rattle.map_model.specs.Groups.{all_drawn};
+ghost use Rattle.map_model.specs.Layers.{last_place, layer_place, sibling_count};
 ghost use Rattle.map_model.specs.NewMap.{new_map};
 ghost use Rattle.map_model.specs.Parts.{layer_of, cell_of};
 ghost use Rattle.map_model.specs.Tilesets.{tileset_of, better, best_of, IsTilesetOf, HasNoTileset};
@@ -10,8 +11,9 @@ mod objects;
 mod properties;
 
 use crate::create::{first_layer, kept_by_map, one};
+use crate::groups::{count_in, find_in, place_in};
 use crate::held::MapText;
-use crate::layers::place_in;
+use crate::limits::MAX_GROUPS;
 use crate::parts::{Layer, MapParts, Tileset};
 use crate::place::LayerPlace;
 use link_chain::Chain;
@@ -60,7 +62,7 @@ impl Map {
     pub fn layer(&self, id: u32) -> Option<&Layer>
         ensures { option_copied result ≡ layer_of self.now id }
     {
-        self.parts.layers.iter().find(|layer| layer.id == id)
+        find_in(&self.parts.layers, id, MAX_GROUPS)
     }
 
     /// The place of the layer with an id.
@@ -68,8 +70,7 @@ impl Map {
         ensures place { result ≡ layer_place self.now id }
         ensures well_formed { IsWellFormed self.now }
     {
-        let at = place_in(&self.parts.layers, id)?;
-        Some(LayerPlace { at })
+        place_in(&self.parts.layers, id, None, MAX_GROUPS)
     }
 
     /// The tileset of a value: the one with the greatest first id that is not above the value's base.
@@ -104,12 +105,34 @@ impl Map {
         y as usize * self.parts.width as usize + x as usize
     }
 
-    /// The place behind the last layer.
+    /// The place behind the last layer that stands in no group.
     pub fn last_place(&self) -> LayerPlace
         ensures { result ≡ last_place self.now }
     {
         LayerPlace {
+            parent: None,
             at: self.parts.layers.len(),
+        }
+    }
+
+    /// How many layers the map has, those in groups and the groups among them.
+    pub fn layer_count(&self) -> usize
+        ensures count { result ≡ length (all_drawn self.now.layers) }
+        ensures well_formed { IsWellFormed self.now }
+    {
+        count_in(&self.parts.layers, MAX_GROUPS)
+    }
+
+    /// How many layers stand among those of a place, its own included; none where the map has no such group.
+    pub fn sibling_count(&self, place: LayerPlace) -> usize
+        ensures { result ≡ sibling_count self.now place }
+    {
+        let Some(parent) = place.parent else {
+            return self.parts.layers.len();
+        };
+        match self.layer(parent) {
+            Some(group) => group.body.layers().map_or(0, |layers| layers.len()),
+            None => 0,
         }
     }
 

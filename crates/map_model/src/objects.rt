@@ -1,14 +1,15 @@
 // The objects of a layer's body, and changes of the objects in a list of layers.
-ghost use Rattle.std.specs.Prelude.{◌≡◌, ◌<◌, ◌≤◌, Some, IfSome, IsSomeAnd, find, length, slice_get, option_and_then, position};
+ghost use Rattle.std.specs.Prelude.{◌≡◌, ◌<◌, ◌≤◌, Some, IfSome, IsSomeAnd, length, slice_get, option_and_then, position};
 ghost use Rattle.std.specs.Option.{option_copied, option_map};
 ghost use Rattle.std.specs.List.{insert, remove};
-ghost use Rattle.map_model.specs.declared.limits.TheConstants.{MAX_OBJECTS};
-ghost use Rattle.map_model.specs.Lists.{Distinct, change_at, change_first, first_some};
+ghost use Rattle.map_model.specs.declared.limits.TheConstants.{MAX_GROUPS, MAX_OBJECTS};
+ghost use Rattle.map_model.specs.Lists.{Distinct, change_at, first_some};
 ghost use Rattle.map_model.specs.Objects.{body_with_objects, found_in_layer, has_object_id, layer_with_objects, object_placing, object_with_placing, objects_in, objects_of};
-ghost use Rattle.map_model.specs.Parts.{has_id};
+ghost use Rattle.map_model.specs.Groups.{change_among, drawn, layer_among, tree};
+ghost use Rattle.map_model.specs.Keeping.{layer_level};
 ghost use Rattle.map_model.specs.WellFormed.{layer_ids};
 
-use crate::layers::place_in;
+use crate::groups::change_layer;
 use crate::parts::{Body, Layer, Object, Placing};
 use crate::place::ObjectPlace;
 use link_chain::{Chain, Loose};
@@ -23,6 +24,7 @@ impl Body {
             Body::Tiles(_, _) => None,
             Body::Objects(objects) => Some(objects),
             Body::Other => None,
+            Body::Group(_) => None,
         }
     }
 
@@ -36,6 +38,7 @@ impl Body {
             Body::Objects(objects) => objects.insert(at, object),
             Body::Tiles(_, _) => unreachable!(),
             Body::Other => unreachable!(),
+            Body::Group(_) => unreachable!(),
         }
     }
 
@@ -49,6 +52,7 @@ impl Body {
             Body::Objects(objects) => objects.take(at),
             Body::Tiles(_, _) => unreachable!(),
             Body::Other => unreachable!(),
+            Body::Group(_) => unreachable!(),
         }
     }
 
@@ -62,47 +66,54 @@ impl Body {
             Body::Objects(objects) => mem::replace(&mut objects.get_mut(at).placing, placing),
             Body::Tiles(_, _) => unreachable!(),
             Body::Other => unreachable!(),
+            Body::Group(_) => unreachable!(),
         }
     }
 }
 
 /// Puts an object in at a place.
 #[inline(never)]
-#[tactic(auto, using(crate::proofs::Changes::places))]
 pub fn insert_object_in(layers: &mut Chain<Layer>, place: ObjectPlace, object: Loose<Object>)
     requires distinct { Distinct (layer_ids layers.old) }
-    requires place { IsSomeAnd (option_and_then objects_of (find (has_id place.layer) layers.old)) (λ os. place.at ≤ length os) }
-    requires few { IsSomeAnd (option_and_then objects_of (find (has_id place.layer) layers.old)) (λ os. length os ≤ MAX_OBJECTS) }
-    ensures { IsSomeAnd object (λ o. layers.new ≡ change_first (has_id place.layer) (layer_with_objects (λ os. insert os place.at o)) layers.old) }
+    requires place { IsSomeAnd (option_and_then objects_of (layer_among place.layer MAX_GROUPS layers.old)) (λ os. place.at ≤ length os) }
+    requires few { IsSomeAnd (option_and_then objects_of (layer_among place.layer MAX_GROUPS layers.old)) (λ os. length os ≤ MAX_OBJECTS) }
+    ensures { IsSomeAnd object (λ o. layers.new ≡ change_among place.layer MAX_GROUPS (layer_with_objects (λ os. insert os place.at o)) layers.old) }
 {
-    let layer = place_in(layers, place.layer).unwrap();
-    layers.get_mut(layer).body.insert_object(place.at, object);
+    change_layer(
+        layers,
+        place.layer,
+        |layer| layer.body.insert_object(place.at, object),
+    );
 }
 
 /// Takes the object at a place out.
 #[inline(never)]
-#[tactic(auto, using(crate::proofs::Changes::places))]
 pub fn take_object_in(layers: &mut Chain<Layer>, place: ObjectPlace) -> Loose<Object>
     requires distinct { Distinct (layer_ids layers.old) }
-    requires there { IsSomeAnd (option_and_then objects_of (find (has_id place.layer) layers.old)) (λ os. place.at < length os) }
-    ensures object { result ≡ option_and_then (λ os. slice_get os place.at) (option_and_then objects_of (find (has_id place.layer) layers.old)) }
-    ensures layers { layers.new ≡ change_first (has_id place.layer) (layer_with_objects (λ os. remove os place.at)) layers.old }
+    requires there { IsSomeAnd (option_and_then objects_of (layer_among place.layer MAX_GROUPS layers.old)) (λ os. place.at < length os) }
+    ensures object { result ≡ option_and_then (λ os. slice_get os place.at) (option_and_then objects_of (layer_among place.layer MAX_GROUPS layers.old)) }
+    ensures layers { layers.new ≡ change_among place.layer MAX_GROUPS (layer_with_objects (λ os. remove os place.at)) layers.old }
 {
-    let layer = place_in(layers, place.layer).unwrap();
-    layers.get_mut(layer).body.take_object(place.at)
+    change_layer(
+        layers,
+        place.layer,
+        |layer| layer.body.take_object(place.at),
+    )
 }
 
 /// Gives the object at a place another placing, and hands the old one back.
 #[inline(never)]
-#[tactic(auto, using(crate::proofs::Changes::places))]
 pub fn place_object_in(layers: &mut Chain<Layer>, place: ObjectPlace, placing: Placing) -> Placing
     requires distinct { Distinct (layer_ids layers.old) }
-    requires there { IsSomeAnd (option_and_then objects_of (find (has_id place.layer) layers.old)) (λ os. place.at < length os) }
-    ensures given { option_map object_placing (option_and_then (λ os. slice_get os place.at) (option_and_then objects_of (find (has_id place.layer) layers.old))) ≡ Some result }
-    ensures layers { layers.new ≡ change_first (has_id place.layer) (layer_with_objects (change_at place.at (object_with_placing placing))) layers.old }
+    requires there { IsSomeAnd (option_and_then objects_of (layer_among place.layer MAX_GROUPS layers.old)) (λ os. place.at < length os) }
+    ensures given { option_map object_placing (option_and_then (λ os. slice_get os place.at) (option_and_then objects_of (layer_among place.layer MAX_GROUPS layers.old))) ≡ Some result }
+    ensures layers { layers.new ≡ change_among place.layer MAX_GROUPS (layer_with_objects (change_at place.at (object_with_placing placing))) layers.old }
 {
-    let layer = place_in(layers, place.layer).unwrap();
-    layers.get_mut(layer).body.place_object(place.at, placing)
+    change_layer(
+        layers,
+        place.layer,
+        |layer| layer.body.place_object(place.at, placing),
+    )
 }
 
 // The object with an id in a list of objects, behind its place there: one walk.
@@ -124,7 +135,7 @@ fn find_object(objects: &Chain<Object>, id: u32) -> Option<(usize, &Object)>
 
 /// The object with an id in a layer, behind its place.
 pub fn find_in_layer(layer: &Layer, id: u32) -> Option<(ObjectPlace, &Object)>
-    ensures { option_map (λ found. (found.0, found.1.now)) result ≡ found_in_layer id layer.now }
+    ensures { option_map (λ found. (found.0, found.1.now)) result ≡ found_in_layer id (layer_level, layer.now) }
 {
     let (at, object) = find_object(layer.body.objects()?, id)?;
     let place = ObjectPlace {
@@ -134,15 +145,33 @@ pub fn find_in_layer(layer: &Layer, id: u32) -> Option<(ObjectPlace, &Object)>
     Some((place, object))
 }
 
-/// The object with an id, behind its place, found by a walk.
+/// The object with an id, behind its place, found by a walk through layers that may have so many groups in one another.
 #[inline(never)]
-pub fn find_in_layers(layers: &Chain<Layer>, id: u32) -> Option<(ObjectPlace, &Object)>
-    ensures { option_map (λ found. (found.0, found.1.now)) result ≡ first_some (found_in_layer id) layers.now }
+#[cycle(found)]
+pub fn find_in_layers(layers: &Chain<Layer>, id: u32, room: usize) -> Option<(ObjectPlace, &Object)>
+    ensures { option_map (λ found. (found.0, found.1.now)) result ≡ first_some (found_in_layer id) (drawn room layer_level layers.now) }
 {
     for layer in layers.iter() {
-        if let Some(found) = find_in_layer(layer, id) {
+        if let Some(found) = find_under(layer, id, room) {
             return Some(found);
         }
     }
     None
+}
+
+// The same, in a layer and those that stand in it.
+#[cycle(found)]
+fn find_under(layer: &Layer, id: u32, room: usize) -> Option<(ObjectPlace, &Object)>
+    ensures { option_map (λ found. (found.0, found.1.now)) result ≡ first_some (found_in_layer id) (tree room layer_level layer.now) }
+{
+    if let Some(found) = find_in_layer(layer, id) {
+        return Some(found);
+    }
+    if room == 0 {
+        return None;
+    }
+    match layer.body.layers() {
+        Some(inside) => find_in_layers(inside, id, room - 1),
+        None => None,
+    }
 }

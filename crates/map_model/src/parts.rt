@@ -52,6 +52,7 @@ pub struct Object {
 }
 
 /// What a layer holds.
+#[cycle(layers)]
 #[derive(Drop)]
 pub enum Body {
     /// A tile layer: how a file spells it, and its values.
@@ -60,6 +61,8 @@ pub enum Body {
     Objects(Chain<Object>),
     /// An image layer.
     Other,
+    /// A group: the layers that stand in it.
+    Group(Chain<Layer>),
 }
 
 /// A kind of layer that can be added to a map.
@@ -70,6 +73,7 @@ pub enum LayerKind {
 }
 
 /// A layer.
+#[cycle(layers)]
 #[derive(Drop)]
 pub struct Layer {
     pub id: u32,
@@ -88,7 +92,7 @@ pub struct Tileset {
     pub kept: Kept,
 }
 
-/// The parts of a map: sizes in cells and in pixels, layers in drawing order.
+/// The parts of a map: sizes in cells and in pixels, the layers that stand in no group, in drawing order.
 #[derive(Drop)]
 pub struct MapParts {
     pub width: u32,

@@ -2,9 +2,11 @@ ghost use Rattle.std.specs.Prelude.{◌≡◌};
 ghost use Rattle.map_model.specs.Layers.{sibling_place};
 ghost use Rattle.map_model.specs.Objects.{sibling_object_place};
 
-/// Where a layer stands: how many layers stand before it, in drawing order.
+/// Where a layer stands: the id of the group in which it stands, and none where it stands in no group; and how many layers
+/// stand before it there.
 #[derive(Clone, Copy, PartialEq, Eq, Debug)]
 pub struct LayerPlace {
+    pub parent: Option<u32>,
     pub at: usize,
 }
 
@@ -13,7 +15,10 @@ impl LayerPlace {
     pub fn sibling(self, at: usize) -> LayerPlace
         ensures { result ≡ sibling_place self at }
     {
-        LayerPlace { at }
+        LayerPlace {
+            parent: self.parent,
+            at,
+        }
     }
 }
 

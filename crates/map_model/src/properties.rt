@@ -1,34 +1,21 @@
 // The properties of an owner.
-ghost use Rattle.std.specs.Prelude.{◌≡◌, ◌<◌, ◌≤◌, find, position, IfSome, IsSome, IsSomeAnd, Some, option_and_then, length, slice_get};
+ghost use Rattle.std.specs.Prelude.{◌≡◌, ◌<◌, ◌≤◌, position, IfSome, IsSome, IsSomeAnd, Some, option_and_then, length, slice_get};
+ghost use Rattle.std.specs.List.{insert, remove};
 ghost use Rattle.std.specs.Option.{option_map};
 ghost use Rattle.std.specs.Borrow.{sem};
 ghost use Rattle.map_model.specs.declared.limits.TheConstants.{MAX_PROPERTIES};
-ghost use Rattle.map_model.specs.Lending.{LendsOfLayer, LendsOfObject, LendsOfPlaced, LendsProperties};
-ghost use Rattle.map_model.specs.Lists.{Distinct};
-ghost use Rattle.map_model.specs.Objects.{objects_in, objects_of};
-ghost use Rattle.map_model.specs.Parts.{has_id};
-ghost use Rattle.map_model.specs.Properties.{has_name, layer_properties, object_properties, properties_of, property_at, property_with_setting, setting_of, with_property, with_property_at, without_property_at};
-ghost use Rattle.map_model.specs.WellFormed.{IsWellFormed, layer_ids};
+ghost use Rattle.map_model.specs.Lending.{LendsOfObject};
+ghost use Rattle.map_model.specs.Lists.{change_at};
+ghost use Rattle.map_model.specs.Objects.{body_with_objects, objects_in};
+ghost use Rattle.map_model.specs.Properties.{has_name, object_properties, object_with_properties, properties_of, property_at, property_with_setting, setting_of, with_property, with_property_at, without_property_at};
+ghost use Rattle.map_model.specs.WellFormed.{IsWellFormed};
 
-use crate::layers::place_in;
+use crate::groups::change_layer;
 use crate::parts::{Body, Layer, MapParts, Property};
-use crate::place::{ObjectPlace, OwnerPlace};
+use crate::place::OwnerPlace;
 use crate::setting::Setting;
 use link_chain::{Chain, Loose};
 use std::mem;
-
-// The properties of the layer with an id, to be changed where they stand.
-#[tactic(auto, using(crate::proofs::Changes::places))]
-fn lend_of_layer(layers: &mut Chain<Layer>, id: u32) -> &mut Chain<Property>
-    requires distinct { Distinct (layer_ids layers.old) }
-    requires there { IsSome (find (has_id id) layers.old) }
-    ensures* writes_back { sem 𝓛 (LendsOfLayer layers.entry id result) }
-    ensures value { option_map layer_properties (find (has_id id) layers.old) ≡ Some result.now }
-{
-    let place = place_in(layers, id).unwrap();
-    let layer = layers.get_mut(place);
-    &mut layer.properties
-}
 
 // The properties of the object at a place of an object layer, to be changed where they stand.
 fn lend_of_object(body: &mut Body, at: usize) -> &mut Chain<Property>
@@ -43,34 +30,36 @@ fn lend_of_object(body: &mut Body, at: usize) -> &mut Chain<Property>
         }
         Body::Tiles(_, _) => unreachable!(),
         Body::Other => unreachable!(),
+        Body::Group(_) => unreachable!(),
     }
 }
 
-// The properties of the object at a place, to be changed where they stand.
-#[tactic(auto, using(crate::proofs::Changes::places))]
-fn lend_of_placed(layers: &mut Chain<Layer>, place: ObjectPlace) -> &mut Chain<Property>
-    requires distinct { Distinct (layer_ids layers.old) }
-    requires there { IsSomeAnd (option_and_then objects_of (find (has_id place.layer) layers.old)) (λ os. place.at < length os) }
-    ensures* writes_back { sem 𝓛 (LendsOfPlaced layers.entry place result) }
-    ensures value { option_map object_properties (option_and_then (λ os. slice_get os place.at) (option_and_then objects_of (find (has_id place.layer) layers.old))) ≡ Some result.now }
+// Puts a property in at a place among those of the object at a place of an object layer.
+fn insert_of_object(body: &mut Body, object: usize, at: usize, property: Loose<Property>)
+    requires { IsSomeAnd (option_and_then (λ os. slice_get os object) (objects_in body.old))
+        (λ o. (at ≤ length o.properties) × (length o.properties ≤ MAX_PROPERTIES)) }
+    ensures { IsSomeAnd property (λ p. body.new ≡ body_with_objects (change_at object (object_with_properties (λ ps. insert ps at p))) body.old) }
 {
-    let at = place_in(layers, place.layer).unwrap();
-    let layer = layers.get_mut(at);
-    lend_of_object(&mut layer.body, place.at)
+    lend_of_object(body, object).insert(at, property);
 }
 
-/// The properties of an owner, to be changed where they stand.
-pub fn lend(parts: &mut MapParts, owner: OwnerPlace) -> &mut Chain<Property>
-    requires distinct { Distinct (layer_ids parts.old.layers) }
-    requires there { IsSome (properties_of parts.old owner) }
-    ensures* writes_back { sem 𝓛 (LendsProperties parts.entry owner result) }
-    ensures value { properties_of parts.old owner ≡ Some result.now }
+// Takes the property at a place among those of the object at a place of an object layer out.
+fn take_of_object(body: &mut Body, object: usize, at: usize) -> Loose<Property>
+    requires { IsSomeAnd (option_and_then (λ os. slice_get os object) (objects_in body.old)) (λ o. at < length o.properties) }
+    ensures property { result ≡ option_and_then (λ o. slice_get o.properties at) (option_and_then (λ os. slice_get os object) (objects_in body.old)) }
+    ensures body { body.new ≡ body_with_objects (change_at object (object_with_properties (λ ps. remove ps at))) body.old }
 {
-    match owner {
-        OwnerPlace::Map => &mut parts.properties,
-        OwnerPlace::Layer(id) => lend_of_layer(&mut parts.layers, id),
-        OwnerPlace::Object(place) => lend_of_placed(&mut parts.layers, place),
-    }
+    lend_of_object(body, object).take(at)
+}
+
+// Gives the property at a place among those of the object at a place of an object layer another type and value, and hands
+// the old ones back.
+fn replace_of_object(body: &mut Body, object: usize, at: usize, setting: Setting) -> Setting
+    requires { IsSomeAnd (option_and_then (λ os. slice_get os object) (objects_in body.old)) (λ o. at < length o.properties) }
+    ensures given { option_map setting_of (option_and_then (λ o. slice_get o.properties at) (option_and_then (λ os. slice_get os object) (objects_in body.old))) ≡ Some result }
+    ensures body { body.new ≡ body_with_objects (change_at object (object_with_properties (change_at at (property_with_setting setting)))) body.old }
+{
+    replace_at(lend_of_object(body, object), at, setting)
 }
 
 /// Puts a property in at a place among its owner's.
@@ -79,7 +68,24 @@ pub fn insert_in(parts: &mut MapParts, owner: OwnerPlace, at: usize, property: L
     requires place { IsSomeAnd (properties_of parts.old owner) (λ ps. at ≤ length ps) }
     ensures { IsSomeAnd property (λ p. parts.new ≡ with_property_at owner at p parts.old) }
 {
-    lend(parts, owner).insert(at, property);
+    match owner {
+        OwnerPlace::Map => parts.properties.insert(at, property),
+        OwnerPlace::Layer(id) => change_layer(
+            &mut parts.layers,
+            id,
+            |layer: &mut Layer|
+                requires { (at ≤ length layer.old.properties) × (length layer.old.properties ≤ MAX_PROPERTIES) }
+            { layer.properties.insert(at, property) },
+        ),
+        OwnerPlace::Object(place) => change_layer(
+            &mut parts.layers,
+            place.layer,
+            |layer: &mut Layer|
+                requires { IsSomeAnd (option_and_then (λ os. slice_get os place.at) (objects_in layer.old.body))
+                    (λ o. (at ≤ length o.properties) × (length o.properties ≤ MAX_PROPERTIES)) }
+            { insert_of_object(&mut layer.body, place.at, at, property) },
+        ),
+    }
 }
 
 /// Takes the property at a place among its owner's out.
@@ -89,7 +95,46 @@ pub fn take_in(parts: &mut MapParts, owner: OwnerPlace, at: usize) -> Loose<Prop
     ensures property { result ≡ property_at parts.old owner at }
     ensures parts { parts.new ≡ without_property_at owner at parts.old }
 {
-    lend(parts, owner).take(at)
+    match owner {
+        OwnerPlace::Map => parts.properties.take(at),
+        OwnerPlace::Layer(id) => {
+            change_layer(&mut parts.layers, id, |layer| layer.properties.take(at))
+        }
+        OwnerPlace::Object(place) => change_layer(&mut parts.layers, place.layer, |layer| {
+            take_of_object(&mut layer.body, place.at, at)
+        }),
+    }
+}
+
+// Gives the property at a place another type and value, and hands the old ones back.
+fn replace_at(properties: &mut Chain<Property>, at: usize, setting: Setting) -> Setting
+    requires { at < length properties.old }
+    ensures given { option_map setting_of (slice_get properties.old at) ≡ Some result }
+    ensures held { properties.new ≡ change_at at (property_with_setting setting) properties.old }
+{
+    let property = properties.get_mut(at);
+    Setting {
+        kind: mem::replace(&mut property.kind, setting.kind),
+        value: mem::replace(&mut property.value, setting.value),
+    }
+}
+
+// Gives the property at a place among its owner's another type and value, and hands the old ones back.
+fn replace_in(parts: &mut MapParts, owner: OwnerPlace, at: usize, setting: Setting) -> Setting
+    requires well_formed { IsWellFormed parts.old }
+    requires there { IsSome (property_at parts.old owner at) }
+    ensures given { option_map setting_of (property_at parts.old owner at) ≡ Some result }
+    ensures parts { parts.new ≡ with_property owner at (property_with_setting setting) parts.old }
+{
+    match owner {
+        OwnerPlace::Map => replace_at(&mut parts.properties, at, setting),
+        OwnerPlace::Layer(id) => change_layer(&mut parts.layers, id, |layer| {
+            replace_at(&mut layer.properties, at, setting)
+        }),
+        OwnerPlace::Object(place) => change_layer(&mut parts.layers, place.layer, |layer| {
+            replace_of_object(&mut layer.body, place.at, at, setting)
+        }),
+    }
 }
 
 /// Exchanges the type and the value of the property at a place among its owner's and others.
@@ -99,9 +144,8 @@ pub fn swap_in(parts: &mut MapParts, owner: OwnerPlace, at: usize, setting: &mut
     ensures given { option_map setting_of (property_at parts.old owner at) ≡ Some setting.new }
     ensures parts { parts.new ≡ with_property owner at (property_with_setting setting.old) parts.old }
 {
-    let property = lend(parts, owner).get_mut(at);
-    mem::swap(&mut property.kind, &mut setting.kind);
-    mem::swap(&mut property.value, &mut setting.value);
+    let new = setting.take();
+    *setting = replace_in(parts, owner, at, new);
 }
 
 /// The property with a name, behind its place: one walk.

@@ -52,6 +52,7 @@ impl Body {
             Body::Objects(objects) => seek_from(objects, at, id),
             Body::Tiles(_, _) => {}
             Body::Other => {}
+            Body::Group(_) => {}
         }
     }
 }

@@ -3,10 +3,12 @@ ghost use Rattle.std.specs.Prelude.{◌≡◌, IfOk, IsTrue, ◌↔◌};
 ghost use Rattle.map_model.specs.Properties.{new_property, scalar_value, setting_of, setting_with, IsSetting};
 ghost use Rattle.map_model.specs.Given.{given_setting, owned_value};
 ghost use Rattle.map_model.specs.declared.place.OwnerPlace.{OwnerPlace};
+ghost use Rattle.map_model.specs.declared.parts.MapParts.{MapParts};
 
 use crate::held::{Kept, MapText};
 use crate::parts::{PropValue, Property};
 use std::alloc::{AllocError, Global};
+use std::mem;
 
 /// The type and the value of a property.
 #[derive(Drop)]
@@ -27,7 +29,7 @@ impl Setting {
     /// A type, and a value that a line gives. Where there is no memory nothing is left.
     pub fn new(alloc: Global, kind: &str, value: Scalar<'_>) -> Result<Setting, AllocError>
         ensures setting { IfOk result (λ setting. setting ≡ setting_with kind.now (scalar_value value.entry)) }
-        ensures value { IfOk result (λ setting. (owner : OwnerPlace) → IsSetting owner setting) }
+        ensures value { IfOk result (λ setting. (m : MapParts) (owner : OwnerPlace) → IsSetting m owner setting) }
     {
         let kind = MapText::new(String::from_str(alloc, kind)?);
         let value = match value {
@@ -36,6 +38,16 @@ impl Setting {
             Scalar::Truth(truth) => PropValue::Truth(truth),
         };
         Ok(Setting { kind, value })
+    }
+
+    /// Takes the type and the value out, and leaves others. It takes no memory.
+    pub(crate) fn take(&mut self) -> Setting
+        ensures { result ≡ self.old }
+    {
+        Setting {
+            kind: self.kind.take(),
+            value: mem::replace(&mut self.value, PropValue::Truth(false)),
+        }
     }
 }
 

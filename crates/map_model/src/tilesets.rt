@@ -1,12 +1,15 @@
 // Tilesets: where they stand, and whether they are in use.
 ghost use Rattle.std.specs.Prelude.{◌≡◌, Some};
 ghost use Rattle.std.specs.List.{list_any};
+ghost use Rattle.map_model.specs.Groups.{drawn, tree};
+ghost use Rattle.map_model.specs.Keeping.{layer_level};
 ghost use Rattle.map_model.specs.NewMap.{external_tileset};
 ghost use Rattle.map_model.specs.Tilesets.{in_use, tileset_place, values_in, values_of, gids_of};
 ghost use Rattle.map_model.specs.Uses.{base_limit, end_of, is_between, nearer};
 ghost use Rattle.map_model.specs.WellFormed.{IsWellFormed};
 
 use crate::held::{Kept, MapText};
+use crate::limits::MAX_GROUPS;
 use crate::map::Map;
 use crate::parts::{Body, Layer, Object, Tileset};
 use link_chain::Chain;
@@ -47,7 +50,7 @@ impl Map {
     {
         self.tileset_place(first_id)?;
         let end = end_of_tileset(&self.parts.tilesets, first_id);
-        Some(is_in_layers(&self.parts.layers, first_id, end))
+        Some(is_in_layers(&self.parts.layers, first_id, end, MAX_GROUPS))
     }
 }
 
@@ -108,11 +111,35 @@ fn is_in_body(body: &Body, low: u32, end: u32) -> bool
         Body::Tiles(_, cells) => is_in_cells(cells.as_slice(), low, end),
         Body::Objects(objects) => is_in_objects(objects, low, end),
         Body::Other => false,
+        Body::Group(_) => false,
     }
 }
 
-fn is_in_layers(layers: &Chain<Layer>, low: u32, end: u32) -> bool
-    ensures { result ≡ list_any (λ l. list_any (is_between low end) (values_of l)) layers.now }
+#[cycle(uses)]
+fn is_in_layers(layers: &Chain<Layer>, low: u32, end: u32, room: usize) -> bool
+    ensures { result ≡ list_any (λ d. list_any (is_between low end) (values_of d)) (drawn room layer_level layers.now) }
 {
-    layers.iter().any(|layer| is_in_body(&layer.body, low, end))
+    for layer in layers.iter() {
+        if is_in_layer(layer, low, end, room) {
+            return true;
+        }
+    }
+    false
+}
+
+// The same of a layer and those that stand in it.
+#[cycle(uses)]
+fn is_in_layer(layer: &Layer, low: u32, end: u32, room: usize) -> bool
+    ensures { result ≡ list_any (λ d. list_any (is_between low end) (values_of d)) (tree room layer_level layer.now) }
+{
+    if is_in_body(&layer.body, low, end) {
+        return true;
+    }
+    if room == 0 {
+        return false;
+    }
+    match layer.body.layers() {
+        Some(inside) => is_in_layers(inside, low, end, room - 1),
+        None => false,
+    }
 }

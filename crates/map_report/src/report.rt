@@ -2,6 +2,7 @@
 use crate::answers::words_of;
 use link_chain::Chain;
 use map_json::{read_map, write_map};
+use map_model::limits::MAX_GROUPS;
 use map_model::{Body, Encoding, Layer, Map, MapParts, Object, PropValue, Property, Tileset};
 use std::alloc::Global;
 use std::io::{self, Write};
@@ -79,16 +80,49 @@ fn write_body<W: Write>(width: u32, body: &Body, output: &mut W) -> io::Result<(
             Ok(())
         }
         Body::Other => write!(output, "an image"),
+        Body::Group(layers) => {
+            let count = layers.len();
+            write!(output, "a group of {count} layers")
+        }
     }
 }
 
-fn write_layer<W: Write>(width: u32, layer: &Layer, output: &mut W) -> io::Result<()> {
+// Writes a layer, and in which group it stands.
+fn write_layer<W: Write>(
+    width: u32,
+    layer: &Layer,
+    group: Option<u32>,
+    output: &mut W,
+) -> io::Result<()> {
     let id = layer.id;
     let name = layer.name.as_str();
     let state = if layer.visible { "shown" } else { "hidden" };
-    write!(output, "\nlayer {id} \"{name}\", {state}, ")?;
+    write!(output, "\nlayer {id} \"{name}\"")?;
+    if let Some(group) = group {
+        write!(output, " in layer {group}")?;
+    }
+    write!(output, ", {state}, ")?;
     write_body(width, &layer.body, output)?;
     write_properties(&layer.properties, output)
+}
+
+// Writes layers and those in them, where so many groups may stand in one another.
+fn write_layers<W: Write>(
+    width: u32,
+    layers: &Chain<Layer>,
+    group: Option<u32>,
+    room: usize,
+    output: &mut W,
+) -> io::Result<()> {
+    for layer in layers.iter() {
+        write_layer(width, layer, group, output)?;
+        if let Some(inside) = layer.body.layers() {
+            if room > 0 {
+                write_layers(width, inside, Some(layer.id), room - 1, output)?;
+            }
+        }
+    }
+    Ok(())
 }
 
 fn write_tileset<W: Write>(tileset: &Tileset, output: &mut W) -> io::Result<()> {
@@ -109,9 +143,7 @@ fn write_parts<W: Write>(map: &MapParts, output: &mut W) -> io::Result<()> {
         "\n{width} by {height} cells of {tile_width} by {tile_height} pixels, next layer {layer}, next object {object}"
     )?;
     write_properties(&map.properties, output)?;
-    for layer in map.layers.iter() {
-        write_layer(width, layer, output)?;
-    }
+    write_layers(width, &map.layers, None, MAX_GROUPS, output)?;
     for tileset in map.tilesets.iter() {
         write_tileset(tileset, output)?;
     }

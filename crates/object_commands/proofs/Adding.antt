@@ -11,9 +11,11 @@ use Rattle.map_model.specs.Document.{DocumentParts, with_map}
 use Rattle.map_model.specs.Layers.{with_next_ids}
 use Rattle.map_model.specs.Objects.{objects_of, objects_of_layer, object_at, last_object_place, sibling_object_place, with_objects, with_object_at, without_object_at}
 use Rattle.map_model.specs.NewMap.{new_object}
+use Rattle.map_model.specs.Properties.{level_of}
 use Rattle.map_model.specs.Parts.{layer_of}
 use Rattle.map_model.specs.Slot.{next_object_slot}
 use Rattle.map_model.specs.WellFormed.{IsPixels, IsWellFormed}
+use Rattle.map_model.proofs.Lookups.{level_of-low}
 use Rattle.map_model.proofs.NewMaps.{new_object-IsObject}
 use Rattle.map_model.proofs.ObjectKeeps.{numbered_object-keeps, with_objects-along}
 use Rattle.map_model.proofs.SlotLaws.{next_object_slot-laws}
@@ -98,7 +100,7 @@ pub add_made : (d : DocumentParts) (layer : ℕ) (x y : ℤ) (width height : ℕ
 add_made d layer x y width height name os loose objects left top size few below h is =
     let there = listed (layer_of d.map layer) os objects in
     let o = new_object d.map.next_object_id (placing_of x y width height) name in
-    let object = new_object-IsObject d.map.next_object_id (placing_of x y width height) name (placing_of-IsPlacing x y width height left top size) in
+    let object = new_object-IsObject (level_of d.map layer) d.map.next_object_id (placing_of x y width height) name (level_of-low d.map layer) (placing_of-IsPlacing x y width height left top size) in
     rw is (
     link_made refl (record {
       ready = (refl, rw there refl);

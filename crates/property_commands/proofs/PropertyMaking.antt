@@ -75,7 +75,7 @@ module _ (d : DocumentParts) (owner : Owner) (name kind : List ℕ) (value : Pro
       (sym is) makes
 
   pub replace-made : (at : ℕ) (p : Property) (same : Bool) (setting : Setting) (shown : GivenSetting) → property_place d.map place name ≡ Some at → property_at d.map place at ≡ Some p
-      → IsTrue same ↔ setting_of p ≡ setting_with kind value → setting ≡ setting_with kind value → given_setting shown ≡ setting_with kind value → IsSetting place setting
+      → IsTrue same ↔ setting_of p ≡ setting_with kind value → setting ≡ setting_with kind value → given_setting shown ≡ setting_with kind value → IsSetting d.map place setting
       → Makes (set_property_names owner name follows) d (after_set_property d owner name kind value)
       (property_set_change (record { owner = owner; name = name; follows = follows; place = place; at = at; shown = shown; kind = Replace setting false same }))
   replace-made at p same setting shown there has told is shows allowed =
@@ -84,7 +84,7 @@ module _ (d : DocumentParts) (owner : Owner) (name kind : List ℕ) (value : Pro
       let own : option_map setting_of (property_at d.map place at) ≡ Some (setting_of p) = rw has refl in
       let given = setting_named-get owner name place at d stands ∙ setting_at-get d place at (setting_of p) own in
       let put_in = setting-put owner name place at d stands s in
-      let may : IsSetting place s = rw is at allowed in
+      let may : IsSetting d.map place s = rw is at allowed in
       let leads : after_set_property d owner name kind value ≡ Ok (with_map (with_property place at (property_with_setting s)) d) = rw (found, there) refl in
       let kept = with_setting-keeps place at s d.map (rw has refl) may h in
       made-shown at (Replace setting false same) shown shows (
@@ -95,7 +95,7 @@ module _ (d : DocumentParts) (owner : Owner) (name kind : List ℕ) (value : Pro
       )
 
   pub add-made : (ps : List Property) (at : ℕ) (loose : Option Property) (shown : GivenSetting) → at ≡ length ps → property_place d.map place name ≡ None → properties_of d.map place ≡ Some ps
-      → length ps < MAX_PROPERTIES → loose ≡ Some (new_property name (setting_with kind value)) → given_setting shown ≡ setting_with kind value → IsSetting place (setting_with kind value)
+      → length ps < MAX_PROPERTIES → loose ≡ Some (new_property name (setting_with kind value)) → given_setting shown ≡ setting_with kind value → IsSetting d.map place (setting_with kind value)
       → Makes (set_property_names owner name follows) d (after_set_property d owner name kind value)
       (property_set_change (record { owner = owner; name = name; follows = follows; place = place; at = at; shown = shown; kind = Add (Some loose) }))
   add-made ps at loose shown last none are few is shows allowed =
@@ -113,7 +113,7 @@ module _ (d : DocumentParts) (owner : Owner) (name kind : List ℕ) (value : Pro
               link = record {
                 ready = free;
                 before = h;
-                after = with_property_at-keeps place (length ps) p ps d.map are few (new_property-IsProperty place name (setting_with kind value) allowed) new h;
+                after = with_property_at-keeps place (length ps) p ps d.map are few (new_property-IsProperty d.map place name (setting_with kind value) allowed) new h;
               };
               new = (refl, record { stands = owner-there d.map owner place found; new = none; last = count });
             };

@@ -33,7 +33,7 @@ set_property_names owner name follows = record {
 -- the owner's property with the name stands at the place, and may have the setting
 pub record AllowsSetting (owner : Owner) (name : List ℕ) (place : OwnerPlace) (at : ℕ) (d : DocumentParts) (s : Setting) : Type 0 where
   pub stands : setting_place owner name d ≡ Some (place, at)
-  pub setting : IsSetting place s
+  pub setting : IsSetting d.map place s
 
 -- the owner stands at the place, and has so many properties, none of them with the name
 pub record IsNewAt (owner : Owner) (name : List ℕ) (place : OwnerPlace) (at : ℕ) (d : DocumentParts) : Type 0 where

@@ -1,5 +1,6 @@
 ghost use Rattle.std.specs.Prelude.{◌≡◌, ◌↔◌, Some, IfOk, IfErr, IsTrue};
 ghost use Rattle.std.specs.Option.{option_copied};
+ghost use Rattle.map_model.specs.declared.parts.MapParts.{MapParts};
 ghost use Rattle.map_model.specs.declared.place.OwnerPlace.{OwnerPlace};
 ghost use Rattle.map_model.specs.Given.{given_setting};
 ghost use Rattle.map_model.specs.Properties.{new_property, scalar_value, setting_with, IsSetting};
@@ -183,7 +184,7 @@ fn loose_property(
     value: Scalar<'_>,
 ) -> Result<Loose<Property>, AllocError>
     ensures property { IfOk result (λ loose. loose ≡ Some (new_property name.now (setting_with kind.now (scalar_value value.entry)))) }
-    ensures value { IfOk result (λ loose. (owner : OwnerPlace) → IsSetting owner (setting_with kind.now (scalar_value value.entry))) }
+    ensures value { IfOk result (λ loose. (m : MapParts) (owner : OwnerPlace) → IsSetting m owner (setting_with kind.now (scalar_value value.entry))) }
 {
     let name = MapText::new(String::from_str(alloc, name)?);
     let setting = Setting::new(alloc, kind, value)?;

@@ -5,6 +5,7 @@ ghost use Rattle.map_model.specs.Document.{IsDocument};
 
 use crate::canvas::{Canvas, exchange_layers};
 use crate::document::Document;
+use crate::limits::MAX_GROUPS;
 use std::mem;
 
 impl Document {
@@ -20,7 +21,7 @@ impl Document {
         ensures well_formed { IsDocument self.new }
     {
         let parts = &mut self.map.parts;
-        exchange_layers(&mut parts.layers, canvas);
+        exchange_layers(&mut parts.layers, canvas, 0, MAX_GROUPS);
         mem::swap(&mut parts.width, &mut canvas.width);
         mem::swap(&mut parts.height, &mut canvas.height);
         mem::swap(&mut self.selection, &mut canvas.selection);

@@ -37,9 +37,9 @@ impl Document {
     /// Exchanges the type and the value of the property at a place among its owner's and others. It takes no memory.
     pub fn swap_setting(&mut self, owner: OwnerPlace, at: usize, setting: &mut Setting)
         requires there { IsSome (property_at self.old.map owner at) }
-        requires value { IsSetting owner setting.old }
+        requires value { IsSetting self.old.map owner setting.old }
         ensures given { option_map setting_of (property_at self.old.map owner at) ≡ Some setting.new }
-        ensures back { IsSetting owner setting.new }
+        ensures back { IsSetting self.new.map owner setting.new }
         ensures document { self.new ≡ with_map (with_property owner at (property_with_setting setting.old)) self.old }
         ensures well_formed { IsDocument self.new }
     {

@@ -4,6 +4,7 @@ ghost use Rattle.std.specs.Option.{option_map};
 ghost use Rattle.map_model.specs.Objects.{last_object_place, object_at, object_place};
 ghost use Rattle.map_model.specs.WellFormed.{IsWellFormed};
 
+use crate::limits::MAX_GROUPS;
 use crate::map::Map;
 use crate::objects::find_in_layers;
 use crate::parts::Object;
@@ -18,7 +19,7 @@ impl Map {
     {
         match self.object_here(id) {
             Some(found) => Some(found),
-            None => find_in_layers(&self.parts.layers, id),
+            None => find_in_layers(&self.parts.layers, id, MAX_GROUPS),
         }
     }
 

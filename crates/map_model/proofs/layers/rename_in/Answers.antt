@@ -1,13 +1,13 @@
-use Rattle.std.proofs.Common.{List, ℕ, sym, ap, ◌∙◌}
-use Rattle.std.specs.List.{slice_set}
+use Rattle.std.proofs.Common.{rules}
+use Rattle.map_model.specs.declared.limits.TheConstants.{MAX_GROUPS}
 use Rattle.map_model.specs.Layers.{layer_with_name}
-use Rattle.map_model.specs.Parts.{has_id}
-use Rattle.map_model.proofs.Changes.{set-at_position}
+use Rattle.map_model.proofs.TreeChanges.{changed_by}
 use Rattle.map_model.proofs.layers.rename_in.Goals as goal
 
 pub returns-clause-held : goal.returns-clause-held
 returns-clause-held c =
-    let l = c.get_mut.result.now in
-    ap (λ (name : List ℕ). slice_set c.args.layers.now c.unwrap-place.result (record l { name = name })) c.swap.ensures.x_after
-    ∙ set-at_position (has_id c.args.id) (layer_with_name c.args.name.now) c.args.layers.now c.unwrap-place.result l
-    (sym c.place_in.ensures ∙ c.unwrap-place.ensures) c.get_mut.ensures.value
+    let e = c.change_layer.ensures in
+    changed_by c.args.id MAX_GROUPS (layer_with_name c.args.name.now) c.args.layers.now c.change_layer.new.layers e.layer e.left e.found e.is (search rules)
+
+pub returns-clause-given : goal.returns-clause-given
+returns-clause-given c = rw c.change_layer.ensures.found (search rules)

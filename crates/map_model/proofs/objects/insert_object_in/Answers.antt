@@ -1,10 +1,12 @@
-use Rattle.std.proofs.Common.{sym, ◌∙◌}
+use Rattle.std.proofs.Common.{rules}
 use Rattle.std.specs.List.{insert}
-use Rattle.map_model.specs.Parts.{has_id}
-use Rattle.map_model.proofs.ObjectKeeps.{set-objects_loose}
+use Rattle.map_model.specs.declared.limits.TheConstants.{MAX_GROUPS}
+use Rattle.map_model.specs.declared.parts.Object.{Object}
+use Rattle.map_model.specs.Objects.{layer_with_objects}
+use Rattle.map_model.proofs.TreeChanges.{changed_with}
 use Rattle.map_model.proofs.objects.insert_object_in.Goals as goal
 
 pub returns : goal.returns
 returns c =
-    set-objects_loose (has_id c.args.place.layer) (λ o os. insert os c.args.place.at o) c.args.object c.args.layers.now c.unwrap-layer.result c.get_mut.result.now c.insert_object.new.self
-    (sym c.place_in.ensures ∙ c.unwrap-layer.ensures) c.get_mut.ensures.value c.insert_object.ensures
+    let e = c.change_layer.ensures in
+    changed_with c.args.place.layer MAX_GROUPS (λ (o : Object). layer_with_objects (λ os. insert os c.args.place.at o)) c.args.object c.args.layers.now c.change_layer.new.layers e.layer e.left e.found e.is (search rules)

@@ -5,8 +5,8 @@ use Rattle.layer_commands.proofs.add.AddLayer.new.Goals as goal
 pub returns-in-Ok-clause-command : goal.returns-in-Ok-clause-command
 returns-in-Ok-clause-command c =
     let d = c.args.document.now in
-    let same : c.parts-parts.result.now ≡ d.map = c.parts-parts.ensures.value ∙ c.map.ensures in
+    let same : c.parts-parts.result.now ≡ d.map = c.parts-parts.ensures.value ∙ c.map-map.ensures in
     rw same (
-    add_made d c.args.kind c.args.name.now c.in-Ok.layer (rw same at c.in-Ok.ensures) (rw (c.len.ensures.value, same) at c.if-len-ge-MAX_LAYERS.false)
-    (rw same at c.if-parts-ge-MAX_NEXT_ID.false) (rw c.map.ensures at c.parts-parts.ensures.well_formed)
+    add_made d c.args.kind c.args.name.now c.in-Ok.layer (rw same at c.in-Ok.ensures) (rw (c.layer_count.ensures.count, c.map-map.ensures) at c.if-layer_count-ge-MAX_LAYERS.false)
+    (rw same at c.if-parts-ge-MAX_NEXT_ID.false) (rw c.map-map.ensures at c.parts-parts.ensures.well_formed)
     )

@@ -8,6 +8,6 @@ returns-clause-command c =
     let d = c.args.document.now in
     let there : layer_place d.map c.args.layer ≡ Some c.in-Some.from = rw c.map-map.ensures at (sym c.layer_place.ensures.place ∙ c.in-Some.is) in
     rw c.sibling.ensures (
-    move_asked d c.args.layer c.args.place c.in-Some.from there (rw (c.len.ensures.value, c.parts.ensures.value, c.map-map.ensures) at c.if-at-len.false)
-    (rw c.map-map.ensures at c.parts.ensures.well_formed)
+    move_asked d c.args.layer c.args.place c.in-Some.from there (rw (c.sibling_count.ensures, c.map-map.ensures) at c.if-at-sibling_count.false)
+    (rw c.map-map.ensures at c.layer_place.ensures.well_formed)
     )

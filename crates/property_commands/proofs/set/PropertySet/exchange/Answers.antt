@@ -28,7 +28,7 @@ returns-in-Replace c =
     rw c.in-Replace.is (
     shown_swapped c.in-Replace.is_made (AllowsSetting s.owner s.name s.place s.at) (setting_named-laws s.owner s.name) fits
     (setting_named-get s.owner s.name s.place s.at d stands ∙ setting_at-get d s.place s.at swap.new.setting swap.ensures.given) document
-    (rw document (AllowsSetting-put s.owner s.name s.place s.at d held swap.new.setting stands swap.ensures.back))
+    (rw document (AllowsSetting-put s.owner s.name s.place s.at d held swap.new.setting stands (rw document at swap.ensures.back)))
     )
 
 pub exchange_property-requires : goal.exchange_property-requires

@@ -2,8 +2,8 @@ use Rattle.std.proofs.Common.{ap, ◌∙◌}
 use Rattle.command_api.specs.Law.{Change}
 use denote.Param.Object.{read_made}
 use Rattle.session_run.specs.contracts.running.fn.run.put.{dyn-1-ghosts}
-use Rattle.session_run.proofs.running.fn.run.put.Hides.{has-1-2, has-1-3, has-1-6, has-1-9, has-1-10, has-1-11, has-1-13, has-1-14, has-1-15}
-use Rattle.layer_commands.specs.Changes.{add_change, remove_change, move_change}
+use Rattle.session_run.proofs.running.fn.run.put.Hides.{has-1-2, has-1-3, has-1-4, has-1-5, has-1-6, has-1-9, has-1-10, has-1-11, has-1-13, has-1-14, has-1-15}
+use Rattle.layer_commands.specs.Changes.{add_change, remove_change, rename_change, show_change, move_change}
 use Rattle.object_commands.specs.Changes.{add_object_change, remove_object_change, place_object_change}
 use Rattle.property_commands.specs.PropertyChanges.{remove_property_change}
 use Rattle.property_commands.specs.TilesetChanges.{add_tileset_change, remove_tileset_change}
@@ -21,6 +21,18 @@ returns-in_ok-boxed-in-RemoveLayer g c =
     let has = has-1-3 g.dyn-1.0 g.dyn-1-has in
     let read = read_made (dyn-1-ghosts g.dyn-1).0 _ (has.at tt) (has.same tt) Change (λ j x. j.1.change x) _ _ _ c.into_dyn_box-in_ok-boxed-in-RemoveLayer.ensures.1 in
     rw c.in-RemoveLayer.is (same-IsSame _ _ (read ∙ ap remove_change c.in_ok-boxed-in-RemoveLayer.ensures))
+
+pub returns-in_ok-boxed-in-RenameLayer : goal.returns-in_ok-boxed-in-RenameLayer
+returns-in_ok-boxed-in-RenameLayer g c =
+    let has = has-1-4 g.dyn-1.0 g.dyn-1-has in
+    let read = read_made (dyn-1-ghosts g.dyn-1).0 _ (has.at tt) (has.same tt) Change (λ j x. j.1.change x) _ _ _ c.into_dyn_box-in_ok-boxed-in-RenameLayer.ensures.1 in
+    rw c.in-RenameLayer.is (same-IsSame _ _ (read ∙ ap rename_change c.in_ok-boxed-in-RenameLayer.ensures))
+
+pub returns-in_ok-boxed-in-ShowLayer : goal.returns-in_ok-boxed-in-ShowLayer
+returns-in_ok-boxed-in-ShowLayer g c =
+    let has = has-1-5 g.dyn-1.0 g.dyn-1-has in
+    let read = read_made (dyn-1-ghosts g.dyn-1).0 _ (has.at tt) (has.same tt) Change (λ j x. j.1.change x) _ _ _ c.into_dyn_box-in_ok-boxed-in-ShowLayer.ensures.1 in
+    rw c.in-ShowLayer.is (same-IsSame _ _ (read ∙ ap show_change c.in_ok-boxed-in-ShowLayer.ensures))
 
 pub returns-in_ok-boxed-in-MoveLayer : goal.returns-in_ok-boxed-in-MoveLayer
 returns-in_ok-boxed-in-MoveLayer g c =

@@ -1,0 +1,36 @@
+use Rattle.std.proofs.Common.{◌≡◌, ◌+◌, ◌-◌, ◌≤◌, None, Some, rules, arith}
+use Rattle.serde_json.proofs.Views.{items_len-items_view}
+use Rattle.serde_json.specs.Events.{items_len}
+use Rattle.serde_json.specs.Find.{as_array}
+use Rattle.serde_json.specs.View.{view as data_of, items_view}
+use Rattle.map_model.specs.declared.limits.TheConstants.{MAX_LAYERS}
+use Rattle.map_json.proofs.Rooms.{layers_at-no_array, layers_at-no_room, layers_at-many, layers_at-each}
+use Rattle.map_json.proofs.layer.+layers.Goals.{layers_in-then-room-eq0-via-then-room-eq0, layers_in-then-room-eq0-via-else-room-eq0+then-len-count}
+use Rattle.map_json.proofs.layer.+layers.Goals as goal
+
+pub layers_in-returns-in_err-values-clause-value :
+    goal.layers_in-returns-in_err-values-clause-value
+layers_in-returns-in_err-values-clause-value t c =
+    let none : as_array (data_of c.args.value) ≡ None = search rules in
+    let is = layers_at-no_array c.args.size.width c.args.size.height c.args.count.now (data_of c.args.value) c.args.room none in
+    search rules
+
+pub layers_in-returns-then-room-eq0-clause-value :
+    goal.layers_in-returns-then-room-eq0-clause-value
+layers_in-returns-then-room-eq0-clause-value t c =
+    let values = items_view c.in_ok-values.values.items in
+    let found : as_array (data_of c.args.value) ≡ Some values = search rules in
+    elim c.then-room-eq0.branch [
+      | layers_in-then-room-eq0-via-then-room-eq0 w ↦ layers_at-no_room c.args.size.width c.args.size.height c.args.count.now (data_of c.args.value) c.args.room values found (omega (arith, w.if-room-eq0))
+      | layers_in-then-room-eq0-via-else-room-eq0+then-len-count w ↦
+          layers_at-many c.args.size.width c.args.size.height c.args.count.now (data_of c.args.value) c.args.room values found (omega (arith, w.if-len-count, w.len.ensures, items_len-items_view c.in_ok-values.values.items, c.requires.few))
+    ]
+
+pub layers_in-returns-clause-value : goal.layers_in-returns-clause-value
+layers_in-returns-clause-value t c =
+    let values = items_view c.in_ok-values.values.items in
+    let found : as_array (data_of c.args.value) ≡ Some values = search rules in
+    let long : items_len values ≡ c.len-2.result = omega (arith, c.len-2.ensures, items_len-items_view c.in_ok-values.values.items) in
+    let fits : c.args.count.now + items_len values ≤ MAX_LAYERS = omega (arith, c.if-len-count.false, c.len.ensures, items_len-items_view c.in_ok-values.values.items, c.requires.few) in
+    let is = layers_at-each c.args.size.width c.args.size.height c.args.count.now (data_of c.args.value) c.args.room (c.args.room - 1) values (omega (arith, c.if-room-eq0.false)) found fits in
+    rw (is, long) c.each_layer.ensures.value

@@ -1,0 +1,23 @@
+-- A layer that a closure changes where it stands.
+use Rattle.std.specs.Prelude.{◌≡◌, ℕ, List, Some, option_and_then}
+use Rattle.std.specs.Borrow.{MutBor}
+use Rattle.std.specs.Fn.{Once, FnOnceReturnsAtMut}
+use Rattle.map_model.specs.declared.parts.Body.{Body}
+use Rattle.map_model.specs.declared.parts.Layer.{Layer}
+use Rattle.map_model.specs.Groups.{body_with_layers, change_among, group_in, layer_among}
+
+-- the layer with the id is changed by one call of f, which gives r; what the call leaves stands in its place
+pub record ChangesLayer {F R : Type 0} (g : Once F (MutBor Layer × Unit {0}) (R × (MutBor Layer × Unit {0}))) (f : F) (id room : ℕ) (old : List Layer) (r : R) (new : List Layer) : Type 0 where
+  pub layer : Layer
+  pub left : Layer
+  pub found : layer_among id room old ≡ Some layer
+  pub call : FnOnceReturnsAtMut g f layer r left
+  pub is : new ≡ change_among id room (λ own. left) old
+
+-- the same, of the layers that stand in a group
+pub record ChangesInside {F R : Type 0} (g : Once F (MutBor Layer × Unit {0}) (R × (MutBor Layer × Unit {0}))) (f : F) (id room : ℕ) (old : Body) (r : R) (new : Body) : Type 0 where
+  pub layer : Layer
+  pub left : Layer
+  pub found : option_and_then (layer_among id room) (group_in old) ≡ Some layer
+  pub call : FnOnceReturnsAtMut g f layer r left
+  pub is : new ≡ body_with_layers (change_among id room (λ own. left)) old

@@ -1,0 +1,91 @@
+-- Groups: layers that stand in layers.
+--
+-- Each definition goes down through groups within groups, as many as may still stand inside one another: its room. In a
+-- layer with no room left nothing is looked at but the layer itself.
+use Rattle.std.specs.Prelude.{ℕ, zero, suc, List, [], ◌∷◌, Bool, nat_eq, if◌then◌else◌, Option, Some, None, is_some}
+use Rattle.std.specs.List.{flat_map}
+use Rattle.map_model.specs.declared.limits.TheConstants.{MAX_GROUPS}
+use Rattle.map_model.specs.declared.parts.Body.{Body}
+use Rattle.map_model.specs.declared.parts.Body.TheVariants.{Tiles, Objects, Other, Group, Group'}
+use Rattle.map_model.specs.declared.parts.Body.TheOpen as seen
+use Rattle.map_model.specs.declared.parts.Body.TheViews.{out-Body}
+use Rattle.map_model.specs.declared.parts.Layer.{Layer}
+use Rattle.map_model.specs.Keeping.{layer_level, inner_level}
+use Rattle.map_model.specs.Lists.{change_first, first_some, or_empty}
+
+-- ---- the layers of a group
+-- those of a body, as it is seen from outside
+abbrev pub layers_by : seen.Body-F Body Layer → List Layer
+layers_by (seen.Tiles e cells) = []
+layers_by (seen.Objects os) = []
+layers_by seen.Other = []
+layers_by (seen.Group ls) = ls
+
+-- they; another layer has no list of them
+abbrev pub group_in : Body → Option (List Layer)
+group_in (Tiles e cells) = None
+group_in (Objects os) = None
+group_in Other = None
+group_in (Group' s r) = Some (layers_by (out-Body (Group' s r)))
+
+abbrev pub group_of : Layer → Option (List Layer)
+group_of l = group_in l.body
+
+-- the layers that stand in a layer: none, where it is no group
+abbrev pub inside : Layer → List Layer
+inside l = or_empty (group_of l)
+
+-- a group with f of its layers; another layer as it is
+abbrev pub body_with_layers : (List Layer → List Layer) → Body → Body
+body_with_layers f (Tiles e cells) = Tiles e cells
+body_with_layers f (Objects os) = Objects os
+body_with_layers f Other = Other
+body_with_layers f (Group' s r) = Group (f (layers_by (out-Body (Group' s r))))
+
+abbrev pub layer_with_layers : (List Layer → List Layer) → Layer → Layer
+layer_with_layers f l = record l { body = body_with_layers f l.body }
+
+-- a layer without those that stand in it
+abbrev pub bare : Layer → Layer
+bare l = layer_with_layers (λ ls. []) l
+
+-- ---- layers in drawing order
+-- a layer at this level, and behind it those that stand in it, each with its level and without those in it
+unfoldable pub tree : ℕ → ℕ → Layer → List (ℕ × Layer)
+tree zero level l = (level, bare l) ∷ []
+tree (suc room) level l = (level, bare l) ∷ flat_map (tree room (inner_level level)) (inside l)
+
+-- the same of each layer of a list
+abbrev pub drawn : ℕ → ℕ → List Layer → List (ℕ × Layer)
+drawn room level ls = flat_map (tree room level) ls
+
+-- all layers that stand in a map's layers
+abbrev pub all_drawn : List Layer → List (ℕ × Layer)
+all_drawn ls = drawn MAX_GROUPS layer_level ls
+
+-- ---- the layer with an id
+-- whether a layer has the id
+abbrev pub has_id : ℕ → Layer → Bool
+has_id id l = nat_eq l.id id
+
+-- the first layer with the id, of a layer and those that stand in it
+unfoldable pub find_one : ℕ → ℕ → Layer → Option Layer
+find_one id zero l = if has_id id l then Some l else None
+find_one id (suc room) l = if has_id id l then Some l else first_some (find_one id room) (inside l)
+
+-- the same of a list
+abbrev pub layer_among : ℕ → ℕ → List Layer → Option Layer
+layer_among id room ls = first_some (find_one id room) ls
+
+-- whether a layer has the id, or one that stands in it
+abbrev pub holds : ℕ → ℕ → Layer → Bool
+holds id room l = is_some (find_one id room l)
+
+-- a layer with f of the first layer with the id in its place
+unfoldable pub change_one : ℕ → ℕ → (Layer → Layer) → Layer → Layer
+change_one id zero f l = if has_id id l then f l else l
+change_one id (suc room) f l = if has_id id l then f l else layer_with_layers (change_first (holds id room) (change_one id room f)) l
+
+-- the same of a list
+abbrev pub change_among : ℕ → ℕ → (Layer → Layer) → List Layer → List Layer
+change_among id room f ls = change_first (holds id room) (change_one id room f) ls
