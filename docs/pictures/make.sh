@@ -4,7 +4,7 @@
 #
 #   docs/pictures/make.sh
 #
-# Each session runs over a copy of the example maps: examples/*.session, and what stands on the page of this folder.
+# Empty cells are dark grey. Each session runs over a copy of the example maps: examples/*.session, and what stands on the page of this folder.
 set -eu
 
 cd "$(dirname "$0")/../.."
@@ -31,7 +31,7 @@ run() {
 # The picture of a map, without the layer of doors and areas, which Tiled draws as frames.
 picture() {
     tmxrasterizer --hide-layer Places "$work/$1.tmj" "$work/$1.png"
-    /usr/bin/convert "$work/$1.png" -strip -define png:exclude-chunks=date,time -define png:compression-level=9 "PNG8:docs/pictures/$1.png"
+    /usr/bin/convert "$work/$1.png" -background '#404040' -flatten -strip -define png:exclude-chunks=date,time -define png:compression-level=9 "PNG8:docs/pictures/$1.png"
 }
 
 picture town
