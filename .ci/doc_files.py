@@ -28,8 +28,12 @@ COMMENT = re.compile(r'<!-- transcript\n(.*?)-->', re.DOTALL)
 LINK = re.compile(r'\]\(([^)\s]+)\)')
 # A path of the repository, in text or as code.
 NAMED = re.compile(r'(?<![\w./-])((?:docs|crates|examples|sessions|include|lib|bin|python|\.ci)/[\w./*-]*[\w/*])')
+# A file of a crate, on that crate's page.
+OF_CRATE = re.compile(r'`((?:src|specs|proofs|must-fail)/[\w./]+)`')
+# What stands in parentheses, with code in it or not.
+ASIDE = re.compile(r'\((?:[^()`]|`[^`]*`)*\)')
 # The first words of commands that are run.
-COMMANDS = ('cc', 'cp', 'mkdir', 'rm', 'python3', './tile_editor', 'bin/tile_editor', 'examples/build.sh', './fence')
+COMMANDS = ('cc', 'cp', 'mkdir', 'rm', 'python3', 'PYTHONPATH=python', './tile_editor', 'bin/tile_editor', 'examples/build.sh', './fence')
 NEW_MAP = 'new town 4 3 16 16 town.tsj'
 
 
@@ -49,6 +53,29 @@ class Page:
         for name in NAMED.findall(self.text):
             if '/out/' not in name:
                 yield TOP / name
+
+    def files_of_crate(self):
+        """The files of its crate that the page names."""
+        return OF_CRATE.findall(self.text)
+
+    def refused_lines(self):
+        """Of tables of lines and of what they are read as, those that are refused, each with its code."""
+        for line, read in self.rows_of('Line', 'Read as'):
+            code = re.match(r'\d+', read)
+            if code and line.startswith('`'):
+                yield from ((each, code[0]) for each in CODE.findall(ASIDE.sub('', line)))
+
+    def rows_of(self, first, second):
+        """The first two cells of each row of the tables that have these heads."""
+        inside = False
+        for line in self.text.split('\n'):
+            cells = [cell.strip().replace('\\|', '|') for cell in ROW.split(line)[1:-1]]
+            if cells[:2] == [first, second]:
+                inside = True
+            elif not cells:
+                inside = False
+            elif inside and not cells[0].startswith('---'):
+                yield tuple(cells[:2])
 
     def blocks(self):
         """The lines of each block of `console`."""
@@ -72,6 +99,13 @@ class Page:
             words = command.split()
             if words and words[0] in COMMANDS and len(words) > 1 and not any(re.fullmatch('[A-Z]+', word) for word in words):
                 yield command
+
+    def programs(self):
+        """The indented blocks that are programs in Python."""
+        for block in re.findall(r'(?:^    .*\n|^\n)+', self.text, re.MULTILINE):
+            lines = [line[4:] for line in block.strip('\n').split('\n')]
+            if lines[0].startswith(('from ', 'import ')):
+                yield '\n'.join(lines)
 
     def transcripts(self):
         """The transcripts of the page."""
