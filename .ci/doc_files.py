@@ -33,7 +33,7 @@ OF_CRATE = re.compile(r'`((?:src|specs|proofs|must-fail)/[\w./]+)`')
 # What stands in parentheses, with code in it or not.
 ASIDE = re.compile(r'\((?:[^()`]|`[^`]*`)*\)')
 # The first words of commands that are run.
-COMMANDS = ('cc', 'cp', 'mkdir', 'rm', 'python3', 'PYTHONPATH=python', './tile_editor', 'bin/tile_editor', 'examples/build.sh', './fence')
+COMMANDS = ('cc', 'cp', 'mkdir', 'rm', 'pip', 'python3', 'PYTHONPATH=python', './tile_editor', 'bin/tile_editor', 'examples/build.sh', './fence')
 NEW_MAP = 'new town 4 3 16 16 town.tsj'
 
 
@@ -209,7 +209,7 @@ class Clone:
         script = script.replace('/tmp/maps', str(self.maps)) + 'exit $status\n'
         words = ['bash', '-c', script]
         done = subprocess.run(words, stdin=subprocess.DEVNULL, stdout=subprocess.PIPE, stderr=subprocess.STDOUT, cwd=self.folder, timeout=120,
-                              env={**os.environ, 'PYTHONDONTWRITEBYTECODE': '1'})
+                              env={**os.environ, 'PYTHONDONTWRITEBYTECODE': '1', 'PIP_TARGET': self.top.name + '/installed', 'PIP_NO_INDEX': '1'})
         told = done.stdout.decode().replace(str(self.maps), '/tmp/maps').split(mark + '\n')
         return [text.rstrip('\n') for text in told[:-1]], done.returncode
 
