@@ -46,11 +46,12 @@ class Page:
         self.text = path.read_text()
 
     def links(self):
-        """The files that links lead to, from the folder of the page, and those that the text names, from the top."""
+        """The files that links lead to, from the folder of the page, and those that the text names, from the top. Commands may name
+        files that they make."""
         for link in LINK.findall(self.text):
             if '://' not in link and not link.startswith('#'):
                 yield self.path.parent / link.split('#')[0]
-        for name in NAMED.findall(self.text):
+        for name in NAMED.findall(re.sub(r'^    .*$', '', self.text, flags=re.MULTILINE)):
             if '/out/' not in name:
                 yield TOP / name
 
