@@ -4,6 +4,7 @@
 // standard error how many growths were asked for, how many bytes they asked for together, and how many writes there
 // were. Where READ_STEP is set, no read gives more bytes than that, and no counts are written. A file that takes another's
 // place by `rename` without an `fsync` behind its last write is told of on standard error.
+#include <malloc.h>
 #include <stdio.h>
 #include <stdlib.h>
 #include <sys/stat.h>
@@ -40,8 +41,9 @@ void *malloc(size_t size) {
     return is_refused(size) ? NULL : __libc_malloc(size);
 }
 
+// What a block has room for is no growth, as where the rest of it is given back: a refusal would be told of by nothing.
 void *realloc(void *kept, size_t size) {
-    return is_refused(size) ? NULL : __libc_realloc(kept, size);
+    return size > malloc_usable_size(kept) && is_refused(size) ? NULL : __libc_realloc(kept, size);
 }
 
 ssize_t read(int file, void *buffer, size_t size) {

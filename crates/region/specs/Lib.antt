@@ -1,4 +1,5 @@
 pub mod Cells
 pub mod Equality
 pub mod Runs
+pub mod Stored
 pub mod Walks

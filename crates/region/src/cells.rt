@@ -7,17 +7,18 @@ ghost use Rattle.region.specs.declared.runs.Run.{Run as RunOf};
 use crate::next::next_in;
 use crate::row_order::Rows;
 use crate::runs::Run;
+use crate::stored::StoredRun;
 use crate::walks::{any_has, merged, moved_runs, overlaps, push_run, remainders};
 use std::alloc::{AllocError, Global};
 use std::marker::Model;
 
-/// A set of cells, each a column and a row below 2^32.
+/// A set of cells, each a column and a row below 2^16.
 ///
 /// No call changes its sources, and a call that answers `AllocError` leaves nothing behind.
 #[derive(Drop)]
 pub struct Region {
     // Maximal runs in row order.
-    runs: Vec<Run>,
+    runs: Vec<StoredRun>,
 }
 
 impl Model for Region {
@@ -44,6 +45,15 @@ impl Region {
         }
     }
 
+    // The region of the runs, in no more room than they take. Where the smaller room is refused, they stay where they are.
+    fn of(mut runs: Vec<StoredRun>) -> Region
+        requires { IsMaximalRuns runs.items }
+        ensures { result ≡ set_of runs.items }
+    {
+        runs.shrink_to_fit();
+        Region { runs }
+    }
+
     /// The cells of a rectangle: `w` columns from column `x` on, and `h` rows from row `y` on. With no
     /// column or no row it is the set of no cells.
     ///
@@ -59,11 +69,11 @@ impl Region {
         }
         let mut runs = Vec::with_capacity(alloc, h as usize)?;
         for row in 0..h {
-            let run = Run {
+            let run = StoredRun::of(Run {
                 y: y + row,
                 x,
                 len: w,
-            };
+            });
             push_run(&mut runs, run);
         }
         Ok(Region { runs })
@@ -76,7 +86,7 @@ impl Region {
         ensures { IfOk result (λ r. r ≡ set.union self.now other.now) }
     {
         let runs = merged(alloc, self.runs.as_slice(), other.runs.as_slice())?;
-        Ok(Region { runs })
+        Ok(Region::of(runs))
     }
 
     /// The cells of this set that are not in the other one.
@@ -86,7 +96,7 @@ impl Region {
         ensures { IfOk result (λ r. r ≡ set.difference self.now other.now) }
     {
         let runs = remainders(alloc, self.runs.as_slice(), other.runs.as_slice())?;
-        Ok(Region { runs })
+        Ok(Region::of(runs))
     }
 
     /// The cells that are in this set and in the other one.
@@ -96,12 +106,13 @@ impl Region {
         ensures { IfOk result (λ r. r ≡ set.intersection self.now other.now) }
     {
         let runs = overlaps(alloc, self.runs.as_slice(), other.runs.as_slice())?;
-        Ok(Region { runs })
+        Ok(Region::of(runs))
     }
 
     /// The cells of this set, each moved by `dx` columns and `dy` rows, that then lie in the first `w`
     /// columns and the first `h` rows. A cell that would get a negative column or row is cut off too.
     ///
+    /// These are 4,096 columns and 4,096 rows at most.
     /// Where the room for as many runs as this set has is refused, the answer is `AllocError`.
     pub fn moved_cut(
         &self,
@@ -111,10 +122,12 @@ impl Region {
         w: u32,
         h: u32,
     ) -> Result<Region, AllocError>
+        requires columns { w ≤ 4096 }
+        requires rows { h ≤ 4096 }
         ensures { IfOk result (λ r. (q : ℕ × ℕ) → set.contains r q ≡ in_moved_cut self.now dx dy w h q) }
     {
         let runs = moved_runs(alloc, self.runs.as_slice(), dx, dy, w, h)?;
-        Ok(Region { runs })
+        Ok(Region::of(runs))
     }
 
     /// Whether the cell at column `x` and row `y` is in the set. It takes a number of steps that grows

@@ -10,6 +10,7 @@ mod moves;
 mod next;
 mod row_order;
 mod runs;
+mod stored;
 mod walks;
 
 pub use cells::Region;

@@ -4,27 +4,31 @@ ghost use Rattle.region.specs.Runs.{IsRun};
 ghost use Rattle.region.specs.Walks.{IsMovedPart, in_option, in_moved_run};
 
 use crate::runs::Run;
+use crate::stored::StoredRun;
 
-impl Run {
+impl StoredRun {
     // The run moved by `dx` columns and `dy` rows, as far as it then lies in the first `w` columns and
     // the first `h` rows.
-    pub(crate) fn moved(self, dx: i32, dy: i32, w: u32, h: u32) -> Option<Run>
-        requires { IsRun self }
+    pub(crate) fn moved(self, dx: i32, dy: i32, w: u32, h: u32) -> Option<StoredRun>
+        requires run { IsRun self }
+        requires columns { w ≤ 4096 }
+        requires rows { h ≤ 4096 }
         ensures cells { (q : ℕ × ℕ) → in_option result q ≡ in_moved_run self dx dy w h q }
         ensures part { IfSome result (λ r. IsMovedPart dx dy r self) }
         ensures fits { IfSome result IsRun }
     {
-        let y = moved_row(self.y, dy, h)?;
-        let start = moved_column(self.x, dx, w);
-        let end = moved_column(self.end(), dx, w);
+        let own = self.run();
+        let y = moved_row(own.y, dy, h)?;
+        let start = moved_column(own.x, dx, w);
+        let end = moved_column(own.end(), dx, w);
         if end <= start {
             return None;
         }
-        Some(Run {
+        Some(StoredRun::of(Run {
             y,
             x: start,
             len: end - start,
-        })
+        }))
     }
 }
 

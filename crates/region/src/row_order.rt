@@ -2,12 +2,13 @@ ghost use Rattle.std.specs.Prelude.{◌≡◌};
 ghost use Rattle.std.specs.Iterator.{YieldsFirst, item_count};
 
 use crate::runs::Run;
+use crate::stored::StoredRun;
 use std::marker::Model;
 
 /// The runs of a region that are left to visit, in row order.
 #[derive(Drop)]
 pub struct Rows<'a> {
-    runs: &'a [Run],
+    runs: &'a [StoredRun],
 }
 
 impl<'a> Model for Rows<'a> {
@@ -20,7 +21,7 @@ impl<'a> Model for Rows<'a> {
 }
 
 impl<'a> Rows<'a> {
-    pub(crate) fn over(runs: &'a [Run]) -> Rows<'a>
+    pub(crate) fn over(runs: &'a [StoredRun]) -> Rows<'a>
         ensures { result ≡ runs.entry.now }
     {
         Rows { runs }
@@ -37,6 +38,6 @@ impl<'a> Iterator for Rows<'a> {
     fn next(&mut self) -> Option<Run> {
         let (first, others) = self.runs.split_first()?;
         self.runs = others;
-        Some(*first)
+        Some(first.run())
     }
 }

@@ -7,11 +7,11 @@ ghost use Rattle.region.specs.Walks.{AreSplitAt, EndBeforeFirst, HaveEnded, IsFr
 ghost use Rattle.region.specs.declared.runs.Run.{Run as RunOf};
 ghost use Rattle.std.specs.Option.{option_to_list};
 
-use crate::runs::Run;
+use crate::stored::StoredRun;
 use std::alloc::{AllocError, Global};
 
 // The runs that end before a cell, which stand first, and the others.
-pub(crate) fn split_ended(runs: &[Run], x: u32, y: u32) -> (&[Run], &[Run])
+pub(crate) fn split_ended(runs: &[StoredRun], x: u32, y: u32) -> (&[StoredRun], &[StoredRun])
     requires { IsMaximalRuns runs.now }
     ensures { AreSplitAt (x, y) runs.now result.0.now result.1.now }
 {
@@ -21,7 +21,7 @@ pub(crate) fn split_ended(runs: &[Run], x: u32, y: u32) -> (&[Run], &[Run])
 
 // The same, for runs of which often none or one ends before the cell.
 #[inline(always)]
-fn split_near(runs: &[Run], x: u32, y: u32) -> (&[Run], &[Run])
+fn split_near(runs: &[StoredRun], x: u32, y: u32) -> (&[StoredRun], &[StoredRun])
     requires { IsMaximalRuns runs.now }
     ensures { AreSplitAt (x, y) runs.now result.0.now result.1.now }
 {
@@ -37,7 +37,7 @@ fn split_near(runs: &[Run], x: u32, y: u32) -> (&[Run], &[Run])
 // The same, for runs of which few end before the cell: it takes a number of steps that grows with the logarithm of
 // how many do.
 #[inline(never)]
-fn split_far(runs: &[Run], x: u32, y: u32) -> (&[Run], &[Run])
+fn split_far(runs: &[StoredRun], x: u32, y: u32) -> (&[StoredRun], &[StoredRun])
     requires { IsMaximalRuns runs.now }
     ensures { AreSplitAt (x, y) runs.now result.0.now result.1.now }
 {
@@ -49,9 +49,30 @@ fn split_far(runs: &[Run], x: u32, y: u32) -> (&[Run], &[Run])
     runs.split_at(front.len())
 }
 
-// Puts a run at the end, or joins it to the last one. There is room for it.
+// The runs that end before another one starts, and the others.
 #[inline(always)]
-pub(crate) fn push_run(runs: &mut Vec<Run>, run: Run)
+fn split_at_start(runs: &[StoredRun], other: StoredRun) -> (&[StoredRun], &[StoredRun])
+    requires { IsMaximalRuns runs.now }
+    ensures { AreSplitAt (other.x, other.y) runs.now result.0.now result.1.now }
+{
+    let other = other.run();
+    split_near(runs, other.x, other.y)
+}
+
+// The runs that end by the end of another one, and the others.
+#[inline(always)]
+fn split_at_end(runs: &[StoredRun], other: StoredRun) -> (&[StoredRun], &[StoredRun])
+    requires runs { IsMaximalRuns runs.now }
+    requires other { IsRun other }
+    ensures { AreSplitAt (other.x + other.len, other.y) runs.now result.0.now result.1.now }
+{
+    let other = other.run();
+    split_near(runs, other.end(), other.y)
+}
+
+// Puts a run at the end, or joins it to the last one, which is looked at where it stands. There is room for it.
+#[inline(always)]
+pub(crate) fn push_run(runs: &mut Vec<StoredRun>, run: StoredRun)
     requires room { vec_len runs.old < vec_capacity runs.old }
     requires runs { IsMaximalRuns runs.old.items }
     requires run { IsRun run }
@@ -62,13 +83,14 @@ pub(crate) fn push_run(runs: &mut Vec<Run>, run: Run)
     ensures len { vec_len runs.new ≤ vec_len runs.old + 1 }
     ensures capacity { vec_capacity runs.new ≡ vec_capacity runs.old }
 {
-    match runs.pop() {
+    match runs.as_slice().split_last() {
         None => runs.push_reserved(run),
-        Some(last) => {
+        Some((last, _)) => {
             if last.reaches(run) {
-                runs.push_reserved(last.joined(run));
+                let joined = last.joined(run);
+                let _last = runs.pop();
+                runs.push_reserved(joined);
             } else {
-                runs.push_reserved(last);
                 runs.push_reserved(run);
             }
         }
@@ -77,7 +99,7 @@ pub(crate) fn push_run(runs: &mut Vec<Run>, run: Run)
 
 // Puts a run at the end, if there is one, or joins it to the last one. There is room for it.
 #[inline(always)]
-fn push_part(out: &mut Vec<Run>, part: Option<Run>)
+fn push_part(out: &mut Vec<StoredRun>, part: Option<StoredRun>)
     requires room { vec_len out.old + length (option_to_list part) ≤ vec_capacity out.old }
     requires runs { IsMaximalRuns out.old.items }
     requires part { IfSome part IsRun }
@@ -95,7 +117,7 @@ fn push_part(out: &mut Vec<Run>, part: Option<Run>)
 
 // Puts runs at the end, the first of which may be joined to the last one there. There is room for them.
 #[inline(always)]
-fn push_runs(out: &mut Vec<Run>, runs: &[Run])
+fn push_runs(out: &mut Vec<StoredRun>, runs: &[StoredRun])
     requires room { vec_len out.old + length runs.now ≤ vec_capacity out.old }
     requires first { IsMaximalRuns out.old.items }
     requires second { IsMaximalRuns runs.now }
@@ -116,7 +138,7 @@ fn push_runs(out: &mut Vec<Run>, runs: &[Run])
 
 // What runs have before another run, which the first of them reaches.
 #[inline(always)]
-fn first_before(runs: &[Run], other: Run) -> Option<Run>
+fn first_before(runs: &[StoredRun], other: StoredRun) -> Option<StoredRun>
     requires runs { IsMaximalRuns runs.now }
     requires reaches { ReachesTo (other.x, other.y) runs.now }
     ensures cells { (q : ℕ × ℕ) → in_option result q ≡ (in_runs runs.now q && is_before q other) }
@@ -132,7 +154,11 @@ fn first_before(runs: &[Run], other: Run) -> Option<Run>
 
 // Gives what the runs that end by the end of another one have before it, and answers the runs that are left.
 #[inline(always)]
-fn push_before<'a>(out: &mut Vec<Run>, runs: &'a [Run], other: Run) -> &'a [Run]
+fn push_before<'a>(
+    out: &mut Vec<StoredRun>,
+    runs: &'a [StoredRun],
+    other: StoredRun,
+) -> &'a [StoredRun]
     requires room { vec_len out.old + length runs.now ≤ vec_capacity out.old }
     requires first { IsMaximalRuns out.old.items }
     requires second { IsMaximalRuns runs.now }
@@ -148,16 +174,20 @@ fn push_before<'a>(out: &mut Vec<Run>, runs: &'a [Run], other: Run) -> &'a [Run]
     ensures len { vec_len out.new + length result.now ≤ vec_len out.old + length runs.entry.now }
     ensures capacity { vec_capacity out.old ≤ vec_capacity out.new }
 {
-    let (front, rest) = split_near(runs, other.x, other.y);
+    let (front, rest) = split_at_start(runs, other);
     push_runs(out, front);
-    let (cut, rest) = split_near(rest, other.end(), other.y);
+    let (cut, rest) = split_at_end(rest, other);
     push_part(out, first_before(cut, other));
     rest
 }
 
 // Gives what a run has apart from others, and answers the others without some that end before the run does.
 #[inline(always)]
-fn push_gaps<'a>(out: &mut Vec<Run>, run: Run, others: &'a [Run]) -> &'a [Run]
+fn push_gaps<'a>(
+    out: &mut Vec<StoredRun>,
+    run: StoredRun,
+    others: &'a [StoredRun],
+) -> &'a [StoredRun]
     requires room { vec_len out.old + length others.now < vec_capacity out.old }
     requires first { IsMaximalRuns out.old.items }
     requires second { IsMaximalRuns others.now }
@@ -171,7 +201,7 @@ fn push_gaps<'a>(out: &mut Vec<Run>, run: Run, others: &'a [Run]) -> &'a [Run]
     ensures len { vec_len out.new + length result.now ≤ vec_len out.old + length others.entry.now + 1 }
     ensures capacity { vec_capacity out.old ≤ vec_capacity out.new }
 {
-    let (_, mut rest) = split_near(others, run.x, run.y);
+    let (_, mut rest) = split_at_start(others, run);
     let mut left = run;
     while let Some((cut, behind)) = rest.split_first() {
         push_part(out, left.before(*cut));
@@ -188,7 +218,7 @@ fn push_gaps<'a>(out: &mut Vec<Run>, run: Run, others: &'a [Run]) -> &'a [Run]
 }
 
 // Puts a run at the end, if there is one. There is room for it.
-fn push_some(runs: &mut Vec<Run>, run: Option<Run>)
+fn push_some(runs: &mut Vec<StoredRun>, run: Option<StoredRun>)
     requires room { vec_len runs.old < vec_capacity runs.old }
     ensures items { runs.new.items ≡ runs.old.items ++ option_to_list run }
     ensures len { vec_len runs.new ≤ vec_len runs.old + 1 }
@@ -200,7 +230,11 @@ fn push_some(runs: &mut Vec<Run>, run: Option<Run>)
 }
 
 // The runs of the cells of either list.
-pub(crate) fn merged(alloc: Global, a: &[Run], b: &[Run]) -> Result<Vec<Run>, AllocError>
+pub(crate) fn merged(
+    alloc: Global,
+    a: &[StoredRun],
+    b: &[StoredRun],
+) -> Result<Vec<StoredRun>, AllocError>
     requires first { IsMaximalRuns a.now }
     requires second { IsMaximalRuns b.now }
     ensures cells { IfOk result (λ v. (q : ℕ × ℕ) → in_runs v.items q ≡ (in_runs a.now q || in_runs b.now q)) }
@@ -222,7 +256,7 @@ pub(crate) fn merged(alloc: Global, a: &[Run], b: &[Run]) -> Result<Vec<Run>, Al
 
 // Gives what runs share with another one, which the first of them reaches and by whose end they all end.
 #[inline(always)]
-fn push_within(out: &mut Vec<Run>, runs: &[Run], other: Run)
+fn push_within(out: &mut Vec<StoredRun>, runs: &[StoredRun], other: StoredRun)
     requires room { vec_len out.old + length runs.now ≤ vec_capacity out.old }
     requires first { IsMaximalRuns out.old.items }
     requires second { IsMaximalRuns runs.now }
@@ -244,7 +278,11 @@ fn push_within(out: &mut Vec<Run>, runs: &[Run], other: Run)
 
 // Gives what the runs that end by the end of another one share with it, and answers the runs that are left.
 #[inline(always)]
-fn push_shared<'a>(out: &mut Vec<Run>, runs: &'a [Run], other: Run) -> &'a [Run]
+fn push_shared<'a>(
+    out: &mut Vec<StoredRun>,
+    runs: &'a [StoredRun],
+    other: StoredRun,
+) -> &'a [StoredRun]
     requires room { vec_len out.old + length runs.now ≤ vec_capacity out.old }
     requires first { IsMaximalRuns out.old.items }
     requires second { IsMaximalRuns runs.now }
@@ -259,14 +297,18 @@ fn push_shared<'a>(out: &mut Vec<Run>, runs: &'a [Run], other: Run) -> &'a [Run]
     ensures len { vec_len out.new + length result.now ≤ vec_len out.old + length runs.entry.now }
     ensures capacity { vec_capacity out.old ≤ vec_capacity out.new }
 {
-    let (_, rest) = split_near(runs, other.x, other.y);
-    let (shared, rest) = split_near(rest, other.end(), other.y);
+    let (_, rest) = split_at_start(runs, other);
+    let (shared, rest) = split_at_end(rest, other);
     push_within(out, shared, other);
     rest
 }
 
 // The runs of the cells of both lists.
-pub(crate) fn overlaps(alloc: Global, a: &[Run], b: &[Run]) -> Result<Vec<Run>, AllocError>
+pub(crate) fn overlaps(
+    alloc: Global,
+    a: &[StoredRun],
+    b: &[StoredRun],
+) -> Result<Vec<StoredRun>, AllocError>
     requires first { IsMaximalRuns a.now }
     requires second { IsMaximalRuns b.now }
     ensures cells { IfOk result (λ v. (q : ℕ × ℕ) → in_runs v.items q ≡ (in_runs a.now q && in_runs b.now q)) }
@@ -285,7 +327,11 @@ pub(crate) fn overlaps(alloc: Global, a: &[Run], b: &[Run]) -> Result<Vec<Run>, 
 }
 
 // The runs of the cells of the first list that the second one lacks.
-pub(crate) fn remainders(alloc: Global, a: &[Run], b: &[Run]) -> Result<Vec<Run>, AllocError>
+pub(crate) fn remainders(
+    alloc: Global,
+    a: &[StoredRun],
+    b: &[StoredRun],
+) -> Result<Vec<StoredRun>, AllocError>
     requires first { IsMaximalRuns a.now }
     requires second { IsMaximalRuns b.now }
     ensures cells { IfOk result (λ v. (q : ℕ × ℕ) → in_runs v.items q ≡ (in_runs a.now q && not (in_runs b.now q))) }
@@ -309,13 +355,15 @@ pub(crate) fn remainders(alloc: Global, a: &[Run], b: &[Run]) -> Result<Vec<Run>
 // `dx` columns and `dy` rows.
 pub(crate) fn moved_runs(
     alloc: Global,
-    runs: &[Run],
+    runs: &[StoredRun],
     dx: i32,
     dy: i32,
     w: u32,
     h: u32,
-) -> Result<Vec<Run>, AllocError>
-    requires { IsMaximalRuns runs.now }
+) -> Result<Vec<StoredRun>, AllocError>
+    requires runs { IsMaximalRuns runs.now }
+    requires columns { w ≤ 4096 }
+    requires rows { h ≤ 4096 }
     ensures cells { IfOk result (λ v. (q : ℕ × ℕ) → in_runs v.items q ≡ in_moved_runs runs.now dx dy w h q) }
     ensures runs { IfOk result (λ v. IsMaximalRuns v.items) }
 {
@@ -327,7 +375,7 @@ pub(crate) fn moved_runs(
 }
 
 // Whether a cell is in one of the runs: only the first run that does not end before it can have it.
-pub(crate) fn any_has(runs: &[Run], x: u32, y: u32) -> bool
+pub(crate) fn any_has(runs: &[StoredRun], x: u32, y: u32) -> bool
     requires { IsMaximalRuns runs.now }
     ensures { result ≡ in_runs runs.now (x, y) }
 {

@@ -1,4 +1,4 @@
-use Rattle.std.proofs.Common.{◌≡◌, ◌+◌, ◌-◌, ◌≤◌, ◌<◌, ◌⊎◌, max, min, ◌∷◌, [], List, length, refl, subst, arith}
+use Rattle.std.proofs.Common.{◌≡◌, ◌+◌, ◌-◌, ◌≤◌, ◌<◌, ◌⊎◌, max, min, ◌∷◌, [], List, length, refl, sym, ap, ◌∙◌, subst, arith}
 use Rattle.region.specs.declared.runs.Run.{Run}
 use Rattle.region.specs.Walks.{AreSplitAt}
 use Rattle.region.proofs.NextRuns.{HasNone-nothing, HasNone-other, IsNextRun-cut, parted}
@@ -8,6 +8,9 @@ nothing : (rs : List Run) → length rs ≡ 0 → rs ≡ []
 nothing [] e = refl
 nothing (r ∷ rs) e = absurd (omega arith)
 
+first_kept : (rest behind : List Run) (kept run : Run) → rest ≡ kept ∷ behind → run ≡ kept → rest ≡ run ∷ behind
+first_kept rest behind kept run is same = is ∙ ap (λ s. s ∷ behind) (sym same)
+
 pub returns-in_default-clause-none : goal.returns-in_default-clause-none
 returns-in_default-clause-none c =
     let front = c.split_ended.result.0.now in
@@ -15,19 +18,19 @@ returns-in_default-clause-none c =
     (subst (AreSplitAt (c.args.from, c.args.y) c.args.runs.now front) (nothing c.split_ended.result.1.now c.in_default.ensures.cases) c.split_ended.ensures)
 
 pub end-requires : goal.end-requires
-end-requires c = (parted c.requires c.split_ended.ensures c.in-Some.ensures.cases.0).0.0
+end-requires c = (parted c.requires c.split_ended.ensures (first_kept c.split_ended.result.1.now c.in-Some.field-0-1.now c.in-Some.kept.now c.run-run.result c.in-Some.ensures.cases.0 c.run-run.ensures.run)).0.0
 
 pub returns-then-run-y-clause-none : goal.returns-then-run-y-clause-none
 returns-then-run-y-clause-none c =
-    let r = c.in-Some.run'.now in
-    let parts = parted c.requires c.split_ended.ensures c.in-Some.ensures.cases.0 in
+    let r = c.run-run.result in
+    let parts = parted c.requires c.split_ended.ensures (first_kept c.split_ended.result.1.now c.in-Some.field-0-1.now c.in-Some.kept.now c.run-run.result c.in-Some.ensures.cases.0 c.run-run.ensures.run) in
     let short : (r.y ≡ c.args.y → ⊥) ⊎ ((r.y ≡ c.args.y) × (min (r.x + r.len) c.args.end ≤ max r.x c.args.from)) = rw (← c.end.ensures, ← c.min-end.ensures, ← c.max-start.ensures) c.then-run-y.either in
     HasNone-other c.args.runs.now c.split_ended.result.0.now c.in-Some.field-0-1.now r c.args.y c.args.from parts.0 parts.1 c.args.end short
 
 pub returns-clause-some : goal.returns-clause-some
 returns-clause-some c =
-    let r = c.in-Some.run'.now in
-    let parts = parted c.requires c.split_ended.ensures c.in-Some.ensures.cases.0 in
+    let r = c.run-run.result in
+    let parts = parted c.requires c.split_ended.ensures (first_kept c.split_ended.result.1.now c.in-Some.field-0-1.now c.in-Some.kept.now c.run-run.result c.in-Some.ensures.cases.0 c.run-run.ensures.run) in
     let some : max r.x c.args.from < min (r.x + r.len) c.args.end = rw (← c.end.ensures, ← c.min-end.ensures, ← c.max-start.ensures) c.if-end-start.false in
     IsNextRun-cut c.args.runs.now c.split_ended.result.0.now c.in-Some.field-0-1.now r c.args.y c.args.from parts.0 parts.1 c.args.end c.if-run-y.false some
     (record { y = c.args.y; x = c.max-start.result; len = c.min-end.result - c.max-start.result }) refl c.max-start.ensures (omega (arith, c.end.ensures, c.min-end.ensures, c.max-start.ensures))

@@ -2,7 +2,6 @@ use Rattle.std.proofs.Common.{◌≡◌, ◌||◌, Bool, false, [], refl, ◌∙
 use mir.Syntax.{w32}
 use mir.Val.{of_z, to_z}
 use Rattle.std.proofs.lemmas.Int.{to_z-of_z}
-use Rattle.region.specs.declared.runs.Run.{Run}
 use Rattle.region.specs.Runs.{in_runs}
 use Rattle.region.proofs.Moving.{clear-none, moved_order, moved_clear, moved_step}
 use Rattle.region.proofs.Pushes.{run_at}
@@ -18,23 +17,24 @@ loop-run-init c =
       cells = λ q. rw empty refl;
     }
 
-pub moved-requires : goal.moved-requires
-moved-requires c = run_at c.args.runs.now c.loop-run.run-index _ c.loop-run-test.true c.requires
+pub moved-requires-clause-run : goal.moved-requires-clause-run
+moved-requires-clause-run c = rw c.run-item.is (run_at c.args.runs.now c.loop-run.run-index c.run-item.result c.loop-run-test.true c.requires.runs)
 
 pub loop-run-preserved : goal.loop-run-preserved
 loop-run-preserved c =
-    let none : Run = record { y = 0; x = 0; len = 0 } in
+    let item = c.run-item.result in
     let inv = c.loop-run.invariant in
-    let moved = c.moved.ensures in
+    let part = rw c.run-item.is at c.moved.ensures.part in
+    let fits = c.moved.ensures.fits in
     let pushed = c.push_some.ensures in
     record {
       room = omega (arith, inv.room, pushed.len, pushed.capacity, c.loop-run-test.true);
-      order = moved_order _ _ c.args.runs.now c.loop-run.out.items c.push_some.new.runs.items c.loop-run.run-index none c.moved.result c.loop-run-test.true c.requires pushed.items
-          moved.part moved.fits inv.order inv.clear;
-      clear = rw add-one (moved_clear _ _ c.args.runs.now c.loop-run.out.items c.push_some.new.runs.items c.loop-run.run-index none c.moved.result c.loop-run-test.true c.requires pushed.items
-          moved.part moved.fits inv.order inv.clear);
-      cells = λ q. rw add-one (moved_step _ _ c.args.runs.now c.loop-run.out.items c.push_some.new.runs.items c.loop-run.run-index none c.moved.result c.loop-run-test.true c.requires pushed.items
-          moved.part moved.fits inv.order inv.clear c.args.w c.args.h q (moved.cells q) ∙ inv.cells q);
+      order = moved_order _ _ c.args.runs.now c.loop-run.out.items c.push_some.new.runs.items c.loop-run.run-index item c.moved.result c.loop-run-test.true c.requires.runs pushed.items
+          part fits inv.order inv.clear;
+      clear = rw add-one (moved_clear _ _ c.args.runs.now c.loop-run.out.items c.push_some.new.runs.items c.loop-run.run-index item c.moved.result c.loop-run-test.true c.requires.runs pushed.items
+          part fits inv.order inv.clear);
+      cells = λ q. rw add-one (moved_step _ _ c.args.runs.now c.loop-run.out.items c.push_some.new.runs.items c.loop-run.run-index item c.moved.result c.loop-run-test.true c.requires.runs pushed.items
+          part fits inv.order inv.clear c.args.w c.args.h q (rw c.run-item.is at (c.moved.ensures.cells q)) ∙ inv.cells q);
     }
 
 or-false : (b : Bool) → b ≡ (b || false)

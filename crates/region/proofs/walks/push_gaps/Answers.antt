@@ -8,18 +8,18 @@ use Rattle.region.proofs.walks.push_gaps.Goals as goal
 
 pub loop-cut-init : goal.loop-cut-init
 loop-cut-init c =
-    let front = c.split_near.result.0.now in
-    let rest = c.split_near.result.1.now in
+    let front = c.split_at_start.result.0.now in
+    let rest = c.split_at_start.result.1.now in
     let run = c.args.run in
     record {
-      room = omega (arith, length-append front rest, ap length c.split_near.ensures.whole);
+      room = omega (arith, length-append front rest, ap length c.split_at_start.ensures.whole);
       capacity = omega arith;
       runs = c.requires.first;
-      others = IsMaximalRuns-back front rest (rw c.split_near.ensures.whole at c.requires.second);
+      others = IsMaximalRuns-back front rest (rw c.split_at_start.ensures.whole at c.requires.second);
       part = part_itself run c.requires.run;
       order = c.requires.order;
-      cells = λ q. start_cells c.args.others.now front rest run _ q c.split_near.ensures;
-      later = λ q from. sym (in_runs-from q (run.x, run.y) c.args.others.now front rest c.split_near.ensures (end_to_start run q from));
+      cells = λ q. start_cells c.args.others.now front rest run _ q c.split_at_start.ensures;
+      later = λ q from. sym (in_runs-from q (run.x, run.y) c.args.others.now front rest c.split_at_start.ensures (end_to_start run q from));
     }
 
 pub push_part-requires-clause-order : goal.push_part-requires-clause-order

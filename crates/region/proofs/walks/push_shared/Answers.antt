@@ -1,4 +1,4 @@
-use Rattle.std.proofs.Common.{◌≡◌, Bool, false, ◌||◌, ◌&&◌, ◌++◌, ◌∙◌, arith}
+use Rattle.std.proofs.Common.{◌≡◌, Bool, ◌+◌, refl, false, ◌||◌, ◌&&◌, ◌++◌, ◌∙◌, arith}
 use Rattle.region.specs.Runs.{IsMaximalRuns, in_runs}
 use Rattle.region.proofs.Before.{whole, taken, shared_cells}
 use Rattle.region.proofs.Order.{IsMaximalRuns-front, IsMaximalRuns-back}
@@ -6,50 +6,50 @@ use Rattle.region.proofs.Shared.{from_first, from_front, front_ended}
 use Rattle.region.proofs.Splits.{HaveEnded-back}
 use Rattle.region.proofs.walks.push_shared.Goals as goal
 
-pub split_near-requires-2 : goal.split_near-requires-2
-split_near-requires-2 c = IsMaximalRuns-back c.split_near.result.0.now c.split_near.result.1.now (rw c.split_near.ensures.whole at c.requires.second)
+pub split_at_end-requires-clause-runs : goal.split_at_end-requires-clause-runs
+split_at_end-requires-clause-runs c = IsMaximalRuns-back c.split_at_start.result.0.now c.split_at_start.result.1.now (rw c.split_at_start.ensures.whole at c.requires.second)
 
 pub push_within-requires-clause-second : goal.push_within-requires-clause-second
 push_within-requires-clause-second c =
-    IsMaximalRuns-front c.split_near-2.result.0.now c.split_near-2.result.1.now
-    (rw c.split_near-2.ensures.whole at (IsMaximalRuns-back c.split_near.result.0.now c.split_near.result.1.now (rw c.split_near.ensures.whole at c.requires.second)))
+    IsMaximalRuns-front c.split_at_end.result.0.now c.split_at_end.result.1.now
+    (rw c.split_at_end.ensures.whole at (IsMaximalRuns-back c.split_at_start.result.0.now c.split_at_start.result.1.now (rw c.split_at_start.ensures.whole at c.requires.second)))
 
 pub push_within-requires-clause-order : goal.push_within-requires-clause-order
 push_within-requires-clause-order c q from_other from_shared =
-    let front = c.split_near.result.0.now in
-    let shared = c.split_near-2.result.0.now in
-    let rest = c.split_near-2.result.1.now in
-    let is = whole c.args.runs.now front shared c.split_near.result.1.now rest c.args.other c.end.result c.requires.other c.end.ensures c.split_near.ensures c.split_near-2.ensures in
+    let front = c.split_at_start.result.0.now in
+    let shared = c.split_at_end.result.0.now in
+    let rest = c.split_at_end.result.1.now in
+    let is = whole c.args.runs.now front shared c.split_at_start.result.1.now rest c.args.other (c.args.other.x + c.args.other.len) c.requires.other refl c.split_at_start.ensures c.split_at_end.ensures in
     let from_all = from_first front (shared ++ rest) q (rw is at c.requires.second) (from_front shared rest q from_shared) in
     c.requires.order q from_other (rw is from_all)
 
 pub returns-clause-cells : goal.returns-clause-cells
 returns-clause-cells c q =
-    shared_cells c.args.runs.now c.split_near.result.0.now c.split_near-2.result.0.now c.split_near.result.1.now c.split_near-2.result.1.now c.args.other c.end.result c.requires.other
-    c.end.ensures c.split_near.ensures c.split_near-2.ensures c.args.out.now.items c.push_within.new.out.items q (c.push_within.ensures.cells q)
+    shared_cells c.args.runs.now c.split_at_start.result.0.now c.split_at_end.result.0.now c.split_at_start.result.1.now c.split_at_end.result.1.now c.args.other (c.args.other.x + c.args.other.len) c.requires.other
+    refl c.split_at_start.ensures c.split_at_end.ensures c.args.out.now.items c.push_within.new.out.items q (c.push_within.ensures.cells q)
 
 pub returns-clause-within : goal.returns-clause-within
-returns-clause-within c q outside = c.push_within.ensures.cells q ∙ rw outside (none (in_runs c.args.out.now.items q) (in_runs c.split_near-2.result.0.now q))
+returns-clause-within c q outside = c.push_within.ensures.cells q ∙ rw outside (none (in_runs c.args.out.now.items q) (in_runs c.split_at_end.result.0.now q))
   where
     none : (o s : Bool) → (o || (s && false)) ≡ o
     none o s = grind arith
 
 pub returns-clause-left : goal.returns-clause-left
 returns-clause-left c =
-    let front = c.split_near.result.0.now in
-    let shared = c.split_near-2.result.0.now in (
+    let front = c.split_at_start.result.0.now in
+    let shared = c.split_at_end.result.0.now in (
       front ++ shared,
-      taken c.args.runs.now front shared c.split_near.result.1.now c.split_near-2.result.1.now c.args.other c.end.result c.requires.other c.end.ensures c.split_near.ensures
-          c.split_near-2.ensures,
+      taken c.args.runs.now front shared c.split_at_start.result.1.now c.split_at_end.result.1.now c.args.other (c.args.other.x + c.args.other.len) c.requires.other refl c.split_at_start.ensures
+          c.split_at_end.ensures,
     )
 
 pub returns-clause-order : goal.returns-clause-order
 returns-clause-order c q from_other from_rest =
-    let front = c.split_near.result.0.now in
-    let shared = c.split_near-2.result.0.now in
-    let rest = c.split_near-2.result.1.now in
+    let front = c.split_at_start.result.0.now in
+    let shared = c.split_at_end.result.0.now in
+    let rest = c.split_at_end.result.1.now in
     let is =
-    (taken c.args.runs.now front shared c.split_near.result.1.now rest c.args.other c.end.result c.requires.other c.end.ensures c.split_near.ensures c.split_near-2.ensures).whole in
+    (taken c.args.runs.now front shared c.split_at_start.result.1.now rest c.args.other (c.args.other.x + c.args.other.len) c.requires.other refl c.split_at_start.ensures c.split_at_end.ensures).whole in
     let runs : IsMaximalRuns ((front ++ shared) ++ rest) = rw is at c.requires.second in
     let from_all = from_first (front ++ shared) rest q runs from_rest in
     c.push_within.ensures.ended q (c.requires.order q from_other (rw is from_all)) (HaveEnded-back front shared q (front_ended (front ++ shared) rest q runs from_rest))
