@@ -22,6 +22,7 @@ pub mod TilesetChanges
 pub mod TilesetLemmas
 pub mod Turns
 pub mod Walks
+pub mod Ways
 pub mod TreeWalks
 pub mod FirstChanges
 pub mod PropertyKeeps

@@ -19,7 +19,7 @@ use Rattle.map_model.specs.WellFormed.{IsWellFormed, ids_of}
 use Rattle.map_model.proofs.Changes.{slice_get-Some}
 use Rattle.map_model.proofs.Listings.{Each-front, Each-rest, Distinct-front, Distinct-rest, Apart-pieces}
 use Rattle.map_model.proofs.Trees.{Stands, find_one-is, stands_one, stands, tree-is}
-use Rattle.map_model.proofs.Walks.{find_one-own}
+use Rattle.map_model.proofs.Walks.{holds-own}
 
 -- ---- ids in a tree
 -- what each id of the list has, the id of the layer that stands in it has
@@ -40,16 +40,34 @@ found-none id room level l h = by_found (find_one id room l) refl
     by_found None e = refl
     by_found (Some k) e = absurd (stands-id (λ n. n ≢ id) (stands_one id room level k l e) h refl)
 
--- what each id has, that of a layer of the list has
-Each-tree_id : (P : ℕ → Type 0) (room level : ℕ) (ls : List Layer) (k : ℕ) (l : Layer) → slice_get ls k ≡ Some l → Each P (flat_map ids_of (drawn room level ls)) → P l.id
-Each-tree_id P room level [] zero l e h = cc
-Each-tree_id P room level [] (suc k) l e h = cc
-Each-tree_id P room level (x ∷ xs) zero l e h =
+-- what each id has, that has which a layer of the list has or holds
+pub Each-held : (P : ℕ → Type 0) (id room level : ℕ) (ls : List Layer) (k : ℕ) (l : Layer) → slice_get ls k ≡ Some l → holds id room l ≡ true → Each P (flat_map ids_of (drawn room level ls)) → P id
+Each-held P id room level [] zero l e held h = cc
+Each-held P id room level [] (suc k) l e held h = cc
+Each-held P id room level (x ∷ xs) zero l e held h = by_found (find_one id room x) refl (ap (holds id room) same ∙ held)
+  where
+    same : x ≡ l
+    same = cc
+
+    own : Each P (flat_map ids_of (tree room level x))
+    own = Each-front P (flat_map ids_of (tree room level x)) (flat_map ids_of (drawn room level xs)) (rw (flat_map-append ids_of (tree room level x) (drawn room level xs)) at h)
+
+    by_found : (o : Option Layer) → find_one id room x ≡ o → is_some (find_one id room x) ≡ true → P id
+    by_found None q some = let none : false ≡ true = rw q at some in cc
+    by_found (Some found) q some = stands-id P (stands_one id room level found x q) own
+Each-held P id room level (x ∷ xs) (suc k) l e held h =
+    Each-held P id room level xs k l e held (Each-rest P (flat_map ids_of (tree room level x)) (flat_map ids_of (drawn room level xs)) (rw (flat_map-append ids_of (tree room level x) (drawn room level xs)) at h))
+
+-- the ids of a layer of the list are distinct
+pub Distinct-tree : (room level : ℕ) (ls : List Layer) (k : ℕ) (l : Layer) → slice_get ls k ≡ Some l → Distinct (flat_map ids_of (drawn room level ls)) → Distinct (flat_map ids_of (tree room level l))
+Distinct-tree room level [] zero l e h = cc
+Distinct-tree room level [] (suc k) l e h = cc
+Distinct-tree room level (x ∷ xs) zero l e h =
     let same : x ≡ l = cc in
-    let own = Each-front P (flat_map ids_of (tree room level x)) (flat_map ids_of (drawn room level xs)) (rw (flat_map-append ids_of (tree room level x) (drawn room level xs)) at h) in
-    subst (λ (y : Layer). P y.id) same (rw (tree-is room level x) at own).0
-Each-tree_id P room level (x ∷ xs) (suc k) l e h =
-    Each-tree_id P room level xs k l e (Each-rest P (flat_map ids_of (tree room level x)) (flat_map ids_of (drawn room level xs)) (rw (flat_map-append ids_of (tree room level x) (drawn room level xs)) at h))
+    subst (λ (y : Layer). Distinct (flat_map ids_of (tree room level y))) same
+    (Distinct-front (flat_map ids_of (tree room level x)) (flat_map ids_of (drawn room level xs)) (rw (flat_map-append ids_of (tree room level x) (drawn room level xs)) at h))
+Distinct-tree room level (x ∷ xs) (suc k) l e h =
+    Distinct-tree room level xs k l e (Distinct-rest (flat_map ids_of (tree room level x)) (flat_map ids_of (drawn room level xs)) (rw (flat_map-append ids_of (tree room level x) (drawn room level xs)) at h))
 
 -- an id of the second list is none of the first one's
 Each-apart_from : (id : ℕ) (ns ids : List ℕ) → ((n : ℕ) → Each (λ i. n ≢ i) ids → n ≢ id) → Each (λ n. Each (λ i. n ≢ i) ids) ns → Each (λ n. n ≢ id) ns
@@ -190,23 +208,26 @@ module _ {X : Type 0} (id_of : X → ℕ) where
       position_from-zero (λ y. nat_eq (id_of y) (id_of x)) xs ∙ position_from-only xs 0 k x e h ∙ ap Some here
 
 -- ---- the first layer that has an id, or one within it
-position_from-holder : (id room level : ℕ) (ls : List Layer) (i k : ℕ) (l : Layer) → slice_get ls k ≡ Some l → l.id ≡ id → Distinct (flat_map ids_of (drawn room level ls)) → position_from (holds id room) i ls ≡ Some (i + k)
-position_from-holder id room level [] i zero l e is h = cc
-position_from-holder id room level [] i (suc k) l e is h = cc
-position_from-holder id room level (x ∷ xs) i zero l e is h =
+position_from-held : (id room level : ℕ) (ls : List Layer) (i k : ℕ) (l : Layer) → slice_get ls k ≡ Some l → holds id room l ≡ true → Distinct (flat_map ids_of (drawn room level ls)) → position_from (holds id room) i ls ≡ Some (i + k)
+position_from-held id room level [] i zero l e held h = cc
+position_from-held id room level [] i (suc k) l e held h = cc
+position_from-held id room level (x ∷ xs) i zero l e held h =
     let same : x ≡ l = cc in
-    let own : holds id room x ≡ true = ap is_some (sym (find_one-own id room x (ap (λ (y : Layer). y.id) same ∙ is))) in
+    let own : holds id room x ≡ true = ap (holds id room) same ∙ held in
     let here : i ≡ i + 0 = omega arith in
     rw own (ap Some here)
-position_from-holder id room level (x ∷ xs) i (suc k) l e is h =
+position_from-held id room level (x ∷ xs) i (suc k) l e held h =
     let pieces : Distinct (flat_map ids_of (tree room level x) ++ flat_map ids_of (drawn room level xs)) = rw (flat_map-append ids_of (tree room level x) (drawn room level xs)) at h in
     let apart = Apart-pieces (flat_map ids_of (tree room level x)) (flat_map ids_of (drawn room level xs)) pieces in
-    let others = Each-apart_from id (flat_map ids_of (tree room level x)) (flat_map ids_of (drawn room level xs)) (λ n a. subst (λ m. n ≢ m) is (Each-tree_id (λ m. n ≢ m) room level xs k l e a)) apart in
+    let others = Each-apart_from id (flat_map ids_of (tree room level x)) (flat_map ids_of (drawn room level xs)) (λ n a. Each-held (λ m. n ≢ m) id room level xs k l e held a) apart in
     let passed : holds id room x ≡ false = ap is_some (found-none id room level x others) in
     let here : (i + 1) + k ≡ i + suc k = omega arith in
-    rw passed (position_from-holder id room level xs (i + 1) k l e is (Distinct-rest (flat_map ids_of (tree room level x)) (flat_map ids_of (drawn room level xs)) pieces) ∙ ap Some here)
+    rw passed (position_from-held id room level xs (i + 1) k l e held (Distinct-rest (flat_map ids_of (tree room level x)) (flat_map ids_of (drawn room level xs)) pieces) ∙ ap Some here)
+
+pub position-held : (id room level : ℕ) (ls : List Layer) (k : ℕ) (l : Layer) → slice_get ls k ≡ Some l → holds id room l ≡ true → Distinct (flat_map ids_of (drawn room level ls)) → position (holds id room) ls ≡ Some k
+position-held id room level ls k l e held h =
+    let here : 0 + k ≡ k = omega arith in
+    position_from-zero (holds id room) ls ∙ position_from-held id room level ls 0 k l e held h ∙ ap Some here
 
 pub position-holder : (id room level : ℕ) (ls : List Layer) (k : ℕ) (l : Layer) → slice_get ls k ≡ Some l → l.id ≡ id → Distinct (flat_map ids_of (drawn room level ls)) → position (holds id room) ls ≡ Some k
-position-holder id room level ls k l e is h =
-    let here : 0 + k ≡ k = omega arith in
-    position_from-zero (holds id room) ls ∙ position_from-holder id room level ls 0 k l e is h ∙ ap Some here
+position-holder id room level ls k l e is h = position-held id room level ls k l e (sym (holds-own id room l is)) h

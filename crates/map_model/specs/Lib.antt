@@ -23,3 +23,4 @@ pub mod Lending
 pub mod Steps
 pub mod Given
 pub mod Groups
+pub mod Ways

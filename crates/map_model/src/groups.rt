@@ -1,7 +1,9 @@
 // Layers in groups: where one stands, and how it is reached and changed.
-ghost use Rattle.std.specs.Prelude.{◌≡◌, ◌^◌, ◌<◌, Some, IfSome, IsSome, IsSomeAnd, length, option_and_then, position, slice_get};
+ghost use Rattle.std.specs.Prelude.{◌≡◌, ◌^◌, ◌<◌, ◌≤◌, ◌+◌, [], Some, IfSome, IsFalse, IsSome, IsSomeAnd, IsTrue, is_some, length, option_and_then, position, slice_get};
 ghost use Rattle.std.specs.Fn.{FnOnceReturnsAtMut, FnOnceTakesAtMut};
 ghost use Rattle.std.specs.Option.{option_copied};
+ghost use mathlib.Core.List.{reverse};
+ghost use Rattle.arrayvec.specs.ArrayVec.{array_vec_len};
 ghost use Rattle.map_model.specs.declared.limits.TheConstants.{MAX_GROUPS};
 ghost use Rattle.map_model.specs.declared.parts.Layer.{Layer};
 ghost use Rattle.map_model.specs.Changing.{ChangesInside, ChangesLayer};
@@ -9,12 +11,20 @@ ghost use Rattle.map_model.specs.Groups.{drawn, find_one, group_in, has_id, hold
 ghost use Rattle.map_model.specs.Keeping.{layer_level};
 ghost use Rattle.map_model.specs.Layers.{place_among, place_inside};
 ghost use Rattle.map_model.specs.Lists.{Distinct, first_some};
+ghost use Rattle.map_model.specs.Ways.{IsWay, LeadsFrom, ReachesIn};
 ghost use Rattle.map_model.specs.WellFormed.{layer_ids};
 
 use crate::limits::MAX_GROUPS;
 use crate::parts::{Body, Layer};
 use crate::place::LayerPlace;
+use arrayvec::ArrayVec;
 use link_chain::Chain;
+
+/// The most places on the way to a layer: one in each group, and one among the map's layers.
+const MAX_PLACES: usize = MAX_GROUPS + 1;
+
+// The places on the way to a layer, those in the innermost group first.
+type Way = ArrayVec<usize, MAX_PLACES>;
 
 impl Body {
     /// The layers of a group, or `None` for another kind of layer.
@@ -30,27 +40,39 @@ impl Body {
     }
 }
 
-// The place of the first of some layers that has the id, or in which one stands that has it.
-#[cycle(holders)]
-fn holder_place(layers: &Chain<Layer>, id: u32, room: usize) -> Option<usize>
-    ensures { result ≡ position (holds id room) layers.now }
+// Finds the way to the layer with an id, where there is one: the place in the innermost group first, and the place among these
+// layers last.
+#[cycle(ways)]
+fn find_way(layers: &Chain<Layer>, id: u32, room: usize, way: &mut Way) -> bool
+    requires empty { way.old.items ≡ [] }
+    requires room { room ≤ MAX_GROUPS }
+    ensures there { result ≡ is_some (position (holds id room) layers.now) }
+    ensures way { IsTrue result → IsWay id room (reverse way.new.items) layers.now }
+    ensures none { IsFalse result → way.new.items ≡ [] }
+    ensures short { array_vec_len way.new ≤ room + 1 }
 {
     // That a length is a `usize` bounds the places.
     if layers.len() == 0 {
-        return None;
+        return false;
     }
     for (at, layer) in layers.iter().enumerate() {
-        if holds_id(layer, id, room) {
-            return Some(at);
+        if find_way_from(layer, id, room, way) {
+            way.push(at);
+            return true;
         }
     }
-    None
+    false
 }
 
-// Whether a layer has the id, or one that stands in it.
-#[cycle(holders)]
-fn holds_id(layer: &Layer, id: u32, room: usize) -> bool
-    ensures { result ≡ holds id room layer.now }
+// Finds the way from a layer, which may have the id itself.
+#[cycle(ways)]
+fn find_way_from(layer: &Layer, id: u32, room: usize, way: &mut Way) -> bool
+    requires empty { way.old.items ≡ [] }
+    requires room { room ≤ MAX_GROUPS }
+    ensures there { result ≡ holds id room layer.now }
+    ensures way { IsTrue result → LeadsFrom id room (reverse way.new.items) layer.now }
+    ensures none { IsFalse result → way.new.items ≡ [] }
+    ensures short { array_vec_len way.new ≤ room }
 {
     if layer.id == id {
         return true;
@@ -59,7 +81,7 @@ fn holds_id(layer: &Layer, id: u32, room: usize) -> bool
         return false;
     }
     match layer.body.layers() {
-        Some(inside) => holder_place(inside, id, room - 1).is_some(),
+        Some(inside) => find_way(inside, id, room - 1, way),
         None => false,
     }
 }
@@ -163,24 +185,25 @@ fn count_under(layer: &Layer, room: usize) -> usize
     }
 }
 
-// Changes the layer with an id, in layers that may have so many groups in one another.
+// Changes the layer to which a way leads, from layers that may have so many groups in one another.
 #[cycle(change)]
-fn change_in<R, F: FnOnce(&mut Layer) -> R>(
+fn change_along<R, F: FnOnce(&mut Layer) -> R>(
     layers: &mut Chain<Layer>,
+    way: &[usize],
     id: u32,
     room: usize,
     change: F,
 ) -> R
-    requires there { IsSome (layer_among id room layers.old) }
+    requires way { IsWay id room (reverse way.now) layers.old }
     requires callable { (l : Layer) → layer_among id room layers.old ≡ Some l → FnOnceTakesAtMut F.FnOnce change l }
     ensures { ChangesLayer F.FnOnce change id room layers.old result layers.new }
 {
-    let at = holder_place(layers, id, room).unwrap();
-    let layer = layers.get_mut(at);
+    let (at, rest) = way.split_last().unwrap();
+    let layer = layers.get_mut(*at);
     if layer.id == id {
         return changed(layer, change);
     }
-    change_inside(&mut layer.body, id, room - 1, change)
+    change_inside(&mut layer.body, rest, id, room - 1, change)
 }
 
 // Changes a layer.
@@ -192,24 +215,65 @@ fn changed<R, F: FnOnce(&mut Layer) -> R>(layer: &mut Layer, change: F) -> R
     change(layer)
 }
 
-// The same of the layers that stand in a group.
+// The same from the layers that stand in a group.
 #[cycle(change)]
 fn change_inside<R, F: FnOnce(&mut Layer) -> R>(
     body: &mut Body,
+    way: &[usize],
     id: u32,
     room: usize,
     change: F,
 ) -> R
-    requires there { IsSomeAnd (group_in body.old) (λ ls. IsSome (layer_among id room ls)) }
+    requires way { IsSomeAnd (group_in body.old) (IsWay id room (reverse way.now)) }
     requires callable { (l : Layer) → option_and_then (layer_among id room) (group_in body.old) ≡ Some l → FnOnceTakesAtMut F.FnOnce change l }
     ensures { ChangesInside F.FnOnce change id room body.old result body.new }
 {
     match body {
-        Body::Group(layers) => change_in(layers, id, room, change),
+        Body::Group(layers) => change_along(layers, way, id, room, change),
         Body::Tiles(_, _) => unreachable!(),
         Body::Objects(_) => unreachable!(),
         Body::Other => unreachable!(),
     }
+}
+
+// Finds the way to the layer with an id, where it leads by the places that were last changed.
+#[cycle(near)]
+fn find_way_here(layers: &Chain<Layer>, id: u32, room: usize, way: &mut Way) -> bool
+    requires empty { way.old.items ≡ [] }
+    requires room { room ≤ MAX_GROUPS }
+    ensures way { IsTrue result → ReachesIn id (reverse way.new.items) layers.now }
+    ensures none { IsFalse result → way.new.items ≡ [] }
+    ensures short { array_vec_len way.new ≤ room + 1 }
+{
+    let Some((at, layer)) = layers.here() else {
+        return false;
+    };
+    if layer.id != id {
+        let Some(inside) = layer.body.layers() else {
+            return false;
+        };
+        if room == 0 || !find_way_here(inside, id, room - 1, way) {
+            return false;
+        }
+    }
+    way.push(at);
+    true
+}
+
+// Changes the layer with an id, to which the way is found first. Out of line, so that a change where the layers were last
+// changed is inlined.
+#[inline(never)]
+fn change_found<R, F: FnOnce(&mut Layer) -> R>(layers: &mut Chain<Layer>, id: u32, change: F) -> R
+    requires distinct { Distinct (layer_ids layers.old) }
+    requires there { IsSome (layer_among id MAX_GROUPS layers.old) }
+    requires callable { (l : Layer) → layer_among id MAX_GROUPS layers.old ≡ Some l → FnOnceTakesAtMut F.FnOnce change l }
+    ensures { ChangesLayer F.FnOnce change id MAX_GROUPS layers.old result layers.new }
+{
+    let mut way = Way::new();
+    if !find_way_here(layers, id, MAX_GROUPS, &mut way) {
+        find_way(layers, id, MAX_GROUPS, &mut way);
+    }
+    change_along(layers, way.as_slice(), id, MAX_GROUPS, change)
 }
 
 /// Changes the layer with an id: at once where the layers were last changed there, or else by a walk.
@@ -225,7 +289,7 @@ pub fn change_layer<R, F: FnOnce(&mut Layer) -> R>(
 {
     match place_here(layers, id) {
         Some(at) => changed(layers.get_mut(at), change),
-        None => change_in(layers, id, MAX_GROUPS, change),
+        None => change_found(layers, id, change),
     }
 }
 

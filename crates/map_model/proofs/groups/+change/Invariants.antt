@@ -1,8 +1,8 @@
 use Rattle.std.proofs.Common.{◌+◌, ◌*◌}
 use Rattle.map_model.proofs.groups.+change.Given as goal
 
-abbrev pub decreases-change_in : goal.decreases-change_in
-decreases-change_in g a = 2 * a.room
+abbrev pub decreases-change_along : goal.decreases-change_along
+decreases-change_along g a = 2 * a.room
 
 abbrev pub decreases-change_inside : goal.decreases-change_inside
 decreases-change_inside g a = 2 * a.room + 1

@@ -1,0 +1,117 @@
+-- Ways to a layer within groups, one step at a time.
+use Rattle.std.proofs.Common.{◌≡◌, ◌≢◌, ℕ, zero, suc, ◌+◌, ◌-◌, ◌<◌, List, [], ◌∷◌, ◌++◌, length, drop, Option, Some, None, IsSomeAnd, is_some, true, ◌≤◌, refl, sym, ap, ◌∙◌, arith}
+use mathlib.Core.List.{reverse}
+use Rattle.std.specs.List.{flat_map, position, slice_get}
+use Rattle.std.proofs.lemmas.List.{reverse-append}
+use Rattle.std.proofs.lemmas.Option.{slice_get_within}
+use Rattle.map_model.specs.declared.parts.Layer.{Layer}
+use Rattle.map_model.specs.Groups.{drawn, group_of, holds, inside, tree}
+use Rattle.map_model.specs.Keeping.{inner_level}
+use Rattle.map_model.specs.Lists.{Distinct, or_empty}
+use Rattle.map_model.specs.Ways.{IsWay, LeadsFrom, Reaches, ReachesIn}
+use Rattle.map_model.specs.WellFormed.{ids_of}
+use Rattle.map_model.proofs.Places.{Distinct-tree, Each-held, position-held}
+use Rattle.map_model.proofs.Trees.{tree-is}
+use Rattle.map_model.proofs.Walks.{holds-group, holds-own}
+
+-- the first of the items that are left behind n of them
+pub at_drop : (ls : List Layer) (n : ℕ) (l : Layer) (rest : List Layer) → l ∷ rest ≡ drop n ls → (slice_get ls n ≡ Some l) × (rest ≡ drop (n + 1) ls)
+at_drop [] zero l rest e = absurd (cc e)
+at_drop [] (suc n) l rest e = absurd (cc e)
+at_drop (k ∷ ls) zero l rest e = let first : l ≡ k = cc e in let others : rest ≡ ls = cc e in (ap Some (sym first), others)
+at_drop (k ∷ ls) (suc n) l rest e = let same : suc n + 1 ≡ suc (n + 1) = omega arith in rw same (at_drop ls n l rest e)
+
+-- no place leads further from the layer with the id
+pub leads-own : (id room : ℕ) (l : Layer) (way : List ℕ) → way ≡ [] → l.id ≡ id → LeadsFrom id room (reverse way) l
+unfolding LeadsFrom
+leads-own id zero l way e own = rw e own
+leads-own id (suc room) l way e own = rw e own
+
+-- what leads from a group leads from the layers that stand in it, and the other way
+pub leads-group : (id room : ℕ) (l : Layer) (ks : List Layer) (way : List ℕ) → l.id ≢ id → room ≢ 0 → group_of l ≡ Some ks → IsWay id (room - 1) way ks → LeadsFrom id room way l
+unfolding LeadsFrom
+leads-group id zero l ks way other some g h = absurd (some refl)
+leads-group id (suc room) l ks [] other some g h = absurd h
+leads-group id (suc room) l ks (at ∷ way) other some g h = let same : suc room - 1 ≡ room = omega arith in (other, rw g (rw same at h))
+
+pub leads-inside : (id room : ℕ) (l : Layer) (way : List ℕ) → l.id ≢ id → LeadsFrom id room way l → IsSomeAnd (group_of l) (IsWay id (room - 1) way)
+unfolding LeadsFrom
+leads-inside id zero l [] other h = absurd (other h)
+leads-inside id (suc room) l [] other h = absurd (other h)
+leads-inside id zero l (at ∷ way) other h = absurd h
+leads-inside id (suc room) l (at ∷ way) other h = let same : suc room - 1 ≡ room = omega arith in rw same h.1
+
+-- ---- a way, and its outermost place
+pub way-pushed : (id room : ℕ) (ls : List Layer) (l : Layer) (way : List ℕ) (at : ℕ) → position (holds id room) ls ≡ Some at → slice_get ls at ≡ Some l → LeadsFrom id room (reverse way) l
+    → IsWay id room (reverse (way ++ at ∷ [])) ls
+way-pushed id room ls l way at place there leads = rw (reverse-append way (at ∷ [])) (place, rw there leads)
+
+pub way-split : (id room : ℕ) (ls : List Layer) (way rest : List ℕ) (at : ℕ) → way ≡ rest ++ at ∷ [] → IsWay id room (reverse way) ls → IsWay id room (at ∷ reverse rest) ls
+way-split id room ls way rest at e h = rw (reverse-append rest (at ∷ [])) at (rw e at h)
+
+pub way-some : (id room : ℕ) (ls : List Layer) (way : List ℕ) → IsWay id room (reverse way) ls → 0 < length way
+way-some id room ls [] h = absurd h
+way-some id room ls (at ∷ way) h = omega arith
+
+-- the outermost place is one of the list's
+pub way-within : (id room : ℕ) (ls : List Layer) (way : List ℕ) (at : ℕ) → IsWay id room (at ∷ way) ls → at < length ls
+way-within id room ls way at h = by_found (slice_get ls at) refl h.1
+  where
+    by_found : (o : Option Layer) → slice_get ls at ≡ o → IsSomeAnd o (LeadsFrom id room way) → at < length ls
+    by_found None e k = absurd k
+    by_found (Some l) e k = slice_get_within ls at l e
+
+-- ---- a way to a layer with the id, where the ids are distinct
+-- from the layer with the id there is no place to go to
+pub reaches-own : (id : ℕ) (l : Layer) (way : List ℕ) → way ≡ [] → l.id ≡ id → Reaches id (reverse way) l
+unfolding Reaches
+reaches-own id l way e own = rw e own
+
+pub reaches-group : (id : ℕ) (l : Layer) (ks : List Layer) (way : List ℕ) → group_of l ≡ Some ks → ReachesIn id way ks → Reaches id way l
+unfolding Reaches
+reaches-group id l ks [] g h = absurd h
+reaches-group id l ks (at ∷ way) g h = rw g h
+
+pub reaches-pushed : (id : ℕ) (ls : List Layer) (l : Layer) (way : List ℕ) (at : ℕ) → slice_get ls at ≡ Some l → Reaches id (reverse way) l → ReachesIn id (reverse (way ++ at ∷ [])) ls
+reaches-pushed id ls l way at there reaches = rw (reverse-append way (at ∷ [])) (rw there reaches)
+
+-- what a list of places reaches, it leads to, and it is held
+reached_one : (id : ℕ) (way : List ℕ) (room level : ℕ) (l : Layer) → length way ≤ room → Distinct (flat_map ids_of (tree room level l)) → Reaches id way l → LeadsFrom id room way l × (holds id room l ≡ true)
+unfolding LeadsFrom Reaches
+reached_one id [] room level l short distinct h = (leads-own id room l [] refl h, sym (holds-own id room l h))
+reached_one id (at ∷ way) zero level l short distinct h = absurd (omega (arith, short))
+reached_one id (at ∷ way) (suc room) level l short distinct h = by_group (λ k d r. reached_one id way room (inner_level level) k (omega (arith, short)) d r) (group_of l) refl h
+  where
+    inner : Distinct (l.id ∷ flat_map ids_of (drawn room (inner_level level) (inside l)))
+    inner = rw (tree-is (suc room) level l) at distinct
+
+    by_group : ((k : Layer) → Distinct (flat_map ids_of (tree room (inner_level level) k)) → Reaches id way k → LeadsFrom id room way k × (holds id room k ≡ true))
+        → (o : Option (List Layer)) → group_of l ≡ o → IsSomeAnd o (λ ls. IsSomeAnd (slice_get ls at) (Reaches id way)) → LeadsFrom id (suc room) (at ∷ way) l × (holds id (suc room) l ≡ true)
+    by_group further None g q = absurd q
+    by_group further (Some ks) g q = by_slot (slice_get ks at) refl q
+      where
+        those : inside l ≡ ks
+        those = ap or_empty g
+
+        apart : Distinct (l.id ∷ flat_map ids_of (drawn room (inner_level level) ks))
+        apart = rw those at inner
+
+        by_slot : (o : Option Layer) → slice_get ks at ≡ o → IsSomeAnd o (Reaches id way) → LeadsFrom id (suc room) (at ∷ way) l × (holds id (suc room) l ≡ true)
+        by_slot None e r = absurd r
+        by_slot (Some k) e r =
+            let there = further k (Distinct-tree room (inner_level level) ks at k e apart.1) r in
+            let place = position-held id room (inner_level level) ks at k e there.1 apart.1 in
+            let other : l.id ≢ id = Each-held (λ n. l.id ≢ n) id room (inner_level level) ks at k e there.1 apart.0 in
+            let same : suc room - 1 ≡ room = omega arith in
+            let held = rw same at (holds-group id (suc room) l ks other (λ z. absurd (omega (arith, z))) g) in
+            ((other, rw g (place, rw e there.0)), sym held ∙ ap is_some place)
+
+pub way-reached : (id : ℕ) (way : List ℕ) (room level : ℕ) (ls : List Layer) → length way ≤ room + 1 → Distinct (flat_map ids_of (drawn room level ls)) → ReachesIn id way ls → IsWay id room way ls
+way-reached id [] room level ls short distinct h = h
+way-reached id (at ∷ way) room level ls short distinct h = by_slot (slice_get ls at) refl h
+  where
+    by_slot : (o : Option Layer) → slice_get ls at ≡ o → IsSomeAnd o (Reaches id way) → IsWay id room (at ∷ way) ls
+    by_slot None e r = absurd r
+    by_slot (Some l) e r =
+        let further = reached_one id way room level l (omega (arith, short)) (Distinct-tree room level ls at l e distinct) r in
+        (position-held id room level ls at l e further.1 distinct, rw e further.0)

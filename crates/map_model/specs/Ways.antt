@@ -1,0 +1,27 @@
+-- The way to a layer that stands in groups.
+use Rattle.std.specs.Prelude.{◌≡◌, ◌≢◌, ℕ, zero, suc, List, [], ◌∷◌, Some, IsSomeAnd}
+use Rattle.std.specs.List.{position, slice_get}
+use Rattle.map_model.specs.declared.parts.Layer.{Layer}
+use Rattle.map_model.specs.Groups.{group_of, holds}
+
+-- The places lead from a layer to the one with the id: the first is a place among the layers that stand in it, the next one a
+-- place in the group there, and so on. From the layer with the id there is none to go to.
+unfoldable pub LeadsFrom : ℕ → ℕ → List ℕ → Layer → Type 0
+LeadsFrom id room [] l = l.id ≡ id
+LeadsFrom id zero (at ∷ way) l = ⊥
+LeadsFrom id (suc room) (at ∷ way) l = (l.id ≢ id) × IsSomeAnd (group_of l) (λ ls. (position (holds id room) ls ≡ Some at) × IsSomeAnd (slice_get ls at) (LeadsFrom id room way))
+
+-- the same from a list of layers
+abbrev pub IsWay : ℕ → ℕ → List ℕ → List Layer → Type 0
+IsWay id room [] ls = ⊥
+IsWay id room (at ∷ way) ls = (position (holds id room) ls ≡ Some at) × IsSomeAnd (slice_get ls at) (LeadsFrom id room way)
+
+-- The places lead from a layer to one with the id, be it the first one or not.
+unfoldable pub Reaches : ℕ → List ℕ → Layer → Type 0
+Reaches id [] l = l.id ≡ id
+Reaches id (at ∷ way) l = IsSomeAnd (group_of l) (λ ls. IsSomeAnd (slice_get ls at) (Reaches id way))
+
+-- the same from a list of layers
+abbrev pub ReachesIn : ℕ → List ℕ → List Layer → Type 0
+ReachesIn id [] ls = ⊥
+ReachesIn id (at ∷ way) ls = IsSomeAnd (slice_get ls at) (Reaches id way)
