@@ -1,4 +1,5 @@
 pub mod Blocks
+pub mod CellLists
 pub mod Covering
 pub mod Filling
 pub mod Flooding

@@ -1,25 +1,69 @@
-ghost use Rattle.std.specs.Prelude.{◌≡◌};
+ghost use Rattle.std.specs.Prelude.{◌≡◌, ◌++◌, ◌∷◌, [], OnOk};
+ghost use Rattle.edits.specs.CellLists.{cells_in};
 ghost use Rattle.map_model.specs.CellEdits.{AreInRowOrder};
 
 use map_model::CellEdit;
+use std::alloc::{AllocError, Global};
 use std::marker::Model;
+use std::slice;
+
+/// The room of a list of two cells: a block of three columns and three rows fits.
+const ROOM: usize = 9;
+
+/// Changed cells as they are listed. Only two and more take memory.
+#[derive(Drop)]
+pub(crate) enum CellList {
+    Empty,
+    One(CellEdit),
+    Many(Vec<CellEdit>),
+}
+
+impl CellList {
+    // Adds a cell at the end.
+    pub(crate) fn push(&mut self, alloc: Global, cell: CellEdit) -> Result<(), AllocError>
+        ensures { OnOk result (cells_in self.new ≡ cells_in self.old ++ cell ∷ []) }
+    {
+        match self {
+            CellList::Empty => *self = CellList::One(cell),
+            CellList::One(first) => {
+                let mut cells = Vec::with_capacity(alloc, ROOM)?;
+                cells.push_reserved(*first);
+                cells.push_reserved(cell);
+                *self = CellList::Many(cells);
+            }
+            CellList::Many(cells) => cells.push(cell)?,
+        }
+        Ok(())
+    }
+
+    fn as_slice(&self) -> &[CellEdit]
+        ensures { result.now ≡ cells_in self.now }
+    {
+        match self {
+            CellList::Empty => &[],
+            CellList::One(cell) => slice::from_ref(cell),
+            CellList::Many(cells) => cells.as_slice(),
+        }
+    }
+}
 
 /// Changed cells in row order, each once, seen as their list.
 #[derive(Drop)]
 pub struct CellEdits {
-    cells: Vec<CellEdit>,
+    cells: CellList,
 }
 
 impl Model for CellEdits {
     ghost use Rattle.std.specs.Prelude.{List};
+    ghost use Rattle.edits.specs.CellLists.{cells_in};
     ghost use Rattle.map_model.specs.declared.edit.CellEdit.{CellEdit};
     ghost use Rattle.map_model.specs.CellEdits.{AreInRowOrder};
 
     ghost Value = { List CellEdit };
 
-    ghost view = { λ a. a.cells.items };
+    ghost view = { λ a. cells_in a.cells };
 
-    ghost invariant = { λ a. AreInRowOrder a.cells.items };
+    ghost invariant = { λ a. AreInRowOrder (cells_in a.cells) };
 }
 
 impl CellEdits {
@@ -27,6 +71,14 @@ impl CellEdits {
     pub fn new(cells: Vec<CellEdit>) -> CellEdits
         requires { AreInRowOrder cells.items }
         ensures { result ≡ cells.items }
+    {
+        CellEdits::of_list(CellList::Many(cells))
+    }
+
+    // The same, of a list.
+    pub(crate) fn of_list(cells: CellList) -> CellEdits
+        requires { AreInRowOrder (cells_in cells) }
+        ensures { result ≡ cells_in cells }
     {
         CellEdits { cells }
     }

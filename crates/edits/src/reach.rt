@@ -2,10 +2,11 @@
 ghost use Rattle.std.specs.Prelude.{◌≡◌, ℕ, ◌+◌, ◌*◌, ◌<◌, ◌≤◌, ◌++◌, true, false, OnOk, IfOk, IfErr, IfSome, IfNone, length};
 ghost use Rattle.command_api.specs.declared.fault.EditFault.TheVariants.{NoMemory};
 ghost use Rattle.map_model.specs.declared.limits.TheConstants.{MAX_SIDE};
+ghost use Rattle.edits.specs.CellLists.{cells_in};
 ghost use Rattle.edits.specs.Covering.{lets_change};
 ghost use Rattle.edits.specs.Laying.{AreNextColumns, IsReach, changes_below, changed_to};
 
-use crate::change::{CellChange, CellEdits};
+use crate::change::{CellChange, CellEdits, CellList};
 use crate::cover::Cover;
 use crate::span::Span;
 use command_api::EditFault;
@@ -26,7 +27,8 @@ pub struct Reach<'a> {
 
 // Adds the change of a cell, where there is one.
 fn push_change(
-    cells: &mut Vec<CellEdit>,
+    alloc: Global,
+    cells: &mut CellList,
     x: u32,
     y: u32,
     before: Gid,
@@ -34,17 +36,18 @@ fn push_change(
 ) -> Result<(), AllocError>
     requires column { x < MAX_SIDE }
     requires row { y < MAX_SIDE }
-    ensures { OnOk result (cells.new.items ≡ cells.old.items ++ changed_to x y before over) }
+    ensures { OnOk result (cells_in cells.new ≡ cells_in cells.old ++ changed_to x y before over) }
 {
     if let Some(after) = over
         && after != before
     {
-        cells.push(CellEdit {
+        let cell = CellEdit {
             x: x as u16,
             y: y as u16,
             before,
             after,
-        })?;
+        };
+        cells.push(alloc, cell)?;
     }
     Ok(())
 }
@@ -74,7 +77,8 @@ impl Reach<'_> {
     // Adds the changes of columns of a row, all of which may be changed.
     fn push_columns<C: Cover>(
         &self,
-        cells: &mut Vec<CellEdit>,
+        alloc: Global,
+        cells: &mut CellList,
         cover: &C,
         y: u32,
         columns: Span,
@@ -83,12 +87,12 @@ impl Reach<'_> {
         requires row { (self.now.rows.first ≤ y) × (y < self.now.rows.end) }
         requires columns { (columns.first ≤ columns.end) × (columns.end ≤ self.now.columns.end) }
         requires selected { (x : ℕ) → columns.first ≤ x → x < columns.end → lets_change self.now.selection.now (x, y) ≡ true }
-        requires so_far { cells.old.items ≡ changes_below (C.over cover.now) self.now (y * self.now.width + columns.first) }
-        ensures { OnOk result (cells.new.items ≡ changes_below (C.over cover.now) self.now (y * self.now.width + columns.end)) }
+        requires so_far { cells_in cells.old ≡ changes_below (C.over cover.now) self.now (y * self.now.width + columns.first) }
+        ensures { OnOk result (cells_in cells.new ≡ changes_below (C.over cover.now) self.now (y * self.now.width + columns.end)) }
     {
         for x in columns.first..columns.end {
             let place = y as usize * self.width as usize + x as usize;
-            push_change(cells, x, y, self.tiles[place], cover.value(x, y))?;
+            push_change(alloc, cells, x, y, self.tiles[place], cover.value(x, y))?;
         }
         Ok(())
     }
@@ -96,31 +100,32 @@ impl Reach<'_> {
     // Adds the changes of a row of the map.
     fn push_row<C: Cover>(
         &self,
-        cells: &mut Vec<CellEdit>,
+        alloc: Global,
+        cells: &mut CellList,
         cover: &C,
         y: u32,
     ) -> Result<(), AllocError>
         requires reach { IsReach (C.over cover.now) self.now }
         requires row { (self.now.rows.first ≤ y) × (y < self.now.rows.end) }
-        requires so_far { cells.old.items ≡ changes_below (C.over cover.now) self.now (y * self.now.width) }
-        ensures { OnOk result (cells.new.items ≡ changes_below (C.over cover.now) self.now (y * self.now.width + self.now.width)) }
+        requires so_far { cells_in cells.old ≡ changes_below (C.over cover.now) self.now (y * self.now.width) }
+        ensures { OnOk result (cells_in cells.new ≡ changes_below (C.over cover.now) self.now (y * self.now.width + self.now.width)) }
     {
         let mut from = self.columns.first;
         while let Some(columns) = self.next_columns(y, from) {
-            self.push_columns(cells, cover, y, columns)?;
+            self.push_columns(alloc, cells, cover, y, columns)?;
             from = columns.end;
         }
         Ok(())
     }
 
     // The changes of all cells that a cover lies over and that the selection lets be changed, in row order.
-    fn changes<C: Cover>(&self, alloc: Global, cover: &C) -> Result<Vec<CellEdit>, AllocError>
+    fn changes<C: Cover>(&self, alloc: Global, cover: &C) -> Result<CellList, AllocError>
         requires { IsReach (C.over cover.now) self.now }
-        ensures { IfOk result (λ cells. cells.items ≡ changes_below (C.over cover.now) self.now (length self.now.tiles.now)) }
+        ensures { IfOk result (λ cells. cells_in cells ≡ changes_below (C.over cover.now) self.now (length self.now.tiles.now)) }
     {
-        let mut cells = Vec::new(alloc);
+        let mut cells = CellList::Empty;
         for y in self.rows.first..self.rows.end {
-            self.push_row(&mut cells, cover, y)?;
+            self.push_row(alloc, &mut cells, cover, y)?;
         }
         Ok(cells)
     }
@@ -141,7 +146,7 @@ impl Reach<'_> {
         match self.changes(alloc, cover) {
             Ok(cells) => Ok(CellChange {
                 layer,
-                cells: CellEdits::new(cells),
+                cells: CellEdits::of_list(cells),
             }),
             Err(_) => Err(EditFault::NoMemory),
         }

@@ -5,8 +5,8 @@ use Rattle.edits.specs.Covering.{covered, where_selected}
 use Rattle.edits.proofs.RowOrder.{difference-AreInRowOrder}
 use Rattle.edits.proofs.reach.Reach.change.Goals as goal
 
-pub new-requires : goal.new-requires
-new-requires g c =
+pub of_list-requires : goal.of_list-requires
+of_list-requires g c =
     let r = c.args.self.now in
     let P : List CellEdit → Type 0 = AreInRowOrder in
     subst P (sym c.in-Ok.ensures)

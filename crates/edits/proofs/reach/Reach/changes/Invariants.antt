@@ -1,6 +1,7 @@
 use Rattle.std.proofs.Common.{◌≡◌, ◌*◌}
+use Rattle.edits.specs.CellLists.{cells_in}
 use Rattle.edits.specs.Laying.{changes_below}
 use Rattle.edits.proofs.reach.Reach.changes.Given as goal
 
 abbrev pub invariant-loop-y : goal.invariant-loop-y
-invariant-loop-y g l = l.cells.items ≡ changes_below (g.C.Cover.over l.cover) l.self (l.y * l.self.width)
+invariant-loop-y g l = cells_in l.cells ≡ changes_below (g.C.Cover.over l.cover) l.self (l.y * l.self.width)

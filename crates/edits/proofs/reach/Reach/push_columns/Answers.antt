@@ -1,4 +1,5 @@
 use Rattle.std.proofs.Common.{◌≡◌, ◌+◌, ◌*◌, ◌<◌, ap, ◌∙◌, arith, refl}
+use Rattle.edits.specs.CellLists.{cells_in}
 use Rattle.edits.specs.Laying.{changes_below}
 use Rattle.edits.proofs.Reaches.{changes-next}
 use Rattle.edits.proofs.reach.Reach.push_columns.Goals as goal
@@ -13,7 +14,7 @@ loop-x-preserved g c =
     let h = c.requires.reach in
     let column : x < r.width = omega (arith, h.columns_within, c.requires.columns.1) in
     let row : c.args.y < h.layer.height = omega (arith, h.rows_within, c.requires.row.1) in
-    changes-next (g.C.Cover.over c.args.cover.now) r h x c.args.y _ c.index-self-place.result c.value.result c.loop-x.cells.items c.push_change.new.cells.items column row
+    changes-next (g.C.Cover.over c.args.cover.now) r h x c.args.y _ c.index-self-place.result c.value.result (cells_in c.loop-x.cells) (cells_in c.push_change.new.cells) column row
     (c.requires.selected x (omega arith) (omega arith)) refl c.value.ensures c.loop-x.invariant c.in_ok-push_change.ensures
 
 pub returns : goal.returns
