@@ -1,7 +1,8 @@
 ghost use Rattle.session.specs.Grammar.{Gives, read, choose, Ends, line_form, rare_commands, is_quiet, line_of, begin_form, erase_form, fill_form, close_form, discard_form, goto_form, limit_form, new_form, open_form, resize_form, save_form, stamp_form, step_text_form, tile_form, use_form};
 ghost use Rattle.session.specs.Spelling.{Says, CanBeSpelled};
 ghost use Rattle.session.specs.declared.line.LineFault.TheVariants.{UnknownCommand};
-ghost use Rattle.std.specs.Prelude.{◌≡◌, ◌==◌, ◌∷◌, IfOk};
+ghost use Rattle.std.specs.Prelude.{◌≡◌, ◌==◌, ◌∷◌, IfOk, IfSome, IfNone};
+ghost use Rattle.std.specs.Str.{IsUtf8};
 ghost use Rattle.std.specs.List.{list_all};
 ghost use Rattle.session.specs.Words.{words_left};
 
@@ -264,6 +265,18 @@ fn is_quiet_line(bytes: &[u8]) -> bool
     has_only_spaces(bytes)
 }
 
+// The bytes as text. Nearly all lines are ASCII, and that is seen eight bytes at a time.
+fn text_of(bytes: &[u8]) -> Option<&str>
+    ensures some { IfSome result (λ text. (text.now ≡ bytes.now) × IsUtf8 bytes.now) }
+    ensures none { IfNone result (IsUtf8 bytes.now → ⊥) }
+{
+    if bytes.is_ascii() {
+        // SAFETY: ASCII is UTF-8.
+        return Some(unsafe { str::from_utf8_unchecked(bytes) });
+    }
+    str::from_utf8(bytes).ok()
+}
+
 /// The line that the bytes are, without a newline.
 // (inlined, since a line that is handed back is copied twice)
 #[inline(always)]
@@ -276,7 +289,7 @@ pub fn parse_line(bytes: &[u8]) -> Result<Line<'_>, LineFault>
     if bytes.len() > MAX_LINE {
         return Err(LineFault::TooLong);
     }
-    let Ok(text) = str::from_utf8(bytes) else {
+    let Some(text) = text_of(bytes) else {
         return Err(LineFault::NotUtf8);
     };
     if is_quiet_line(bytes) {

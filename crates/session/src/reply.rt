@@ -137,7 +137,7 @@ fn refusal_words(refusal: Refusal) -> &'static str
     }
 }
 
-fn push_digit(head: &mut ArrayString<512>, digit: u64)
+fn push_digit(head: &mut ArrayString<512>, digit: u32)
     requires room { array_string_len head.old ≤ 200 }
     requires digit { digit < 10 }
     ensures value { head.new.bytes ≡ head.old.bytes ++ (48 + digit) ∷ [] }
@@ -152,9 +152,11 @@ fn push_three_digits(head: &mut ArrayString<512>, number: u64)
     ensures value { head.new.bytes ≡ head.old.bytes ++ (48 + number / 100 % 10) ∷ (48 + number / 10 % 10) ∷ (48 + number % 10) ∷ [] }
     ensures size { array_string_len head.new ≡ array_string_len head.old + 3 }
 {
-    push_digit(head, number / 100 % 10);
-    push_digit(head, number / 10 % 10);
-    push_digit(head, number % 10);
+    // Less work than in 64 bits.
+    let last = (number % 1000) as u32;
+    push_digit(head, last / 100);
+    push_digit(head, last / 10 % 10);
+    push_digit(head, last % 10);
 }
 
 // Writes a number below 1,000.
@@ -168,12 +170,13 @@ fn push_small_number(head: &mut ArrayString<512>, number: u64)
         push_three_digits(head, number);
         return;
     }
-    if number < 10 {
-        push_digit(head, number);
+    let small = number as u32;
+    if small < 10 {
+        push_digit(head, small);
         return;
     }
-    push_digit(head, number / 10);
-    push_digit(head, number % 10);
+    push_digit(head, small / 10);
+    push_digit(head, small % 10);
 }
 
 // Three numbers stand in most replies: a call for each costs more than its text, and so does a copy of its digits.

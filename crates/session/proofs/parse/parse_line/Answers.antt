@@ -11,14 +11,14 @@ pub returns-then-is_quiet_line-clause-value : goal.returns-then-is_quiet_line-cl
 returns-then-is_quiet_line-clause-value c =
     let bytes = c.args.bytes.now in
     let short : length bytes ≤ MAX_LINE = omega (arith, c.if-bytes-gt-MAX_LINE.false) in
-    checked bytes short c.in-Ok.ensures.cases.1 ∙ ap (λ b. cond b (Ok Quiet) (read line_form (words bytes))) (sym c.is_quiet_line.ensures ∙ c.if-is_quiet_line.true)
+    checked bytes short c.in-Some.ensures.some.1 ∙ ap (λ b. cond b (Ok Quiet) (read line_form (words bytes))) (sym c.is_quiet_line.ensures ∙ c.if-is_quiet_line.true)
 
 pub returns-clause-value : goal.returns-clause-value
 returns-clause-value c =
     let bytes = c.args.bytes.now in
     let short : length bytes ≤ MAX_LINE = omega (arith, c.if-bytes-gt-MAX_LINE.false) in
-    let e = checked bytes short c.in-Ok.ensures.cases.1 ∙ ap (λ b. cond b (Ok Quiet) (read line_form (words bytes))) (sym c.is_quiet_line.ensures ∙ c.if-is_quiet_line.false)
-    ∙ ap (read line_form) (ap words (sym c.in-Ok.ensures.cases.0) ∙ c.cut.ensures.pieces)
+    let e = checked bytes short c.in-Some.ensures.some.1 ∙ ap (λ b. cond b (Ok Quiet) (read line_form (words bytes))) (sym c.is_quiet_line.ensures ∙ c.if-is_quiet_line.false)
+    ∙ ap (read line_form) (ap words (sym c.in-Some.ensures.some.0) ∙ c.cut.ensures.pieces)
     ∙ ap (λ rest. read line_form (c.cut.result.0.now ∷ words_left rest)) (sym c.new-fields.ensures) in
     rw e c.command.ensures
 
@@ -32,4 +32,4 @@ pub returns-in_default-clause-value : goal.returns-in_default-clause-value
 returns-in_default-clause-value c =
     let bytes = c.args.bytes.now in
     let short : length bytes ≤ MAX_LINE = omega (arith, c.if-bytes-gt-MAX_LINE.false) in
-    refused bytes short c.in_default.ensures.cases.0
+    refused bytes short c.in_default.ensures.none

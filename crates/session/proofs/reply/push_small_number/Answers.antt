@@ -8,9 +8,9 @@ pub returns-then-number-ge100-clause-value : goal.returns-then-number-ge100-clau
 returns-then-number-ge100-clause-value c =
     c.push_three_digits.ensures.value ∙ ap (λ ds. c.args.head.now.bytes ++ ds) (sym (decimal-three c.args.number (omega (arith, c.if-number-ge100.true)) c.requires.small))
 
-pub returns-then-number-lt10-clause-value : goal.returns-then-number-lt10-clause-value
-returns-then-number-lt10-clause-value c =
-    c.push_digit.ensures.value ∙ ap (λ ds. c.args.head.now.bytes ++ ds) (sym (decimal_digit c.args.number (omega (arith, c.if-number-lt10.true))))
+pub returns-then-small-lt10-clause-value : goal.returns-then-small-lt10-clause-value
+returns-then-small-lt10-clause-value c =
+    c.push_digit.ensures.value ∙ ap (λ ds. c.args.head.now.bytes ++ ds) (sym (decimal_digit c.args.number (omega (arith, c.if-small-lt10.true))))
 
 pub returns-clause-value : goal.returns-clause-value
 returns-clause-value c =
@@ -18,4 +18,4 @@ returns-clause-value c =
     c.push_digit-3.ensures.value
     ∙ ap (λ ds. ds ++ (48 + n % 10) ∷ []) c.push_digit-2.ensures.value
     ∙ append_assoc c.args.head.now.bytes ((48 + n / 10) ∷ []) ((48 + n % 10) ∷ [])
-    ∙ ap (λ ds. c.args.head.now.bytes ++ ds) (sym (decimal-two n (omega (arith, c.if-number-lt10.false)) (omega (arith, c.if-number-ge100.false))))
+    ∙ ap (λ ds. c.args.head.now.bytes ++ ds) (sym (decimal-two n (omega (arith, c.if-small-lt10.false)) (omega (arith, c.if-number-ge100.false))))
