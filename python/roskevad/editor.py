@@ -219,12 +219,12 @@ class Editor:
         return json.loads(self.step('show')[len('map '):])
 
     def layer_id(self, name: str) -> int:
-        """The id of the first layer of that name. Raises KeyError where there is none."""
-        return _id_of(self.map()['layers'], name)
+        """The id of the first layer of that name, in drawing order, groups and what stands in them too. Raises KeyError where there is none."""
+        return _id_of(_drawn(self.map()['layers']), name)
 
     def object_id(self, name: str) -> int:
-        """The id of the first object of that name. Raises KeyError where there is none."""
-        return _id_of((each for layer in self.map()['layers'] for each in layer.get('objects', ())), name)
+        """The id of the first object of that name, in drawing order. Raises KeyError where there is none."""
+        return _id_of((each for layer in _drawn(self.map()['layers']) for each in layer.get('objects', ())), name)
 
     def last_layer_id(self) -> int:
         """The id of the layer that was added last: the next id less one."""
@@ -272,6 +272,13 @@ class _Aside:
         self._editor.remove_file(self._name)
         if self._before is not None:
             self._editor.put_file(self._name, self._before)
+
+
+def _drawn(layers: list[dict[str, Any]]) -> Iterable[dict[str, Any]]:
+    """The layers in drawing order, those that stand in a group behind it."""
+    for layer in layers:
+        yield layer
+        yield from _drawn(layer.get('layers', []))
 
 
 def _id_of(parts: Iterable[dict[str, Any]], name: str) -> int:
