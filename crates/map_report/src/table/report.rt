@@ -1,5 +1,5 @@
 // What is in a map.
-use crate::answers::words_of;
+use crate::refusals::words_of;
 use link_chain::Chain;
 use map_json::{read_map, write_map};
 use map_model::limits::MAX_GROUPS;

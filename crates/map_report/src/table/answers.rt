@@ -1,25 +1,9 @@
 // What is read of a text: what is written for its map, or why there is none.
-use crate::texts::Texts;
+use crate::refusals::words_of;
+use crate::table::texts::Texts;
 use map_json::{MapFault, MapRefusal, read_map, write_map};
 use std::alloc::{AllocError, Global};
 use std::io::{self, Write};
-
-/// Why there is no map, in words.
-pub fn words_of(fault: MapFault) -> &'static str {
-    match fault {
-        MapFault::Memory => "no memory",
-        MapFault::Refused(MapRefusal::NotJson) => "60 not JSON",
-        MapFault::Refused(MapRefusal::Fraction) => "61 fraction",
-        MapFault::Refused(MapRefusal::MemberMissing) => "62 member missing",
-        MapFault::Refused(MapRefusal::MemberOfAnotherKind) => "63 member of another kind",
-        MapFault::Refused(MapRefusal::Infinite) => "64 infinite",
-        MapFault::Refused(MapRefusal::Compressed) => "65 compressed",
-        MapFault::Refused(MapRefusal::BadData) => "66 bad data",
-        MapFault::Refused(MapRefusal::IdUsedTwice) => "67 id used twice",
-        MapFault::Refused(MapRefusal::OverLimit) => "68 over a limit",
-        MapFault::Refused(MapRefusal::NotAMap) => "69 not a map",
-    }
-}
 
 // Writes what some bytes are read as: the text that is written for the map, or that text's name where it has one.
 fn write_read<W: Write>(
