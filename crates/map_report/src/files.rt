@@ -25,7 +25,7 @@ fn report_file<R: Files + AllocGlobal + Eprint, W: Write>(
             Ok(true)
         }
         Err(fault) => {
-            write_refusal(file, fault, output)?;
+            write_refusal(rt.alloc(), file, &bytes, fault, output)?;
             Ok(false)
         }
     }

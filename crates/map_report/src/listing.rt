@@ -1,4 +1,5 @@
 // What is in a map: a line for each thing, indented under what it belongs to.
+use crate::shown::is_shown_plain;
 use link_chain::Chain;
 use map_model::limits::MAX_GROUPS;
 use map_model::{Body, Layer, MapParts, Object, PropValue, Property, Tileset};
@@ -28,16 +29,23 @@ fn write_value<W: Write>(value: &PropValue, output: &mut W) -> io::Result<()> {
     }
 }
 
+// Writes the name of a property and its type, which is mostly a word.
+fn write_key<W: Write>(name: &str, kind: &str, output: &mut W) -> io::Result<()> {
+    if is_shown_plain(kind) {
+        write!(output, "property {name:?}, {kind}: ")
+    } else {
+        write!(output, "property {name:?}, {kind:?}: ")
+    }
+}
+
 fn write_properties<W: Write>(
     level: usize,
     properties: &Chain<Property>,
     output: &mut W,
 ) -> io::Result<()> {
     for property in properties.iter() {
-        let name = property.name.as_str();
-        let kind = property.kind.as_str();
         write_indent(level, output)?;
-        write!(output, "property {name:?}, {kind}: ")?;
+        write_key(property.name.as_str(), property.kind.as_str(), output)?;
         write_value(&property.value, output)?;
     }
     Ok(())

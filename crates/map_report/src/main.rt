@@ -4,8 +4,11 @@
 mod files;
 mod listing;
 mod options;
+mod place;
 mod refusals;
+mod shown;
 mod table;
+mod walk;
 
 use crate::files::report_files;
 use crate::options::{Options, parse_options};

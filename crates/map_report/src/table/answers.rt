@@ -5,6 +5,14 @@ use map_json::{MapFault, MapRefusal, read_map, write_map};
 use std::alloc::{AllocError, Global};
 use std::io::{self, Write};
 
+/// Why there is no map, in words.
+pub fn answer_of(fault: MapFault) -> &'static str {
+    match fault {
+        MapFault::Memory => "no memory",
+        MapFault::Refused(refusal) => words_of(refusal),
+    }
+}
+
 // Writes what some bytes are read as: the text that is written for the map, or that text's name where it has one.
 fn write_read<W: Write>(
     alloc: Global,
@@ -14,7 +22,7 @@ fn write_read<W: Write>(
 ) -> io::Result<()> {
     let map = match read_map(alloc, bytes) {
         Ok(map) => map,
-        Err(fault) => return output.write_all(words_of(fault).as_bytes()),
+        Err(fault) => return output.write_all(answer_of(fault).as_bytes()),
     };
     let Ok(written) = write_map(alloc, &map) else {
         return output.write_all(b"no memory");

@@ -1,5 +1,5 @@
 // What is in a map.
-use crate::refusals::words_of;
+use crate::table::answers::answer_of;
 use link_chain::Chain;
 use map_json::{read_map, write_map};
 use map_model::limits::MAX_GROUPS;
@@ -157,7 +157,7 @@ fn write_again<W: Write>(alloc: Global, map: &Map, output: &mut W) -> io::Result
     write!(output, "\nwritten in {len} bytes, ")?;
     let again = match read_map(alloc, &text) {
         Ok(again) => write_map(alloc, &again)?,
-        Err(fault) => return output.write_all(words_of(fault).as_bytes()),
+        Err(fault) => return output.write_all(answer_of(fault).as_bytes()),
     };
     output.write_all(if again.as_slice() == text.as_slice() {
         b"which read as the same"
@@ -175,7 +175,7 @@ pub fn write_report<W: Write>(alloc: Global, bytes: &[u8], output: &mut W) -> io
         }
         Err(fault) => {
             output.write_all(b" => ")?;
-            output.write_all(words_of(fault).as_bytes())
+            output.write_all(answer_of(fault).as_bytes())
         }
     }
 }
