@@ -181,7 +181,7 @@ def code_of(cell):
 
 def pages():
     """All pages of the repository."""
-    paths = [TOP / 'README.md', *TOP.glob('docs/**/*.md'), *TOP.glob('examples/**/*.md'), *TOP.glob('sessions/*.md'), *TOP.glob('crates/*/README.md')]
+    paths = [TOP / 'README.md', TOP / 'CONTRIBUTING.md', *TOP.glob('docs/**/*.md'), *TOP.glob('examples/**/*.md'), *TOP.glob('sessions/*.md'), *TOP.glob('crates/*/README.md')]
     return [Page(path) for path in sorted(paths)]
 
 

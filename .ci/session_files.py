@@ -1,4 +1,4 @@
-"""Reads the session files of `sessions/`, as sessions/README.md describes them, and runs the program on them."""
+"""Reads the session files in the folders of `sessions/`, as sessions/README.md describes them, and runs the program on them."""
 import contextlib
 import itertools
 import json
@@ -9,6 +9,7 @@ import tempfile
 from pathlib import Path
 
 TOP = Path(__file__).resolve().parent.parent
+SESSIONS = TOP / 'sessions'
 PROGRAM = TOP / 'crates' / 'tile_editor' / 'out' / 'tile_editor'
 NOBODY = 65534
 VALUE = re.compile(rb'\{=([^{}]*)\}')
@@ -97,11 +98,12 @@ def row_of(text):
 
 
 def runs_of(file):
-    """The runs of a session file."""
+    """The runs of a session file, each named by the file's folder and name and by its title."""
+    of = file.relative_to(SESSIONS).with_suffix('')
     runs, repeated, count = [], None, 0
     for text in file.read_bytes().split(b'\n')[:-1]:
         if text.startswith(b'=== '):
-            runs.append(Run(f'{file.stem}: {text[4:].decode()}'))
+            runs.append(Run(f'{of}: {text[4:].decode()}'))
         elif text.startswith(b'@repeat '):
             repeated, count = [], int(text[8:])
         elif text == b'@end':
@@ -120,7 +122,7 @@ def runs_of(file):
             name, data = file_of(text[7:])
             runs[-1].after[name] = data
         elif text.startswith(b'@'):
-            raise ValueError(f'{file.name}: {text.decode()}')
+            raise ValueError(f'{of}: {text.decode()}')
         elif repeated is not None:
             repeated.append(row_of(text))
         elif runs:
@@ -133,7 +135,7 @@ def runs_of(file):
 
 def all_runs():
     """The runs of all session files."""
-    return [run for file in sorted((TOP / 'sessions').glob('*.session')) for run in runs_of(file)]
+    return [run for file in sorted(SESSIONS.rglob('*.session')) for run in runs_of(file)]
 
 
 def text_of(tree):
@@ -190,12 +192,20 @@ def fault_of_files(wanted, given):
             return f'file {name}: wanted {wanted.get(name, b"nothing")[:200]!r}, given {given.get(name, b"nothing")[:200]!r}'
 
 
+def fault_of_reasons(replies, errors):
+    """What is wrong with standard error, or None: each load and each save that failed is told in a line of its own."""
+    failed = sum(reply.startswith((b'no 50 ', b'no 51 ')) for reply in replies.split(b'\n'))
+    told = errors.split(b'\n')[:-1]
+    is_right = len(told) == failed and all(line.startswith(b'tile_editor: ') for line in told)
+    return None if is_right else f'{failed} loads and saves failed, and standard error has {errors.decode()!r}'
+
+
 def fault_of(program, run, env=None):
     """How a run of a program differs from its file, or None."""
     done, files = heard(program, run.session, run.before, run.options, env)
-    if done.returncode != 0 or done.stderr:
+    if done.returncode != 0:
         return f'exit status {done.returncode}, {done.stderr.decode()}'
-    return fault_of_replies(run.replies, done.stdout) or fault_of_files(run.after, files)
+    return fault_of_reasons(run.replies, done.stderr) or fault_of_replies(run.replies, done.stdout) or fault_of_files(run.after, files)
 
 
 def build_library(source, library):

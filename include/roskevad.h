@@ -1,4 +1,4 @@
-/* The map editor as a library: a session in memory, which does the lines that docs/session.md lists.
+/* The map editor as a library: a session in memory, which does the lines that docs/session-lines.md lists.
  *
  * Call the functions whose names begin with `roskevad_editor_`. They are `static inline`, and give the library an address also where you
  * have none: a null pointer is fine with them where the length is 0.

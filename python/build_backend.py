@@ -8,6 +8,7 @@ from pathlib import Path
 HERE = Path(__file__).resolve().parent
 NAME, VERSION = 'roskevad', '0.1.0'
 INFO = f'{NAME}-{VERSION}.dist-info'
+SUFFIXES = {'.py', '.html', '.css', '.js'}
 TAG = 'py3-none-manylinux2014_x86_64'
 METADATA = f'Metadata-Version: 2.1\nName: {NAME}\nVersion: {VERSION}\nRequires-Python: >=3.9\n'
 WHEEL = f'Wheel-Version: 1.0\nGenerator: {NAME}\nRoot-Is-Purelib: false\nTag: {TAG}\n'
@@ -20,8 +21,8 @@ def library():
 
 
 def sources():
-    """The files of the package."""
-    return sorted(path for path in (HERE / 'roskevad').iterdir() if path.suffix == '.py' or path.name == 'py.typed')
+    """The files of the package, with those of the page."""
+    return sorted(path for path in (HERE / 'roskevad').rglob('*') if path.suffix in SUFFIXES or path.name == 'py.typed')
 
 
 def record_of(name, data):
@@ -32,7 +33,7 @@ def record_of(name, data):
 
 def build_wheel(wheel_directory, config_settings=None, metadata_directory=None):
     """Writes the wheel, and gives its name."""
-    files = {f'roskevad/{path.name}': path.read_bytes() for path in sources()}
+    files = {path.relative_to(HERE).as_posix(): path.read_bytes() for path in sources()}
     files['roskevad/libroskevad.so'] = library().read_bytes()
     files[f'{INFO}/METADATA'] = METADATA.encode()
     files[f'{INFO}/WHEEL'] = WHEEL.encode()

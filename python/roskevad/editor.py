@@ -3,6 +3,7 @@ import ctypes
 import json
 import os
 import re
+import stat
 import tempfile
 import threading
 from pathlib import Path
@@ -19,6 +20,8 @@ _forks = [0]
 os.register_at_fork(after_in_child=lambda: _forks.__setitem__(0, _forks[0] + 1))
 # The name under which files of a folder and bytes of the caller stand in the store, while a line needs them.
 _NAME = 'roskevad.tmj'
+# The longest file that is opened.
+_LONGEST_FILE = 67_108_864
 
 
 def _bytes_of(text: Union[str, bytes]) -> bytes:
@@ -289,9 +292,13 @@ def _id_of(parts: Iterable[dict[str, Any]], name: str) -> int:
 
 
 def _read(path: Path) -> tuple[Optional[bytes], Optional[OSError]]:
-    """The bytes of a file, if it is there and can be read, and what went wrong where it cannot be read."""
+    """The bytes of a file, if it is there and can be read, and what went wrong where it cannot be read. A pipe is not waited for."""
     try:
-        return path.read_bytes(), None
+        with open(path, 'rb', opener=lambda name, flags: os.open(name, flags | os.O_NONBLOCK)) as file:
+            if not stat.S_ISREG(os.fstat(file.fileno()).st_mode):
+                return None, OSError(f'{path} is no regular file')
+            data = file.read(_LONGEST_FILE + 1)
+            return (data, None) if len(data) <= _LONGEST_FILE else (None, OSError(f'{path} is too long'))
     except FileNotFoundError:
         return None, None
     except OSError as fault:
@@ -306,11 +313,20 @@ def _replace(path: Path, data: bytes) -> None:
             file.write(data)
             file.flush()
             os.fsync(file.fileno())
-        os.chmod(beside, 0o666 & ~_mask())
+        os.chmod(beside, _mode_of(path))
         os.replace(beside, path)
     except BaseException:
         os.unlink(beside)
         raise
+
+
+def _mode_of(path: Path) -> int:
+    """The access mode of the file that is replaced; that of any new one where there is none, or something else."""
+    try:
+        mode = os.lstat(path).st_mode
+    except OSError:
+        mode = 0
+    return mode & 0o777 if stat.S_ISREG(mode) else 0o666 & ~_mask()
 
 
 def _mask() -> int:

@@ -2,7 +2,7 @@
 use Rattle.std.proofs.Common.{◌≡◌, ℕ, ◌≤◌, List, length, Option, Some, None, IsSome, IsSomeAnd, Result, Ok, refl, sym, ap, ◌∙◌, arith}
 use Rattle.std.specs.List.{insert}
 use Rattle.map_model.specs.Document.{DocumentParts}
-use Rattle.map_model.specs.Part.{Part, IsLawfulPart}
+use Rattle.map_model.specs.Lens.{Lens, IsLawfulLens}
 use Rattle.map_model.specs.Slot.{Slot, IsLawfulSlot, place_in}
 use Rattle.map_model.proofs.Changes.{length-insert}
 use Rattle.command_api.specs.Law.{Names, Never}
@@ -61,7 +61,7 @@ link_made never fits is = record {
 }
 
 -- a thing more in a list changes the document
-pub place_in-differs : {X : Type 0} (p : Part DocumentParts (List X)) → IsLawfulPart p → (k : ℕ) (x : X) (d : DocumentParts) → IsSomeAnd (p.get d) (λ xs. k ≤ length xs)
+pub place_in-differs : {X : Type 0} (p : Lens DocumentParts (List X)) → IsLawfulLens p → (k : ℕ) (x : X) (d : DocumentParts) → IsSomeAnd (p.get d) (λ xs. k ≤ length xs)
     → (place_in p k).with_item x d ≡ d → ⊥
 place_in-differs {X = X} p laws k x d free same = by_list (p.get d) refl free
   where

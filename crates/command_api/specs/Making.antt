@@ -11,7 +11,7 @@ pub record Makes {E : Type 0} (edit : Names) (d : DocumentParts) (after : Result
   pub document : after ≡ Ok (c.redone d)
   pub names : c.names ≡ edit
 
--- a refusal is the edit's own, or want of memory, which comes only where the edit is not refused
+-- a refusal is the edit's own, or out of memory, which comes only where the edit is not refused
 abbrev pub IsRefusalOf : Result DocumentParts EditFault → EditFault → Type 0
 IsRefusalOf after NoMemory = IsOk after
 IsRefusalOf after fault = after ≡ Err fault

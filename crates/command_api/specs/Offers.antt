@@ -10,10 +10,10 @@ use Rattle.map_model.specs.declared.owner.Owner.{Owner}
 use Rattle.map_model.specs.declared.setting.Setting.{Setting}
 use Rattle.map_model.specs.Difference.{difference_in}
 use Rattle.map_model.specs.Document.{DocumentParts, painted}
-use Rattle.map_model.specs.Part.{Part, put, placing_with_id}
-use Rattle.map_model.specs.Parts.{HasTiles}
+use Rattle.map_model.specs.Lens.{Lens, put, placing_with_id}
+use Rattle.map_model.specs.Lookups.{HasTiles}
 use Rattle.map_model.specs.Properties.{new_property, properties_of, property_at, scalar_value, setting_with}
-use Rattle.map_model.specs.PropertyParts.{setting_named, setting_place, without_setting}
+use Rattle.map_model.specs.PropertyLenses.{setting_named, setting_place, without_setting}
 use Rattle.map_model.specs.WellFormed.{IsWellFormed}
 use Rattle.command_api.specs.Law.{Change, Names, is_free}
 use Rattle.command_api.specs.Tag.{Tag, OfLayer, OfObject, OfName}
@@ -49,7 +49,7 @@ pub record FitsCells (layer : ℕ) (cells : List CellEdit) (d : DocumentParts) :
   pub back : IsWellFormed (painted layer cells Before d).map
 
 -- the well-formed document holds the value after in this part, and is well formed with the one before put back
-pub record FitsPut {V : Type 0} (p : Part DocumentParts V) (before after : V) (d : DocumentParts) : Type 0 where
+pub record FitsPut {V : Type 0} (p : Lens DocumentParts V) (before after : V) (d : DocumentParts) : Type 0 where
   pub well_formed : IsWellFormed d.map
   pub holds : p.get d ≡ Some after
   pub back : IsWellFormed (put p before d).map

@@ -7,7 +7,7 @@ use crate::offer::Offer;
 use map_model::Document;
 use std::alloc::{AllocError, Global};
 
-/// A change of a document, which is made by `redo` and turned back by `undo`.
+/// A change of a document, which is made by `redo` and undone by `undo`.
 ///
 /// A new command has not been made yet. No call but `merge` takes memory or fails: a command holds from its construction on
 /// all that its turns need.

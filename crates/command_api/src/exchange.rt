@@ -30,7 +30,7 @@ impl Label {
 }
 
 /// A command that is its own reverse: what it holds and a part of the document change places, when it is made and when it
-/// is turned back.
+/// is undone.
 pub trait Exchange: Drop {
     ghost use Rattle.command_api.specs.Exchange.{Exchange as ExchangeParts, IsExchanged, IsLabelOf, FitsExchange};
 
@@ -41,7 +41,7 @@ pub trait Exchange: Drop {
     fn label(&self) -> Label
         ensures { IsLabelOf (exchange_parts self.now).names result };
 
-    /// Whether the command changes nothing and may be let go of.
+    /// Whether the command changes nothing and may be dropped.
     fn is_settled(&self) -> bool
         ensures { result ≡ (exchange_parts self.now).obsolete };
 

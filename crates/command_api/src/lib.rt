@@ -1,4 +1,4 @@
-//! Commands: changes of a document that can be made, turned back and made again.
+//! Commands: changes of a document that can be made, undone and made again.
 //!
 //! A caller of an undo stack writes its own commands as types with an `impl Command`, and passes them on in a box.
 #![tactic(auto)]

@@ -20,7 +20,7 @@ use Rattle.editor.specs.Acts.{answer_of}
 use Rattle.editor.specs.Planning.{PlansEdit, edit_change, plan_of}
 use Rattle.editor.specs.Refusals.{refusal_of_edit}
 
--- a refusal is want of memory, or the edit's own
+-- a refusal is out of memory, or the edit's own
 IsRefusalOf-cases : (after : Result DocumentParts EditFault) (fault : EditFault) → IsRefusalOf after fault → (fault ≡ NoMemory) ⊎ (after ≡ Err fault)
 IsRefusalOf-cases after NoMemory h = inl refl
 IsRefusalOf-cases after NoSuchLayer h = inr h

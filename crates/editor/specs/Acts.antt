@@ -39,7 +39,7 @@ Answers answer old reply new = (reply ≡ Some (answer old)) × (new ≡ old)
 abbrev pub Passes : {S : Type 0} → Act S
 Passes old reply new = (reply ≡ None) × (new ≡ old)
 
--- an act, or want of memory
+-- an act, or out of memory
 abbrev pub OrNoMemory : {S : Type 0} → Act S → Act S
 OrNoMemory act old reply new = act old reply new ⊎ Refuses refusals.NoMemory old reply new
 
@@ -178,7 +178,7 @@ OrStoreFails Leaves act before after old reply new =
     act before after old reply new
     ⊎ (HasFailed before after × IsCalled Leaves before after × Refuses refusals.StoreFailed old reply new)
 
--- an act, or want of memory, whether the store was called or not
+-- an act, or out of memory, whether the store was called or not
 abbrev pub OrNoMemoryForFile : {S : Type 0} → FileAct S → FileAct S
 OrNoMemoryForFile act before after old reply new =
     act before after old reply new

@@ -72,7 +72,7 @@ plan_of (Ok edit) = planned.Push edit
 plan_of (Err fault) = refused (refusal_of_edit fault)
 
 -- ---- over one document
--- the plan of an edit: its command, whose step is the answer, or its refusal, or want of memory
+-- the plan of an edit: its command, whose step is the answer, or its refusal, or out of memory
 abbrev pub PlansEdit : Result histories.Step Refusal → DocumentParts → Planned → Type 0
 PlansEdit answer d planned.Quiet = ⊥
 PlansEdit answer d (planned.Reply reply) =

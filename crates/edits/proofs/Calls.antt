@@ -10,7 +10,7 @@ use Rattle.map_model.specs.declared.edit.CellEdit.{CellEdit}
 use Rattle.map_model.specs.CellEdits.{AreInRowOrder}
 use Rattle.map_model.specs.Bodies.{IsTiles, tiles_of}
 use Rattle.map_model.specs.Document.{DocumentParts, with_map}
-use Rattle.map_model.specs.Parts.{layer_of, HasTiles, tiles_in, tiles_of_layer}
+use Rattle.map_model.specs.Lookups.{layer_of, HasTiles, tiles_in, tiles_of_layer}
 use Rattle.map_model.specs.WellFormed.{IsWellFormed}
 use Rattle.map_model.proofs.Keeps.{length-tiles_in}
 use Rattle.map_model.proofs.Turns.{tiles_in-with_tiles}

@@ -5,7 +5,7 @@ use Rattle.std.specs.FinSet as set
 use Rattle.std.proofs.lemmas.Bool.Decides.{nat_tests}
 use Rattle.std.proofs.lemmas.Option.{slice_get_past}
 use Rattle.region.specs.Cells.{cell_cmp}
-use Rattle.map_model.specs.Parts.{tiles_in}
+use Rattle.map_model.specs.Lookups.{tiles_in}
 use Rattle.map_model.proofs.Keeps.{length-tiles_in}
 use Rattle.edits.specs.Covering.{lets_change}
 use Rattle.edits.specs.Filling.{free_from, ReachedIsJoined}

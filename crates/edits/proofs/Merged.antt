@@ -11,7 +11,7 @@ use Rattle.map_model.specs.declared.edit.CellEdit.{CellEdit}
 use Rattle.map_model.specs.declared.parts.MapParts.{MapParts}
 use Rattle.map_model.specs.CellEdits.{AreInRowOrder, cell}
 use Rattle.map_model.specs.Lists.{Each}
-use Rattle.map_model.specs.Parts.{tiles_in}
+use Rattle.map_model.specs.Lookups.{tiles_in}
 use Rattle.map_model.specs.Difference.{edit_at, change_at, difference, difference_in}
 use Rattle.edits.specs.Merging.{joined_cell, joined, IsPlaceOf}
 use Rattle.edits.proofs.Differences.{change_at-same}

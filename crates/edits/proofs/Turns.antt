@@ -10,7 +10,7 @@ use Rattle.map_model.specs.declared.edit.Side.TheVariants.{Before, After}
 use Rattle.map_model.specs.declared.parts.MapParts.{MapParts}
 use Rattle.map_model.specs.CellEdits.{side_value, cell_place, put_values}
 use Rattle.map_model.specs.Lists.{Each}
-use Rattle.map_model.specs.Parts.{HasTiles, tiles_in, with_tiles, with_edits, IsWithin}
+use Rattle.map_model.specs.Lookups.{HasTiles, tiles_in, with_tiles, with_edits, IsWithin}
 use Rattle.map_model.specs.WellFormed.{IsSize, IsWellFormed}
 use Rattle.map_model.proofs.Keeps.{length-tiles_in}
 use Rattle.map_model.proofs.Listings.{Each-append}

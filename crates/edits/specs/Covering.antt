@@ -3,7 +3,7 @@ use Rattle.std.specs.Prelude.{ℕ, ◌/◌, ◌%◌, List, [], ◌∷◌, suc, B
 use Rattle.std.specs.FinSet as set
 use Rattle.region.specs.Cells.{cell_cmp}
 use Rattle.map_model.specs.declared.parts.MapParts.{MapParts}
-use Rattle.map_model.specs.Parts.{with_tiles}
+use Rattle.map_model.specs.Lookups.{with_tiles}
 
 -- a cell takes the value over it; where nothing lies over it, it stays
 abbrev pub covered_value : Option ℕ → ℕ → ℕ

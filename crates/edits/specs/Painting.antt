@@ -3,7 +3,7 @@ use Rattle.std.specs.Prelude.{◌≡◌, ℕ, Option, Result, Ok}
 use Rattle.map_model.specs.declared.parts.MapParts.{MapParts}
 use Rattle.map_model.specs.CellEdits.{AreInRowOrder}
 use Rattle.map_model.specs.Document.{DocumentParts, with_map}
-use Rattle.map_model.specs.Parts.{HasTiles}
+use Rattle.map_model.specs.Lookups.{HasTiles}
 use Rattle.map_model.specs.WellFormed.{IsWellFormed}
 use Rattle.command_api.specs.declared.fault.EditFault.{EditFault}
 use Rattle.edits.specs.declared.change.CellChange.{CellChange}

@@ -13,7 +13,7 @@ use Rattle.map_model.specs.Canvas.{object_moved, placing_moved}
 use Rattle.map_model.specs.Document.{DocumentParts}
 use Rattle.map_model.specs.Groups.{all_drawn, layer_with_layers}
 use Rattle.map_model.specs.Objects.{objects_of, layer_with_objects}
-use Rattle.map_model.specs.Parts.{layer_with_tiles}
+use Rattle.map_model.specs.Lookups.{layer_with_tiles}
 use Rattle.map_model.specs.Sizes.{is_size}
 use Rattle.command_api.specs.declared.fault.EditFault.{EditFault}
 use Rattle.command_api.specs.declared.fault.EditFault.TheVariants.{OutOfRange}

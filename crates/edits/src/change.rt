@@ -10,28 +10,39 @@ use std::slice;
 /// The room of a list of two cells: a block of three columns and three rows fits.
 const ROOM: usize = 9;
 
-/// Changed cells as they are listed. Only two and more take memory.
+/// Changed cells as they are listed. One cell takes no list, and most paints are of one.
 #[derive(Drop)]
 pub(crate) enum CellList {
-    Empty,
     One(CellEdit),
     Many(Vec<CellEdit>),
 }
 
 impl CellList {
+    // The list with no cell. It takes no memory.
+    pub(crate) fn new(alloc: Global) -> CellList
+        ensures { cells_in result ≡ [] }
+    {
+        CellList::Many(Vec::new(alloc))
+    }
+
     // Adds a cell at the end.
     pub(crate) fn push(&mut self, alloc: Global, cell: CellEdit) -> Result<(), AllocError>
         ensures { OnOk result (cells_in self.new ≡ cells_in self.old ++ cell ∷ []) }
     {
         match self {
-            CellList::Empty => *self = CellList::One(cell),
             CellList::One(first) => {
                 let mut cells = Vec::with_capacity(alloc, ROOM)?;
                 cells.push_reserved(*first);
                 cells.push_reserved(cell);
                 *self = CellList::Many(cells);
             }
-            CellList::Many(cells) => cells.push(cell)?,
+            CellList::Many(cells) => {
+                if cells.is_empty() {
+                    *self = CellList::One(cell);
+                } else {
+                    cells.push(cell)?;
+                }
+            }
         }
         Ok(())
     }
@@ -40,7 +51,6 @@ impl CellList {
         ensures { result.now ≡ cells_in self.now }
     {
         match self {
-            CellList::Empty => &[],
             CellList::One(cell) => slice::from_ref(cell),
             CellList::Many(cells) => cells.as_slice(),
         }

@@ -1,7 +1,7 @@
 // The tile layer that an edit changes, and the values that an edit sets.
 ghost use Rattle.std.specs.Prelude.{◌≡◌, MatchResult, Ok, Err};
 ghost use Rattle.std.specs.List.{list_all};
-ghost use Rattle.map_model.specs.Parts.{layer_of};
+ghost use Rattle.map_model.specs.Lookups.{layer_of};
 ghost use Rattle.edits.specs.Refusals.{is_known, tiles_or_fault};
 
 use command_api::EditFault;

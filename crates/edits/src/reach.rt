@@ -123,7 +123,7 @@ impl Reach<'_> {
         requires { IsReach (C.over cover.now) self.now }
         ensures { IfOk result (λ cells. cells_in cells ≡ changes_below (C.over cover.now) self.now (length self.now.tiles.now)) }
     {
-        let mut cells = CellList::Empty;
+        let mut cells = CellList::new(alloc);
         for y in self.rows.first..self.rows.end {
             self.push_row(alloc, &mut cells, cover, y)?;
         }

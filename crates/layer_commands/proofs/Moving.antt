@@ -8,11 +8,11 @@ use Rattle.map_model.specs.declared.parts.MapParts.{MapParts}
 use Rattle.map_model.specs.declared.place.LayerPlace.{LayerPlace}
 use Rattle.map_model.specs.Document.{DocumentParts, with_map}
 use Rattle.map_model.specs.Layers.{count_of, layer_at, layer_place, place_under, sibling_count, sibling_place, siblings_of, with_layer_at, without_layer_at, IsPlaceIn}
-use Rattle.map_model.specs.Part.{siblings}
+use Rattle.map_model.specs.Lens.{siblings}
 use Rattle.map_model.specs.WellFormed.{IsWellFormed}
 use Rattle.map_model.proofs.Changes.{remove-insert, insert-remove, slice_get-insert, slice_get-within, slice_get-Some, length-insert}
 use Rattle.map_model.proofs.Keeps.{moved-keeps}
-use Rattle.map_model.proofs.PartLaws.{siblings-laws}
+use Rattle.map_model.proofs.LensLaws.{siblings-laws}
 use Rattle.map_model.proofs.Places.{layer_place-there}
 use Rattle.command_api.specs.Exchange.{IsExchanged}
 use Rattle.command_api.specs.Making.{Makes}

@@ -5,7 +5,7 @@ use Rattle.map_model.specs.declared.parts.Layer.{Layer}
 use Rattle.map_model.specs.declared.place.LayerPlace.{LayerPlace}
 use Rattle.map_model.specs.Document.{DocumentParts, with_map}
 use Rattle.map_model.specs.Layers.{layer_at, siblings_of, with_layer_at, with_siblings, without_layer_at}
-use Rattle.map_model.specs.Part.{siblings}
+use Rattle.map_model.specs.Lens.{siblings}
 use Rattle.map_model.specs.Slot.{layer_slot}
 
 pub siblings-get : (parent : Option ℕ) (d : DocumentParts) → siblings_of d.map parent ≡ (siblings parent).get d

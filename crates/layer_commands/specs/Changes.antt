@@ -4,7 +4,7 @@ use Rattle.map_model.specs.declared.parts.MapParts.{MapParts}
 use Rattle.map_model.specs.declared.place.LayerPlace.{LayerPlace}
 use Rattle.map_model.specs.Canvas.{with_canvas, IsCanvasOf}
 use Rattle.map_model.specs.Layers.{layer_at}
-use Rattle.map_model.specs.Part.{of_layer, name, visible}
+use Rattle.map_model.specs.Lens.{of_layer, name, visible}
 use Rattle.map_model.specs.Slot.{layer_slot, next_layer_slot}
 use Rattle.map_model.specs.WellFormed.{IsWellFormed}
 use Rattle.command_api.specs.Law.{Change, Names, untagged, Never, WhenEqual}

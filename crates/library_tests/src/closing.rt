@@ -1,4 +1,4 @@
-// A document that is closed lets go of what its steps own.
+// A document that is closed drops what its steps own.
 ghost use Rattle.std.specs.Prelude.{◌≡◌, [], false, IfOk, refl};
 ghost use Rattle.command_api.specs.Law.{untagged, Never};
 ghost use Rattle.library_tests.specs.Still.{still};
@@ -15,7 +15,7 @@ use std::test::Fail;
 use undo_group::Group;
 use undo_stack::Stack;
 
-// A command that leaves the document as it is, and counts when it is let go of.
+// A command that leaves the document as it is, and counts when it is dropped.
 struct Probe {
     dropped: Rc<Cell<u32>>,
 }
@@ -73,7 +73,7 @@ fn add<C: Command>(
     group.add(alloc, name, stack).map_err(|_| AllocError)
 }
 
-// Takes a document out, and lets go of it.
+// Takes a document out, and drops it.
 fn close<C: Command>(group: &mut Group<C>, name: &str) -> bool
     requires { AreHeld C.change group.old }
     ensures { AreHeld C.change group.new }

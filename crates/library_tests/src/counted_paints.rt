@@ -1,4 +1,4 @@
-// Paints on a stack: which of them are turned and let go of where one merges into the one before it.
+// Paints on a stack: which of them are turned and dropped where one merges into the one before it.
 ghost use Rattle.std.specs.Prelude.{IfSome};
 ghost use Rattle.paint_commands.specs.Painting.{paint_change};
 ghost use Rattle.undo_stack.specs.Stacks.{Holds};
@@ -15,7 +15,7 @@ use std::test::Fail;
 use tile_id::Gid;
 use undo_stack::Stack;
 
-// A paint that counts its turns, and that it is let go of. All else it hands on.
+// A paint that counts its turns, and that it is dropped. All else it hands on.
 struct CountedPaint {
     counts: Rc<Counts>,
     paint: PaintCommand,
@@ -175,7 +175,7 @@ fn limit_lets_go_of_the_first_paint(rt: HostRuntime) -> Result<(), Fail> {
     Ok(())
 }
 
-// What a push leaves where the merge is refused: the index, the count, and how often both paints were turned and let go of.
+// What a push leaves where the merge is refused: the index, the count, and how often both paints were turned and dropped.
 fn refused_merge(
     alloc: Global,
     older: &Rc<Counts>,

@@ -1,4 +1,4 @@
-// Free commands: which of them go, what stands behind that, and which boxes were turned and let go of.
+// Free commands: which of them go, what stands behind that, and which boxes were turned and dropped.
 ghost use Rattle.std.specs.Prelude.{◌≡◌};
 ghost use Rattle.library_tests.specs.Fading.{fading};
 ghost use Rattle.undo_stack.specs.Stacks.{Holds};
@@ -169,8 +169,8 @@ fn told_of(
     Ok(told)
 }
 
-// What the calls leave of a new stack; `None` where one was not answered well, or where the stack, once it is let go of,
-// has not let go of each command once.
+// What the calls leave of a new stack; `None` where one was not answered well, or where the stack, once it is dropped,
+// has not dropped each command once.
 fn told_after(alloc: Global, calls: &str) -> Result<Option<String>, AllocError> {
     let mut pushed: Vec<Rc<Counts>> = Vec::new(alloc);
     let mut stack: Stack<Fading> = Stack::new(alloc, blank(alloc)?, 0);

@@ -1,4 +1,4 @@
-// Of a stack, what no clause says: which boxes are let go of and turned, and what a refused push leaves.
+// Of a stack, what no clause says: which boxes are dropped and turned, and what a refused push leaves.
 
 ghost use Rattle.std.specs.Prelude.{◌≡◌, [], true, false, refl};
 ghost use Rattle.command_api.specs.Law.{untagged, Never, WhenEqual};
@@ -21,7 +21,7 @@ pub(crate) fn blank(alloc: Global) -> Result<Document, AllocError> {
     Ok(Document::new(alloc, Map::create(alloc, 1, 1, 1, 1, source)?))
 }
 
-// How often a command was turned and let go of.
+// How often a command was turned and dropped.
 #[derive(Drop)]
 pub(crate) struct Counts {
     pub(crate) redone: Cell<u32>,
@@ -205,7 +205,7 @@ pub(crate) fn end_macro<C: Command>(stack: &mut Stack<C>) -> Result<(), StackFau
     Ok(())
 }
 
-// Each turn, and how often the two commands were turned and let go of after it. A stack that kept a copy of the document,
+// Each turn, and how often the two commands were turned and dropped after it. A stack that kept a copy of the document,
 // and put it back in place of turning the command, would fail these counts.
 #[test]
 fn no_whole_copies_kept(rt: HostRuntime) -> Result<(), Fail> {
@@ -274,7 +274,7 @@ fn each_box_is_let_go_of_once(rt: HostRuntime) -> Result<(), Fail> {
 }
 
 // What a push onto a new stack leaves where it is refused: the index, the count, and that there is nothing to redo; and
-// how often the command was turned and let go of.
+// how often the command was turned and dropped.
 fn refused_at_first(
     alloc: Global,
     counts: &Rc<Counts>,
@@ -290,7 +290,7 @@ fn refused_at_first(
 }
 
 // What a push below an undone step leaves where it is refused: that the step is redone; and how often both commands were
-// turned and let go of.
+// turned and dropped.
 fn refused_below_a_step(
     alloc: Global,
     first: &Rc<Counts>,

@@ -220,7 +220,7 @@ impl LineReader {
         self.has_ended
     }
 
-    /// Gives the first bytes that are pending as the line, and lets go of them and of the separator.
+    /// Gives the first bytes that are pending as the line, and drops them and the separator.
     fn give(&mut self, len: usize, separator: usize)
         requires { len + separator ≤ length self.old.pending }
         ensures { self.new ≡ record self.old {
@@ -234,7 +234,7 @@ impl LineReader {
         self.newline = self.start + newline_at(&self.buffer[self.start..self.end]);
     }
 
-    /// Lets go of all that is pending.
+    /// Drops all that is pending.
     fn discard(&mut self)
         ensures { self.new ≡ record self.old { pending = [] } }
     {
@@ -300,7 +300,7 @@ impl LineReader {
         }
     }
 
-    /// Lets go of the line, up to its newline or the end.
+    /// Drops the line, up to its newline or the end.
     fn skip<R: Read>(&mut self, reader: &mut R) -> Result<(), ReadFault>
         requires ended { IsTrue self.old.ended → IsAtEnd (R.remaining reader.old) }
         requires some { 0 < length self.old.pending }

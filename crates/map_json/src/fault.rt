@@ -30,7 +30,7 @@ pub enum MapRefusal {
     NotAMap,
 }
 
-/// Why a file gave no map: want of memory, or what is wrong with it.
+/// Why a file gave no map: out of memory, or what is wrong with it.
 #[derive(Clone, Copy, PartialEq, Eq, Debug)]
 pub enum MapFault {
     Memory,

@@ -63,7 +63,7 @@ impl JsonObject {
         self.members.remove(name)
     }
 
-    /// Takes a member out, and lets go of it.
+    /// Takes a member out, and drops it.
     pub fn remove(&mut self, name: &str)
         ensures { self.new ≡ without name.now self.old }
     {

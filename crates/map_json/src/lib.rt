@@ -9,15 +9,15 @@ mod fault;
 mod fractions;
 mod json_object;
 mod layer;
+mod map_text;
 mod object;
 mod property;
 mod reading;
 mod scalar;
 mod size;
-mod text;
 mod tileset;
 mod writing;
 
 pub use fault::{MapFault, MapRefusal};
+pub use map_text::{write_map, written_is_read};
 pub use reading::read_map;
-pub use text::{write_map, written_is_read};

@@ -1,4 +1,4 @@
--- Documents that are put on a canvas, and turned back.
+-- Documents that are put on a canvas, and undone.
 use Rattle.std.proofs.Common.{◌≡◌, ℕ, ◌+◌, ◌*◌, ℤ, ◌+ℤ◌, neg_ℤ, suc, List, [], ◌∷◌, ◌++◌, append-nil, length, map, get_or, Option, Some, None, option_map, refl, sym, ap, ◌∙◌, arith, append_assoc, length-append}
 use Rattle.std.specs.List.{flat_map}
 use Rattle.std.proofs.Math.IntN.{+ℤ-neg_ℤ_cancel}
@@ -23,7 +23,7 @@ use Rattle.map_model.proofs.CanvasTrees.{Turns, back_layers, drawn_on, drawn-lay
 use Rattle.map_model.proofs.Listings.{Each-append, Each-front, Each-rest}
 use Rattle.map_model.specs.WellFormed.{IsBody, IsDrawn, IsObject, ids_of, ids_of_object, object_ids_in, object_ids_of}
 
--- ---- turned back
+-- ---- undone
 number-back : (o : Option ℤ) (by : ℤ) → option_map (λ z. z +ℤ neg_ℤ by) (option_map (λ z. z +ℤ by) o) ≡ o
 number-back None by = refl
 number-back (Some z) by = ap Some (+ℤ-neg_ℤ_cancel z by)

@@ -1,4 +1,4 @@
--- Trees of layers that are put on a canvas, and turned back.
+-- Trees of layers that are put on a canvas, and undone.
 use Rattle.std.proofs.Common.{◌≡◌, ℕ, zero, suc, ◌+◌, List, [], ◌∷◌, ◌++◌, length, append-nil, append_assoc, length-append, refl, sym, ap, ◌∙◌, arith}
 use Rattle.std.specs.List.{flat_map}
 use Rattle.std.proofs.lemmas.Grind.{flat_map-append}
@@ -131,7 +131,7 @@ length-lists_on c place (d ∷ ds) =
 pub counted-on : (room : ℕ) (c : Canvas) (place : ℕ) (l : Layer) → counted room (one_on room c place l) ≡ counted room l
 counted-on room c place l = ap (λ t. length (flat_map lists_of t)) (tree-one_on room c layer_level place l) ∙ length-lists_on c place (tree room layer_level l)
 
--- ---- turned back
+-- ---- undone
 -- what h makes of a body on c, where its cells stand at that place
 abbrev pub Turns : (List (List ℕ) → Canvas) → Canvas → Type 0
 Turns h c = (front rest : List (List ℕ)) (place : ℕ) (b : Body) → place ≡ length front → body_on (h (front ++ (lists_in b ++ rest))) place (body_on c place b) ≡ b

@@ -1,9 +1,9 @@
--- The laws of a part at the place that a look-up finds.
+-- The laws of a lens at the place that a look-up finds.
 use Rattle.std.proofs.Common.{◌≡◌, Option, Some, None, option_and_then, refl}
-use Rattle.map_model.specs.Part.{Part, IsLawfulPart, found, update_found}
+use Rattle.map_model.specs.Lens.{Lens, IsLawfulLens, found, update_found}
 
--- a part that is there stands at a place that is found
-pub found-there : {A K V : Type 0} (place : A → Option K) (p : K → Part A V) (v : V) (a : A) → (found place p).get a ≡ Some v
+-- a lens that is there stands at a place that is found
+pub found-there : {A K V : Type 0} (place : A → Option K) (p : K → Lens A V) (v : V) (a : A) → (found place p).get a ≡ Some v
     → (k : K) × ((place a ≡ Some k) × ((p k).get a ≡ Some v))
 found-there {K = K} place p v a e = by_place (place a) refl e
   where
@@ -11,16 +11,16 @@ found-there {K = K} place p v a e = by_place (place a) refl e
     by_place None q g = cc
     by_place (Some k) q g = (k, (q, g))
 
--- where the look-up finds a place, the part is the one there
-module _ {A K V : Type 0} (place : A → Option K) (p : K → Part A V) (k : K) (a : A) (e : place a ≡ Some k) where
+-- where the look-up finds a place, the lens is the one there
+module _ {A K V : Type 0} (place : A → Option K) (p : K → Lens A V) (k : K) (a : A) (e : place a ≡ Some k) where
   pub found-get : (found place p).get a ≡ (p k).get a
   found-get = rw e refl
 
   pub found-update : (f : V → V) → (found place p).update f a ≡ (p k).update f a
   found-update f = rw e refl
 
--- changes of the part that keep what the look-up finds
-module _ {A K V : Type 0} (place : A → Option K) (p : K → Part A V) (keeps : (k : K) (f : V → V) (a : A) → place a ≡ Some k → place ((p k).update f a) ≡ Some k) where
+-- changes of the lens that keep what the look-up finds
+module _ {A K V : Type 0} (place : A → Option K) (p : K → Lens A V) (keeps : (k : K) (f : V → V) (a : A) → place a ≡ Some k → place ((p k).update f a) ≡ Some k) where
   pub found-keeps : (f : V → V) (a : A) → place ((found place p).update f a) ≡ place a
   found-keeps f a = by_place (place a) refl
     where
@@ -28,7 +28,7 @@ module _ {A K V : Type 0} (place : A → Option K) (p : K → Part A V) (keeps :
       by_place None e = e
       by_place (Some k) e = keeps k f a e
 
-  pub found-laws : ((k : K) → IsLawfulPart (p k)) → IsLawfulPart (found place p)
+  pub found-laws : ((k : K) → IsLawfulLens (p k)) → IsLawfulLens (found place p)
   found-laws laws = record {
     get-update = λ f v a e. got f v a (place a) refl e;
     update-same = λ f v a e same. kept f v a same (place a) e;

@@ -13,7 +13,7 @@ pub mod Lookups
 pub mod NewMaps
 pub mod ObjectKeeps
 pub mod ObjectPlaces
-pub mod PartLaws
+pub mod LensLaws
 pub mod Places
 pub mod Selections
 pub mod SlotLaws

@@ -6,7 +6,7 @@ use Rattle.map_model.specs.declared.parts.MapParts.{MapParts}
 use Rattle.map_model.specs.Groups.{all_drawn, bare, change_among, has_id, inside}
 use Rattle.map_model.specs.Keeping.{deepest_level, layer_level}
 use Rattle.map_model.specs.Lists.{first_some, or_else}
-use Rattle.map_model.specs.Parts.{layer_of, with_layer}
+use Rattle.map_model.specs.Lookups.{layer_of, with_layer}
 use Rattle.map_model.specs.Properties.{is_drawn_with, level_by, level_of}
 use Rattle.map_model.proofs.Keeps.{layer-Stands, level_of-found, own-IsReplaced}
 use Rattle.map_model.proofs.Listings.{IsReplaced}

@@ -14,7 +14,7 @@ use Rattle.map_model.specs.Layers.{with_next_ids}
 use Rattle.map_model.specs.Groups.{group_in}
 use Rattle.map_model.specs.Lists.{Each, change_at, or_empty}
 use Rattle.map_model.specs.Objects.{objects_in, objects_of, body_with_objects, layer_with_objects, objects_of_layer, object_at, with_objects, without_object_at, with_object, object_placing, object_with_placing}
-use Rattle.map_model.specs.Parts.{layer_of}
+use Rattle.map_model.specs.Lookups.{layer_of}
 use Rattle.map_model.specs.Properties.{level_of}
 use Rattle.map_model.specs.WellFormed.{IsId, AreIds, IsPlacing, IsObject, IsBody, IsLayer, IsWellFormed, ids_of_object, object_ids_in, object_ids}
 use Rattle.map_model.proofs.Changes.{Each-insert, Each-remove, length-insert, length-remove_le, slice_get-within, Each-at}

@@ -16,12 +16,12 @@ use Rattle.map_model.specs.NewMap.{new_object}
 use Rattle.map_model.specs.Objects.{objects_in, objects_of, has_object_id, place_of_layer, place_in_layer, found_at, found_in_layer, object_place, object_at}
 use Rattle.map_model.specs.Groups.{all_drawn, bare, drawn, tree}
 use Rattle.map_model.specs.Keeping.{layer_level}
-use Rattle.map_model.specs.Parts.{layer_of}
+use Rattle.map_model.specs.Lookups.{layer_of}
 use Rattle.map_model.specs.Properties.{is_drawn_with}
 use Rattle.map_model.specs.WellFormed.{IsWellFormed, ids_of_object, object_ids_in, object_ids_of}
 use Rattle.map_model.proofs.GroupBodies.{objects_in-with}
 use Rattle.map_model.proofs.Keeps.{layer-Stands}
-use Rattle.map_model.proofs.PartLaws.{some-eq}
+use Rattle.map_model.proofs.LensLaws.{some-eq}
 use Rattle.map_model.proofs.Trees.{none_among, tree-is}
 use Rattle.map_model.proofs.Changes.{find-at_position, slice_get-Some}
 use Rattle.map_model.proofs.Listings.{Each-front, Each-rest, Distinct-front, Distinct-rest, Apart-pieces}

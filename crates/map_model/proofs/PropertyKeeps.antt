@@ -24,7 +24,7 @@ use Rattle.map_model.specs.Document.{document_of, IsSelectionOf}
 use Rattle.map_model.specs.Keeping.{map_level, object_level, property_level, property_names}
 use Rattle.map_model.specs.Lists.{Each, Distinct, change_at, or_empty}
 use Rattle.map_model.specs.Objects.{body_with_objects, layer_with_objects, object_at, objects_in, objects_of}
-use Rattle.map_model.specs.Parts.{layer_of}
+use Rattle.map_model.specs.Lookups.{layer_of}
 use Rattle.map_model.specs.Properties.{has_name, layer_properties, layer_with_properties, level_of, new_property, object_properties, object_with_properties, owner_level, properties_of, property_at, property_with_setting, setting_of, with_properties, with_property, with_property_at, without_property_at, IsSetting}
 use Rattle.map_model.specs.WellFormed.{AreProperties, IsProperty, IsValue, IsWellFormed, names_of_property}
 use Rattle.map_model.proofs.Changes.{length-insert, length-remove_le, Each-at, Each-insert, Each-remove}
@@ -32,7 +32,7 @@ use Rattle.map_model.proofs.Keeps.{changed-keeps, layer_of-IsLayer, object_ids-I
 use Rattle.map_model.proofs.Lookups.{level_of-low, level_of-with_layer}
 use Rattle.map_model.proofs.NewMaps.{unread-test}
 use Rattle.map_model.proofs.ObjectKeeps.{length-change_at, Each-change_at, group_in-objects, object_at-IsObject, with_object-keeps_there}
-use Rattle.map_model.proofs.PartLaws.{change_at-along, some-eq}
+use Rattle.map_model.proofs.LensLaws.{change_at-along, some-eq}
 use Rattle.map_model.proofs.PropertyLaws.{properties-laws, update-along}
 
 -- a write at a place is a change of the element there

@@ -1,4 +1,4 @@
--- The laws of the parts and slots of properties.
+-- The laws of the lenses and slots of properties.
 use Rattle.std.proofs.Common.{◌≡◌, ℕ, List, Option, Some, None, option_map, option_and_then, refl, sym, ap, ◌∙◌}
 use Rattle.std.specs.List.{slice_get}
 use Rattle.map_model.specs.declared.parts.Layer.{Layer}
@@ -7,25 +7,25 @@ use Rattle.map_model.specs.declared.parts.Property.{Property}
 use Rattle.map_model.specs.declared.place.OwnerPlace.{OwnerPlace}
 use Rattle.map_model.specs.declared.place.OwnerPlace.TheVariants as places
 use Rattle.map_model.specs.Objects.{objects_of}
-use Rattle.map_model.specs.Part.{Part, IsLawfulPart, whole, of_layer, of_object}
-use Rattle.map_model.specs.Parts.{layer_of}
+use Rattle.map_model.specs.Lens.{Lens, IsLawfulLens, whole, of_layer, of_object}
+use Rattle.map_model.specs.Lookups.{layer_of}
 use Rattle.map_model.specs.Properties.{layer_properties, object_properties, property_with_setting, setting_of}
-use Rattle.map_model.specs.PropertyParts.{properties, property_slot, setting, setting_at}
+use Rattle.map_model.specs.PropertyLenses.{properties, property_slot, setting, setting_at}
 use Rattle.map_model.specs.Slot.{IsLawfulSlot}
-use Rattle.map_model.proofs.PartLaws.{whole-laws, inner-laws, of_place-laws, of_layer-laws, of_object-laws}
+use Rattle.map_model.proofs.LensLaws.{whole-laws, inner-laws, of_place-laws, of_layer-laws, of_object-laws}
 use Rattle.map_model.proofs.SlotLaws.{place_in-laws}
 
--- ---- parts
--- a part that is read in another way keeps the laws
-read-laws : {A V : Type 0} (p : Part A V) (get : A → Option V) → ((a : A) → get a ≡ p.get a) → IsLawfulPart p → IsLawfulPart (record { get = get; update = p.update })
+-- ---- lenses
+-- a lens that is read in another way keeps the laws
+read-laws : {A V : Type 0} (p : Lens A V) (get : A → Option V) → ((a : A) → get a ≡ p.get a) → IsLawfulLens p → IsLawfulLens (record { get = get; update = p.update })
 read-laws p get same laws = record {
   get-update = λ f v a e. same (p.update f a) ∙ laws.get-update f v a (sym (same a) ∙ e);
   update-same = λ f v a e. laws.update-same f v a (sym (same a) ∙ e);
   update-update = laws.update-update;
 }
 
--- two changes that agree on the value of the part
-pub update-along : {A V : Type 0} {p : Part A V} → IsLawfulPart p → (f g : V → V) (v : V) (a : A) → p.get a ≡ Some v → f v ≡ g v → p.update f a ≡ p.update g a
+-- two changes that agree on the value of the lens
+pub update-along : {A V : Type 0} {p : Lens A V} → IsLawfulLens p → (f g : V → V) (v : V) (a : A) → p.get a ≡ Some v → f v ≡ g v → p.update f a ≡ p.update g a
 update-along {V = V} {p = p} laws f g v a e same = sym (constant f) ∙ ap (λ (w : V). p.update (λ own. w) a) same ∙ constant g
   where
     constant : (h : V → V) → p.update (λ own. h v) a ≡ p.update h a
@@ -46,21 +46,21 @@ map-then_placed f at (Some l) = by_objects (objects_of l)
     by_objects None = refl
     by_objects (Some os) = map-then f (slice_get os at)
 
-pub properties-laws : (owner : OwnerPlace) → IsLawfulPart (properties owner)
+pub properties-laws : (owner : OwnerPlace) → IsLawfulLens (properties owner)
 properties-laws places.Map = whole-laws (λ d. d.map.properties) (λ ps d. record d { map = record d.map { properties = ps } }) (λ v d. refl) (λ d. refl) (λ v w d. refl)
 properties-laws (places.Layer id) =
-    let part : Part Layer (List Property) = whole layer_properties (λ ps l. record l { properties = ps }) in
-    read-laws (of_layer id part) (properties (places.Layer id)).get (λ d. map-then layer_properties (layer_of d.map id))
-    (of_layer-laws id part (λ f l. refl) (whole-laws layer_properties (λ ps l. record l { properties = ps }) (λ v l. refl) (λ l. refl) (λ v w l. refl)))
+    let lens : Lens Layer (List Property) = whole layer_properties (λ ps l. record l { properties = ps }) in
+    read-laws (of_layer id lens) (properties (places.Layer id)).get (λ d. map-then layer_properties (layer_of d.map id))
+    (of_layer-laws id lens (λ f l. refl) (whole-laws layer_properties (λ ps l. record l { properties = ps }) (λ v l. refl) (λ l. refl) (λ v w l. refl)))
 properties-laws (places.Object place) =
-    let part : Part Object (List Property) = whole object_properties (λ ps o. record o { properties = ps }) in
-    read-laws (of_object place part) (properties (places.Object place)).get (λ d. map-then_placed object_properties place.at (layer_of d.map place.layer))
-    (of_object-laws place part (whole-laws object_properties (λ ps o. record o { properties = ps }) (λ v o. refl) (λ o. refl) (λ v w o. refl)))
+    let lens : Lens Object (List Property) = whole object_properties (λ ps o. record o { properties = ps }) in
+    read-laws (of_object place lens) (properties (places.Object place)).get (λ d. map-then_placed object_properties place.at (layer_of d.map place.layer))
+    (of_object-laws place lens (whole-laws object_properties (λ ps o. record o { properties = ps }) (λ v o. refl) (λ o. refl) (λ v w o. refl)))
 
-setting-laws : IsLawfulPart setting
+setting-laws : IsLawfulLens setting
 setting-laws = whole-laws setting_of property_with_setting (λ v p. refl) (λ p. refl) (λ v w p. refl)
 
-pub setting_at-laws : (owner : OwnerPlace) (at : ℕ) → IsLawfulPart (setting_at owner at)
+pub setting_at-laws : (owner : OwnerPlace) (at : ℕ) → IsLawfulLens (setting_at owner at)
 setting_at-laws owner at = inner-laws (properties owner) _ (properties-laws owner) (of_place-laws at setting setting-laws)
 
 -- ---- slots

@@ -5,13 +5,13 @@ use Rattle.std.proofs.lemmas.List.Edits.{length-remove}
 use Rattle.map_model.specs.declared.place.LayerPlace.{LayerPlace}
 use Rattle.map_model.specs.declared.place.ObjectPlace.{ObjectPlace}
 use Rattle.map_model.specs.Document.{DocumentParts}
-use Rattle.map_model.specs.Part.{Part, IsLawfulPart, AreApart, layers, siblings, next_layer_id, tilesets, layer_objects, next_object_id}
+use Rattle.map_model.specs.Lens.{Lens, IsLawfulLens, AreApart, layers, siblings, next_layer_id, tilesets, layer_objects, next_object_id}
 use Rattle.map_model.specs.Slot.{IsLawfulSlot, place_in, next_in, layer_slot, next_layer_slot, tileset_slot, object_slot, next_object_slot}
-use Rattle.map_model.proofs.PartLaws.{layers-laws, siblings-laws, next_layer_id-laws, layers-next_layer_id, tilesets-laws, layer_objects-laws, next_object_id-laws, layer_objects-next_object_id}
+use Rattle.map_model.proofs.LensLaws.{layers-laws, siblings-laws, next_layer_id-laws, layers-next_layer_id, tilesets-laws, layer_objects-laws, next_object_id-laws, layer_objects-next_object_id}
 use Rattle.map_model.proofs.Changes.{remove-insert, insert-remove, slice_get-insert, length-insert, slice_get-within, slice_get-Some, within-removed}
 
 -- ---- places in a list
-pub place_in-laws : {X : Type 0} (p : Part DocumentParts (List X)) → IsLawfulPart p → (k : ℕ) → IsLawfulSlot (place_in p k)
+pub place_in-laws : {X : Type 0} (p : Lens DocumentParts (List X)) → IsLawfulLens p → (k : ℕ) → IsLawfulSlot (place_in p k)
 place_in-laws {X = X} p laws k = record {
   there = λ d h. h;
   filled = λ x d h. let s = room (p.get d) h in
@@ -50,7 +50,7 @@ module _ {X : Type 0} (xs : List X) (x : X) where
       let place : length (remove xs (length xs - 1)) ≡ length xs - 1 = let less = length-remove xs (length xs - 1) within in omega arith in
       ap (λ k. insert (remove xs (length xs - 1)) k x) place ∙ insert-remove xs (length xs - 1) x there
 
-pub next_in-laws : {X : Type 0} (p : Part DocumentParts (List X)) (ids : Part DocumentParts ℕ) → IsLawfulPart p → IsLawfulPart ids → AreApart p ids → (id : ℕ) → IsLawfulSlot (next_in p ids id)
+pub next_in-laws : {X : Type 0} (p : Lens DocumentParts (List X)) (ids : Lens DocumentParts ℕ) → IsLawfulLens p → IsLawfulLens ids → AreApart p ids → (id : ℕ) → IsLawfulSlot (next_in p ids id)
 next_in-laws {X = X} p ids laws id-laws apart id = record {
   there = λ d h. let s = some_list (p.get d) h.1 in rw s.1.0 (last_there s.0 s.1.1);
   filled = λ x d h. let s = some (p.get d) h.1 in (

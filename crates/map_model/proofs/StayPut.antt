@@ -20,13 +20,13 @@ use Rattle.map_model.specs.Document.{DocumentParts, with_map}
 use Rattle.map_model.specs.Groups.{bare, body_with_layers}
 use Rattle.map_model.specs.Lists.{change_at, or_empty}
 use Rattle.map_model.specs.Objects.{objects_in, has_object_id, place_of_layer, place_in_layer, object_place, layer_with_objects, with_object, body_with_objects, object_with_placing}
-use Rattle.map_model.specs.Part.{IsLawfulPart, of_object, placing, placing_with_id, put}
+use Rattle.map_model.specs.Lens.{IsLawfulLens, of_object, placing, placing_with_id, put}
 use Rattle.map_model.specs.Properties.{has_name, layer_with_properties, new_property, object_with_properties, owner_place, properties_of, property_at, property_place, property_with_setting, setting_of, with_properties, with_property_at, without_property_at}
-use Rattle.map_model.specs.PropertyParts.{properties, setting_at, setting_named, setting_place, without_setting}
+use Rattle.map_model.specs.PropertyLenses.{properties, setting_at, setting_named, setting_place, without_setting}
 use Rattle.map_model.proofs.FoundLaws.{found-get, found-keeps, found-laws, found-update}
 use Rattle.map_model.proofs.Lookups.{first_some-with_layer, found-with_layer}
 use Rattle.map_model.proofs.ObjectKeeps.{group_in-objects}
-use Rattle.map_model.proofs.PartLaws.{placing-laws, slice_get-change_at}
+use Rattle.map_model.proofs.LensLaws.{placing-laws, slice_get-change_at}
 use Rattle.map_model.proofs.PropertyLaws.{properties-laws, setting_at-laws}
 
 some-eq : {X : Type 0} (x y : X) → Some x ≡ Some y → x ≡ y
@@ -99,7 +99,7 @@ placing-stays id place f d e = object_place-with_object (λ o. object_with_placi
 pub placing_with_id-keeps : (id : ℕ) (f : Placing → Placing) (d : DocumentParts) → object_place ((placing_with_id id).update f d).map id ≡ object_place d.map id
 placing_with_id-keeps id = found-keeps (λ d. object_place d.map id) (λ place. of_object place placing) (placing-stays id)
 
-pub placing_with_id-laws : (id : ℕ) → IsLawfulPart (placing_with_id id)
+pub placing_with_id-laws : (id : ℕ) → IsLawfulLens (placing_with_id id)
 placing_with_id-laws id = found-laws (λ d. object_place d.map id) (λ place. of_object place placing) (placing-stays id) placing-laws
 
 -- ---- an owner whose properties change
@@ -164,7 +164,7 @@ setting-stays owner name k f d e =
 pub setting_named-keeps : (owner : Owner) (name : List ℕ) (f : Setting → Setting) (d : DocumentParts) → setting_place owner name ((setting_named owner name).update f d) ≡ setting_place owner name d
 setting_named-keeps owner name = found-keeps (setting_place owner name) (λ k. setting_at k.0 k.1) (setting-stays owner name)
 
-pub setting_named-laws : (owner : Owner) (name : List ℕ) → IsLawfulPart (setting_named owner name)
+pub setting_named-laws : (owner : Owner) (name : List ℕ) → IsLawfulLens (setting_named owner name)
 setting_named-laws owner name = found-laws (setting_place owner name) (λ k. setting_at k.0 k.1) (setting-stays owner name) (λ k. setting_at-laws k.0 k.1)
 
 -- without its last property, which has the name, the owner has none with the name

@@ -3,7 +3,7 @@ use Rattle.std.proofs.Common.{◌≡◌, ℕ, zero, suc, List, [], ◌∷◌, na
 use Rattle.map_model.specs.declared.limits.TheConstants.{MAX_GROUPS}
 use Rattle.map_model.specs.declared.parts.Layer.{Layer}
 use Rattle.map_model.specs.declared.parts.MapParts.{MapParts}
-use Rattle.map_model.specs.Parts.{with_layer}
+use Rattle.map_model.specs.Lookups.{with_layer}
 use Rattle.map_model.specs.Groups.{has_id, inside, find_one, layer_among, holds, change_one, change_among}
 use Rattle.map_model.specs.Lists.{change_first, or_else}
 use Rattle.map_model.proofs.GroupBodies.{inside-with, body_with_layers-twice, body_with_layers-along, body_with_layers-same}

@@ -6,7 +6,7 @@ use Rattle.map_model.specs.declared.parts.Body.TheVariants.{Tiles, Objects, Othe
 use Rattle.map_model.specs.declared.parts.Layer.{Layer}
 use Rattle.map_model.specs.declared.parts.MapParts.{MapParts}
 use Rattle.map_model.specs.Bodies.{IsTiles, tiles_of, body_with_tiles}
-use Rattle.map_model.specs.Parts.{layer_of, HasTiles, tiles_of_layer, tiles_in, layer_with_tiles, with_tiles}
+use Rattle.map_model.specs.Lookups.{layer_of, HasTiles, tiles_of_layer, tiles_in, layer_with_tiles, with_tiles}
 use Rattle.map_model.proofs.TreeChanges.{layer_among-change_among, change_among-change_among, change_among-along, change_among-same}
 
 -- ---- bodies

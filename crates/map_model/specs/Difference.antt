@@ -2,7 +2,7 @@
 use Rattle.std.specs.Prelude.{ℕ, ◌*◌, ◌/◌, ◌%◌, List, [], ◌∷◌, ◌++◌, zero, suc, nat_eq, slice_index, if◌then◌else◌}
 use Rattle.map_model.specs.declared.edit.CellEdit.{CellEdit}
 use Rattle.map_model.specs.declared.parts.MapParts.{MapParts}
-use Rattle.map_model.specs.Parts.{tiles_in}
+use Rattle.map_model.specs.Lookups.{tiles_in}
 
 -- the change of the cell at a place of a layer of this width
 abbrev pub edit_at : ℕ → ℕ → ℕ → ℕ → CellEdit

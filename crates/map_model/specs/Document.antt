@@ -7,7 +7,7 @@ use Rattle.map_model.specs.declared.edit.CellEdit.{CellEdit}
 use Rattle.map_model.specs.declared.edit.Side.{Side}
 use Rattle.map_model.specs.declared.parts.MapParts.{MapParts}
 use Rattle.map_model.specs.contracts.parts.MapParts as parts
-use Rattle.map_model.specs.Parts.{with_edits}
+use Rattle.map_model.specs.Lookups.{with_edits}
 use Rattle.map_model.specs.WellFormed.{IsWellFormed}
 
 -- a document, as contracts see it: a map, and the set of the selected cells

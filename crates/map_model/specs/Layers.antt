@@ -8,7 +8,7 @@ use Rattle.map_model.specs.declared.parts.MapParts.{MapParts}
 use Rattle.map_model.specs.declared.place.LayerPlace.{LayerPlace}
 use Rattle.map_model.specs.Groups.{group_of, has_id, inside, layer_with_layers}
 use Rattle.map_model.specs.Lists.{first_some, or_else}
-use Rattle.map_model.specs.Parts.{layer_of, with_layer}
+use Rattle.map_model.specs.Lookups.{layer_of, with_layer}
 
 -- ---- where a layer stands
 -- the place so far from the first layer of a group, or of the map's own

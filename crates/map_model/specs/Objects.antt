@@ -11,7 +11,7 @@ use Rattle.map_model.specs.declared.parts.Placing.{Placing}
 use Rattle.map_model.specs.declared.place.ObjectPlace.{ObjectPlace}
 use Rattle.map_model.specs.Groups.{all_drawn}
 use Rattle.map_model.specs.Lists.{change_at, first_some}
-use Rattle.map_model.specs.Parts.{layer_of, with_layer}
+use Rattle.map_model.specs.Lookups.{layer_of, with_layer}
 
 -- ---- the objects of a layer
 -- the objects of an object layer; another layer has no list of them

@@ -21,7 +21,7 @@ use Rattle.map_model.specs.Keeping.{map_level, layer_level, object_level, proper
 use Rattle.map_model.specs.Groups.{all_drawn, has_id}
 use Rattle.map_model.specs.Lists.{change_at}
 use Rattle.map_model.specs.Objects.{object_at, object_place, with_object}
-use Rattle.map_model.specs.Parts.{layer_of, with_layer}
+use Rattle.map_model.specs.Lookups.{layer_of, with_layer}
 use Rattle.map_model.specs.WellFormed.{IsValue}
 
 -- ---- one property

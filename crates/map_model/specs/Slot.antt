@@ -7,7 +7,7 @@ use Rattle.map_model.specs.declared.parts.Object.{Object}
 use Rattle.map_model.specs.declared.place.LayerPlace.{LayerPlace}
 use Rattle.map_model.specs.declared.place.ObjectPlace.{ObjectPlace}
 use Rattle.map_model.specs.Document.{DocumentParts}
-use Rattle.map_model.specs.Part.{Part, layers, siblings, next_layer_id, tilesets, layer_objects, next_object_id}
+use Rattle.map_model.specs.Lens.{Lens, layers, siblings, next_layer_id, tilesets, layer_objects, next_object_id}
 
 -- a place at which a thing can stand: the document with one there and without it, and when it is free and filled
 pub record Slot (X : Type 0) : Type 1 where
@@ -26,7 +26,7 @@ pub record IsLawfulSlot {X : Type 0} (s : Slot X) : Type 0 where
   pub with-without : (x : X) (d : DocumentParts) → s.is_filled d → s.item d ≡ Some x → s.with_item x (s.without_item d) ≡ d
 
 -- the place k of a list
-abbrev pub place_in : {X : Type 0} → Part DocumentParts (List X) → ℕ → Slot X
+abbrev pub place_in : {X : Type 0} → Lens DocumentParts (List X) → ℕ → Slot X
 place_in p k = record {
   item = λ d. option_and_then (λ xs. slice_get xs k) (p.get d);
   with_item = λ x. p.update (λ xs. insert xs k x);
@@ -36,7 +36,7 @@ place_in p k = record {
 }
 
 -- the place behind a list, for a thing with the next id, which is one higher once it is there
-abbrev pub next_in : {X : Type 0} → Part DocumentParts (List X) → Part DocumentParts ℕ → ℕ → Slot X
+abbrev pub next_in : {X : Type 0} → Lens DocumentParts (List X) → Lens DocumentParts ℕ → ℕ → Slot X
 next_in p ids id = record {
   item = λ d. option_and_then (λ xs. slice_get xs (length xs - 1)) (p.get d);
   with_item = λ x d. ids.update (λ n. n + 1) (p.update (λ xs. insert xs (length xs) x) d);

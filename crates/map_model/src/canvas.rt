@@ -8,7 +8,7 @@ ghost use Rattle.map_model.specs.Keeping.{layer_level};
 ghost use Rattle.map_model.specs.Lists.{Each, or_empty};
 ghost use Rattle.map_model.specs.WellFormed.{IsPixels, IsPlacing};
 
-use crate::held::Cells;
+use crate::contents::Cells;
 use crate::parts::{Body, Layer, Object, Placing};
 use link_chain::Chain;
 use region::Region;

@@ -4,7 +4,7 @@ ghost use Rattle.serde_json.specs.Find.{as_object};
 ghost use Rattle.serde_json.specs.View.{view as data_of};
 ghost use Rattle.map_model.specs.NewMap.{new_layer, empty_layer, empty_object_layer, new_object, tile_layer_members, object_layer_members, object_members, map_members};
 
-use crate::held::{Cells, Kept, MapText};
+use crate::contents::{Cells, Kept, MapText};
 use crate::parts::{Body, Encoding, Layer, LayerKind, Object, Placing};
 use link_chain::{Chain, Loose};
 use serde_json::{Value, json};

@@ -2,7 +2,7 @@ ghost use Rattle.std.specs.Prelude.{◌≡◌, ◌<◌, Some, IsSome, IsSomeAnd,
 ghost use Rattle.map_model.specs.Document.{document_of, painted, with_map, with_selection, IsDocument, IsSelectionOf};
 ghost use Rattle.map_model.specs.Layers.{IsPlaceIn, layer_at, layer_name, layer_with_name, layer_with_visible, with_layer_at, with_next_ids, without_layer_at};
 ghost use Rattle.map_model.specs.Lists.{Each};
-ghost use Rattle.map_model.specs.Parts.{HasTiles, IsWithin, layer_of, with_cell, with_layer};
+ghost use Rattle.map_model.specs.Lookups.{HasTiles, IsWithin, layer_of, with_cell, with_layer};
 ghost use Rattle.map_model.specs.WellFormed.{IsWellFormed};
 
 mod canvas;
@@ -10,8 +10,8 @@ mod objects;
 mod properties;
 mod tilesets;
 
+use crate::contents::MapText;
 use crate::edit::{CellEdit, Side};
-use crate::held::MapText;
 use crate::layers::{insert_layer_in, put_in, rename_in, set_in, show_in, take_layer_in};
 use crate::map::Map;
 use crate::parts::Layer;

@@ -7,12 +7,12 @@ ghost use Rattle.map_model.specs.CellEdits.{HaveRange, IsBelow, put_values, with
 ghost use Rattle.map_model.specs.Groups.{body_with_layers, change_among, group_in, layer_among};
 ghost use Rattle.map_model.specs.Layers.{IsPlaceIn, layer_at, layer_name, layer_with_name, layer_with_visible, siblings_of, with_layer_at, without_layer_at};
 ghost use Rattle.map_model.specs.Lists.{Distinct, Each};
-ghost use Rattle.map_model.specs.Parts.{tiles_of_layer, layer_with_tiles};
+ghost use Rattle.map_model.specs.Lookups.{tiles_of_layer, layer_with_tiles};
 ghost use Rattle.map_model.specs.WellFormed.{layer_ids};
 
+use crate::contents::MapText;
 use crate::edit::{CellEdit, Side};
 use crate::groups::change_layer;
-use crate::held::MapText;
 use crate::parts::{Body, Layer, MapParts};
 use crate::place::LayerPlace;
 use link_chain::{Chain, Loose};
@@ -26,7 +26,7 @@ pub fn set_in(layers: &mut Chain<Layer>, id: u32, at: usize, value: Gid)
     requires place { at < length (tiles_of_layer (layer_among id MAX_GROUPS layers.old)) }
     ensures { layers.new ≡ change_among id MAX_GROUPS (layer_with_tiles (with_value at value)) layers.old }
 {
-    change_layer(layers, id, |layer| layer.body.set_tile(at, value));
+    change_layer(layers, id, move |layer| layer.body.set_tile(at, value));
 }
 
 /// Sets the cells of a list, in the tile layer with an id, to their values on a side.

@@ -5,11 +5,11 @@
 
 mod body;
 mod canvas;
+mod contents;
 mod create;
 mod document;
 mod edit;
 mod groups;
-mod held;
 mod layers;
 pub mod limits;
 mod map;
@@ -26,9 +26,9 @@ mod sizes;
 mod tilesets;
 
 pub use canvas::{Canvas, LayerCells};
+pub use contents::{Cells, JsonValue, Kept, MapText};
 pub use document::Document;
 pub use edit::{CellEdit, Side};
-pub use held::{Cells, JsonValue, Kept, MapText};
 pub use map::Map;
 pub use owner::Owner;
 pub use parts::{

@@ -3,16 +3,16 @@ ghost use Rattle.std.specs.Option.{option_copied};
 ghost use Rattle.map_model.specs.Groups.{all_drawn};
 ghost use Rattle.map_model.specs.Layers.{last_place, layer_place, sibling_count};
 ghost use Rattle.map_model.specs.NewMap.{new_map};
-ghost use Rattle.map_model.specs.Parts.{layer_of, cell_of};
+ghost use Rattle.map_model.specs.Lookups.{layer_of, cell_of};
 ghost use Rattle.map_model.specs.Tilesets.{tileset_of, better, best_of, IsTilesetOf, HasNoTileset};
 ghost use Rattle.map_model.specs.WellFormed.{IsWellFormed, IsSize, IsTileSize};
 
 mod objects;
 mod properties;
 
+use crate::contents::MapText;
 use crate::create::{first_layer, kept_by_map, one};
 use crate::groups::{count_in, find_in, place_in};
-use crate::held::MapText;
 use crate::limits::MAX_GROUPS;
 use crate::parts::{Layer, MapParts, Tileset};
 use crate::place::LayerPlace;

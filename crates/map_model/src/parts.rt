@@ -1,5 +1,5 @@
 // The records of a map.
-use crate::held::{Cells, JsonValue, Kept, MapText};
+use crate::contents::{Cells, JsonValue, Kept, MapText};
 use link_chain::Chain;
 use tile_id::Gid;
 

@@ -5,7 +5,7 @@ ghost use Rattle.map_model.specs.Given.{given_setting, owned_value};
 ghost use Rattle.map_model.specs.declared.place.OwnerPlace.{OwnerPlace};
 ghost use Rattle.map_model.specs.declared.parts.MapParts.{MapParts};
 
-use crate::held::{Kept, MapText};
+use crate::contents::{Kept, MapText};
 use crate::parts::{PropValue, Property};
 use std::alloc::{AllocError, Global};
 use std::mem;

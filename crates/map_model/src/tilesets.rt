@@ -8,7 +8,7 @@ ghost use Rattle.map_model.specs.Tilesets.{in_use, tileset_place, values_in, val
 ghost use Rattle.map_model.specs.Uses.{base_limit, end_of, is_between, nearer};
 ghost use Rattle.map_model.specs.WellFormed.{IsWellFormed};
 
-use crate::held::{Kept, MapText};
+use crate::contents::{Kept, MapText};
 use crate::limits::MAX_GROUPS;
 use crate::map::Map;
 use crate::parts::{Body, Layer, Object, Tileset};

@@ -63,7 +63,7 @@ fn whole_command<'a>(alloc: Global) -> Result<Command<'a>, AllocError> {
 
 /// Reads a command line, whose first word is the program's name.
 ///
-/// An error is a command line that is refused, a request for help or for the version, or want of memory.
+/// An error is a command line that is refused, a request for help or for the version, or out of memory.
 pub fn parse_options<'a, S: AsStr>(alloc: Global, words: &'a [S]) -> Result<Options<'a>, Error> {
     let matches = whole_command(alloc)?.try_get_matches_from(words)?;
     Ok(Options {

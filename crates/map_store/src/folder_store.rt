@@ -4,12 +4,15 @@ ghost use Rattle.map_store.specs.Files.{HasFailed};
 ghost use Rattle.map_store.specs.Storing.{Loads};
 
 use crate::map_store::{MapStore, StoreFault};
+use crate::reason::Reason;
 use std::alloc::{AllocError, Global};
+use std::fmt::Display;
 use std::fs::{OpenFile, OpenOptions, Permissions};
 use std::io::{ErrorKind, Read, Write};
 use std::os::unix::fs::{MetadataExt, OpenOptionsExt, PermissionsExt};
 use std::rt::Files;
 use std::{fs, io};
+use thiserror::Error;
 
 /// The bytes of the longest file that is loaded.
 const LONGEST: usize = 67_108_864;
@@ -28,37 +31,57 @@ const NEW_FILE_MODE: u32 = 0o666;
 
 /// The files of a folder of the system. Nothing is claimed of them, since other programs reach them too.
 ///
-/// A file's path is the folder's, a slash and its name. The name has no slash and no dot at its front.
+/// A file's path is the folder's, a slash and its name. The name has no slash and no dot at its front. Where a file can't be
+/// loaded or saved, a line on standard error says why: the program's name, the path and the system's reason.
 #[derive(Drop)]
 pub struct FolderStore<'a, R> {
     rt: &'a R,
+    // What stands before each reason.
+    program: &'a str,
     folder: &'a str,
     failures: u64,
 }
 
-// What stands for an error of the system at a load.
-fn load_fault(kind: ErrorKind) -> StoreFault {
-    match kind {
-        ErrorKind::NotFound => StoreFault::Missing,
-        _ => StoreFault::Device,
+// Why a file could not be loaded.
+#[derive(Debug, Drop, Error)]
+enum LoadError {
+    #[error("{0}")]
+    Open(Reason),
+    #[error("{0}")]
+    Read(Reason),
+    #[error("not a file")]
+    NotAFile,
+    #[error("longer than 67,108,864 bytes")]
+    TooLong,
+    #[error("out of memory")]
+    Memory,
+}
+
+impl LoadError {
+    // What the store answers.
+    fn fault(&self) -> StoreFault {
+        match self {
+            LoadError::Open(reason) if reason.kind() == ErrorKind::NotFound => StoreFault::Missing,
+            LoadError::Memory => StoreFault::Memory,
+            _ => StoreFault::Device,
+        }
     }
 }
 
 // Makes room behind a place, but for no more bytes than the longest file has and one more.
-fn make_room(bytes: &mut Vec<u8>, place: usize) -> Result<(), StoreFault>
+fn make_room(bytes: &mut Vec<u8>, place: usize) -> Result<(), LoadError>
     requires within { place ≤ vec_len bytes.old }
     requires limit { vec_len bytes.old ≤ LONGEST + 1 }
     ensures room { OnOk result (place < vec_len bytes.new) }
     ensures limit { OnOk result (vec_len bytes.new ≤ LONGEST + 1) }
     ensures front { OnOk result (take place bytes.new.items ≡ take place bytes.old.items) }
-    ensures fault { IsErrOf result StoreFault.Missing → ⊥ }
 {
     let len = bytes.len();
     if place < len {
         return Ok(());
     }
     if len > LONGEST {
-        return Err(StoreFault::Device);
+        return Err(LoadError::TooLong);
     }
     let longer = if len < MORE_ROOM {
         MORE_ROOM
@@ -68,7 +91,7 @@ fn make_room(bytes: &mut Vec<u8>, place: usize) -> Result<(), StoreFault>
         2 * len
     };
     if bytes.reserve_exact(longer - len).is_err() || bytes.resize(longer, 0).is_err() {
-        return Err(StoreFault::Memory);
+        return Err(LoadError::Memory);
     }
     Ok(())
 }
@@ -79,7 +102,7 @@ fn read_behind<F: Read>(
     file: &mut F,
     bytes: &mut [u8],
     place: usize,
-) -> Result<Option<usize>, StoreFault>
+) -> Result<Option<usize>, LoadError>
     requires { place < length bytes.old }
     ensures within { IfOk result (λ end. IfSome end (λ n. n ≤ length bytes.old)) }
     ensures front { take place bytes.new ≡ take place bytes.old }
@@ -87,26 +110,24 @@ fn read_behind<F: Read>(
         (slice_range bytes.new place n))) }
     ensures ended { IfOk result (λ end. IfNone end (Consumes (F.remaining file.old) (F.remaining file.new) []
         × IsAtEnd (F.remaining file.new))) }
-    ensures fault { IsErrOf result StoreFault.Missing → ⊥ }
 {
     match file.read(&mut bytes[place..]) {
         Ok(0) => Ok(None),
         Ok(count) => Ok(Some(place + count)),
         Err(error) if error.kind() == ErrorKind::Interrupted => Ok(Some(place)),
-        Err(_) => Err(StoreFault::Device),
+        Err(error) => Err(LoadError::Read(Reason::of(error))),
     }
 }
 
 // Reads to the end. So many bytes are looked for; where they come, room was taken once.
-fn read_whole<F: Read>(alloc: Global, file: &mut F, size: usize) -> Result<Vec<u8>, StoreFault>
+fn read_whole<F: Read>(alloc: Global, file: &mut F, size: usize) -> Result<Vec<u8>, LoadError>
     requires { size ≤ LONGEST }
     ensures whole { IfOk result (λ bytes. Consumes (F.remaining file.old) (F.remaining file.new) bytes.items
         × IsAtEnd (F.remaining file.new)) }
     ensures short { IfOk result (λ bytes. vec_len bytes ≤ LONGEST) }
-    ensures fault { IsErrOf result StoreFault.Missing → ⊥ }
 {
     let Ok(mut bytes) = vec![in alloc; 0; size + 1] else {
-        return Err(StoreFault::Memory);
+        return Err(LoadError::Memory);
     };
     let mut end = 0;
     for _ in 0..MAX_CALLS {
@@ -119,7 +140,7 @@ fn read_whole<F: Read>(alloc: Global, file: &mut F, size: usize) -> Result<Vec<u
             }
         }
     }
-    Err(StoreFault::Device)
+    Err(LoadError::TooLong)
 }
 
 // The access bits of the file that stands at a path. Where nothing stands there, or what is no file, as a link, there are none.
@@ -170,16 +191,18 @@ fn replace<R: Files>(rt: &R, new_path: &str, path: &str, bytes: &[u8]) -> io::Re
     fs::rename(rt, new_path, path)
 }
 
-impl<'a, R: Files> FolderStore<'a, R> {
+impl<'a, R: Files + Eprint> FolderStore<'a, R> {
     ghost use Rattle.std.specs.Prelude.{false};
     ghost use Rattle.std.specs.FinMap.{empty};
 
-    /// The files of a folder, which is not looked at yet. Its path is not empty.
-    pub fn new(rt: &'a R, folder: &'a str) -> FolderStore<'a, R>
+    /// The files of a folder, which is not looked at yet. Its path is not empty. The program's name stands before each reason
+    /// on standard error.
+    pub fn new(rt: &'a R, program: &'a str, folder: &'a str) -> FolderStore<'a, R>
         ensures { ⟦<FolderStore<'a, R> as MapStore>⟧.kept result ≡ record { files = empty; failures = 0; honest = false } }
     {
         FolderStore {
             rt,
+            program,
             folder,
             failures: 0,
         }
@@ -196,25 +219,28 @@ impl<'a, R: Files> FolderStore<'a, R> {
         format!(in alloc; "{folder}/.{name}.new")
     }
 
-    fn read_file(&self, alloc: Global, name: &str) -> Result<Vec<u8>, StoreFault>
+    // Says on standard error what went wrong with a file.
+    fn report(&self, path: &str, reason: impl Display + Drop) {
+        let program = self.program;
+        let _ = eprintln!(self.rt; "{program}: {path}: {reason}");
+    }
+
+    fn read_file(&self, alloc: Global, path: &str) -> Result<Vec<u8>, LoadError>
         ensures { IfOk result (λ bytes. vec_len bytes ≤ LONGEST) }
     {
-        let Ok(path) = self.path_of(alloc, name) else {
-            return Err(StoreFault::Memory);
-        };
         // To open a pipe would wait for its other end, so what is no file is not opened.
-        let metadata = match fs::metadata(self.rt, path.as_str()) {
-            Ok(metadata) => metadata,
-            Err(error) => return Err(load_fault(error.kind())),
-        };
+        let metadata = fs::metadata(self.rt, path).map_err(|error| LoadError::Open(Reason::of(
+            error,
+        )))?;
         let size = metadata.len();
-        if !metadata.is_file() || size > LONGEST as u64 {
-            return Err(StoreFault::Device);
+        if !metadata.is_file() {
+            return Err(LoadError::NotAFile);
         }
-        match fs::open(self.rt, path.as_str()) {
-            Ok(mut file) => read_whole(alloc, &mut file, size as usize),
-            Err(error) => Err(load_fault(error.kind())),
+        if size > LONGEST as u64 {
+            return Err(LoadError::TooLong);
         }
+        let mut file = fs::open(self.rt, path).map_err(|error| LoadError::Open(Reason::of(error)))?;
+        read_whole(alloc, &mut file, size as usize)
     }
 
     // Counts a fault of the device.
@@ -230,7 +256,7 @@ impl<'a, R: Files> FolderStore<'a, R> {
     }
 }
 
-impl<'a, R: Files> MapStore for FolderStore<'a, R> {
+impl<'a, R: Files + Eprint> MapStore for FolderStore<'a, R> {
     ghost use Rattle.std.specs.Prelude.{false};
     ghost use Rattle.std.specs.FinMap.{empty};
 
@@ -251,9 +277,16 @@ impl<'a, R: Files> MapStore for FolderStore<'a, R> {
         ensures count { (⟦<FolderStore<'a, R> as MapStore>⟧.kept self.old).failures
             ≤ (⟦<FolderStore<'a, R> as MapStore>⟧.kept self.new).failures }
     {
-        match self.read_file(alloc, name) {
+        let Ok(path) = self.path_of(alloc, name) else {
+            return Err(StoreFault::Memory);
+        };
+        match self.read_file(alloc, path.as_str()) {
             Ok(bytes) => Ok(bytes),
-            Err(fault) => Err(self.counted(fault)),
+            Err(error) => {
+                let fault = error.fault();
+                self.report(path.as_str(), error);
+                Err(self.counted(fault))
+            }
         }
     }
 
@@ -262,11 +295,11 @@ impl<'a, R: Files> MapStore for FolderStore<'a, R> {
         else {
             return Err(StoreFault::Memory);
         };
-        let replaced = replace(self.rt, new_path.as_str(), path.as_str(), bytes);
-        if replaced.is_ok() {
+        let Err(error) = replace(self.rt, new_path.as_str(), path.as_str(), bytes) else {
             return Ok(());
-        }
+        };
         let _ = fs::remove_file(self.rt, new_path.as_str());
+        self.report(path.as_str(), Reason::of(error));
         Err(self.counted(StoreFault::Device))
     }
 }

@@ -5,8 +5,10 @@ mod folder_store;
 mod fuse_store;
 mod map_store;
 mod memory_store;
+mod reason;
 
 pub use folder_store::FolderStore;
 pub use fuse_store::FuseStore;
 pub use map_store::{MapStore, StoreFault};
 pub use memory_store::MemoryStore;
+pub use reason::Reason;

@@ -2,7 +2,7 @@ use crate::map_store::{MapStore, StoreFault};
 use std::alloc::Global;
 use std::collections::BTreeMap;
 
-/// Files in memory. No call fails but for want of memory, or where there is no file to load.
+/// Files in memory. No call fails but where memory runs out, or where there is no file to load.
 #[derive(Drop)]
 pub struct MemoryStore {
     files: BTreeMap<String, Vec<u8>>,

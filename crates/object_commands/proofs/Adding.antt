@@ -12,7 +12,7 @@ use Rattle.map_model.specs.Layers.{with_next_ids}
 use Rattle.map_model.specs.Objects.{objects_of, objects_of_layer, object_at, last_object_place, sibling_object_place, with_objects, with_object_at, without_object_at}
 use Rattle.map_model.specs.NewMap.{new_object}
 use Rattle.map_model.specs.Properties.{level_of}
-use Rattle.map_model.specs.Parts.{layer_of}
+use Rattle.map_model.specs.Lookups.{layer_of}
 use Rattle.map_model.specs.Slot.{next_object_slot}
 use Rattle.map_model.specs.WellFormed.{IsPixels, IsWellFormed}
 use Rattle.map_model.proofs.Lookups.{level_of-low}

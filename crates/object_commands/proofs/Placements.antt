@@ -11,11 +11,11 @@ use Rattle.map_model.specs.declared.parts.Placing.{Placing}
 use Rattle.map_model.specs.declared.place.ObjectPlace.{ObjectPlace}
 use Rattle.map_model.specs.Document.{DocumentParts, with_map}
 use Rattle.map_model.specs.Objects.{object_at, object_place, object_placing, object_with_placing, with_object}
-use Rattle.map_model.specs.Part.{of_object, placing, placing_with_id, put}
+use Rattle.map_model.specs.Lens.{of_object, placing, placing_with_id, put}
 use Rattle.map_model.specs.WellFormed.{IsPixels, IsPlacing, IsWellFormed}
 use Rattle.map_model.proofs.ObjectKeeps.{object_at-IsObject, object_with_placing-keeps, with_object-keeps}
 use Rattle.map_model.proofs.FoundLaws.{found-get, found-update}
-use Rattle.map_model.proofs.PartLaws.{of_object-get, update-put}
+use Rattle.map_model.proofs.LensLaws.{of_object-get, update-put}
 use Rattle.map_model.proofs.StayPut.{placing_with_id-keeps, placing_with_id-laws}
 use Rattle.command_api.specs.declared.ids.TheConstants.{MOVE_ID}
 use Rattle.command_api.specs.Law.{WhenEqual}

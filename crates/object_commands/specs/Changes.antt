@@ -4,7 +4,7 @@ use Rattle.map_model.specs.declared.parts.Placing.{Placing}
 use Rattle.map_model.specs.declared.place.ObjectPlace.{ObjectPlace}
 use Rattle.map_model.specs.Document.{DocumentParts}
 use Rattle.map_model.specs.Objects.{object_place}
-use Rattle.map_model.specs.Part.{placing_with_id}
+use Rattle.map_model.specs.Lens.{placing_with_id}
 use Rattle.map_model.specs.Slot.{object_slot, next_object_slot}
 use Rattle.map_model.specs.WellFormed.{IsPlacing}
 use Rattle.command_api.specs.declared.ids.TheConstants.{MOVE_ID}

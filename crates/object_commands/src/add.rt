@@ -1,6 +1,6 @@
 ghost use Rattle.std.specs.Prelude.{◌≡◌, Some, None, Ok, Err, IfOk, IfErr, MatchResult, if◌then◌else◌, refl};
 ghost use Rattle.map_model.specs.NewMap.{new_object};
-ghost use Rattle.map_model.specs.Parts.{layer_of};
+ghost use Rattle.map_model.specs.Lookups.{layer_of};
 ghost use Rattle.map_model.specs.WellFormed.{IsPixels};
 ghost use Rattle.command_api.specs.Making.{IsRefusalOf, Makes};
 ghost use Rattle.edits.specs.ObjectEdits.{after_add_object, is_object_size, objects_or_fault, placing_of};

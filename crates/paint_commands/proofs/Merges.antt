@@ -5,7 +5,7 @@ use Rattle.map_model.specs.declared.edit.Side.TheVariants.{Before}
 use Rattle.map_model.specs.CellEdits.{AreInRowOrder, put_values}
 use Rattle.map_model.specs.Difference.{difference_in}
 use Rattle.map_model.specs.Document.{DocumentParts, painted}
-use Rattle.map_model.specs.Parts.{with_tiles, tiles_in}
+use Rattle.map_model.specs.Lookups.{with_tiles, tiles_in}
 use Rattle.map_model.proofs.CellEdits.{length-put_values}
 use Rattle.map_model.proofs.Turns.{with_tiles-with_tiles}
 use Rattle.map_model.specs.WellFormed.{IsWellFormed}

@@ -1,4 +1,4 @@
--- A paint that is made, turned back and made again.
+-- A paint that is made, undone and made again.
 use Rattle.std.proofs.Common.{◌≡◌, ℕ, List, [], ◌∷◌, length, Bool, true, false, not, nat_eq, Some, Result, Ok, refl, sym, ap, ◌∙◌, subst, arith}
 use Rattle.std.proofs.lemmas.Bool.Decides.{nat_tests}
 use Rattle.map_model.specs.declared.edit.CellEdit.{CellEdit}
@@ -7,7 +7,7 @@ use Rattle.map_model.specs.declared.edit.Side.TheVariants.{Before, After}
 use Rattle.map_model.specs.Document.{DocumentParts, painted}
 use Rattle.map_model.specs.CellEdits.{put_values}
 use Rattle.map_model.specs.Lists.{Each}
-use Rattle.map_model.specs.Parts.{with_edits, IsWithin}
+use Rattle.map_model.specs.Lookups.{with_edits, IsWithin}
 use Rattle.map_model.specs.WellFormed.{IsWellFormed}
 use Rattle.map_model.proofs.CellEdits.{length-put_values}
 use Rattle.map_model.proofs.Turns.{HasTiles-with_tiles}

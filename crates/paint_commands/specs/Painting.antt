@@ -5,7 +5,7 @@ use Rattle.map_model.specs.declared.edit.Side.{Side}
 use Rattle.map_model.specs.declared.edit.Side.TheVariants.{Before, After}
 use Rattle.map_model.specs.declared.parts.MapParts.{MapParts}
 use Rattle.map_model.specs.Document.{DocumentParts, painted}
-use Rattle.map_model.specs.Parts.{HasTiles}
+use Rattle.map_model.specs.Lookups.{HasTiles}
 use Rattle.map_model.specs.WellFormed.{IsWellFormed}
 use Rattle.edits.specs.declared.change.CellChange.{CellChange}
 use Rattle.map_model.specs.Difference.{difference_in}

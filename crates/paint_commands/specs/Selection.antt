@@ -1,7 +1,7 @@
 -- What a select command is and does.
 use Rattle.std.specs.Prelude.{codes}
 use Rattle.map_model.specs.Document.{IsSelectionOf}
-use Rattle.map_model.specs.Part.{selection}
+use Rattle.map_model.specs.Lens.{selection}
 use Rattle.command_api.specs.Exchange.{Exchange, change_of}
 use Rattle.command_api.specs.Law.{Change, Names, WhenEqual, untagged}
 use Rattle.command_api.specs.Swap.{swap_where}

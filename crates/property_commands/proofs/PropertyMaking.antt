@@ -17,9 +17,9 @@ use Rattle.map_model.specs.declared.setting.Setting.{Setting}
 use Rattle.map_model.specs.Document.{DocumentParts, with_map}
 use Rattle.map_model.specs.Given.{given_setting}
 use Rattle.map_model.specs.Properties.{new_property, owner_place, properties_of, property_at, property_place, property_with_setting, setting_of, setting_with, with_property, IsSetting}
-use Rattle.map_model.specs.PropertyParts.{properties, setting_at, setting_place}
+use Rattle.map_model.specs.PropertyLenses.{properties, setting_at, setting_place}
 use Rattle.map_model.specs.WellFormed.{IsWellFormed}
-use Rattle.map_model.proofs.PartLaws.{mapped}
+use Rattle.map_model.proofs.LensLaws.{mapped}
 use Rattle.map_model.proofs.PropertyKeeps.{new_property-IsProperty, with_property_at-keeps, with_setting-keeps}
 use Rattle.map_model.proofs.PropertyLaws.{properties-laws}
 use Rattle.map_model.proofs.StayPut.{setting_named-laws}

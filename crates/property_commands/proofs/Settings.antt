@@ -11,9 +11,9 @@ use Rattle.map_model.specs.declared.setting.Setting.{Setting}
 use Rattle.map_model.specs.Document.{DocumentParts, with_map}
 use Rattle.map_model.specs.Given.{given_setting}
 use Rattle.map_model.specs.Keeping.{property_level}
-use Rattle.map_model.specs.Part.{put, update_found}
+use Rattle.map_model.specs.Lens.{put, update_found}
 use Rattle.map_model.specs.Properties.{has_name, new_property, owner_level, properties_of, property_at, scalar_value, setting_of, setting_with, property_with_setting, with_property, with_property_at, without_property_at, IsSetting}
-use Rattle.map_model.specs.PropertyParts.{properties, property_slot, setting_at, setting_named, setting_place, without_setting}
+use Rattle.map_model.specs.PropertyLenses.{properties, property_slot, setting_at, setting_named, setting_place, without_setting}
 use Rattle.map_model.specs.WellFormed.{IsValue, IsWellFormed}
 use Rattle.map_model.proofs.Changes.{length-insert, slice_get-insert}
 use Rattle.map_model.proofs.FoundLaws.{found-get, found-update}

@@ -7,7 +7,7 @@ use Rattle.map_model.specs.declared.setting.Setting.{Setting}
 use Rattle.map_model.specs.Document.{DocumentParts, with_map}
 use Rattle.map_model.specs.Given.{given_setting}
 use Rattle.map_model.specs.Properties.{IsSetting, new_property, owner_place, properties_of, property_at, property_place, without_property_at}
-use Rattle.map_model.specs.PropertyParts.{property_slot, setting_named, setting_place}
+use Rattle.map_model.specs.PropertyLenses.{property_slot, setting_named, setting_place}
 use Rattle.command_api.specs.declared.ids.TheConstants.{SET_ID}
 use Rattle.command_api.specs.Law.{Change, Names, untagged, Never, WhenEqual}
 use Rattle.command_api.specs.Exchange.{Exchange, change_of}

@@ -1,6 +1,6 @@
 // What is held, or stands in its place.
 ghost use Rattle.std.specs.Prelude.{◌≡◌};
-ghost use Rattle.map_model.specs.PropertyParts.{property_slot};
+ghost use Rattle.map_model.specs.PropertyLenses.{property_slot};
 ghost use Rattle.map_model.specs.Slot.{tileset_slot};
 ghost use Rattle.command_api.specs.Exchange.{IsExchanged};
 ghost use Rattle.command_api.specs.Law.{Names};

@@ -8,7 +8,7 @@ use roskevad_session::Session;
 use std::alloc::Global;
 use std::marker::Model;
 
-/// A box of a session, or none. Nothing but `into_box` lets go of the session.
+/// A box of a session, or none. Nothing but `into_box` drops the session.
 #[repr(C)]
 #[derive(Drop)]
 pub struct Held {

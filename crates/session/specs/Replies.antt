@@ -89,3 +89,8 @@ reply_text (Tile value local) =
     codes "tile " ++ decimal value ++ codes " " ++ flags_text value ++ codes " "
     ++ local_text local
 reply_text (Refused refusal) = codes "no " ++ refusal_text refusal
+
+-- the refusal that a reply is, where it is one
+abbrev pub refusal_of : Reply → Option Refusal
+refusal_of (Refused refusal) = Some refusal
+refusal_of reply = None

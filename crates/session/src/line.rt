@@ -174,7 +174,7 @@ pub enum Line<'a> {
     Clean,
     /// No index is the clean one.
     Dirty,
-    /// The undo stack lets go of its steps.
+    /// The undo stack drops its steps.
     Clear,
     /// A macro begins, with its text, and with the text of its action, where one was given.
     Begin {
@@ -191,7 +191,7 @@ pub enum Line<'a> {
     Show,
     /// How the active document stands.
     Status,
-    /// The text of the step that an undo turns back.
+    /// The text of the step that `undo` would undo.
     UndoText,
     /// The text of the step that a redo makes again.
     RedoText,

@@ -1,7 +1,7 @@
 ghost use Rattle.std.specs.Prelude.{◌≡◌, ◌++◌, ◌∷◌, ◌+◌, ◌/◌, ◌%◌, ◌≤◌, ◌<◌, [], Option, length, decimal};
 ghost use Rattle.arrayvec.specs.ArrayString.{array_string_len};
 ghost use Rattle.session.specs.declared.limits.TheConstants.{MAX_FILE_NAME};
-ghost use Rattle.session.specs.Replies.{body_of, reply_text, refusal_text, flag_letter, flags_text, local_text, word_and};
+ghost use Rattle.session.specs.Replies.{body_of, reply_text, refusal_of, refusal_text, flag_letter, flags_text, local_text, word_and};
 
 use crate::line::LineFault;
 use crate::text::{FileName, MapBytes};
@@ -91,49 +91,52 @@ pub enum Reply {
     Refused(Refusal),
 }
 
-fn refusal_words(refusal: Refusal) -> &'static str
-    ensures value { result.now ≡ refusal_text refusal }
-    ensures short { length result.now ≤ 100 }
-{
-    match refusal {
-        Refusal::Line(LineFault::TooLong) => "1 line too long",
-        Refusal::Line(LineFault::NotUtf8) => "2 not UTF-8",
-        Refusal::Line(LineFault::UnknownCommand) => "3 unknown command",
-        Refusal::Line(LineFault::BadWord) => "4 bad word",
-        Refusal::NoActiveDocument => "10 no active document",
-        Refusal::NameTaken => "11 name taken",
-        Refusal::NoSuchDocument => "12 no such document",
-        Refusal::UnsavedChanges => "13 unsaved changes",
-        Refusal::MacroOpen => "20 macro open",
-        Refusal::NothingToUndo => "21 nothing to undo",
-        Refusal::NothingToRedo => "22 nothing to redo",
-        Refusal::NoMacroOpen => "23 no macro open",
-        Refusal::TooDeep => "24 too deep",
-        Refusal::StackNotEmpty => "25 stack not empty",
-        Refusal::NoSuchLayer => "30 no such layer",
-        Refusal::LayerOfAnotherKind => "31 layer of another kind",
-        Refusal::OutsideTheMap => "32 outside the map",
-        Refusal::UnknownTile => "33 unknown tile",
-        Refusal::NoSuchObject => "34 no such object",
-        Refusal::NoSuchProperty => "35 no such property",
-        Refusal::NoSuchTileset => "36 no such tileset",
-        Refusal::TilesetInUse => "37 tileset in use",
-        Refusal::FirstIdNotAbove => "38 first id not above the others",
-        Refusal::OutOfRange => "39 out of range",
-        Refusal::TooMany => "40 too many",
-        Refusal::NoSuchFile => "50 no such file",
-        Refusal::StoreFailed => "51 store failed",
-        Refusal::NotJson => "60 not JSON",
-        Refusal::Fraction => "61 fraction",
-        Refusal::MemberMissing => "62 member missing",
-        Refusal::MemberOfAnotherKind => "63 member of another kind",
-        Refusal::Infinite => "64 infinite",
-        Refusal::Compressed => "65 compressed",
-        Refusal::BadData => "66 bad data",
-        Refusal::IdUsedTwice => "67 id used twice",
-        Refusal::OverLimit => "68 over a limit",
-        Refusal::NotAMap => "69 not a map",
-        Refusal::NoMemory => "90 no memory",
+impl Refusal {
+    /// Its number and its words, as they stand in a reply: `30 no such layer`.
+    pub fn words(self) -> &'static str
+        ensures value { result.now ≡ refusal_text self }
+        ensures short { length result.now ≤ 100 }
+    {
+        match self {
+            Refusal::Line(LineFault::TooLong) => "1 line too long",
+            Refusal::Line(LineFault::NotUtf8) => "2 not UTF-8",
+            Refusal::Line(LineFault::UnknownCommand) => "3 unknown command",
+            Refusal::Line(LineFault::BadWord) => "4 bad word",
+            Refusal::NoActiveDocument => "10 no active document",
+            Refusal::NameTaken => "11 name taken",
+            Refusal::NoSuchDocument => "12 no such document",
+            Refusal::UnsavedChanges => "13 unsaved changes",
+            Refusal::MacroOpen => "20 macro open",
+            Refusal::NothingToUndo => "21 nothing to undo",
+            Refusal::NothingToRedo => "22 nothing to redo",
+            Refusal::NoMacroOpen => "23 no macro open",
+            Refusal::TooDeep => "24 too deep",
+            Refusal::StackNotEmpty => "25 stack not empty",
+            Refusal::NoSuchLayer => "30 no such layer",
+            Refusal::LayerOfAnotherKind => "31 layer of another kind",
+            Refusal::OutsideTheMap => "32 outside the map",
+            Refusal::UnknownTile => "33 unknown tile",
+            Refusal::NoSuchObject => "34 no such object",
+            Refusal::NoSuchProperty => "35 no such property",
+            Refusal::NoSuchTileset => "36 no such tileset",
+            Refusal::TilesetInUse => "37 tileset in use",
+            Refusal::FirstIdNotAbove => "38 first id not above the others",
+            Refusal::OutOfRange => "39 out of range",
+            Refusal::TooMany => "40 too many",
+            Refusal::NoSuchFile => "50 no such file",
+            Refusal::StoreFailed => "51 store failed",
+            Refusal::NotJson => "60 not JSON",
+            Refusal::Fraction => "61 fraction",
+            Refusal::MemberMissing => "62 member missing",
+            Refusal::MemberOfAnotherKind => "63 member of another kind",
+            Refusal::Infinite => "64 infinite",
+            Refusal::Compressed => "65 compressed",
+            Refusal::BadData => "66 bad data",
+            Refusal::IdUsedTwice => "67 id used twice",
+            Refusal::OverLimit => "68 over a limit",
+            Refusal::NotAMap => "69 not a map",
+            Refusal::NoMemory => "90 no memory",
+        }
     }
 }
 
@@ -153,10 +156,11 @@ fn push_three_digits(head: &mut ArrayString<512>, number: u64)
     ensures size { array_string_len head.new ≡ array_string_len head.old + 3 }
 {
     // Less work than in 64 bits.
-    let last = (number % 1000) as u32;
-    push_digit(head, last / 100);
-    push_digit(head, last / 10 % 10);
-    push_digit(head, last % 10);
+    let last_three = (number % 1000) as u32;
+    let last_two = last_three % 100;
+    push_digit(head, last_three / 100);
+    push_digit(head, last_two / 10);
+    push_digit(head, last_two % 10);
 }
 
 // Writes a number below 1,000.
@@ -308,8 +312,18 @@ impl Reply {
             Reply::Tile { value, local } => push_tile(head, *value, *local),
             Reply::Refused(refusal) => {
                 head.push_str("no ");
-                head.push_str(refusal_words(*refusal));
+                head.push_str(refusal.words());
             }
+        }
+    }
+
+    /// The refusal that it is, where it is one.
+    pub fn refusal(&self) -> Option<Refusal>
+        ensures { result ≡ refusal_of self.now }
+    {
+        match self {
+            Reply::Refused(refusal) => Some(*refusal),
+            _ => None,
         }
     }
 

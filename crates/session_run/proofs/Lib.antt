@@ -1,3 +1,4 @@
 pub mod Appending
-pub mod Hearing
+pub mod Progress
+pub mod Endings
 pub mod Planned

@@ -1,5 +1,5 @@
 -- Whole runs of the machine.
-use Rattle.std.specs.Prelude.{◌≡◌, ℕ, ◌^◌, ◌≤◌, List, [], ◌∷◌, ◌++◌, length, Option, None, Some, ⊤, option_to_list}
+use Rattle.std.specs.Prelude.{◌≡◌, ℕ, ◌^◌, ◌≤◌, Bool, IsTrue, List, [], ◌∷◌, ◌++◌, All, length, Option, None, Some, ⊤, option_to_list}
 use Rattle.std.specs.List.{flat_map}
 use Rattle.std.specs.Io.KnownBytes.{Appends}
 use Rattle.command_api.specs.Law.{Change, IsSame}
@@ -7,7 +7,11 @@ use Rattle.lines.specs.declared.reader.Found.{Found}
 use Rattle.lines.specs.declared.reader.Found.TheVariants as found
 use Rattle.lines.specs.Lines.{lines_of, HasNoNewline}
 use Rattle.session.specs.declared.reply.Reply.{Reply}
-use Rattle.session.specs.Replies.{reply_text}
+use Rattle.session.specs.declared.reply.Refusal.{Refusal}
+use Rattle.session.specs.declared.reply.Reply.TheVariants.{Refused}
+use Rattle.session.specs.Replies.{refusal_of, reply_text}
+use Rattle.undo_stack.specs.History.{is_clean}
+use Rattle.undo_group.specs.Groups.{OpenDocument}
 use Rattle.editor.specs.declared.planned.Edit.{Edit}
 use Rattle.editor.specs.Machine.{Machine, Workspace, workspace}
 use Rattle.map_store.specs.Files.{StoreParts}
@@ -31,63 +35,101 @@ output replies = flat_map reply_line replies
 abbrev pub TakesPart : List ℕ → Option (List ℕ) → Option (List ℕ) → Type 0
 TakesPart bytes before after = (part : List ℕ) × (rest : List ℕ) × (bytes ≡ part ++ rest) × Appends before after part
 
--- Some lines of the input were heard, and these are left. The run began at `start` and stands at `now`, and the writer, whose
--- contents went from `before` to `after`, has the replies to the lines that were heard.
-pub record Told (start : Workspace) (input : List ℕ) (left : List (List ℕ)) (now : Workspace) (before after : Option (List ℕ)) (lines replied : ℕ) : Type 0 where
-  pub heard : List (List ℕ)
+-- a reply that is no refusal
+abbrev pub IsAccepted : Reply → Type 0
+IsAccepted reply = refusal_of reply ≡ None
+
+-- in a strict run no line was refused
+abbrev pub AreAccepted : Bool → List Reply → Type 0
+AreAccepted strict replies = IsTrue strict → All IsAccepted replies
+
+-- each document is clean, so none has a macro open
+abbrev pub AreClean : List OpenDocument → Type 0
+AreClean documents = All (λ d. IsTrue (is_clean d.history)) documents
+
+-- Some lines of the input were handled, and these are left. The run began at `start` and stands at `now`, and the writer, whose
+-- contents went from `before` to `after`, has the replies to the lines that were handled.
+pub record Progress (strict : Bool) (start : Workspace) (input : List ℕ) (left : List (List ℕ)) (now : Workspace) (before after : Option (List ℕ)) (lines replied : ℕ) : Type 0 where
+  pub handled : List (List ℕ)
   pub replies : List Reply
-  pub split : lines_of input ≡ heard ++ left
-  pub run : Run start heard replies now
+  pub split : lines_of input ≡ handled ++ left
+  pub run : Run start handled replies now
   pub written : Appends before after (output replies)
-  pub lines_counted : lines ≡ length heard
+  pub accepted : AreAccepted strict replies
+  pub lines_counted : lines ≡ length handled
   pub replies_counted : replied ≡ length replies
 
--- all lines were heard, and the store keeps what the run leaves
-pub record RunsAll (start : Workspace) (input : List ℕ) (before after : Option (List ℕ)) (kept : StoreParts) (lines replied : ℕ) : Type 0 where
+-- All lines were handled, and the store keeps what the run leaves. A strict run leaves each document clean.
+pub record RunsAll (strict : Bool) (start : Workspace) (input : List ℕ) (before after : Option (List ℕ)) (kept : StoreParts) (lines replied : ℕ) : Type 0 where
   pub now : Machine
-  pub told : Told start input [] (workspace now kept) before after lines replied
+  pub progress : Progress strict start input [] (workspace now kept) before after lines replied
+  pub clean : IsTrue strict → AreClean now.group.documents
 
--- the lines were heard but for these, each is done, files and all, and each reply is written whole
-pub record RunsUpTo (left : List (List ℕ)) (start : Workspace) (input : List ℕ) (before after : Option (List ℕ)) (kept : StoreParts) : Type 0 where
+-- a strict run: all lines were handled, and not each document is clean
+pub record RunsToUnsaved (strict : Bool) (start : Workspace) (input : List ℕ) (before after : Option (List ℕ)) (kept : StoreParts) : Type 0 where
   pub now : Machine
   pub lines : ℕ
   pub replied : ℕ
-  pub told : Told start input left (workspace now kept) before after lines replied
+  pub progress : Progress strict start input [] (workspace now kept) before after lines replied
+  pub strictly : IsTrue strict
+  pub unsaved : AreClean now.group.documents → ⊥
 
--- some lines were heard
-pub record RunsSome (start : Workspace) (input : List ℕ) (before after : Option (List ℕ)) (kept : StoreParts) : Type 0 where
+-- the lines were handled but for these, each is done, files and all, and each reply is written whole
+pub record RunsUpTo (left : List (List ℕ)) (strict : Bool) (start : Workspace) (input : List ℕ) (before after : Option (List ℕ)) (kept : StoreParts) : Type 0 where
+  pub now : Machine
+  pub lines : ℕ
+  pub replied : ℕ
+  pub progress : Progress strict start input left (workspace now kept) before after lines replied
+
+-- some lines were handled
+pub record RunsSome (strict : Bool) (start : Workspace) (input : List ℕ) (before after : Option (List ℕ)) (kept : StoreParts) : Type 0 where
   pub left : List (List ℕ)
-  pub runs : RunsUpTo left start input before after kept
+  pub runs : RunsUpTo left strict start input before after kept
 
--- All lines were heard before the one that had not come whole: what came of that one has no newline, and the rest of the input the
+-- All lines were handled before the one that had not come whole: what came of that one has no newline, and the rest of the input the
 -- reader still has.
-pub record RunsToRead (start : Workspace) (input : List ℕ) (reader : Option (List ℕ)) (before after : Option (List ℕ)) (kept : StoreParts) : Type 0 where
+pub record RunsToRead (strict : Bool) (start : Workspace) (input : List ℕ) (reader : Option (List ℕ)) (before after : Option (List ℕ)) (kept : StoreParts) : Type 0 where
   pub part : List ℕ
   pub rest : List ℕ
   pub unfinished : HasNoNewline part
   pub unread : reader ≡ Some rest
-  pub runs : RunsUpTo (lines_of (part ++ rest)) start input before after kept
+  pub runs : RunsUpTo (lines_of (part ++ rest)) strict start input before after kept
 
--- some lines were heard, and one more, whose step is done, files and all, and of the reply to which a first part is written
-pub record RunsToWrite (start : Workspace) (input : List ℕ) (before after : Option (List ℕ)) (kept : StoreParts) : Type 0 where
+-- some lines were handled, and one more, whose step is done, files and all, and of the reply to which a first part is written
+pub record RunsToWrite (strict : Bool) (start : Workspace) (input : List ℕ) (before after : Option (List ℕ)) (kept : StoreParts) : Type 0 where
   pub mid : Workspace
   pub line : List ℕ
   pub left : List (List ℕ)
   pub written : Option (List ℕ)
   pub lines : ℕ
   pub replied : ℕ
-  pub told : Told start input (line ∷ left) mid before written lines replied
+  pub progress : Progress strict start input (line ∷ left) mid before written lines replied
   pub reply : Reply
   pub now : Machine
   pub step : StepIn line mid (Some reply) (workspace now kept)
   pub part : TakesPart (reply_line reply) written after
 
+-- a strict run: the lines were handled up to and with the first that was refused, and each reply is written whole
+pub record RunsToRefused (strict : Bool) (start : Workspace) (input : List ℕ) (before after : Option (List ℕ)) (kept : StoreParts) : Type 0 where
+  pub mid : Workspace
+  pub line : List ℕ
+  pub left : List (List ℕ)
+  pub written : Option (List ℕ)
+  pub lines : ℕ
+  pub replied : ℕ
+  pub progress : Progress strict start input (line ∷ left) mid before written lines replied
+  pub strictly : IsTrue strict
+  pub refusal : Refusal
+  pub now : Machine
+  pub step : StepIn line mid (Some (Refused refusal)) (workspace now kept)
+  pub reply : Appends written after (reply_line (Refused refusal))
+
 -- ---- within a run
--- where the input is known, some lines of it were heard, and those of `left` are left
-abbrev pub Goes : Workspace → Option (List ℕ) → Option (List ℕ) → Workspace → Option (List ℕ) → Option (List ℕ) → ℕ → ℕ → Type 0
-Goes start None left now before after lines replied = ⊤
-Goes start (Some input) None now before after lines replied = ⊥
-Goes start (Some input) (Some left) now before after lines replied = Told start input (lines_of left) now before after lines replied
+-- where the input is known, some lines of it were handled, and those of `left` are left
+abbrev pub Goes : Bool → Workspace → Option (List ℕ) → Option (List ℕ) → Workspace → Option (List ℕ) → Option (List ℕ) → ℕ → ℕ → Type 0
+Goes strict start None left now before after lines replied = ⊤
+Goes strict start (Some input) None now before after lines replied = ⊥
+Goes strict start (Some input) (Some left) now before after lines replied = Progress strict start input (lines_of left) now before after lines replied
 
 -- a fact on the bytes of the line that was found; of a long one only its length is known
 abbrev pub OfFound : Found → List ℕ → (List ℕ → Type 0) → Type 0

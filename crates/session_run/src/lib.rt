@@ -2,6 +2,8 @@
 #![tactic(auto)]
 
 mod running;
+mod strict;
 mod writing;
 
 pub use running::{RunFault, Summary, run, step};
+pub use strict::{Report, Unsaved};

@@ -1,12 +1,13 @@
-ghost use Rattle.std.specs.Prelude.{◌≡◌, ◌≤◌, Option, IsErrOf, IfOk, IfSome, ◌⊎◌};
+ghost use Rattle.std.specs.Prelude.{◌≡◌, ◌≤◌, Option, IsErrOf, IfOk, IfSome, is_some, ◌⊎◌};
 ghost use Rattle.undo_stack.specs.declared.limits.TheConstants.{MAX_LIMIT};
 ghost use Rattle.editor.specs.declared.planned.Edit.{Edit};
 ghost use Rattle.editor.specs.Editors.{IsSound, machine_of};
 ghost use Rattle.editor.specs.Machine.{started_machine, workspace};
 ghost use Rattle.editor.specs.Steps.{Step, StepIn};
 ghost use Rattle.session.specs.Spelling.{CanBeSpelled};
-ghost use Rattle.session_run.specs.Runs.{PutsSame, RunsAll, RunsSome, RunsToRead, RunsToWrite, StepFound};
+ghost use Rattle.session_run.specs.Runs.{PutsSame, RunsAll, RunsSome, RunsToRead, RunsToRefused, RunsToUnsaved, RunsToWrite, StepFound};
 
+use crate::strict::{Report, end_refused, ending, ends_unsaved};
 use crate::writing::{flush_if, write_reply};
 use arrayvec::ArrayString;
 use command_api::Command;
@@ -18,7 +19,7 @@ use std::alloc::Global;
 use std::io::{Read, Write};
 use thiserror::Error;
 
-/// How many lines a run heard, quiet ones too, and how many replies it wrote.
+/// How many lines a run handled, quiet ones too, and how many replies it wrote.
 #[derive(Clone, Copy, Debug, PartialEq, Eq)]
 pub struct Summary {
     pub lines: u64,
@@ -37,6 +38,12 @@ pub enum RunFault {
     /// There was no memory for the line buffer. Nothing was read or written.
     #[error("no memory")]
     Memory,
+    /// A line of a strict run was refused. It and the lines before are done, and no later one is. All replies were written.
+    #[error("line refused")]
+    Refused,
+    /// A strict run has read its whole input, and not each document is clean. All replies were written.
+    #[error("unsaved changes")]
+    Unsaved,
 }
 
 // A command in a box, where there is memory.
@@ -46,10 +53,10 @@ fn boxed<K: Command>(alloc: Global, command: K) -> Option<Box<K>>
     Box::new(alloc, command).ok()
 }
 
-// Hears a line that was read: the reply to it, and none to a quiet one. What it plans is put into a command and
+// Carries out a line that was read: the reply to it, and none to a quiet one. What it plans is put into a command and
 // committed.
 #[inline(always)]
-fn hear_line<C: Command, S: MapStore, F: Fn(Edit) -> Option<C>>(
+fn carry_out<C: Command, S: MapStore, F: Fn(Edit) -> Option<C>>(
     alloc: Global,
     editor: &mut Editor<C>,
     store: &mut S,
@@ -92,14 +99,14 @@ pub fn step<C: Command, S: MapStore, F: Fn(Edit) -> Option<C>>(
         (workspace (machine_of C.change editor.old) (S.kept store.old)) result (workspace (machine_of C.change editor.new) (S.kept store.new)) }
 {
     match &parse_line(line) {
-        Ok(line) => hear_line(alloc, editor, store, line, put),
+        Ok(line) => carry_out(alloc, editor, store, line, put),
         Err(fault) => Some(Reply::Refused(Refusal::Line(*fault))),
     }
 }
 
-// Hears a line that was found.
+// Does the step of a line that was found.
 #[inline(always)]
-fn hear<C: Command, S: MapStore, F: Fn(Edit) -> Option<C>>(
+fn step_found<C: Command, S: MapStore, F: Fn(Edit) -> Option<C>>(
     alloc: Global,
     editor: &mut Editor<C>,
     store: &mut S,
@@ -120,27 +127,32 @@ fn hear<C: Command, S: MapStore, F: Fn(Edit) -> Option<C>>(
     }
 }
 
-// Hears all lines and writes the replies, from how an editor stands on. What a line plans is put into a command by `put`.
-fn hear_all<C: Command, R: Read, W: Write, S: MapStore, F: Fn(Edit) -> Option<C>>(
+// Does the steps of all lines and writes the replies, from the state of an editor on. What a line plans is put into a command by `put`.
+fn step_all<C: Command, R: Read, W: Write, S: MapStore, F: Fn(Edit) -> Option<C>, T: Report>(
     alloc: Global,
     mut editor: Editor<C>,
     reader: &mut R,
     writer: &mut W,
     store: &mut S,
     put: F,
+    strict: Option<&T>,
 ) -> Result<Summary, RunFault>
     requires sound { IsSound C.change editor }
     requires callable { F.IsAlwaysCallable put }
     requires same { (edit : Edit) (command : Option C) → F.post put edit command → PutsSame C.change edit command }
     ensures ok { IfOk result (λ summary. IfSome (R.remaining reader.old) (λ input.
-        RunsAll (workspace (machine_of C.change editor) (S.kept store.old)) input (W.contents writer.old) (W.contents writer.new) (S.kept store.new)
+        RunsAll (is_some strict.entry) (workspace (machine_of C.change editor) (S.kept store.old)) input (W.contents writer.old) (W.contents writer.new) (S.kept store.new)
         summary.lines summary.replies)) }
     ensures read { IsErrOf result RunFault.Read → IfSome (R.remaining reader.old) (λ input.
-        RunsToRead (workspace (machine_of C.change editor) (S.kept store.old)) input (R.remaining reader.new) (W.contents writer.old) (W.contents writer.new) (S.kept store.new)) }
+        RunsToRead (is_some strict.entry) (workspace (machine_of C.change editor) (S.kept store.old)) input (R.remaining reader.new) (W.contents writer.old) (W.contents writer.new) (S.kept store.new)) }
     ensures write { IsErrOf result RunFault.Write → IfSome (R.remaining reader.old) (λ input.
-        RunsSome (workspace (machine_of C.change editor) (S.kept store.old)) input (W.contents writer.old) (W.contents writer.new) (S.kept store.new)
-        ⊎ RunsToWrite (workspace (machine_of C.change editor) (S.kept store.old)) input (W.contents writer.old) (W.contents writer.new) (S.kept store.new)) }
+        RunsSome (is_some strict.entry) (workspace (machine_of C.change editor) (S.kept store.old)) input (W.contents writer.old) (W.contents writer.new) (S.kept store.new)
+        ⊎ RunsToWrite (is_some strict.entry) (workspace (machine_of C.change editor) (S.kept store.old)) input (W.contents writer.old) (W.contents writer.new) (S.kept store.new)) }
     ensures memory { IsErrOf result RunFault.Memory → (writer.new ≡ writer.old) × (reader.new ≡ reader.old) × (store.new ≡ store.old) }
+    ensures refused { IsErrOf result RunFault.Refused → IfSome (R.remaining reader.old) (λ input.
+        RunsToRefused (is_some strict.entry) (workspace (machine_of C.change editor) (S.kept store.old)) input (W.contents writer.old) (W.contents writer.new) (S.kept store.new)) }
+    ensures unsaved { IsErrOf result RunFault.Unsaved → IfSome (R.remaining reader.old) (λ input.
+        RunsToUnsaved (is_some strict.entry) (workspace (machine_of C.change editor) (S.kept store.old)) input (W.contents writer.old) (W.contents writer.new) (S.kept store.new)) }
 {
     let Ok(mut lines) = LineReader::new(alloc) else {
         return Err(RunFault::Memory);
@@ -157,13 +169,21 @@ fn hear_all<C: Command, R: Read, W: Write, S: MapStore, F: Fn(Edit) -> Option<C>
         }
         let found = match lines.next(reader) {
             Ok(Some(found)) => found,
+            Ok(None) if ends_unsaved(strict, editor.group()) => return Err(RunFault::Unsaved),
             Ok(None) => return Ok(summary),
             Err(_) => return Err(RunFault::Read),
         };
         summary.lines += 1;
-        let Some(reply) = hear(alloc, &mut editor, store, found, lines.line(), &put) else {
+        let Some(reply) = step_found(alloc, &mut editor, store, found, lines.line(), &put) else {
             continue 'session;
         };
+        if let Some(refusal) = ending(strict, &reply) {
+            let number = summary.lines;
+            if end_refused(writer, &mut head, strict, number, lines.line(), refusal).is_err() {
+                return Err(RunFault::Write);
+            }
+            return Err(RunFault::Refused);
+        }
         if write_reply(writer, &mut head, reply).is_err() {
             return Err(RunFault::Write);
         }
@@ -177,35 +197,47 @@ fn hear_all<C: Command, R: Read, W: Write, S: MapStore, F: Fn(Edit) -> Option<C>
 ///
 /// The replies are those of the machine that keeps, for each open document, a history of whole documents, and so are the
 /// files where the store is honest. Where it is not, it may find any bytes at an `open`, and nothing is said of its files.
-/// The writer is flushed before each read that may wait, and before an `Ok`.
-pub fn run<R: Read, W: Write, S: MapStore>(
+/// The writer is flushed before each read that may wait, before an `Ok`, and where a strict run ends.
+///
+/// A strict run is one with a report. The first refused line ends it, and so does the end of the input where a document has
+/// unsaved changes or an open macro; the report says which line or documents.
+pub fn run<R: Read, W: Write, S: MapStore, T: Report>(
     alloc: Global,
     reader: &mut R,
     writer: &mut W,
     store: &mut S,
     limit: usize,
+    strict: Option<&T>,
 ) -> Result<Summary, RunFault>
     requires { limit ≤ MAX_LIMIT }
 
-    // All lines of the input were heard, and the replies and the files are those of the machine.
+    // All lines of the input were handled, and the replies and the files are those of the machine.
     ensures ok { IfOk result (λ summary. IfSome (R.remaining reader.old) (λ input.
-        RunsAll (workspace (started_machine limit) (S.kept store.old)) input (W.contents writer.old) (W.contents writer.new) (S.kept store.new)
+        RunsAll (is_some strict.entry) (workspace (started_machine limit) (S.kept store.old)) input (W.contents writer.old) (W.contents writer.new) (S.kept store.new)
         summary.lines summary.replies)) }
 
     // All lines before the one that had not come whole are done, files and all, and the replies to them were written whole.
     // What came of that one and what the reader still has are the rest of the input.
     ensures read { IsErrOf result RunFault.Read → IfSome (R.remaining reader.old) (λ input.
-        RunsToRead (workspace (started_machine limit) (S.kept store.old)) input (R.remaining reader.new) (W.contents writer.old) (W.contents writer.new) (S.kept store.new)) }
+        RunsToRead (is_some strict.entry) (workspace (started_machine limit) (S.kept store.old)) input (R.remaining reader.new) (W.contents writer.old) (W.contents writer.new) (S.kept store.new)) }
 
-    // All lines that were heard are done, files and all, and all replies were written whole and could not be flushed; or all
+    // All lines that were handled are done, files and all, and all replies were written whole and could not be flushed; or all
     // replies before the one that could not be written were written whole, its line is done too, and of it a first part was
     // written.
     ensures write { IsErrOf result RunFault.Write → IfSome (R.remaining reader.old) (λ input.
-        RunsSome (workspace (started_machine limit) (S.kept store.old)) input (W.contents writer.old) (W.contents writer.new) (S.kept store.new)
-        ⊎ RunsToWrite (workspace (started_machine limit) (S.kept store.old)) input (W.contents writer.old) (W.contents writer.new) (S.kept store.new)) }
+        RunsSome (is_some strict.entry) (workspace (started_machine limit) (S.kept store.old)) input (W.contents writer.old) (W.contents writer.new) (S.kept store.new)
+        ⊎ RunsToWrite (is_some strict.entry) (workspace (started_machine limit) (S.kept store.old)) input (W.contents writer.old) (W.contents writer.new) (S.kept store.new)) }
 
     // For the line buffer alone, and before anything was read or written.
     ensures memory { IsErrOf result RunFault.Memory → (writer.new ≡ writer.old) × (reader.new ≡ reader.old) × (store.new ≡ store.old) }
+
+    // A strict run has handled the lines up to and with the first that was refused, and they are done.
+    ensures refused { IsErrOf result RunFault.Refused → IfSome (R.remaining reader.old) (λ input.
+        RunsToRefused (is_some strict.entry) (workspace (started_machine limit) (S.kept store.old)) input (W.contents writer.old) (W.contents writer.new) (S.kept store.new)) }
+
+    // A strict run has handled all lines, and leaves a document that is not clean.
+    ensures unsaved { IsErrOf result RunFault.Unsaved → IfSome (R.remaining reader.old) (λ input.
+        RunsToUnsaved (is_some strict.entry) (workspace (started_machine limit) (S.kept store.old)) input (W.contents writer.old) (W.contents writer.new) (S.kept store.new)) }
 {
     let editor: Editor<Box<dyn Command>> = Editor::new(alloc, limit);
     // Each kind of command is boxed by its own type.
@@ -230,5 +262,5 @@ pub fn run<R: Read, W: Write, S: MapStore>(
             Edit::RemoveTileset(command) => Some(boxed(alloc, command)?),
         }
     };
-    hear_all(alloc, editor, reader, writer, store, put)
+    step_all(alloc, editor, reader, writer, store, put, strict)
 }

@@ -39,8 +39,8 @@ fn write_pieces<W: Write>(writer: &mut W, head: &[u8], body: &[u8]) -> Result<()
     Ok(())
 }
 
-/// Writes a reply and a newline, and lets go of the reply: with one call of `write` where the head has room for what stands
-/// behind it and the writer takes it whole. What the head held is let go of.
+/// Writes a reply and a newline, and drops the reply: with one call of `write` where the head has room for what stands
+/// behind it and the writer takes it whole. What the head held is dropped.
 pub fn write_reply<W: Write>(
     writer: &mut W,
     head: &mut ArrayString<512>,

@@ -2,8 +2,10 @@
 #![tactic(auto)]
 
 mod options;
+mod reports;
 
 use crate::options::parse_options;
+use crate::reports::{ErrorLines, look_at_folder};
 use clap::error::ErrorKind;
 use map_store::FolderStore;
 use session_run::{RunFault, run};
@@ -18,6 +20,9 @@ const REFUSED: u8 = 2;
 
 /// The status after a read, a write or an allocation that failed.
 const FAILED: u8 = 1;
+
+/// The status where a strict run was ended by a refused line or by unsaved documents.
+const NOT_DONE: u8 = 3;
 
 // Says on standard error what ended the program.
 fn ends(rt: &impl Eprint, what: impl Display + Drop, status: u8) -> ExitCode {
@@ -70,15 +75,24 @@ fn main(rt: HostRuntime) -> ExitCode {
     let Ok(mut writer) = BufWriter::new(rt.alloc(), rt.stdout()) else {
         return ends(&rt, RunFault::Memory, FAILED);
     };
-    let mut store = FolderStore::new(&rt, options.folder);
+    look_at_folder(&rt, options.folder);
+    let mut store = FolderStore::new(&rt, "tile_editor", options.folder);
+    let report = ErrorLines(&rt);
+    let strict = if options.is_strict {
+        Some(&report)
+    } else {
+        None
+    };
     match run(
         rt.alloc(),
         &mut rt.stdin(),
         &mut writer,
         &mut store,
         options.limit,
+        strict,
     ) {
         Ok(_) => ExitCode::SUCCESS,
+        Err(RunFault::Refused | RunFault::Unsaved) => ExitCode::from(NOT_DONE),
         Err(fault) => ends(&rt, fault, FAILED),
     }
 }

@@ -1,10 +1,10 @@
 ghost use Rattle.std.specs.Prelude.{◌≡◌, ◌<◌, ◌≤◌, IfOk, IfSome, false, codes, length, map, option_map};
 ghost use Rattle.clap.specs.Words.{FailsBy, IsPlainArg, IsUnsignedIn, app_of, fault_of, rule_of};
-ghost use Rattle.tile_editor.specs.Options.{command, folder_of, folder_option, limit_of, limit_option, value_or_zero, GivesOnly};
+ghost use Rattle.tile_editor.specs.Options.{command, folder_of, folder_option, limit_of, limit_option, strict_option, strict_text, value_or_zero, GivesOnly, IsFlag};
 ghost use Rattle.undo_stack.specs.declared.limits.TheConstants.{MAX_LIMIT};
 
 use clap::builder::ValueParser;
-use clap::{Arg, Command, Error};
+use clap::{Arg, ArgAction, Command, Error};
 use std::alloc::{AllocError, Global};
 use std::convert::AsStr;
 use undo_stack::limits::MAX_LIMIT;
@@ -16,17 +16,67 @@ standard output.";
 
 /// What stands behind the options in the help.
 const AFTER_HELP: &str = "\
-Session lines, for example:
-  new town 4 3 16 16 town.tsj   a map of 4 by 3 cells
-  stamp 1 1 1 2 5,6             the tiles 5 and 6 on layer 1, from column 1 and row 1 on
-  undo                          the last step is turned back
+Session lines:
+  new DOC WIDTH HEIGHT TILE_WIDTH TILE_HEIGHT SOURCE
+  open DOC FILE
+  save FILE
+  close DOC
+  discard DOC
+  use DOC
+  use -
+  list
+  status
+  undotext
+  redotext
+  stamp LAYER X Y WIDTH TILES
+  stamp+ LAYER X Y WIDTH TILES
+  erase LAYER X Y WIDTH HEIGHT
+  erase+ LAYER X Y WIDTH HEIGHT
+  fill LAYER X Y TILE
+  select replace X Y WIDTH HEIGHT
+  select add X Y WIDTH HEIGHT
+  select subtract X Y WIDTH HEIGHT
+  select intersect X Y WIDTH HEIGHT
+  select none
+  layer add tile NAME
+  layer add object NAME
+  layer remove LAYER
+  layer rename LAYER NAME
+  layer show LAYER yes
+  layer show LAYER no
+  layer move LAYER PLACE
+  resize WIDTH HEIGHT X Y
+  object add LAYER X Y WIDTH HEIGHT NAME
+  object move OBJECT X Y
+  object move+ OBJECT X Y
+  object resize OBJECT WIDTH HEIGHT
+  object remove OBJECT
+  prop set OWNER KEY TYPE VALUE
+  prop set+ OWNER KEY TYPE VALUE
+  prop remove OWNER KEY
+  tileset add FIRST SOURCE
+  tileset remove FIRST
+  undo
+  redo
+  goto INDEX
+  clean
+  dirty
+  clear
+  begin TEXT
+  begin TEXT || ACTION
+  end
+  limit NUMBER
+  show
+  text PLACE
+  tile LAYER X Y
 
 Exit status:
   0  the input has ended, or help or the version was asked for
   1  a read or a write failed, or there was no memory
   2  the command line was refused
+  3  with --strict: a line was refused, or a document has unsaved changes or an open macro at the end
 
-All lines and their replies are in docs/session-lines.md.";
+What each line does, and each reply, is in docs/session-lines.md.";
 
 /// What a command line asks for.
 #[derive(Clone, Copy, Debug, PartialEq, Eq)]
@@ -35,6 +85,8 @@ pub struct Options<'a> {
     pub folder: &'a str,
     /// The undo limit of each document when it is made; 0 is no limit.
     pub limit: usize,
+    /// Whether the first refused line ends the program, and unsaved changes are a failure.
+    pub is_strict: bool,
 }
 
 // The option that names the folder.
@@ -63,6 +115,18 @@ fn limit_arg<'a>(alloc: Global) -> Arg<'a>
         .help("The most steps that a document keeps, up to 1000000; 0 is no limit [default: 0]")
 }
 
+// The option that makes the run a strict one.
+fn strict_arg<'a>(alloc: Global) -> Arg<'a>
+    ensures rule { rule_of result ≡ strict_option }
+    ensures plain { IsPlainArg result }
+    ensures local { result.global ≡ false }
+{
+    Arg::new(alloc, "strict")
+        .long("strict")
+        .action(ArgAction::SetTrue)
+        .help("Stops at the first refused line, and fails where a document is left unsaved")
+}
+
 // The command with its options.
 fn whole_command<'a>(alloc: Global) -> Result<Command<'a>, AllocError>
     ensures app { IfOk result (λ c. app_of c ≡ command) }
@@ -74,7 +138,8 @@ fn whole_command<'a>(alloc: Global) -> Result<Command<'a>, AllocError>
         .about(ABOUT)
         .after_help(AFTER_HELP)
         .arg(folder_arg(alloc))?;
-    with_folder.arg(limit_arg(alloc))
+    let with_limit = with_folder.arg(limit_arg(alloc))?;
+    with_limit.arg(strict_arg(alloc))
 }
 
 // The number that the value of `--limit` writes, and 0 where none is given.
@@ -91,20 +156,22 @@ fn limit_in(text: Option<&str>) -> usize
 
 /// Reads a command line, whose first word is the program's name.
 ///
-/// An error is a command line that is refused, a request for help or for the version, or want of memory.
+/// An error is a command line that is refused, a request for help or for the version, or out of memory.
 pub fn parse_options<'a, S: AsStr>(alloc: Global, words: &'a [S]) -> Result<Options<'a>, Error>
-    // The command line is accepted only where it has no fault, and else refused for its first one, or for want of memory.
+    // The command line is accepted only where it has no fault, and else refused for its first one, or where memory runs out.
     ensures answer { FailsBy (fault_of command (map S.text words.entry.now)) result }
     ensures folder { IfOk result (λ o. o.folder.now ≡ folder_of (map S.text words.entry.now)) }
     ensures some { IfOk result (λ o. 0 < length o.folder.now) }
     ensures limit { IfOk result (λ o. o.limit ≡ limit_of (map S.text words.entry.now)) }
     ensures within { IfOk result (λ o. o.limit ≤ MAX_LIMIT) }
+    ensures strict { IfOk result (λ o. IsFlag (strict_text (map S.text words.entry.now)) o.is_strict) }
 {
     let command = whole_command(alloc)?;
     match command.try_get_matches_from(words) {
         Ok(matches) => Ok(Options {
             folder: matches.get_str("folder").unwrap_or("."),
             limit: limit_in(matches.get_str("limit")),
+            is_strict: matches.get_flag("strict"),
         }),
         Err(error) => Err(error),
     }

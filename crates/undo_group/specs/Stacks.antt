@@ -43,7 +43,7 @@ abbrev pub place_without : ℕ → Option ℕ → Option ℕ
 place_without gone None = None
 place_without gone (Some at) = if at == gone then None else Some (if nat_lt gone at then at - 1 else at)
 
--- a document is not added where its name is taken, or, with a new name, for want of memory
+-- a document is not added where its name is taken, or, with a new name, where memory runs out
 abbrev pub IsNotAdded : List ℕ → List OpenDocument → GroupFault → Type 0
 IsNotAdded name ds NameTaken = IsSome (history_named name ds)
 IsNotAdded name ds NoSuchDocument = ⊥

@@ -107,7 +107,7 @@ step_above f d es n h = rw (length-steps (entry_change f) es n d) h
 pub cleared_view : {C : Type 0} (f : C → Change) (d : DocumentParts) (es ts : List (Entry C)) (n : ℕ) (clean : Option ℕ) (limit : ℕ) (ls ms : List (Level C)) → n ≤ length es → ts ≡ [] → ms ≡ [] → history_of f d ts 0 (Some 0) limit (map inner_of ms) ≡ cleared (history_of f d es n clean limit (map inner_of ls))
 cleared_view f d es ts n clean limit ls ms h none closed = rw (none, closed, current-view f d es n clean limit (map inner_of ls) h) refl
 
--- steps that were turned back to a place at most, and then made again up to it
+-- steps that were undone to a place at most, and then made again up to it
 pub turned_view : (h u now : History) (i : ℕ) → h.position ≤ length h.steps → u ≡ positioned (min i h.position) h → now ≡ positioned (max (min i (length u.steps)) u.position) u → now ≡ positioned (min i (length h.steps)) h
 turned_view h u now i within back on =
     let to : max (min i (length h.steps)) (min i h.position) ≡ min i (length h.steps) = omega arith in

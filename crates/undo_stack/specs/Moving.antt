@@ -14,7 +14,7 @@ abbrev pub outside : List Open → Answer → Answer
 outside [] answer = answer
 outside (l ∷ ls) answer = Err MacroOpen
 
--- undo has nothing to turn back at the position 0
+-- undo has nothing to undo at the position 0
 abbrev pub undo_answer_at : ℕ → Answer
 undo_answer_at zero = Err NothingToUndo
 undo_answer_at (suc n) = Ok tt

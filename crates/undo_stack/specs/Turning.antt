@@ -28,7 +28,7 @@ without_step at h = record h { steps = remove h.steps at; position = at; clean =
 abbrev pub Drops : ℕ → History → History → History → Type 0
 Drops at h next n = (n ≡ next) ⊎ (MayGo at h × (n ≡ without_step at h))
 
--- one step is turned back, and one is made again
+-- one step is undone, and one is made again
 abbrev pub TurnsBack : History → History → Type 0
 TurnsBack h n = Drops (h.position - 1) h (positioned (h.position - 1) h) n
 

@@ -78,7 +78,7 @@ impl<C: Command> Entry<C> {
 }
 
 impl<C: Command> Entry<C> {
-    /// Whether the entry changes nothing and may be let go of. A macro never may.
+    /// Whether the entry changes nothing and may be dropped. A macro never may.
     pub fn obsolete(&self) -> bool
         ensures answer { result ≡ (entry_change C.change self.now).obsolete }
         ensures law { IsLawful (entry_change C.change self.now) }

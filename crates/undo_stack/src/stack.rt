@@ -250,7 +250,7 @@ impl<C: Command> Stack<C> {
     ///
     /// While a macro is open, the command merges into the innermost one's last entry, clean or not, or becomes that.
     ///
-    /// Where there is no memory for the merge or for the step, the command is let go of, and the stack is as it was, with the
+    /// Where there is no memory for the merge or for the step, the command is dropped, and the stack is as it was, with the
     /// steps above the index.
     pub fn push(&mut self, mut command: C) -> Result<(), AllocError>
         requires sound { Holds C.change self.old }
@@ -586,7 +586,7 @@ impl<C: Command> Stack<C> {
         Ok(())
     }
 
-    /// Lets go of all steps and of the open macros, and undoes none of them. The document and the limit stay, and the
+    /// Drops all steps and the open macros, and undoes none of them. The document and the limit stay, and the
     /// stack is clean at index 0.
     pub fn clear(&mut self)
         requires { Holds C.change self.old }

@@ -1,6 +1,6 @@
 use super::{
-    MANY, ONE, SEVERAL, Script, Sink, Source, WHOLE, first_replies, read_script, source_of, taken,
-    whole_lines,
+    LENIENT, MANY, ONE, SEVERAL, Script, Sink, Source, WHOLE, first_replies, read_script,
+    source_of, taken, whole_lines,
 };
 use map_store::MemoryStore;
 use session_run::run;
@@ -109,9 +109,9 @@ fn each_read_finds_all_replies_flushed(rt: HostRuntime) -> Result<(), Fail> {
             let mut store = MemoryStore::new(alloc);
             if has_buffer {
                 let mut writer = BufWriter::new(alloc, writer)?;
-                run(alloc, &mut reader, &mut writer, &mut store, 0)?;
+                run(alloc, &mut reader, &mut writer, &mut store, 0, LENIENT)?;
             } else {
-                run(alloc, &mut reader, &mut writer, &mut store, 0)?;
+                run(alloc, &mut reader, &mut writer, &mut store, 0, LENIENT)?;
             }
             assert_eq!(rt; reader.seen.as_slice(), due.as_slice(), "by {step}");
         }

@@ -123,7 +123,7 @@ impl<C: Command> Stack<C> {
         self.index += 1;
     }
 
-    // The entry above the index, which was just turned back, goes where a turn may leave it obsolete, and it is.
+    // The entry above the index, which was just undone, goes where a turn may leave it obsolete, and it is.
     #[inline(never)]
     fn drop_above(&mut self)
         requires closed { self.old.levels.items ≡ [] }

@@ -1,7 +1,7 @@
 use Rattle.std.proofs.Common.{◌≡◌, Ok, refl, ap, ◌∙◌, rules}
 use Rattle.map_model.specs.declared.parts.MapParts.{MapParts}
 use Rattle.map_model.specs.Document.{with_map}
-use Rattle.map_model.specs.Parts.{layer_of}
+use Rattle.map_model.specs.Lookups.{layer_of}
 use Rattle.edits.specs.Blocks.{erase_over}
 use Rattle.edits.specs.Covering.{covered_map, where_selected}
 use Rattle.edits.specs.Refusals.{tiles_or_fault}

@@ -2,7 +2,7 @@ use Rattle.std.proofs.Common.{◌≡◌, ℕ, List, length, true, Ok, Some, refl
 use Rattle.map_model.specs.declared.edit.CellEdit.{CellEdit}
 use Rattle.map_model.specs.declared.parts.MapParts.{MapParts}
 use Rattle.map_model.specs.CellEdits.{AreInRowOrder}
-use Rattle.map_model.specs.Parts.{layer_of}
+use Rattle.map_model.specs.Lookups.{layer_of}
 use Rattle.edits.specs.Covering.{covered}
 use Rattle.edits.specs.Filling.{fill_over, map_cell}
 use Rattle.edits.specs.Refusals.{is_known, tiles_or_fault}

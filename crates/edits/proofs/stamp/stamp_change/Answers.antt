@@ -2,7 +2,7 @@ use Rattle.std.proofs.Common.{◌≡◌, ap, sym, ◌∙◌, refl, rules, true, 
 use Rattle.std.specs.List.{list_all}
 use Rattle.map_model.specs.declared.parts.MapParts.{MapParts}
 use Rattle.map_model.specs.Document.{with_map}
-use Rattle.map_model.specs.Parts.{layer_of}
+use Rattle.map_model.specs.Lookups.{layer_of}
 use Rattle.edits.specs.Blocks.{block_of, stamp_over}
 use Rattle.edits.specs.Covering.{covered_map, where_selected}
 use Rattle.edits.specs.Refusals.{is_known, tiles_or_fault}

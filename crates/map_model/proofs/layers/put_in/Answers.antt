@@ -1,7 +1,7 @@
 use Rattle.std.proofs.Common.{rules}
 use Rattle.map_model.specs.declared.limits.TheConstants.{MAX_GROUPS}
 use Rattle.map_model.specs.CellEdits.{put_values}
-use Rattle.map_model.specs.Parts.{layer_with_tiles}
+use Rattle.map_model.specs.Lookups.{layer_with_tiles}
 use Rattle.map_model.proofs.TreeChanges.{changed_by}
 use Rattle.map_model.proofs.layers.put_in.Goals as goal
 

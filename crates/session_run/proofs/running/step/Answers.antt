@@ -5,7 +5,7 @@ use Rattle.session_run.proofs.running.step.Goals as goal
 pub returns-in-Ok-clause-step : goal.returns-in-Ok-clause-step
 returns-in-Ok-clause-step g c =
     let read : line_of c.args.line.now ≡ Ok c.in-Ok.line = rw c.in-Ok.is at c.parse_line.ensures.value in
-    rw read c.hear_line.ensures.step
+    rw read c.carry_out.ensures.step
 
 pub returns-in-Err-clause-step : goal.returns-in-Err-clause-step
 returns-in-Err-clause-step g c =

@@ -1,11 +1,11 @@
-use Rattle.std.proofs.Common.{◌≡◌, ◌∙◌, true, List, Option, map, refl, sym, ap, codes}
+use Rattle.std.proofs.Common.{◌≡◌, ◌∙◌, true, subst, List, Option, map, refl, sym, ap, codes}
 use Rattle.std.specs.Prelude.{unwrap_or}
 use Rattle.std.specs.Borrow.{Bor}
-use Rattle.clap.specs.Words.{App, Text, fault_of, first_of, found_of, is_simple, is_simple_and_free, matches_of}
+use Rattle.clap.specs.Words.{App, Text, fault_of, first_of, found_of, is_simple, is_simple_and_free, matches_of, one_of, one_text}
 use Rattle.clap.proofs.OnLiterals.{clap_on_literals}
-use Rattle.clap.proofs.WalkLemmas.{first_value-rows}
-use Rattle.tile_editor.specs.Options.{command, value_or_zero}
-use Rattle.tile_editor.proofs.Commands.{unwrapped_text}
+use Rattle.clap.proofs.WalkLemmas.{first_value-rows, one_text-rows}
+use Rattle.tile_editor.specs.Options.{command, value_or_zero, IsFlag}
+use Rattle.tile_editor.proofs.CommandLines.{read_IsFlag, unwrapped_text}
 use Rattle.tile_editor.proofs.options.parse_options.Goals as goal
 
 command_is_free : is_simple_and_free command ≡ true
@@ -36,3 +36,12 @@ returns-in-Ok-clause-limit g c =
     let rows = (c.in-Ok.ensures.matches (ap is_simple made ∙ command_is_simple)).0 ∙ ap (λ (a : App). matches_of a words) made in
     c.limit_in.ensures.value
     ∙ ap value_or_zero (c.get_str-in-Ok.ensures ∙ first_value-rows (found_of c.in-Ok.matches) (codes "limit") ∙ ap (first_of (codes "limit")) rows)
+
+pub returns-in-Ok-clause-strict : goal.returns-in-Ok-clause-strict
+returns-in-Ok-clause-strict g c =
+    let made = c.in_ok-command.ensures.app in
+    let words : List Text = map g.S.AsStr.text c.args.words.now in
+    let rows = (c.in-Ok.ensures.matches (ap is_simple made ∙ command_is_simple)).0 ∙ ap (λ (a : App). matches_of a words) made in
+    let read : one_text (found_of c.in-Ok.matches) (codes "strict") ≡ one_of (codes "strict") (matches_of command words) =
+    one_text-rows (found_of c.in-Ok.matches) (codes "strict") ∙ ap (one_of (codes "strict")) rows in
+    subst (λ (o : Option Text). IsFlag o c.get_flag.result) read (read_IsFlag (one_text (found_of c.in-Ok.matches) (codes "strict")) c.get_flag.result c.get_flag.ensures.none c.get_flag.ensures.value c.get_flag.ensures.other)

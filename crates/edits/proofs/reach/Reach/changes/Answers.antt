@@ -4,7 +4,7 @@ use Rattle.edits.proofs.Reaches.{changes-above, changes-all}
 use Rattle.edits.proofs.reach.Reach.changes.Goals as goal
 
 pub loop-y-init : goal.loop-y-init
-loop-y-init g c = changes-above (g.C.Cover.over c.args.cover.now) c.args.self.now c.requires
+loop-y-init g c = c.new-cells.ensures ∙ changes-above (g.C.Cover.over c.args.cover.now) c.args.self.now c.requires
 
 pub returns : goal.returns
 returns g c =

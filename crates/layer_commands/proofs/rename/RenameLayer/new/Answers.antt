@@ -1,6 +1,6 @@
 use Rattle.std.proofs.Common.{rules, refl}
 use Rattle.command_api.proofs.Swaps.{swap_made}
-use Rattle.map_model.proofs.PartLaws.{name-laws}
+use Rattle.map_model.proofs.LensLaws.{name-laws}
 use Rattle.layer_commands.proofs.rename.RenameLayer.new.Goals as goal
 
 pub returns-in-Ok-clause-command : goal.returns-in-Ok-clause-command

@@ -1,7 +1,7 @@
 use Rattle.map_model.specs.Layers.{layer_name}
-use Rattle.map_model.proofs.PartLaws.{mapped}
+use Rattle.map_model.proofs.LensLaws.{mapped}
 use Rattle.command_api.proofs.Swaps.{swapped}
-use Rattle.map_model.proofs.PartLaws.{name-laws}
+use Rattle.map_model.proofs.LensLaws.{name-laws}
 use Rattle.layer_commands.proofs.rename.RenameLayerExchange.exchange.Goals as goal
 
 pub returns : goal.returns

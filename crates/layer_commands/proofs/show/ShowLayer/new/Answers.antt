@@ -1,6 +1,6 @@
 use Rattle.std.proofs.Common.{rules, refl}
 use Rattle.command_api.proofs.Swaps.{swap_made}
-use Rattle.map_model.proofs.PartLaws.{visible-laws}
+use Rattle.map_model.proofs.LensLaws.{visible-laws}
 use Rattle.layer_commands.proofs.show.ShowLayer.new.Goals as goal
 
 pub returns-in-Some-clause-command : goal.returns-in-Some-clause-command

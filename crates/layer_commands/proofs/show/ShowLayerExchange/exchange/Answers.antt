@@ -1,6 +1,6 @@
 use Rattle.std.proofs.Common.{rules}
 use Rattle.command_api.proofs.Swaps.{swapped}
-use Rattle.map_model.proofs.PartLaws.{visible-laws}
+use Rattle.map_model.proofs.LensLaws.{visible-laws}
 use Rattle.layer_commands.proofs.show.ShowLayerExchange.exchange.Goals as goal
 
 pub returns : goal.returns

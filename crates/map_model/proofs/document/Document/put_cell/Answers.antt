@@ -2,7 +2,7 @@ use Rattle.std.proofs.Common.{◌≡◌, ◌<◌, ◌+◌, ◌*◌, ap, ◌∙�
 use Rattle.map_model.specs.declared.document.Document.TheInside.{Inside}
 use Rattle.map_model.specs.Document.{DocumentParts}
 use Rattle.map_model.specs.CellEdits.{with_value}
-use Rattle.map_model.specs.Parts.{HasTiles}
+use Rattle.map_model.specs.Lookups.{HasTiles}
 use Rattle.map_model.specs.WellFormed.{IsTileValue}
 use Rattle.map_model.proofs.CellEdits.{with_value-keeps}
 use Rattle.map_model.proofs.Keeps.{place-within, with_tiles-keeps}

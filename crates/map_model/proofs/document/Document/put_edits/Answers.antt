@@ -3,7 +3,7 @@ use Rattle.map_model.specs.declared.document.Document.TheInside.{Inside}
 use Rattle.map_model.specs.Document.{DocumentParts}
 use Rattle.map_model.specs.CellEdits.{put_values}
 use Rattle.map_model.specs.Lists.{Each}
-use Rattle.map_model.specs.Parts.{HasTiles, IsWithin}
+use Rattle.map_model.specs.Lookups.{HasTiles, IsWithin}
 use Rattle.map_model.proofs.CellEdits.{put_values-keeps}
 use Rattle.map_model.proofs.Keeps.{places-within, with_tiles-keeps}
 use Rattle.map_model.proofs.Selections.{selection-IsSelectionOf}

@@ -2,7 +2,7 @@ use Rattle.std.proofs.Common.{◌≡◌, ◌<◌, Ok, Some, ◌∙◌, rules, w3
 use Rattle.std.proofs.lemmas.Int.{to_z-of_z}
 use Rattle.map_model.specs.declared.limits.TheConstants.{MAX_OBJECTS}
 use Rattle.map_model.specs.NewMap.{new_object}
-use Rattle.map_model.specs.Parts.{layer_of}
+use Rattle.map_model.specs.Lookups.{layer_of}
 use Rattle.edits.specs.ObjectEdits.{is_object_size, objects_or_fault, placing_of}
 use Rattle.object_commands.proofs.Adding.{add_made}
 use Rattle.object_commands.proofs.Placements.{given_by}

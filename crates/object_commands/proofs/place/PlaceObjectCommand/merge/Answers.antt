@@ -1,5 +1,5 @@
 use Rattle.std.proofs.Common.{◌≡◌, sym, ap, ◌∙◌}
-use Rattle.map_model.specs.Part.{placing_with_id, put}
+use Rattle.map_model.specs.Lens.{placing_with_id, put}
 use Rattle.map_model.proofs.StayPut.{placing_with_id-laws}
 use Rattle.command_api.proofs.Swaps.{shown_merged}
 use Rattle.object_commands.specs.Changes.{AllowsPlacing}

@@ -1,6 +1,6 @@
 use Rattle.std.proofs.Common.{◌∙◌}
 use Rattle.map_model.specs.Objects.{object_placing}
-use Rattle.map_model.proofs.PartLaws.{mapped}
+use Rattle.map_model.proofs.LensLaws.{mapped}
 use Rattle.map_model.proofs.StayPut.{placing_with_id-laws}
 use Rattle.command_api.proofs.Swaps.{shown_swapped}
 use Rattle.object_commands.specs.Changes.{AllowsPlacing}

@@ -1,6 +1,6 @@
 use Rattle.std.proofs.Common.{rules, refl}
 use Rattle.map_model.specs.Document.{IsSelectionOf}
-use Rattle.map_model.proofs.PartLaws.{selection-laws}
+use Rattle.map_model.proofs.LensLaws.{selection-laws}
 use Rattle.command_api.proofs.Swaps.{swap_where_made}
 use Rattle.paint_commands.proofs.select.SelectCommand.new.Goals as goal
 

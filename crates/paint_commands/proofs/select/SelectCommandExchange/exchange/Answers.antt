@@ -1,6 +1,6 @@
 use Rattle.std.proofs.Common.{Some, ap, sym}
 use Rattle.map_model.specs.Document.{IsSelectionOf}
-use Rattle.map_model.proofs.PartLaws.{selection-laws}
+use Rattle.map_model.proofs.LensLaws.{selection-laws}
 use Rattle.command_api.proofs.Swaps.{swapped_where}
 use Rattle.paint_commands.proofs.select.SelectCommandExchange.exchange.Goals as goal
 

@@ -1,0 +1,245 @@
+-- How a run goes on.
+use Rattle.std.proofs.Common.{◌≡◌, ◌≢◌, ℕ, ◌+◌, ◌^◌, ◌≤◌, IsTrue, List, [], ◌∷◌, ◌++◌, length, Option, Some, None, Err, refl, sym, ap, subst, ◌∙◌, inl, inr, ◌⊎◌, append_assoc, arith}
+use Rattle.std.specs.Prelude.{option_to_list, All, Bool, IfSome}
+use Rattle.std.specs.Io.KnownBytes.{Appends, Keeps, prepend_known}
+use Rattle.std.proofs.lemmas.Bool.{lt-ltb}
+use Rattle.std.proofs.lemmas.List.{append-nil, length-append}
+use Rattle.std.proofs.lemmas.List.Elements.{All-append, All-nil, All-cons}
+use Rattle.std.proofs.lemmas.Grind.{flat_map-append}
+use Rattle.lines.specs.declared.reader.Found.{Found}
+use Rattle.lines.specs.declared.reader.Found.TheVariants as found
+use Rattle.lines.specs.Lines.{lines_of, FindsLine, HasNoNewline, StopsInLine}
+use Rattle.session.specs.declared.limits.TheConstants.{MAX_LINE}
+use Rattle.session.specs.declared.line.LineFault.TheVariants.{TooLong}
+use Rattle.session.specs.declared.reply.Refusal.{Refusal}
+use Rattle.session.specs.declared.reply.Reply.{Reply}
+use Rattle.session.specs.declared.reply.Reply.TheVariants.{Refused}
+use Rattle.session.specs.Grammar.{line_of}
+use Rattle.editor.specs.Machine.{Workspace}
+use Rattle.editor.specs.Steps.{StepIn}
+use Rattle.session_run.specs.Runs.{Run, Progress, Goes, StepFound, TakesPart, AreClean, IsAccepted, RunsAll, RunsSome, RunsToRead, RunsToRefused, RunsToUnsaved, RunsToWrite, output, reply_line}
+use Rattle.session_run.proofs.Appending.{appends_more, appends_nothing}
+
+pub too_long : (long : List ℕ) → 2 ^ 16 ≤ length long → line_of long ≡ Err TooLong
+unfolding line_of
+too_long long h = rw (lt-ltb MAX_LINE (length long) (omega (arith, h))) refl
+
+run_more : (handled : List (List ℕ)) (line : List ℕ) (from now mid : Workspace) (replies : List Reply) (reply : Option Reply) → Run from handled replies now → StepIn line now reply mid
+    → Run from (handled ++ line ∷ []) (replies ++ option_to_list reply) mid
+run_more [] line from now mid replies reply r s =
+    let P : Workspace → Type 0 = λ m. StepIn line m reply mid in
+    (mid, reply, [], subst P r.1 s, (refl, refl), ap (λ rs. rs ++ option_to_list reply) r.0 ∙ sym (append-nil (option_to_list reply)))
+run_more (l ∷ handled) line from now mid replies reply r s = (
+  r.0,
+  r.1,
+  r.2 ++ option_to_list reply,
+  r.3,
+  run_more handled line r.0 now mid r.2 reply r.4 s,
+  ap (λ rs. rs ++ option_to_list reply) r.5 ∙ append_assoc (option_to_list r.1) r.2 (option_to_list reply),
+)
+
+pub kept_appends : (a b c : Option (List ℕ)) (xs : List ℕ) → Appends a b xs → Keeps b c → Appends a c xs
+kept_appends None b c xs h k = tt
+kept_appends (Some old) None c xs h k = absurd h
+kept_appends (Some old) (Some bs) None xs h k = k
+kept_appends (Some old) (Some bs) (Some cs) xs h k = k ∙ h
+
+-- a reply was written whole, and could not be flushed
+pub written_TakesPart : (bytes : List ℕ) (before after shown : Option (List ℕ)) → Appends before after bytes → Keeps after shown → TakesPart bytes before shown
+written_TakesPart bytes before after shown w e = (bytes, [], sym (append-nil bytes), kept_appends before after shown bytes w e)
+
+-- a run that began at start
+module _ (strict : Bool) (start : Workspace) where
+  progress_more : (input line : List ℕ) (left : List (List ℕ)) (now mid : Workspace) (reply : Option Reply) (before after after' : Option (List ℕ)) (n k : ℕ)
+      → Progress strict start input (line ∷ left) now before after n k → StepIn line now reply mid → Appends after after' (output (option_to_list reply))
+      → (IsTrue strict → All IsAccepted (option_to_list reply)) → Progress strict start input left mid before after' (n + 1) (k + length (option_to_list reply))
+  progress_more input line left now mid reply before after after' n k t s w a =
+      let joined : output (t.replies ++ option_to_list reply) ≡ output t.replies ++ output (option_to_list reply) = flat_map-append reply_line t.replies (option_to_list reply) in
+      let P : List ℕ → Type 0 = λ bytes. Appends before after' bytes in
+      record {
+        handled = t.handled ++ line ∷ [];
+        replies = t.replies ++ option_to_list reply;
+        split = t.split ∙ sym (append_assoc t.handled (line ∷ []) left);
+        run = run_more t.handled line start now mid t.replies reply t.run s;
+        written = subst P (sym joined) (appends_more before after after' (output t.replies) (output (option_to_list reply)) t.written w);
+        accepted = λ h. All-append IsAccepted t.replies (option_to_list reply) (t.accepted h) (a h);
+        lines_counted = omega (arith, t.lines_counted, length-append t.handled (line ∷ []));
+        replies_counted = omega (arith, t.replies_counted, length-append t.replies (option_to_list reply));
+      }
+
+  progress_with_left : (input : List ℕ) (left left' : List (List ℕ)) (now : Workspace) (before after : Option (List ℕ)) (n k : ℕ) → left ≡ left' → Progress strict start input left now before after n k
+      → Progress strict start input left' now before after n k
+  progress_with_left input left left' now before after n k e t = let P : List (List ℕ) → Type 0 = λ ls. Progress strict start input ls now before after n k in subst P e t
+
+  goes_more : (known left left' : Option (List ℕ)) (f : Found) (line : List ℕ) (now mid : Workspace) (reply : Option Reply) (before after after' : Option (List ℕ)) (n k : ℕ)
+      → Goes strict start known left now before after n k → FindsLine left left' (Some f) line → StepFound f line now reply mid → Appends after after' (output (option_to_list reply)) → (IsTrue strict → All IsAccepted (option_to_list reply))
+      → Goes strict start known left' mid before after' (n + 1) (k + length (option_to_list reply))
+  goes_more None left left' f line now mid reply before after after' n k g l s w a = tt
+  goes_more (Some input) None left' f line now mid reply before after after' n k g l s w a = absurd g
+  goes_more (Some input) (Some xs) None f line now mid reply before after after' n k g l s w a = l
+  goes_more (Some input) (Some xs) (Some ys) found.Line line now mid reply before after after' n k g l s w a =
+      progress_more input line (lines_of ys) now mid reply before after after' n k (progress_with_left input _ _ now before after n k l.0 g) s w a
+  goes_more (Some input) (Some xs) (Some ys) found.TooLong line now mid reply before after after' n k g l s w a =
+      progress_more input l.0 (lines_of ys) now mid reply before after after' n k (progress_with_left input _ _ now before after n k l.1 g) (s l.0 l.2) w a
+
+  pub goes_quiet : (known left left' : Option (List ℕ)) (f : Found) (line : List ℕ) (now mid : Workspace) (before after : Option (List ℕ)) (n k : ℕ)
+      → Goes strict start known left now before after n k → FindsLine left left' (Some f) line → StepFound f line now None mid → Goes strict start known left' mid before after (n + 1) k
+  goes_quiet known left left' f line now mid before after n k g l s =
+      let P : ℕ → Type 0 = λ m. Goes strict start known left' mid before after (n + 1) m in
+      let same : k + 0 ≡ k = omega arith in
+      subst P same (goes_more known left left' f line now mid None before after after n k g l s (appends_nothing after) (λ h. All-nil IsAccepted))
+
+  -- a reply was written
+  pub goes_replied : (known left left' : Option (List ℕ)) (f : Found) (line : List ℕ) (now mid : Workspace) (reply : Reply) (before after after' : Option (List ℕ)) (n k : ℕ)
+      → Goes strict start known left now before after n k → FindsLine left left' (Some f) line → StepFound f line now (Some reply) mid → Appends after after' (reply_line reply) → (IsTrue strict → IsAccepted reply)
+      → Goes strict start known left' mid before after' (n + 1) (k + 1)
+  goes_replied known left left' f line now mid reply before after after' n k g l s w a =
+      let P : List ℕ → Type 0 = λ bytes. Appends after after' bytes in
+      goes_more known left left' f line now mid (Some reply) before after after' n k g l s (subst P (sym (append-nil (reply_line reply))) w)
+      (λ h. All-cons IsAccepted reply [] (a h) (All-nil IsAccepted))
+
+  pub goes_all : (known left left' : Option (List ℕ)) (line : List ℕ) (now : Workspace) (before after : Option (List ℕ)) (n k : ℕ) → Goes strict start known left now before after n k
+      → FindsLine left left' None line → (IsTrue strict → AreClean now.machine.group.documents) → IfSome known (λ input. RunsAll strict start input before after now.kept n k)
+  goes_all None left left' line now before after n k g l c = tt
+  goes_all (Some input) None left' line now before after n k g l c = absurd g
+  goes_all (Some input) (Some xs) None line now before after n k g l c = absurd l
+  goes_all (Some input) (Some xs) (Some ys) line now before after n k g l c =
+      record { now = now.machine; progress = progress_with_left input _ _ now before after n k l.0 g; clean = c }
+
+  -- a strict run leaves a document that is not clean
+  pub goes_unsaved : (known left left' : Option (List ℕ)) (line : List ℕ) (now : Workspace) (before after : Option (List ℕ)) (n k : ℕ) → Goes strict start known left now before after n k
+      → FindsLine left left' None line → IsTrue strict → (AreClean now.machine.group.documents → ⊥) → IfSome known (λ input. RunsToUnsaved strict start input before after now.kept)
+  goes_unsaved None left left' line now before after n k g l h u = tt
+  goes_unsaved (Some input) None left' line now before after n k g l h u = absurd g
+  goes_unsaved (Some input) (Some xs) None line now before after n k g l h u = absurd l
+  goes_unsaved (Some input) (Some xs) (Some ys) line now before after n k g l h u =
+      record { now = now.machine; lines = n; replied = k; progress = progress_with_left input _ _ now before after n k l.0 g; strictly = h; unsaved = u }
+
+  -- a part of a line had come, and the reader has the rest
+  pub goes_read : (known left left' reader : Option (List ℕ)) (pending : List ℕ) (now : Workspace) (before after : Option (List ℕ)) (n k : ℕ) → Goes strict start known left now before after n k
+      → StopsInLine left left' → left' ≡ prepend_known pending reader → HasNoNewline pending → IfSome known (λ input. RunsToRead strict start input reader before after now.kept)
+  goes_read None left left' reader pending now before after n k g l e h = tt
+  goes_read (Some input) None left' reader pending now before after n k g l e h = absurd g
+  goes_read (Some input) (Some xs) None reader pending now before after n k g l e h = absurd l
+  goes_read (Some input) (Some xs) (Some ys) None pending now before after n k g l e h = absurd cc
+  goes_read (Some input) (Some xs) (Some ys) (Some rest) pending now before after n k g l e h =
+      let same : ys ≡ pending ++ rest = cc in
+      let whole : xs ≡ (l.0 ++ pending) ++ rest = l.2 ∙ ap (λ zs. l.0 ++ zs) same ∙ sym (append_assoc l.0 pending rest) in
+      record {
+        part = l.0 ++ pending;
+        rest = rest;
+        unfinished = All-append (λ b. b ≢ 10) l.0 pending l.1 h;
+        unread = refl;
+        runs = record { now = now.machine; lines = n; replied = k; progress = progress_with_left input _ _ now before after n k (ap lines_of whole) g };
+      }
+
+  goes_some : (known left : Option (List ℕ)) (now : Workspace) (before after : Option (List ℕ)) (n k : ℕ) → Goes strict start known left now before after n k
+      → IfSome known (λ input. RunsSome strict start input before after now.kept)
+  goes_some None left now before after n k g = tt
+  goes_some (Some input) None now before after n k g = absurd g
+  goes_some (Some input) (Some xs) now before after n k g = record { left = lines_of xs; runs = record { now = now.machine; lines = n; replied = k; progress = g } }
+
+  goes_write : (known left left' : Option (List ℕ)) (f : Found) (line : List ℕ) (mid now : Workspace) (reply : Reply) (before after after' : Option (List ℕ)) (n k : ℕ)
+      → Goes strict start known left mid before after n k → FindsLine left left' (Some f) line → StepFound f line mid (Some reply) now → TakesPart (reply_line reply) after after'
+      → IfSome known (λ input. RunsToWrite strict start input before after' now.kept)
+  goes_write None left left' f line mid now reply before after after' n k g l s w = tt
+  goes_write (Some input) None left' f line mid now reply before after after' n k g l s w = absurd g
+  goes_write (Some input) (Some xs) None f line mid now reply before after after' n k g l s w = absurd l
+  goes_write (Some input) (Some xs) (Some ys) found.Line line mid now reply before after after' n k g l s w = record {
+    mid = mid;
+    line = line;
+    left = lines_of ys;
+    written = after;
+    lines = n;
+    replied = k;
+    progress = progress_with_left input _ _ mid before after n k l.0 g;
+    reply = reply;
+    now = now.machine;
+    step = s;
+    part = w;
+  }
+  goes_write (Some input) (Some xs) (Some ys) found.TooLong line mid now reply before after after' n k g l s w = record {
+    mid = mid;
+    line = l.0;
+    left = lines_of ys;
+    written = after;
+    lines = n;
+    replied = k;
+    progress = progress_with_left input _ _ mid before after n k l.1 g;
+    reply = reply;
+    now = now.machine;
+    step = s l.0 l.2;
+    part = w;
+  }
+
+  or_left : (P Q : List ℕ → Type 0) (known : Option (List ℕ)) → IfSome known P → IfSome known (λ input. P input ⊎ Q input)
+  or_left P Q None h = tt
+  or_left P Q (Some input) h = inl h
+
+  or_right : (P Q : List ℕ → Type 0) (known : Option (List ℕ)) → IfSome known Q → IfSome known (λ input. P input ⊎ Q input)
+  or_right P Q None h = tt
+  or_right P Q (Some input) h = inr h
+
+  -- the reply to a line could not be written
+  pub goes_unwritten : (known left left' : Option (List ℕ)) (f : Found) (line : List ℕ) (mid now : Workspace) (reply : Reply) (before after after' : Option (List ℕ)) (n k : ℕ)
+      → Goes strict start known left mid before after n k → FindsLine left left' (Some f) line → StepFound f line mid (Some reply) now → TakesPart (reply_line reply) after after'
+      → IfSome known (λ input. RunsSome strict start input before after' now.kept ⊎ RunsToWrite strict start input before after' now.kept)
+  goes_unwritten known left left' f line mid now reply before after after' n k g l s w =
+      or_right _ _ known (goes_write known left left' f line mid now reply before after after' n k g l s w)
+
+  -- the replies could not be flushed
+  pub goes_unflushed : (known left : Option (List ℕ)) (now : Workspace) (before after : Option (List ℕ)) (n k : ℕ) → Goes strict start known left now before after n k
+      → IfSome known (λ input. RunsSome strict start input before after now.kept ⊎ RunsToWrite strict start input before after now.kept)
+  goes_unflushed known left now before after n k g = or_left _ _ known (goes_some known left now before after n k g)
+
+  -- a flush shows what was written
+  pub goes_kept : (known left : Option (List ℕ)) (now : Workspace) (before after after' : Option (List ℕ)) (n k : ℕ) → Goes strict start known left now before after n k → Keeps after after'
+      → Goes strict start known left now before after' n k
+  goes_kept None left now before after after' n k g h = tt
+  goes_kept (Some input) None now before after after' n k g h = g
+  goes_kept (Some input) (Some xs) now before after after' n k g h = record {
+    handled = g.handled;
+    replies = g.replies;
+    split = g.split;
+    run = g.run;
+    written = kept_appends before after after' (output g.replies) g.written h;
+    accepted = g.accepted;
+    lines_counted = g.lines_counted;
+    replies_counted = g.replies_counted;
+  }
+
+  -- a strict run ends at a refused line, whose reply is written whole and flushed
+  pub goes_refused : (known left left' : Option (List ℕ)) (f : Found) (line : List ℕ) (mid now : Workspace) (refusal : Refusal) (before after after' : Option (List ℕ)) (n k : ℕ)
+      → Goes strict start known left mid before after n k → FindsLine left left' (Some f) line → StepFound f line mid (Some (Refused refusal)) now
+      → Appends after after' (reply_line (Refused refusal)) → IsTrue strict → IfSome known (λ input. RunsToRefused strict start input before after' now.kept)
+  goes_refused None left left' f line mid now refusal before after after' n k g l s w h = tt
+  goes_refused (Some input) None left' f line mid now refusal before after after' n k g l s w h = absurd g
+  goes_refused (Some input) (Some xs) None f line mid now refusal before after after' n k g l s w h = absurd l
+  goes_refused (Some input) (Some xs) (Some ys) found.Line line mid now refusal before after after' n k g l s w h = record {
+    mid = mid;
+    line = line;
+    left = lines_of ys;
+    written = after;
+    lines = n;
+    replied = k;
+    progress = progress_with_left input _ _ mid before after n k l.0 g;
+    strictly = h;
+    refusal = refusal;
+    now = now.machine;
+    step = s;
+    reply = w;
+  }
+  goes_refused (Some input) (Some xs) (Some ys) found.TooLong line mid now refusal before after after' n k g l s w h = record {
+    mid = mid;
+    line = l.0;
+    left = lines_of ys;
+    written = after;
+    lines = n;
+    replied = k;
+    progress = progress_with_left input _ _ mid before after n k l.1 g;
+    strictly = h;
+    refusal = refusal;
+    now = now.machine;
+    step = s l.0 l.2;
+    reply = w;
+  }

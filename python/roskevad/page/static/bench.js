@@ -1,0 +1,142 @@
+// What the hand works with: the editor, the drawn map, the layer, the stamp, the object that was chosen, and words for refusals.
+import { byId } from "./dom.js";
+
+const SHOWN_FOR = 5000;
+// What a refusal means for the hand, where its words alone do not tell.
+const HINTS = {
+  10: "Open a map first.",
+  13: "Save it, or discard it.",
+  20: "End the macro first.",
+  30: "Choose a layer that is there.",
+  31: "Choose a tile layer to draw on, and an object layer for objects.",
+  32: "Click within the map.",
+  33: "No tileset of this map has that tile.",
+  51: "The file cannot be read or written.",
+  60: "docs/map-files.md says what to change in a map.",
+};
+
+export class Bench extends EventTarget {
+  constructor(editor, view, marks, tilesets) {
+    super();
+    Object.assign(this, { editor, view, marks, tilesets });
+    this.layerId = null;
+    this.objectId = null;
+    this.brushSize = 1;
+    this.stamp = { width: 1, height: 1, values: [1] };
+    // Whether a button is down on the map: the panels wait until it is up.
+    this.isHeld = false;
+    this.handX = this.handY = 100;
+    addEventListener("pointermove", event => this.moveHand(event.clientX, event.clientY), true);
+    addEventListener("pointerdown", event => this.moveHand(event.clientX, event.clientY), true);
+    document.addEventListener("keydown", () => this.moveToField(), true);
+  }
+
+  get map() {
+    return this.editor.map;
+  }
+
+  get layer() {
+    return this.map?.layer(this.layerId) ?? null;
+  }
+
+  tell(name) {
+    this.dispatchEvent(new Event(name));
+  }
+
+  // ---- what is chosen
+  // Keeps to a layer and an object that are there.
+  settle() {
+    if (this.map && !this.layer) this.layerId = (this.map.layers.find(layer => layer.cells) ?? this.map.layers[0])?.id ?? null;
+    if (this.objectId !== null && !this.map?.object(this.objectId)) this.objectId = null;
+    this.marks.chosen = this.objectId;
+    this.tell("chosen");
+  }
+
+  chooseLayer(id) {
+    this.layerId = id;
+    this.settle();
+  }
+
+  chooseObject(id) {
+    this.objectId = id;
+    if (id !== null) this.layerId = this.map.object(id).layer.id;
+    this.settle();
+    this.marks.redraw();
+  }
+
+  // The value of a fill: the first tile of the stamp. (Its first cell may be one that leaves the map as it is.)
+  get fillValue() {
+    return this.stamp.values.find(value => value !== 0);
+  }
+
+  takeStamp(stamp) {
+    this.stamp = stamp;
+    this.tell("stamp");
+  }
+
+  // Takes the cells of a rectangle of the layer as the stamp, within the selection where `isSelected`.
+  takeCells(x, y, width, height, isSelected = false) {
+    const { map, layer } = this;
+    if (!layer?.cells) return this.say("Choose a tile layer to take tiles from.");
+    const values = [];
+    for (let at = 0; at < width * height; at++) {
+      const [column, row] = [x + at % width, y + Math.floor(at / width)];
+      const isTaken = isSelected ? map.isReached(column, row) : map.isInside(column, row);
+      values.push(isTaken ? layer.cells[row * map.width + column] : 0);
+    }
+    if (values.some(value => value)) this.takeStamp({ width, height, values });
+    else this.say("These cells are empty.");
+  }
+
+  takeSelected() {
+    const runs = this.map?.runs ?? [];
+    if (!runs.length) return this.say("Select cells first, with the tool Select.");
+    const [left, top] = [Math.min(...runs.map(run => run[1])), runs[0][0]];
+    const [right, bottom] = [Math.max(...runs.map(run => run[1] + run[2])), runs[runs.length - 1][0] + 1];
+    this.takeCells(left, top, right - left, bottom - top, true);
+  }
+
+  // ---- lines
+  // Sends lines, and says what was refused.
+  async act(lines, options = {}) {
+    if (this.editor.isGone) {
+      this.say("The server has ended: nothing was sent.");
+      return { replies: [], isHeard: false };
+    }
+    const done = await this.editor.send(lines, options);
+    this.sayRefusal(done);
+    return done;
+  }
+
+  sayRefusal(done) {
+    if (done.refusal) {
+      const [, code, words] = /^no (\d+) (.*)$/.exec(done.refusal);
+      this.say(`Refused: ${words} (${code}). ${HINTS[code >= 60 && code <= 69 ? 60 : code] ?? ""}`);
+    } else if (done.fault && !this.editor.isGone) {
+      this.say(`Not heard: ${done.fault.message}.`);
+    } else if (done.isLate) {
+      this.say("Another page has changed something first. Look, and do it again.");
+    }
+  }
+
+  moveHand(x, y) {
+    [this.handX, this.handY] = [x, y];
+  }
+
+  moveToField() {
+    if (!(document.activeElement instanceof HTMLInputElement)) return;
+    const frame = document.activeElement.getBoundingClientRect();
+    this.moveHand(frame.left, frame.top - 44);
+  }
+
+  // Says something where the hand is.
+  say(words) {
+    const bubble = byId("bubble");
+    bubble.textContent = words.trim();
+    bubble.hidden = false;
+    bubble.style.left = `${Math.min(this.handX + 14, innerWidth - bubble.offsetWidth - 8)}px`;
+    bubble.style.top = `${Math.max(4, Math.min(this.handY + 14, innerHeight - bubble.offsetHeight - 8))}px`;
+    clearTimeout(this.bubbleTimer);
+    this.bubbleTimer = setTimeout(() => (bubble.hidden = true), SHOWN_FOR);
+  }
+}

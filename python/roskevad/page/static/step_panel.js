@@ -1,0 +1,47 @@
+// The steps of the active document: those that were made, the present place, the clean mark, and those that were undone.
+import { button, byId, element } from "./dom.js";
+
+const MORE = 1000;
+
+export class StepPanel {
+  constructor(bench) {
+    this.bench = bench;
+    this.editor = bench.editor;
+  }
+
+  show() {
+    const { state } = this.editor;
+    const list = byId("steps");
+    if (!state.active) {
+      list.replaceChildren();
+      return;
+    }
+    const rows = state.steps.map((step, at) => this.row(state.firstStep + at + 1, step.text, step.isMacro));
+    if (state.firstStep === 0) rows.unshift(this.row(0, "(as it began)", false));
+    else rows.unshift(this.more(`${state.firstStep} earlier steps ..`));
+    const later = state.count - state.firstStep - state.steps.length;
+    if (later > 0) rows.push(this.more(`${later} later steps ..`));
+    list.replaceChildren(...rows);
+    list.querySelector(".now")?.scrollIntoView({ block: "nearest" });
+  }
+
+  row(place, text, isMacro) {
+    const { index, cleanIndex, count, depth } = this.editor.state;
+    const isOpen = depth > 0 && place === count;
+    const row = element("li", { data: { place }, onclick: () => this.bench.act([`goto ${place}`]) },
+      element("span", { className: "number", textContent: place }),
+      element("span", { className: "name", textContent: text }),
+      element("span", { className: "kind", textContent: isOpen ? "open macro" : isMacro ? "macro" : "" }),
+      element("span", { className: "clean", textContent: place === cleanIndex ? "saved" : "" }));
+    row.classList.toggle("now", place === index);
+    row.classList.toggle("undone", place > index && !isOpen);
+    return row;
+  }
+
+  more(text) {
+    return element("li", {}, button(text, "Show more steps", () => {
+      this.editor.steps += MORE;
+      this.editor.look(true);
+    }));
+  }
+}

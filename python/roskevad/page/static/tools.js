@@ -1,0 +1,303 @@
+// The tools of the hand on the map. Each gives the editor session lines, and nothing else.
+import { ask } from "./dom.js";
+import { lineOf } from "./map_model.js";
+import { Stroke } from "./stroke.js";
+
+const COLOURS = { brush: "#7fd67f", eraser: "#ff8f8f", fill: "#7fd67f", select: "#8cc8ff", insert: "#ffd34d", capture: "#d8b4ff" };
+
+// The largest stamp whose tiles are shown under the hand.
+const MOST_SHOWN = 4096;
+// How far the wheel turns for a step, and how far that is where the browser counts lines: in pixels.
+const WHEEL_STEP = 60;
+const LINE = 40;
+
+// The rectangle of cells from one corner to the other.
+function cellsBetween([x0, y0], [x1, y1]) {
+  return [Math.min(x0, x1), Math.min(y0, y1), Math.abs(x1 - x0) + 1, Math.abs(y1 - y0) + 1];
+}
+
+// The brush and the eraser. A stroke is drawn on the map that the editor has: where that is still to come, the hand's way waits for it.
+class StrokeTool {
+  constructor(bench, name) {
+    this.bench = bench;
+    this.name = name;
+    // The strokes whose way is not drawn to its end: { way, document, stroke, isUp, isOver }.
+    this.works = new Set();
+    bench.editor.addEventListener("map", () => this.works.forEach(work => work.stroke?.begin(bench.map)));
+    bench.editor.addEventListener("state", () => this.goOn());
+    bench.editor.addEventListener("gone", () => this.works.clear());
+  }
+
+  // The block that the hand leaves at a cell.
+  blockAt(x, y) {
+    const { stamp, brushSize, layerId } = this.bench;
+    const isPattern = this.name === "brush" && stamp.values.length > 1;
+    const [width, height] = isPattern ? [stamp.width, stamp.height] : [brushSize, brushSize];
+    const block = { layer: layerId, x: x - Math.floor(width / 2), y: y - Math.floor(height / 2), width, height };
+    if (this.name === "brush") block.values = isPattern ? stamp.values : new Array(width * height).fill(stamp.values[0]);
+    return block;
+  }
+
+  hover(place) {
+    const block = this.blockAt(...place.cell);
+    const values = block.width * block.height <= MOST_SHOWN ? block.values : null;
+    return { cells: [block.x, block.y, block.width, block.height], values, colour: COLOURS[this.name] };
+  }
+
+  async down(place, event) {
+    const { bench } = this;
+    if (!bench.layer.cells) {
+      // The editor says in its own words why this layer takes no stroke.
+      await bench.act([lineOf(this.blockAt(...place.cell), false)]);
+      return;
+    }
+    this.work = { way: [[place.cell, event.timeStamp]], document: bench.editor.state.active, stroke: null, isUp: false, isOver: false };
+    this.works.add(this.work);
+    this.goOn();
+  }
+
+  move(place, event) {
+    if (!this.work) return;
+    this.work.way.push([place.cell, event.timeStamp]);
+    this.goOn();
+  }
+
+  up() {
+    if (this.work) this.work.isUp = true;
+    this.work = null;
+    this.goOn();
+  }
+
+  goOn() {
+    for (const work of this.works) {
+      if (work.isOver || work.document !== this.bench.editor.state.active) this.works.delete(work);
+      else if (this.bench.editor.isCurrent) this.draw(work);
+    }
+  }
+
+  // Draws the way that the hand has gone, and sends its lines. Behind a line that is refused the stroke is over.
+  draw(work) {
+    const { bench } = this;
+    const stroke = work.stroke ??= new Stroke(bench.map, (x, y) => this.blockAt(x, y));
+    for (const [cell, time] of work.way.splice(0)) {
+      const edits = stroke.moveTo(...cell);
+      if (!edits.length) continue;
+      bench.view.redrawCells(edits);
+      bench.view.measure("stroke", time);
+      bench.act(edits.map(edit => edit.line), { stroke }).then(done => (work.isOver ||= Boolean(done.refusal ?? done.fault)));
+    }
+    if (work.isUp) this.works.delete(work);
+  }
+}
+
+// A drag over cells: `done` is called with its rectangle.
+class RectangleTool {
+  constructor(bench, name, done) {
+    Object.assign(this, { bench, name, done, first: null });
+  }
+
+  hover(place) {
+    return { cells: cellsBetween(this.first ?? place.cell, place.cell), colour: COLOURS[this.name] };
+  }
+
+  down(place, event) {
+    this.first = place.cell;
+    this.keys = { shift: event.shiftKey, ctrl: event.ctrlKey || event.metaKey };
+  }
+
+  move() {}
+
+  up(place) {
+    if (!this.first) return;
+    const cells = cellsBetween(this.first, place.cell);
+    this.first = null;
+    this.done(cells, this.keys);
+  }
+}
+
+class FillTool {
+  constructor(bench) {
+    this.bench = bench;
+  }
+
+  hover(place) {
+    return { cells: [...place.cell, 1, 1], values: [this.bench.fillValue], colour: COLOURS.fill };
+  }
+
+  down(place) {
+    this.bench.act([`fill ${this.bench.layerId} ${place.cell.join(" ")} ${this.bench.fillValue}`]);
+  }
+
+  move() {}
+
+  up() {}
+}
+
+// Chooses an object, and drags it: the page draws it on its way, and one line is sent at the end.
+class ObjectTool {
+  constructor(bench) {
+    this.bench = bench;
+  }
+
+  hover() {
+    return null;
+  }
+
+  down(place) {
+    const found = this.bench.map && this.bench.marks.objectAt(place.pixelX, place.pixelY);
+    this.bench.chooseObject(found?.object.id ?? null);
+    this.drag = found && { id: found.object.id, x: found.object.x ?? 0, y: found.object.y ?? 0, from: place };
+  }
+
+  // Where the object goes: with Ctrl on the grid.
+  goal(place, event) {
+    const { map } = this.bench;
+    const onGrid = (length, side) => (event.ctrlKey || event.metaKey ? Math.round(length / side) * side : Math.round(length));
+    const x = this.drag.x + place.pixelX - this.drag.from.pixelX;
+    const y = this.drag.y + place.pixelY - this.drag.from.pixelY;
+    return { id: this.drag.id, x: onGrid(x, map.tileWidth), y: onGrid(y, map.tileHeight) };
+  }
+
+  move(place, event) {
+    if (!this.drag) return;
+    this.bench.marks.dragged = this.goal(place, event);
+    this.bench.marks.redraw();
+  }
+
+  async up(place, event) {
+    if (!this.drag) return;
+    const { marks, editor } = this.bench;
+    const goal = this.goal(place, event);
+    const isMoved = goal.x !== this.drag.x || goal.y !== this.drag.y;
+    this.drag = null;
+    if (isMoved && marks.dragged) {
+      await this.bench.act([`object move ${goal.id} ${goal.x} ${goal.y}`]);
+      await editor.current();
+    }
+    marks.dragged = null;
+    marks.redraw();
+  }
+}
+
+async function insertObject(bench, [x, y, width, height]) {
+  const { map, layer } = bench;
+  if (layer?.type !== "objectgroup") return bench.say("Choose an object layer first.");
+  const told = await ask("A new object", [{ name: "name", label: "Name", value: "object" }]);
+  if (!told) return;
+  const box = [x * map.tileWidth, y * map.tileHeight, width * map.tileWidth, height * map.tileHeight];
+  return bench.act([`object add ${layer.id} ${box.join(" ")} ${told.name}`]);
+}
+
+function select(bench, cells, { shift, ctrl }) {
+  const how = shift && ctrl ? "intersect" : shift ? "add" : ctrl ? "subtract" : "replace";
+  bench.act([`select ${how} ${cells.join(" ")}`]);
+}
+
+// All tools by their names, the one that is used, and the hand's events on the map.
+export class Tools {
+  constructor(bench) {
+    this.bench = bench;
+    this.all = {
+      brush: new StrokeTool(bench, "brush"),
+      eraser: new StrokeTool(bench, "eraser"),
+      fill: new FillTool(bench),
+      select: new RectangleTool(bench, "select", (cells, keys) => select(bench, cells, keys)),
+      objects: new ObjectTool(bench),
+      insert: new RectangleTool(bench, "insert", cells => insertObject(bench, cells)),
+      capture: new RectangleTool(bench, "capture", cells => bench.takeCells(...cells)),
+    };
+    this.name = "brush";
+    this.held = null;
+    this.isSpace = false;
+    this.turned = 0;
+    this.listen(bench.view.box);
+  }
+
+  choose(name) {
+    this.name = name;
+    this.bench.view.box.dataset.tool = name;
+    this.showHand(null);
+    this.bench.tell("tool");
+  }
+
+  listen(box) {
+    box.onpointerdown = event => this.down(event);
+    box.onpointermove = event => this.move(event);
+    box.onpointerup = event => this.up(event);
+    box.onpointercancel = event => this.up(event);
+    box.onpointerleave = () => this.showHand(null);
+    box.oncontextmenu = event => event.preventDefault();
+    box.addEventListener("wheel", event => this.wheel(event), { passive: false });
+  }
+
+  // A step of the wheel is a step of the scale; small turns, as pads give them, come together.
+  wheel(event) {
+    event.preventDefault();
+    this.turned += event.deltaY * (event.deltaMode === WheelEvent.DOM_DELTA_LINE ? LINE : 1);
+    if (Math.abs(this.turned) < WHEEL_STEP) return;
+    const { x, y } = this.bench.view.placeOf(event);
+    this.bench.view.zoom(this.turned < 0 ? 1 : -1, x, y);
+    this.turned = 0;
+  }
+
+  // The tool of a press: the middle button or the space bar moves the view, the right button takes tiles.
+  toolOf(event) {
+    if (event.button === 1 || this.isSpace) return "pan";
+    if (event.button === 2) return this.name === "brush" || this.name === "fill" ? "capture" : null;
+    return event.button === 0 ? this.name : null;
+  }
+
+  down(event) {
+    document.activeElement?.blur();
+    const name = this.toolOf(event);
+    if (!name || this.held || (name !== "pan" && !this.isReady())) return;
+    event.preventDefault();
+    this.bench.view.box.setPointerCapture(event.pointerId);
+    this.held = name;
+    this.bench.isHeld = true;
+    this.from = this.bench.view.placeOf(event);
+    if (name !== "pan") this.all[name].down(this.from, event);
+  }
+
+  isReady() {
+    if (this.bench.editor.isGone) this.bench.say("The server has ended: nothing was sent.");
+    else if (!this.bench.map) this.bench.say("Open a map first.");
+    else if (!this.bench.layer) this.bench.say("Add a layer first.");
+    else return true;
+    return false;
+  }
+
+  move(event) {
+    const { view } = this.bench;
+    if (this.held === "pan") {
+      const place = view.placeOf(event);
+      const [x, y] = [Math.round(place.x - this.from.x), Math.round(place.y - this.from.y)];
+      view.pan(x, y);
+      this.from = { x: this.from.x + x, y: this.from.y + y };
+      return;
+    }
+    if (this.held) {
+      for (const part of event.getCoalescedEvents?.() ?? []) this.all[this.held].move(view.placeOf(part), part);
+      this.all[this.held].move(view.placeOf(event), event);
+    }
+    this.showHand(view.placeOf(event));
+  }
+
+  up(event) {
+    const name = this.held;
+    this.held = null;
+    this.bench.isHeld = false;
+    if (name && name !== "pan") this.all[name].up(this.bench.view.placeOf(event), event);
+    this.showHand(this.bench.view.placeOf(event));
+    this.bench.tell("free");
+  }
+
+  showHand(place) {
+    const { marks, map } = this.bench;
+    const tool = this.all[this.held && this.held !== "pan" ? this.held : this.name];
+    marks.hand = place && map ? tool.hover(place) : null;
+    marks.redrawHand();
+    this.bench.place = place;
+    this.bench.tell("hand");
+  }
+}
