@@ -41,14 +41,16 @@ pub fn planned(edit: Result<Edit, EditFault>) -> Planned
     }
 }
 
-// Goes to the object that properties belong to, where it is one, so that it is found and changed at once.
+// Goes to the layer or object that properties belong to, so that it is found and changed at once.
 fn seek_owner<C: Command>(stack: &mut Stack<C>, owner: Owner)
     requires { Holds C.change stack.old }
     ensures sound { Holds C.change stack.new }
     ensures same { history C.change stack.new ≡ history C.change stack.old }
 {
-    if let Owner::Object(object) = owner {
-        stack.seek_object(object);
+    match owner {
+        Owner::Map => {}
+        Owner::Layer(layer) => stack.seek_layer(layer),
+        Owner::Object(object) => stack.seek_object(object),
     }
 }
 
@@ -115,7 +117,6 @@ fn on_edit<C: Command>(alloc: Global, stack: &mut Stack<C>, line: &Line<'_>) -> 
     ensures sound { Holds C.change stack.new }
     ensures plans { PlansOn (rule_of line.now) (history C.change stack.old) result (history C.change stack.new) }
 {
-    let document = stack.document();
     match line {
         // Cells and the selection.
         Line::Erase {
@@ -127,9 +128,10 @@ fn on_edit<C: Command>(alloc: Global, stack: &mut Stack<C>, line: &Line<'_>) -> 
             follows,
         } => {
             let (x, y, width, height) = (*x, *y, *width, *height);
+            stack.seek_layer(*layer);
             plan_erase(
                 alloc,
-                document,
+                stack.document(),
                 *layer,
                 &Area {
                     x,
@@ -140,7 +142,10 @@ fn on_edit<C: Command>(alloc: Global, stack: &mut Stack<C>, line: &Line<'_>) -> 
                 *follows,
             )
         }
-        Line::Fill { layer, x, y, value } => plan_fill(alloc, document, *layer, *x, *y, *value),
+        Line::Fill { layer, x, y, value } => {
+            stack.seek_layer(*layer);
+            plan_fill(alloc, stack.document(), *layer, *x, *y, *value)
+        }
         Line::Select {
             mode,
             x,
@@ -155,21 +160,27 @@ fn on_edit<C: Command>(alloc: Global, stack: &mut Stack<C>, line: &Line<'_>) -> 
                 width,
                 height,
             };
-            plan_select(alloc, document, Selecting::Rectangle { mode, area })
+            plan_select(alloc, stack.document(), Selecting::Rectangle { mode, area })
         }
-        Line::SelectNone => plan_select(alloc, document, Selecting::Nothing),
+        Line::SelectNone => plan_select(alloc, stack.document(), Selecting::Nothing),
         // Layers and the map's size.
-        Line::AddLayer { kind, name } => plan_add_layer(alloc, document, *kind, name),
-        Line::RemoveLayer { layer } => plan_remove_layer(document, *layer),
-        Line::RenameLayer { layer, name } => plan_rename_layer(alloc, document, *layer, name),
-        Line::ShowLayer { layer, visible } => plan_show_layer(document, *layer, *visible),
-        Line::MoveLayer { layer, place } => plan_move_layer(document, *layer, *place),
+        Line::AddLayer { kind, name } => plan_add_layer(alloc, stack.document(), *kind, name),
+        Line::RemoveLayer { layer } => plan_remove_layer(stack.document(), *layer),
+        Line::RenameLayer { layer, name } => {
+            stack.seek_layer(*layer);
+            plan_rename_layer(alloc, stack.document(), *layer, name)
+        }
+        Line::ShowLayer { layer, visible } => {
+            stack.seek_layer(*layer);
+            plan_show_layer(stack.document(), *layer, *visible)
+        }
+        Line::MoveLayer { layer, place } => plan_move_layer(stack.document(), *layer, *place),
         Line::Resize {
             width,
             height,
             dx,
             dy,
-        } => plan_resize(alloc, document, *width, *height, *dx, *dy),
+        } => plan_resize(alloc, stack.document(), *width, *height, *dx, *dy),
         // Objects.
         Line::AddObject {
             layer,
@@ -180,9 +191,10 @@ fn on_edit<C: Command>(alloc: Global, stack: &mut Stack<C>, line: &Line<'_>) -> 
             name,
         } => {
             let (x, y, width, height) = (*x, *y, *width, *height);
+            stack.seek_layer(*layer);
             plan_add_object(
                 alloc,
-                document,
+                stack.document(),
                 *layer,
                 &Area {
                     x,
@@ -229,9 +241,9 @@ fn on_edit<C: Command>(alloc: Global, stack: &mut Stack<C>, line: &Line<'_>) -> 
             plan_remove_property(stack.document(), *owner, name)
         }
         Line::AddTileset { first_id, source } => {
-            plan_add_tileset(alloc, document, *first_id, source)
+            plan_add_tileset(alloc, stack.document(), *first_id, source)
         }
-        Line::RemoveTileset { first_id } => plan_remove_tileset(document, *first_id),
+        Line::RemoveTileset { first_id } => plan_remove_tileset(stack.document(), *first_id),
         _ => unreachable!(),
     }
 }
@@ -257,6 +269,7 @@ pub fn on_document<C: Command>(alloc: Global, stack: &mut Stack<C>, line: &Line<
             follows,
         } => {
             let (x, y, width) = (*x, *y, *width);
+            stack.seek_layer(*layer);
             plan_stamp(
                 alloc,
                 stack.document(),

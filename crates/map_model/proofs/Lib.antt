@@ -23,6 +23,7 @@ pub mod TilesetLemmas
 pub mod Turns
 pub mod Walks
 pub mod Ways
+pub mod DrawnHere
 pub mod TreeWalks
 pub mod FirstChanges
 pub mod PropertyKeeps

@@ -105,30 +105,30 @@ first_some-only (j ∷ ls) (suc k) l os at o e f g h =
     ap (λ p. or_else p (first_some (place_in_layer o.id) ls)) (place_in_layer-none o.id j others)
     ∙ first_some-only ls k l os at o e f g (Distinct-rest (object_ids_of j) (flat_map object_ids_of ls) h)
 
--- a layer that stands in no group is drawn
-tree-at : (room level : ℕ) (ls : List Layer) (k : ℕ) (l : Layer) → slice_get ls k ≡ Some l → (j : ℕ) × (slice_get (drawn room level ls) j ≡ Some (level, bare l))
-tree-at room level [] zero l e = cc
-tree-at room level [] (suc k) l e = cc
-tree-at room level (x ∷ xs) zero l e =
-    let is : x ≡ l = cc in
-    (0, ap (λ t. slice_get (t ++ drawn room level xs) 0) (tree-is room level x) ∙ ap (λ y. Some (level, bare y)) is)
-tree-at room level (x ∷ xs) (suc k) l e =
-    let later = tree-at room level xs k l e in
-    (length (tree room level x) + later.0, slice_get-behind (tree room level x) (drawn room level xs) later.0 ∙ later.1)
+-- the layer with an id is drawn
+drawn-found : (m : MapParts) (l : Layer) → layer_of m l.id ≡ Some l → (j : ℕ) × ((level : ℕ) × (slice_get (all_drawn m.layers) j ≡ Some (level, bare l)))
+drawn-found m l e =
+    let s = layer-Stands m l.id l e in
+    let start : length s.front + 0 ≡ length s.front = omega arith in (
+      length s.front,
+      (
+        s.own_level,
+        ap (λ ds. slice_get ds (length s.front)) s.was ∙ ap (slice_get (s.front ++ (tree s.own_room s.own_level l ++ s.rest))) (sym start) ∙ slice_get-behind s.front (tree s.own_room s.own_level l ++ s.rest) 0
+        ∙ ap (λ t. slice_get (t ++ s.rest) 0) (tree-is s.own_room s.own_level l),
+      ),
+    )
   where
     slice_get-behind : {X : Type 0} (xs ys : List X) (j : ℕ) → slice_get (xs ++ ys) (length xs + j) ≡ slice_get ys j
     slice_get-behind [] ys j = let same : 0 + j ≡ j = omega arith in ap (slice_get ys) same
     slice_get-behind (x ∷ xs) ys j = let same : suc (length xs) + j ≡ suc (length xs + j) = omega arith in ap (slice_get (x ∷ (xs ++ ys))) same ∙ slice_get-behind xs ys j
 
--- an object of an object layer that stands in no group stands at its place, which is that of the first with its id
-pub object_place-only : (m : MapParts) (k : ℕ) (l : Layer) (os : List Object) (at : ℕ) (o : Object) → slice_get m.layers k ≡ Some l → objects_of l ≡ Some os → slice_get os at ≡ Some o → IsWellFormed m
+-- an object of the object layer with an id stands at its place, which is that of the first with its id
+pub object_place-only : (m : MapParts) (l : Layer) (os : List Object) (at : ℕ) (o : Object) → layer_of m l.id ≡ Some l → objects_of l ≡ Some os → slice_get os at ≡ Some o → IsWellFormed m
     → (object_place m o.id ≡ Some (place_of_layer l at)) × (object_at m (place_of_layer l at) ≡ Some o)
-object_place-only m k l os at o e f g h =
-    let d = tree-at MAX_GROUPS layer_level m.layers k l e in
-    let own : objects_of (bare l) ≡ Some os = objects_in-with (λ ls. []) l.body ∙ f in (
-      first_some-only (all_drawn m.layers) d.0 (layer_level, bare l) os at o d.1 own g h.layers.object_ids.distinct,
-      object_at-drawn m d.0 (layer_level, bare l) os at o d.1 own g h,
-    )
+object_place-only m l os at o e f g h =
+    let d = drawn-found m l e in
+    let own : objects_of (bare l) ≡ Some os = objects_in-with (λ ls. []) l.body ∙ f in
+    (first_some-only (all_drawn m.layers) d.0 (d.1.0, bare l) os at o d.1.1 own g h.layers.object_ids.distinct, rw (e, f) g)
 
 -- ---- the object that a walk finds
 slice_get-position : {X : Type 0} (p : X → Bool) (xs : List X) (at : ℕ) (d : X) → position p xs ≡ Some at → (x : X) × (slice_get xs at ≡ Some x)

@@ -113,7 +113,7 @@ inside-group l at h = by_group (group_of l) h
     by_group (Some ks) q = q
 
 -- the layer that is found among those that stand in one with another id
-found-inside : (room level : ℕ) (l g : Layer) → layer_among g.id room (inside l) ≡ Some g → Distinct (flat_map ids_of (tree (suc room) level l)) → find_one g.id (suc room) l ≡ Some g
+pub found-inside : (room level : ℕ) (l g : Layer) → layer_among g.id room (inside l) ≡ Some g → Distinct (flat_map ids_of (tree (suc room) level l)) → find_one g.id (suc room) l ≡ Some g
 found-inside room level l g e h =
     let apart : Distinct (l.id ∷ flat_map ids_of (drawn room (inner_level level) (inside l))) = rw (tree-is (suc room) level l) at h in
     let other : l.id ≢ g.id = stands-id (λ n. l.id ≢ n) (stands g.id room (inner_level level) (inside l) g e) apart.0 in

@@ -117,7 +117,7 @@ count-group (suc room) l ks z g =
 
 -- ---- a change where the layer stands
 -- what a look-up gives of the first element for which it gives something
-first_some-at : {X Y : Type 0} (f : X → Option Y) (xs : List X) (at : ℕ) (x : X) → position (λ y. is_some (f y)) xs ≡ Some at → slice_get xs at ≡ Some x → (first_some f xs ≡ f x) × (is_some (f x) ≡ true)
+pub first_some-at : {X Y : Type 0} (f : X → Option Y) (xs : List X) (at : ℕ) (x : X) → position (λ y. is_some (f y)) xs ≡ Some at → slice_get xs at ≡ Some x → (first_some f xs ≡ f x) × (is_some (f x) ≡ true)
 first_some-at {X = X} {Y = Y} f xs at x e g = by_find xs (find-at_position (λ y. is_some (f y)) xs at x e g)
   where
     by_find : (zs : List X) → find (λ y. is_some (f y)) zs ≡ Some x → (first_some f zs ≡ f x) × (is_some (f x) ≡ true)

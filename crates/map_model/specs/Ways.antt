@@ -1,8 +1,10 @@
 -- The way to a layer that stands in groups.
 use Rattle.std.specs.Prelude.{◌≡◌, ◌≢◌, ℕ, zero, suc, List, [], ◌∷◌, Some, IsSomeAnd}
-use Rattle.std.specs.List.{position, slice_get}
+use Rattle.std.specs.List.{flat_map, position, slice_get}
 use Rattle.map_model.specs.declared.parts.Layer.{Layer}
-use Rattle.map_model.specs.Groups.{group_of, holds}
+use Rattle.map_model.specs.Groups.{drawn, group_of, holds, layer_among}
+use Rattle.map_model.specs.Lists.{Distinct}
+use Rattle.map_model.specs.WellFormed.{ids_of}
 
 -- The places lead from a layer to the one with the id: the first is a place among the layers that stand in it, the next one a
 -- place in the group there, and so on. From the layer with the id there is none to go to.
@@ -25,3 +27,7 @@ Reaches id (at ∷ way) l = IsSomeAnd (group_of l) (λ ls. IsSomeAnd (slice_get 
 abbrev pub ReachesIn : ℕ → List ℕ → List Layer → Type 0
 ReachesIn id [] ls = ⊥
 ReachesIn id (at ∷ way) ls = IsSomeAnd (slice_get ls at) (Reaches id way)
+
+-- A layer stands among layers, or in a group of them: where ids are distinct, it is the one with its id.
+abbrev pub IsDrawnIn : ℕ → List Layer → Layer → Type 0
+IsDrawnIn room ls l = (level : ℕ) → Distinct (flat_map ids_of (drawn room level ls)) → layer_among l.id room ls ≡ Some l

@@ -12,6 +12,7 @@ mod tilesets;
 
 use crate::contents::MapText;
 use crate::edit::{CellEdit, Side};
+use crate::here::seek_layer_in;
 use crate::layers::{insert_layer_in, put_in, rename_in, set_in, show_in, take_layer_in};
 use crate::map::Map;
 use crate::parts::Layer;
@@ -126,6 +127,14 @@ impl Document {
         ensures well_formed { IsDocument self.new }
     {
         take_layer_in(&mut self.map.parts, place)
+    }
+
+    /// Goes to the layer with an id, so that it is then found and changed at once. The document stays as it is.
+    pub fn seek_layer(&mut self, id: u32)
+        ensures document { self.new ≡ self.old }
+        ensures well_formed { IsDocument self.new }
+    {
+        seek_layer_in(&mut self.map.parts.layers, id);
     }
 
     /// Exchanges the name of the layer with an id and another name.

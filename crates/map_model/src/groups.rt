@@ -23,8 +23,8 @@ use link_chain::Chain;
 /// The most places on the way to a layer: one in each group, and one among the map's layers.
 const MAX_PLACES: usize = MAX_GROUPS + 1;
 
-// The places on the way to a layer, those in the innermost group first.
-type Way = ArrayVec<usize, MAX_PLACES>;
+/// The places on the way to a layer, those in the innermost group first.
+pub type Way = ArrayVec<usize, MAX_PLACES>;
 
 impl Body {
     /// The layers of a group, or `None` for another kind of layer.
@@ -40,10 +40,10 @@ impl Body {
     }
 }
 
-// Finds the way to the layer with an id, where there is one: the place in the innermost group first, and the place among these
-// layers last.
+/// Finds the way to the layer with an id, where there is one: the place in the innermost group first, and the place among these
+/// layers last.
 #[cycle(ways)]
-fn find_way(layers: &Chain<Layer>, id: u32, room: usize, way: &mut Way) -> bool
+pub fn find_way(layers: &Chain<Layer>, id: u32, room: usize, way: &mut Way) -> bool
     requires empty { way.old.items ≡ [] }
     requires room { room ≤ MAX_GROUPS }
     ensures there { result ≡ is_some (position (holds id room) layers.now) }

@@ -10,6 +10,7 @@ mod create;
 mod document;
 mod edit;
 mod groups;
+mod here;
 mod layers;
 pub mod limits;
 mod map;

@@ -12,7 +12,8 @@ mod properties;
 
 use crate::contents::MapText;
 use crate::create::{first_layer, kept_by_map, one};
-use crate::groups::{count_in, find_in, place_in};
+use crate::groups::{count_in, place_in};
+use crate::here::find_layer;
 use crate::limits::MAX_GROUPS;
 use crate::parts::{Layer, MapParts, Tileset};
 use crate::place::LayerPlace;
@@ -58,11 +59,11 @@ impl Map {
         &self.parts
     }
 
-    /// The layer with an id.
+    /// The layer with an id: at once where the layers were last changed there or gone to, or else by a walk.
     pub fn layer(&self, id: u32) -> Option<&Layer>
         ensures { option_copied result ≡ layer_of self.now id }
     {
-        find_in(&self.parts.layers, id, MAX_GROUPS)
+        find_layer(&self.parts.layers, id)
     }
 
     /// The place of the layer with an id.

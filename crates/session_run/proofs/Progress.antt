@@ -15,6 +15,7 @@ use Rattle.session.specs.declared.reply.Refusal.{Refusal}
 use Rattle.session.specs.declared.reply.Reply.{Reply}
 use Rattle.session.specs.declared.reply.Reply.TheVariants.{Refused}
 use Rattle.session.specs.Grammar.{line_of}
+use Rattle.session.specs.Replies.{refusal_of}
 use Rattle.editor.specs.Machine.{Workspace}
 use Rattle.editor.specs.Steps.{StepIn}
 use Rattle.session_run.specs.Runs.{Run, Progress, Goes, StepFound, TakesPart, AreClean, IsAccepted, RunsAll, RunsSome, RunsToRead, RunsToRefused, RunsToUnsaved, RunsToWrite, output, reply_line}
@@ -43,6 +44,14 @@ kept_appends None b c xs h k = tt
 kept_appends (Some old) None c xs h k = absurd h
 kept_appends (Some old) (Some bs) None xs h k = k
 kept_appends (Some old) (Some bs) (Some cs) xs h k = k ∙ h
+
+-- the refusal of a reply is the reply's own
+pub refusal_of-Some : (reply : Reply) (refusal : Refusal) → refusal_of reply ≡ Some refusal → reply ≡ Refused refusal
+refusal_of-Some reply refusal e = by_reply reply e
+  where
+    by_reply : (r : Reply) → refusal_of r ≡ Some refusal → r ≡ Refused refusal
+    by_reply (Refused own) h = let same : own ≡ refusal = cc in ap Refused same
+    by_reply r h = absurd cc
 
 -- a reply was written whole, and could not be flushed
 pub written_TakesPart : (bytes : List ℕ) (before after shown : Option (List ℕ)) → Appends before after bytes → Keeps after shown → TakesPart bytes before shown

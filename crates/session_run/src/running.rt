@@ -177,17 +177,17 @@ fn step_all<C: Command, R: Read, W: Write, S: MapStore, F: Fn(Edit) -> Option<C>
         let Some(reply) = step_found(alloc, &mut editor, store, found, lines.line(), &put) else {
             continue 'session;
         };
-        if let Some(refusal) = ending(strict, &reply) {
-            let number = summary.lines;
-            if end_refused(writer, &mut head, strict, number, lines.line(), refusal).is_err() {
-                return Err(RunFault::Write);
-            }
-            return Err(RunFault::Refused);
-        }
+        let refusal = reply.refusal();
         if write_reply(writer, &mut head, reply).is_err() {
             return Err(RunFault::Write);
         }
         summary.replies += 1;
+        if let Some(refusal) = ending(strict, refusal) {
+            if end_refused(writer, strict, summary.lines, &lines, refusal).is_err() {
+                return Err(RunFault::Write);
+            }
+            return Err(RunFault::Refused);
+        }
     }
 }
 

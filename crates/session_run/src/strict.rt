@@ -1,16 +1,18 @@
 // Strict runs: what ends them, and where they say so.
-ghost use Rattle.std.specs.Prelude.{◌≡◌, IfNone, IfSome, IsTrue, OnErr, OnOk, false, is_some, MatchBool};
-ghost use Rattle.std.specs.Io.KnownBytes.{Appends};
-ghost use Rattle.session.specs.declared.reply.Reply.TheVariants.{Refused};
+ghost use Rattle.std.specs.Prelude.{◌≡◌, IfNone, IfSome, IsTrue, None, Some, false, is_some, MatchBool};
+ghost use Rattle.std.specs.Io.KnownBytes.{Keeps};
+ghost use Rattle.undo_stack.specs.History.{is_clean};
+ghost use Rattle.undo_stack.specs.Stacks.{history, Holds};
 ghost use Rattle.undo_group.specs.Stacks.{group_of, AreHeld};
-ghost use Rattle.session_run.specs.Runs.{AreClean, IsAccepted, TakesPart, reply_line};
+ghost use Rattle.session_run.specs.Runs.{AreClean};
 
-use crate::writing::{WriteFault, flush_if, write_reply};
-use arrayvec::ArrayString;
+use crate::writing::{WriteFault, flush_if};
 use command_api::Command;
-use session::{LineFault, Refusal, Reply};
+use lines::LineReader;
+use session::{LineFault, Refusal};
 use std::io::Write;
 use undo_group::Group;
+use undo_stack::Stack;
 
 /// Why a document is not clean at the end of the input.
 #[derive(Clone, Copy, Debug, PartialEq, Eq)]
@@ -30,15 +32,15 @@ pub trait Report {
     fn unsaved(&self, document: &str, unsaved: Unsaved);
 }
 
-// The refusal that ends a run: that of a strict run's reply, where it is one.
+// The refusal that ends a run: that of a line in a strict run, where it was refused.
 #[inline(always)]
-pub fn ending<T>(strict: Option<&T>, reply: &Reply) -> Option<Refusal>
-    ensures some { IfSome result (λ refusal. reply.now ≡ Refused refusal) }
+pub fn ending<T>(strict: Option<&T>, refusal: Option<Refusal>) -> Option<Refusal>
+    ensures some { IfSome result (λ own. refusal ≡ Some own) }
     ensures strict { IfSome result (λ _. IsTrue (is_some strict.entry)) }
-    ensures none { IfNone result (IsTrue (is_some strict.entry) → IsAccepted reply.now) }
+    ensures none { IfNone result (IsTrue (is_some strict.entry) → refusal ≡ None) }
 {
     match strict {
-        Some(_) => reply.refusal(),
+        Some(_) => refusal,
         None => None,
     }
 }
@@ -51,26 +53,39 @@ fn text_of(line: &[u8], refusal: Refusal) -> Option<&str> {
     }
 }
 
-// Ends a strict run at a refused line: writes the reply, shows it, and says which line it was.
+// Ends a strict run at a refused line, which is the last one that was read and whose reply was written: shows the reply, and
+// says which line it was.
 #[inline(never)]
-#[tactic(auto, using(crate::proofs::Progress::kept_appends, crate::proofs::Progress::written_TakesPart))]
 pub fn end_refused<W: Write, T: Report>(
     writer: &mut W,
-    head: &mut ArrayString<512>,
     strict: Option<&T>,
     number: u64,
-    line: &[u8],
+    lines: &LineReader,
     refusal: Refusal,
 ) -> Result<(), WriteFault>
-    ensures ok { OnOk result (Appends (W.contents writer.old) (W.contents writer.new) (reply_line (Refused refusal))) }
-    ensures err { OnErr result (TakesPart (reply_line (Refused refusal)) (W.contents writer.old) (W.contents writer.new)) }
+    ensures { Keeps (W.contents writer.old) (W.contents writer.new) }
 {
-    write_reply(writer, head, Reply::Refused(refusal))?;
     flush_if(writer, true)?;
     if let Some(report) = strict {
-        report.refused(number, text_of(line, refusal), refusal);
+        report.refused(number, text_of(lines.line(), refusal), refusal);
     }
     Ok(())
+}
+
+// Why a document is not clean, where it is not.
+fn unsaved_of<C: Command>(stack: &Stack<C>) -> Option<Unsaved>
+    requires { Holds C.change stack.now }
+    ensures some { IfSome result (λ _. is_clean (history C.change stack.now) ≡ false) }
+    ensures none { IfNone result (IsTrue (is_clean (history C.change stack.now))) }
+{
+    if stack.is_clean() {
+        return None;
+    }
+    if stack.depth() > 0 {
+        Some(Unsaved::OpenMacro)
+    } else {
+        Some(Unsaved::Changes)
+    }
 }
 
 // Names each document that is not clean, and says whether there was one.
@@ -82,12 +97,7 @@ fn report_unsaved<C: Command, T: Report>(group: &Group<C>, report: &T) -> bool
     let mut is_unsaved = false;
     for name in group.names() {
         if let Some(stack) = group.get(name) {
-            if !stack.is_clean() {
-                let unsaved = if stack.depth() > 0 {
-                    Unsaved::OpenMacro
-                } else {
-                    Unsaved::Changes
-                };
+            if let Some(unsaved) = unsaved_of(stack) {
                 report.unsaved(name, unsaved);
                 is_unsaved = true;
             }

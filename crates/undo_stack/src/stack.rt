@@ -145,8 +145,18 @@ impl<C: Command> Stack<C> {
         &self.document
     }
 
-    /// Goes to the object with an id, so that the document finds it at once, and a turn that changes it walks nowhere. It is
-    /// for speed alone: the history stays.
+    /// Goes to the layer with an id, so that the document finds it at once, and a turn that changes it walks nowhere. It is for
+    /// speed alone: the history stays.
+    pub fn seek_layer(&mut self, layer: u32)
+        requires { Holds C.change self.old }
+        ensures sound { Holds C.change self.new }
+        ensures calm { IsCalm C.change self.old → IsCalm C.change self.new }
+        ensures same { history C.change self.new ≡ history C.change self.old }
+    {
+        self.document.seek_layer(layer);
+    }
+
+    /// Goes to the object with an id in the same way, where ids rise along its layer.
     pub fn seek_object(&mut self, object: u32)
         requires { Holds C.change self.old }
         ensures sound { Holds C.change self.new }

@@ -6,6 +6,7 @@ ghost use Rattle.map_model.specs.Objects.{object_at, object_placing, object_with
 ghost use Rattle.map_model.specs.WellFormed.{IsPlacing, IsWellFormed};
 
 use crate::document::Document;
+use crate::limits::MAX_GROUPS;
 use crate::objects::{insert_object_in, place_object_in, take_object_in};
 use crate::parts::{Object, Placing};
 use crate::place::ObjectPlace;
@@ -40,7 +41,7 @@ impl Document {
         ensures well_formed { IsDocument self.new }
     {
         if self.map.object_here(id).is_none() {
-            seek_in_layers(&mut self.map.parts.layers, id);
+            seek_in_layers(&mut self.map.parts.layers, id, MAX_GROUPS);
         }
     }
 

@@ -4,6 +4,7 @@ ghost use Rattle.std.specs.Option.{option_map};
 ghost use Rattle.map_model.specs.Objects.{last_object_place, object_at, object_place};
 ghost use Rattle.map_model.specs.WellFormed.{IsWellFormed};
 
+use crate::here::innermost_here;
 use crate::limits::MAX_GROUPS;
 use crate::map::Map;
 use crate::objects::find_in_layers;
@@ -34,12 +35,12 @@ impl Map {
         })
     }
 
-    // The object at the place that was last changed or gone to, where it has the id.
+    // The object that was last changed or gone to, where it has the id.
     pub(crate) fn object_here(&self, id: u32) -> Option<(ObjectPlace, &Object)>
         ensures place { IfSome result (λ found. object_place self.now id ≡ Some found.0) }
         ensures object { IfSome result (λ found. object_at self.now found.0 ≡ Some found.1.now) }
     {
-        let (_, layer) = self.parts.layers.here()?;
+        let layer = innermost_here(&self.parts.layers, MAX_GROUPS)?;
         let (at, object) = layer.body.objects()?.here()?;
         let place = ObjectPlace {
             layer: layer.id,

@@ -2,7 +2,7 @@ use Rattle.std.proofs.Common.{◌<◌, refl, sym, subst, ◌∙◌, arith}
 use Rattle.lines.specs.Lines.{budget}
 use Rattle.undo_group.specs.Groups.{GroupParts}
 use Rattle.session_run.specs.Runs.{AreClean}
-use Rattle.session_run.proofs.Progress.{goes_replied, goes_quiet, goes_unwritten, goes_kept, goes_all, goes_read, goes_refused, goes_unflushed, goes_unsaved}
+use Rattle.session_run.proofs.Progress.{goes_replied, goes_quiet, goes_unwritten, goes_kept, goes_all, goes_read, goes_refused, goes_unflushed, goes_unsaved, kept_appends, refusal_of-Some, written_TakesPart}
 use Rattle.session_run.proofs.Appending.{at_ok, at_err}
 use Rattle.session_run.proofs.running.step_all.Goals as goal
 
@@ -25,21 +25,21 @@ session-preserved g c =
       sound = c.in-Some.ensures.sound;
       ended = c.in-Ok-Some.ensures.ended;
       goes = goes_replied _ _ _ _ _ _ _ _ _ _ _ _ _ _ _ (goes_kept _ _ _ _ _ _ _ _ _ _ c.session.invariant.goes c.flush_if.ensures) (rw c.in-Ok-Some.field-0-is at c.in-Ok-Some.ensures.found)
-          (rw c.line.ensures at c.in-Some.ensures.step) (at_ok _ (sym c.is_err-in-session.ensures.value ∙ c.if-is_err-3.false) c.write_reply.ensures.ok) c.in_default-ending.ensures.none;
+          (rw c.line.ensures at c.in-Some.ensures.step) (at_ok _ (sym c.is_err-in-session.ensures.value ∙ c.if-is_err-2.false) c.write_reply.ensures.ok) (λ e. sym c.refusal.ensures ∙ c.in_default-ending.ensures.none e);
       bounded = omega (arith, c.session.invariant.bounded);
       few = omega (arith, c.session.invariant.few);
     }
 
--- the reply to a refused line of a strict run could not be written or flushed
 pub returns-then-is_err-2-clause-write : goal.returns-then-is_err-2-clause-write
 returns-then-is_err-2-clause-write g c = λ e. goes_unwritten _ _ _ _ _ _ _ _ _ _ _ _ _ _ _ (goes_kept _ _ _ _ _ _ _ _ _ _ c.session.invariant.goes c.flush_if.ensures)
-    (rw c.in-Ok-Some.field-0-is at c.in-Ok-Some.ensures.found) (rw (c.line.ensures, c.in-Some-ending.ensures.some) at c.in-Some.ensures.step)
-    (at_err _ (sym c.is_err-in-Some-ending.ensures.value ∙ c.if-is_err-2.true) c.end_refused.ensures.err)
+    (rw c.in-Ok-Some.field-0-is at c.in-Ok-Some.ensures.found) (rw c.line.ensures at c.in-Some.ensures.step)
+    (at_err _ (sym c.is_err-in-session.ensures.value ∙ c.if-is_err-2.true) c.write_reply.ensures.err)
 
+-- the reply to a refused line of a strict run was written, and could not be flushed
 pub returns-then-is_err-3-clause-write : goal.returns-then-is_err-3-clause-write
 returns-then-is_err-3-clause-write g c = λ e. goes_unwritten _ _ _ _ _ _ _ _ _ _ _ _ _ _ _ (goes_kept _ _ _ _ _ _ _ _ _ _ c.session.invariant.goes c.flush_if.ensures)
     (rw c.in-Ok-Some.field-0-is at c.in-Ok-Some.ensures.found) (rw c.line.ensures at c.in-Some.ensures.step)
-    (at_err _ (sym c.is_err-in-session.ensures.value ∙ c.if-is_err-3.true) c.write_reply.ensures.err)
+    (written_TakesPart _ _ _ _ (at_ok _ (sym c.is_err-in-session.ensures.value ∙ c.if-is_err-2.false) c.write_reply.ensures.ok) c.end_refused.ensures)
 
 pub returns-then-is_err-clause-write : goal.returns-then-is_err-clause-write
 returns-then-is_err-clause-write g c = λ e. goes_unflushed _ _ _ _ _ _ _ _ _ (goes_kept _ _ _ _ _ _ _ _ _ _ c.session.invariant.goes c.flush_if.ensures)
@@ -55,9 +55,12 @@ returns-in-Ok-None-clause-unsaved g c = λ e.
     (λ clean. (c.ends_unsaved.ensures.unsaved c.if-ends_unsaved.true).1 (subst (λ (x : GroupParts). AreClean x.documents) (sym c.group.ensures.group) clean))
 
 pub returns-in-Some-ending-clause-refused : goal.returns-in-Some-ending-clause-refused
-returns-in-Some-ending-clause-refused g c = λ e. goes_refused _ _ _ _ _ _ _ _ _ _ _ _ _ _ _ (goes_kept _ _ _ _ _ _ _ _ _ _ c.session.invariant.goes c.flush_if.ensures)
-    (rw c.in-Ok-Some.field-0-is at c.in-Ok-Some.ensures.found) (rw (c.line.ensures, c.in-Some-ending.ensures.some) at c.in-Some.ensures.step)
-    (at_ok _ (sym c.is_err-in-Some-ending.ensures.value ∙ c.if-is_err-2.false) c.end_refused.ensures.ok) c.in-Some-ending.ensures.strict
+returns-in-Some-ending-clause-refused g c = λ e.
+    let is = refusal_of-Some _ _ (sym c.refusal.ensures ∙ c.in-Some-ending.ensures.some) in
+    goes_refused _ _ _ _ _ _ _ _ _ _ _ _ _ _ _ (goes_kept _ _ _ _ _ _ _ _ _ _ c.session.invariant.goes c.flush_if.ensures) (rw c.in-Ok-Some.field-0-is at c.in-Ok-Some.ensures.found)
+    (rw (c.line.ensures, is) at c.in-Some.ensures.step)
+    (kept_appends _ _ _ _ (rw is at (at_ok _ (sym c.is_err-in-session.ensures.value ∙ c.if-is_err-2.false) c.write_reply.ensures.ok)) c.end_refused.ensures)
+    c.in-Some-ending.ensures.strict
 
 pub returns-in-Err-clause-read : goal.returns-in-Err-clause-read
 returns-in-Err-clause-read g c = λ e. goes_read _ _ _ _ _ _ _ _ _ _ _ _ (goes_kept _ _ _ _ _ _ _ _ _ _ c.session.invariant.goes c.flush_if.ensures) c.in-Err.ensures.unfinished refl c.in-Err.ensures.kept

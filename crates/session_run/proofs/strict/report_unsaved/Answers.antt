@@ -7,12 +7,12 @@ use Rattle.session_run.proofs.strict.report_unsaved.Goals as goal
 pub loop-name-init : goal.loop-name-init
 loop-name-init g c = none-IsReported _ _ (search rules)
 
-pub loop-name-preserved-then-not-is_clean : goal.loop-name-preserved-then-not-is_clean
-loop-name-preserved-then-not-is_clean g c =
+pub loop-name-preserved-in-Some-unsaved_of : goal.loop-name-preserved-in-Some-unsaved_of
+loop-name-preserved-in-Some-unsaved_of g c =
     unsaved-IsReported _ _ _ _ c.in-Some.name.now (history g.C.Command.change c.in-Some-get.stack.now) c.loop-name.invariant (search rules) c.in-Some-get.ensures.named (search rules)
 
-pub loop-name-preserved-else-not-is_clean : goal.loop-name-preserved-else-not-is_clean
-loop-name-preserved-else-not-is_clean g c =
+pub loop-name-preserved-in_default-unsaved_of : goal.loop-name-preserved-in_default-unsaved_of
+loop-name-preserved-in_default-unsaved_of g c =
     clean-IsReported _ _ _ _ c.in-Some.name.now c.loop-name.invariant (search rules)
     (found-IsCleanNamed _ c.in-Some.name.now (history g.C.Command.change c.in-Some-get.stack.now) c.in-Some-get.ensures.named (search rules))
 

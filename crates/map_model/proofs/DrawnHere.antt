@@ -1,0 +1,41 @@
+-- Layers that stand where the layers were last changed or gone to.
+use Rattle.std.proofs.Common.{◌≡◌, ◌≢◌, ℕ, zero, suc, ◌-◌, ◌<◌, List, [], ◌∷◌, length, true, Option, None, Some, IfSome, is_some, option_and_then, refl, sym, ap, ◌∙◌, arith}
+use Rattle.std.specs.List.{flat_map, position, slice_get, slice_set}
+use Rattle.map_model.specs.declared.parts.Layer.{Layer}
+use Rattle.map_model.specs.Groups.{drawn, find_one, group_of, holds, inside, layer_among, tree}
+use Rattle.map_model.specs.Keeping.{inner_level}
+use Rattle.map_model.specs.Lists.{Distinct, or_empty}
+use Rattle.map_model.specs.Ways.{IsDrawnIn}
+use Rattle.map_model.specs.WellFormed.{ids_of}
+use Rattle.map_model.proofs.Places.{Distinct-tree, found-inside, position-held, position-holder}
+use Rattle.map_model.proofs.Trees.{tree-is}
+use Rattle.map_model.proofs.Walks.{first_some-at, own-found}
+
+-- a layer that is put where it stands leaves the list as it is
+pub set-same : (layers : List Layer) (at : ℕ) (layer : Layer) → slice_get layers at ≡ Some layer → slice_set layers at layer ≡ layers
+set-same [] at layer e = refl
+set-same (l ∷ layers) zero layer e = grind arith
+set-same (l ∷ layers) (suc at) layer e = ap (λ rest. l ∷ rest) (set-same layers at layer e)
+
+-- a layer of a list is drawn, and so is one that is drawn in the group there
+pub IsDrawnIn-own : (room : ℕ) (ls : List Layer) (at : ℕ) (l : Layer) → slice_get ls at ≡ Some l → IsDrawnIn room ls l
+IsDrawnIn-own room ls at l e level distinct = own-found l.id room ls at l (position-holder l.id room level ls at l e refl distinct) e refl
+
+IsDrawnIn-group : (room : ℕ) (ls ks : List Layer) (at : ℕ) (k l : Layer) → slice_get ls at ≡ Some k → 0 < room → group_of k ≡ Some ks → IsDrawnIn (room - 1) ks l → IsDrawnIn room ls l
+IsDrawnIn-group zero ls ks at k l e some g h level distinct = absurd (omega (arith, some))
+IsDrawnIn-group (suc room) ls ks at k l e some g h level distinct =
+    let same : suc room - 1 ≡ room = omega arith in
+    let own = Distinct-tree (suc room) level ls at k e distinct in
+    let within : Distinct (k.id ∷ flat_map ids_of (drawn room (inner_level level) (inside k))) = rw (tree-is (suc room) level k) at own in
+    let those : inside k ≡ ks = ap or_empty g in
+    let drawn_there : layer_among l.id room ks ≡ Some l = (rw same at h) (inner_level level) ((rw those at within).1) in
+    let one : find_one l.id (suc room) k ≡ Some l = found-inside room level k l (rw those drawn_there) own in
+    let held : holds l.id (suc room) k ≡ true = ap is_some one in
+    let place = position-held l.id (suc room) level ls at k e held distinct in
+    (first_some-at (find_one l.id (suc room)) ls at k place e).0 ∙ one
+
+-- the same of what is found in the group, as f gives its layer
+pub IsDrawnIn-inside : {X : Type 0} (room : ℕ) (ls ks : List Layer) (at : ℕ) (k : Layer) (f : X → Layer) (found : Option X) → slice_get ls at ≡ Some k → room ≢ 0 → group_of k ≡ Some ks
+    → IfSome found (λ x. IsDrawnIn (room - 1) ks (f x)) → IfSome found (λ x. IsDrawnIn room ls (f x))
+IsDrawnIn-inside room ls ks at k f None e some g h = tt
+IsDrawnIn-inside room ls ks at k f (Some x) e some g h = IsDrawnIn-group room ls ks at k (f x) e (omega (arith, some)) g h
