@@ -114,7 +114,7 @@ drawn-found m l e =
       (
         s.own_level,
         ap (λ ds. slice_get ds (length s.front)) s.was ∙ ap (slice_get (s.front ++ (tree s.own_room s.own_level l ++ s.rest))) (sym start) ∙ slice_get-behind s.front (tree s.own_room s.own_level l ++ s.rest) 0
-        ∙ ap (λ t. slice_get (t ++ s.rest) 0) (tree-is s.own_room s.own_level l),
+            ∙ ap (λ t. slice_get (t ++ s.rest) 0) (tree-is s.own_room s.own_level l),
       ),
     )
   where

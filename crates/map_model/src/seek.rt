@@ -23,9 +23,7 @@ fn likely_layer(layers: &Chain<Layer>, id: u32, room: usize) -> Option<usize>
 {
     match layers.here() {
         Some((at, layer)) if is_likely(layer, id, room) => Some(at),
-        _ => layers
-            .iter()
-            .position(|layer| is_likely(layer, id, room)),
+        _ => layers.iter().position(|layer| is_likely(layer, id, room)),
     }
 }
 

@@ -132,14 +132,21 @@ fn write_tileset<W: Write>(tileset: &Tileset, output: &mut W) -> io::Result<()> 
     }
 }
 
+/// Writes the sizes of a map and of its tiles, and the ids that come next.
+pub fn write_sizes<W: Write>(map: &MapParts, output: &mut W) -> io::Result<()> {
+    let (width, height) = (map.width, map.height);
+    write!(output, "{width} by {height} cells")?;
+    let (width, height) = (map.tile_width, map.tile_height);
+    write!(output, " of {width} by {height} pixels")?;
+    let (layer, object) = (map.next_layer_id, map.next_object_id);
+    write!(output, ", next layer {layer}, next object {object}")
+}
+
 /// Writes what is in the map of a file.
 pub fn write_listing<W: Write>(file: &str, map: &MapParts, output: &mut W) -> io::Result<()> {
-    let (width, height) = (map.width, map.height);
-    let (tile_width, tile_height) = (map.tile_width, map.tile_height);
-    writeln!(
-        output,
-        "{file}: {width} by {height} cells of {tile_width} by {tile_height} pixels"
-    )?;
+    write!(output, "{file}: ")?;
+    write_sizes(map, output)?;
+    writeln!(output, "")?;
     write_properties(1, &map.properties, output)?;
     write_layers(1, &map.layers, MAX_GROUPS, output)?;
     for tileset in map.tilesets.iter() {

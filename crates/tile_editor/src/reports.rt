@@ -14,8 +14,8 @@ impl<'a> Display for Shown<'a> {
     fn fmt<W: Write>(&self, f: &mut Formatter<W>) -> fmt::Result {
         for character in self.0.chars() {
             if character.is_control() {
-                let code = character as u32;
-                write!(f, "\\u{{{code:x}}}")?;
+                let escaped = character.escape_unicode();
+                write!(f, "{escaped}")?;
             } else {
                 f.write_char(character)?;
             }

@@ -13,7 +13,7 @@ const FLAGS_FROM: u32 = 0x1000_0000;
 ///
 /// The flags are, from the highest bit down: flipped horizontally, vertically, anti-diagonally, and turned by
 /// 120 degrees on hexagonal maps. The value 0 is the empty cell.
-#[derive(Clone, Copy, PartialEq, Eq, Debug)]
+#[derive(Clone, Copy, Default, PartialEq, Eq, Debug)]
 pub struct Gid(pub u32);
 
 impl Model for Gid {

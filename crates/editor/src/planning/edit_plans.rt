@@ -29,14 +29,19 @@ use object_commands::{AddObject, PlaceObject, RemoveObject};
 use paint_commands::{PaintCommand, SelectCommand};
 use property_commands::{AddTileset, RemoveProperty, RemoveTileset, SetProperty};
 use session::{Gids, Refusal, Text, TypedValue};
+use smallvec::SmallVec;
 use std::alloc::{AllocError, Global};
 use tile_id::Gid;
 
-// The values of a line, one after another, for which room is taken once.
-fn collected(alloc: Global, values: &Gids<'_>) -> Result<Vec<Gid>, AllocError>
+// So many values of a stamp take no memory.
+const FEW_VALUES: usize = 16;
+
+// The values of a line, one after another; where they are not few, room for them is taken once.
+fn collected(alloc: Global, values: &Gids<'_>) -> Result<SmallVec<Gid, FEW_VALUES>, AllocError>
     ensures { IfOk result (λ v. v.items ≡ values.now) }
 {
-    let mut collected = Vec::with_capacity(alloc, values.len())?;
+    let mut collected = SmallVec::new(alloc);
+    collected.reserve(values.len())?;
     for value in values.values() {
         collected.push(value)?;
     }

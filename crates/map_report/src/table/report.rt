@@ -1,4 +1,5 @@
 // What is in a map.
+use crate::listing::write_sizes;
 use crate::table::answers::answer_of;
 use link_chain::Chain;
 use map_json::{read_map, write_map};
@@ -135,15 +136,10 @@ fn write_tileset<W: Write>(tileset: &Tileset, output: &mut W) -> io::Result<()> 
 }
 
 fn write_parts<W: Write>(map: &MapParts, output: &mut W) -> io::Result<()> {
-    let (width, height) = (map.width, map.height);
-    let (tile_width, tile_height) = (map.tile_width, map.tile_height);
-    let (layer, object) = (map.next_layer_id, map.next_object_id);
-    write!(
-        output,
-        "\n{width} by {height} cells of {tile_width} by {tile_height} pixels, next layer {layer}, next object {object}"
-    )?;
+    output.write_all(b"\n")?;
+    write_sizes(map, output)?;
     write_properties(&map.properties, output)?;
-    write_layers(width, &map.layers, None, MAX_GROUPS, output)?;
+    write_layers(map.width, &map.layers, None, MAX_GROUPS, output)?;
     for tileset in map.tilesets.iter() {
         write_tileset(tileset, output)?;
     }
