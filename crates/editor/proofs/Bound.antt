@@ -1,7 +1,7 @@
 -- No edit of a line is that of a free command.
 use Rattle.std.proofs.Common.{◌≡◌, false, refl, ap, ◌∙◌}
 use Rattle.command_api.specs.Law.{Change, IsSame, Names, is_free}
-use Rattle.object_commands.proofs.Placements.{place-WhenEqual}
+use Rattle.object_commands.proofs.Placements.{place_object-WhenEqual}
 use Rattle.paint_commands.proofs.Merges.{paint-WhenEqual}
 use Rattle.property_commands.proofs.Settings.{set-names}
 use Rattle.editor.specs.declared.planned.Edit.{Edit}
@@ -19,7 +19,7 @@ edit-bound (Select c) = refl
 edit-bound (ResizeMap c) = refl
 edit-bound (AddObject c) = refl
 edit-bound (RemoveObject c) = refl
-edit-bound (PlaceObject c) = ap is_free (place-WhenEqual c.kind c.object c.follows)
+edit-bound (PlaceObject c) = ap is_free (place_object-WhenEqual c.kind c.object c.follows)
 edit-bound (SetProperty c) = ap (λ (n : Names). is_free n.vanishing) (set-names c.set.value)
 edit-bound (RemoveProperty c) = refl
 edit-bound (AddTileset c) = refl

@@ -22,18 +22,18 @@ step_of-same : (c w : Change) (d : DocumentParts) → IsSame c w → step_of w d
 step_of-same c w d same = rw (same.names, same.redone d) refl
 
 -- an edit that was committed, where the command that it was put into does the same
-commit_by : (rule : Rule) (active : Option History) (old new : Machine) (kept : StoreParts) (c w : Change) (reply : Reply) → active_of old ≡ active
-    → IsEditOf rule active c → IsSame c w → Commits active w reply old new → Allows rule (workspace old kept) (Some reply) (workspace new kept)
-commit_by (OnFiles act) active old new kept c w reply e asks same p = absurd asks
-commit_by (OnDocuments act) active old new kept c w reply e asks same p = absurd asks
-commit_by (OnActive act) active old new kept c w reply e asks same p = absurd asks
-commit_by (Edits names edit) None old new kept c w reply e asks same p = absurd p
-commit_by (Edits names edit) (Some h) old new kept c w reply e asks same (inl p) =
+commit_by : (rule : Rule) (active : Option History) (old new : Machine) (stored : StoreParts) (c w : Change) (reply : Reply) → active_of old ≡ active
+    → IsEditOf rule active c → IsSame c w → Commits active w reply old new → Allows rule (workspace old stored) (Some reply) (workspace new stored)
+commit_by (OnFiles act) active old new stored c w reply e asks same p = absurd asks
+commit_by (OnDocuments act) active old new stored c w reply e asks same p = absurd asks
+commit_by (OnActive act) active old new stored c w reply e asks same p = absurd asks
+commit_by (Edits names edit) None old new stored c w reply e asks same p = absurd p
+commit_by (Edits names edit) (Some h) old new stored c w reply e asks same (inl p) =
     let Q : histories.Step → Type 0 = λ s. IsPushed h s p.0 in
     let P : Result histories.Step Refusal → Type 0 = λ a. Pushes a h (Some (state_reply p.0)) p.0 in
     rw (e, p.2) ((p.0, inl (subst P (sym asks) (subst Q (step_of-same c w (current h) same) p.1, refl)), p.3), refl)
-commit_by (Edits names edit) (Some h) old new kept c w reply e asks same (inr p) =
-    let Q : Option Reply → Type 0 = λ r. Allows (Edits names edit) (workspace old kept) r (workspace new kept) in
+commit_by (Edits names edit) (Some h) old new stored c w reply e asks same (inr p) =
+    let Q : Option Reply → Type 0 = λ r. Allows (Edits names edit) (workspace old stored) r (workspace new stored) in
     subst Q (sym p.0) (rw (e, p.1) ((h, inr (refl, refl), refl), refl))
 
 -- a command that was pushed
@@ -49,18 +49,18 @@ Commits-refused c h old new e left =
     let Q : Option History → Type 0 = λ o. Commits o c (Refused NoMemory) old new in
     subst Q (sym e) (inr (refl, left))
 
-pub commit_step : (line : Line) (old new : Machine) (kept : StoreParts) (c w : Change) (reply : Reply) → IsEditOf (rule_of line) (active_of old) c → IsSame c w → Commits (active_of old) w reply old new
-    → Step line (workspace old kept) (Some reply) (workspace new kept)
-commit_step line old new kept c w reply asks same p = commit_by (rule_of line) (active_of old) old new kept c w reply refl asks same p
+pub commit_step : (line : Line) (old new : Machine) (stored : StoreParts) (c w : Change) (reply : Reply) → IsEditOf (rule_of line) (active_of old) c → IsSame c w → Commits (active_of old) w reply old new
+    → Step line (workspace old stored) (Some reply) (workspace new stored)
+commit_step line old new stored c w reply asks same p = commit_by (rule_of line) (active_of old) old new stored c w reply refl asks same p
 
 -- an edit for which there was no memory
-no_memory : (rule : Rule) (active : Option History) (old : Machine) (kept : StoreParts) (c : Change) → active_of old ≡ active → IsEditOf rule active c
-    → Allows rule (workspace old kept) (Some (Refused NoMemory)) (workspace old kept)
-no_memory (OnFiles act) active old kept c e asks = absurd asks
-no_memory (OnDocuments act) active old kept c e asks = absurd asks
-no_memory (OnActive act) active old kept c e asks = absurd asks
-no_memory (Edits names edit) None old kept c e asks = absurd asks
-no_memory (Edits names edit) (Some h) old kept c e asks = rw e ((h, inr (refl, refl), refl), refl)
+no_memory : (rule : Rule) (active : Option History) (old : Machine) (stored : StoreParts) (c : Change) → active_of old ≡ active → IsEditOf rule active c
+    → Allows rule (workspace old stored) (Some (Refused NoMemory)) (workspace old stored)
+no_memory (OnFiles act) active old stored c e asks = absurd asks
+no_memory (OnDocuments act) active old stored c e asks = absurd asks
+no_memory (OnActive act) active old stored c e asks = absurd asks
+no_memory (Edits names edit) None old stored c e asks = absurd asks
+no_memory (Edits names edit) (Some h) old stored c e asks = rw e ((h, inr (refl, refl), refl), refl)
 
-pub uncommitted : (line : Line) (old : Machine) (kept : StoreParts) (c : Change) → IsEditOf (rule_of line) (active_of old) c → Step line (workspace old kept) (Some (Refused NoMemory)) (workspace old kept)
-uncommitted line old kept c asks = no_memory (rule_of line) (active_of old) old kept c refl asks
+pub uncommitted : (line : Line) (old : Machine) (stored : StoreParts) (c : Change) → IsEditOf (rule_of line) (active_of old) c → Step line (workspace old stored) (Some (Refused NoMemory)) (workspace old stored)
+uncommitted line old stored c asks = no_memory (rule_of line) (active_of old) old stored c refl asks

@@ -23,12 +23,12 @@ abbrev pub machine_at : ℕ → GroupParts → Machine
 machine_at limit group = record { limit = limit; group = group }
 
 -- with the history that is there, the machine is as it was
-pub with_active-kept : (h n : History) (old : Machine) → IsGroup old.group → active_of old ≡ Some h → n ≡ h → with_active n old ≡ old
-with_active-kept h n old w e k =
+pub with_active-unchanged : (h n : History) (old : Machine) → IsGroup old.group → active_of old ≡ Some h → n ≡ h → with_active n old ≡ old
+with_active-unchanged h n old w e k =
     ap (machine_at old.limit) (ap (λ x. groups.with_active x old.group) k ∙ with_active-same h old.group w e)
 
 pub with_active-moved_to : (reply : Reply) (h n : History) (old : Machine) → IsGroup old.group → active_of old ≡ Some h → KeepsReply reply h n → with_active n old ≡ moved_to (Some reply) n old
-with_active-moved_to (Refused refusal) h n old w e k = with_active-kept h n old w e k
+with_active-moved_to (Refused refusal) h n old w e k = with_active-unchanged h n old w e k
 with_active-moved_to reply h n old w e k = refl
 
 -- what was done with the active history was done with the machine
@@ -45,25 +45,25 @@ refused_edit answer h reply (inl e) = rw e (inr (refl, refl), refl)
 refused_edit answer h reply (inr p) = rw (p.1, p.2) (inl (refl, refl), refl)
 
 -- a refusal has left the history as it was
-replied-kept : (rule : Rule) (h n : History) (reply : Reply) → PlansOn rule h (planned.Reply reply) n → KeepsReply reply h n
-replied-kept (OnFiles act) h n reply p = absurd p
-replied-kept (OnDocuments act) h n reply p = absurd p
-replied-kept (OnActive act) h n reply p = p.1
-replied-kept (Edits names edit) h n reply p =
+replied-unchanged : (rule : Rule) (h n : History) (reply : Reply) → PlansOn rule h (planned.Reply reply) n → KeepsReply reply h n
+replied-unchanged (OnFiles act) h n reply p = absurd p
+replied-unchanged (OnDocuments act) h n reply p = absurd p
+replied-unchanged (OnActive act) h n reply p = p.1
+replied-unchanged (Edits names edit) h n reply p =
     let R : History → Type 0 = λ k. KeepsReply reply h k in
     subst R (sym p.1) (refused_edit (answer_of names (edit (current h))) h reply p.0).1
 
 -- what a plan says of the active document, it says of the machine
 module _ (h n : History) (old : Machine) (whole : IsGroup old.group) (active : active_of old ≡ Some h) where
-  replied : (rule : Rule) (reply : Reply) (kept : StoreParts) → PlansOn rule h (planned.Reply reply) n → Allows rule (workspace old kept) (Some reply) (workspace (with_active n old) kept)
-  replied (OnFiles act) reply kept p = absurd p
-  replied (OnDocuments act) reply kept p = absurd p
-  replied (OnActive act) reply kept p = (with_active-done act h n reply old whole active p.0 p.1, refl)
-  replied (Edits names edit) reply kept p =
+  replied : (rule : Rule) (reply : Reply) (stored : StoreParts) → PlansOn rule h (planned.Reply reply) n → Allows rule (workspace old stored) (Some reply) (workspace (with_active n old) stored)
+  replied (OnFiles act) reply stored p = absurd p
+  replied (OnDocuments act) reply stored p = absurd p
+  replied (OnActive act) reply stored p = (with_active-done act h n reply old whole active p.0 p.1, refl)
+  replied (Edits names edit) reply stored p =
       let act : Act History = OrNoMemory (λ k. Pushes (answer_of names (edit (current k))) k) in
       let R : History → Type 0 = λ k. act h (Some reply) k in
       let done = refused_edit (answer_of names (edit (current h))) h reply p.0 in
-      (with_active-done act h n reply old whole active (subst R (sym p.1) done.0) (replied-kept (Edits names edit) h n reply p), refl)
+      (with_active-done act h n reply old whole active (subst R (sym p.1) done.0) (replied-unchanged (Edits names edit) h n reply p), refl)
 
   pushed : (rule : Rule) (e : Edit) → PlansOn rule h (planned.Push e) n → (n ≡ h) × IsEditOf rule (Some h) (edit_change e) × (edit_change e).fits_redo (current h)
   pushed (OnFiles act) e p = absurd p
@@ -77,22 +77,22 @@ module _ (h n : History) (old : Machine) (whole : IsGroup old.group) (active : a
   quiet (OnActive act) p = p
   quiet (Edits names edit) p = p.0
 
-  pub on-Plans : (line : Line) (plan : Planned) (kept : StoreParts) → PlansOn (rule_of line) h plan n → Plans line (workspace old kept) plan (workspace (with_active n old) kept)
-  on-Plans line planned.Quiet kept p = absurd (quiet (rule_of line) p)
-  on-Plans line (planned.Reply reply) kept p = replied (rule_of line) reply kept p
-  on-Plans line (planned.Push e) kept p =
+  pub on-Plans : (line : Line) (plan : Planned) (stored : StoreParts) → PlansOn (rule_of line) h plan n → Plans line (workspace old stored) plan (workspace (with_active n old) stored)
+  on-Plans line planned.Quiet stored p = absurd (quiet (rule_of line) p)
+  on-Plans line (planned.Reply reply) stored p = replied (rule_of line) reply stored p
+  on-Plans line (planned.Push e) stored p =
       let is = pushed (rule_of line) e p in
       let Q : Option History → Type 0 = λ o. IsEditOf (rule_of line) o (edit_change e) in
-      (ap (λ m. workspace m kept) (with_active-kept h n old whole active is.0), subst Q (sym active) is.1)
+      (ap (λ m. workspace m stored) (with_active-unchanged h n old whole active is.0), subst Q (sym active) is.1)
 
   pub on-KeepsReply : (reply : Reply) → KeepsReply reply h n → KeepsReply reply old (with_active n old)
-  on-KeepsReply (Refused refusal) k = with_active-kept h n old whole active k
+  on-KeepsReply (Refused refusal) k = with_active-unchanged h n old whole active k
   on-KeepsReply reply k = tt
 
   pub on-KeepsPlan : (rule : Rule) (plan : Planned) → PlansOn rule h plan n → KeepsPlan plan old (with_active n old)
   on-KeepsPlan rule planned.Quiet p = absurd (quiet rule p)
-  on-KeepsPlan rule (planned.Reply reply) p = on-KeepsReply reply (replied-kept rule h n reply p)
-  on-KeepsPlan rule (planned.Push e) p = with_active-kept h n old whole active (pushed rule e p).0
+  on-KeepsPlan rule (planned.Reply reply) p = on-KeepsReply reply (replied-unchanged rule h n reply p)
+  on-KeepsPlan rule (planned.Push e) p = with_active-unchanged h n old whole active (pushed rule e p).0
 
   pub on-FitsPlan : (rule : Rule) (plan : Planned) → PlansOn rule h plan n → FitsPlan (with_active n old) plan
   on-FitsPlan rule planned.Quiet p = tt
@@ -101,17 +101,17 @@ module _ (h n : History) (old : Machine) (whole : IsGroup old.group) (active : a
       let is = pushed rule e p in
       let Q : Machine → Type 0 = λ m. FitsActive (active_of m) (edit_change e) in
       let R : Option History → Type 0 = λ o. FitsActive o (edit_change e) in
-      subst Q (sym (with_active-kept h n old whole active is.0)) (subst R (sym active) is.2)
+      subst Q (sym (with_active-unchanged h n old whole active is.0)) (subst R (sym active) is.2)
 
 -- a line about the active document, where none is active
-none-Allows : (rule : Rule) (old : Machine) (kept : StoreParts) → IsOfActive rule → active_of old ≡ None → Allows rule (workspace old kept) (Some (Refused NoActiveDocument)) (workspace old kept)
-none-Allows (OnFiles act) old kept s e = absurd s
-none-Allows (OnDocuments act) old kept s e = absurd s
-none-Allows (OnActive act) old kept s e = rw e ((refl, refl), refl)
-none-Allows (Edits names edit) old kept s e = rw e ((refl, refl), refl)
+none-Allows : (rule : Rule) (old : Machine) (stored : StoreParts) → IsOfActive rule → active_of old ≡ None → Allows rule (workspace old stored) (Some (Refused NoActiveDocument)) (workspace old stored)
+none-Allows (OnFiles act) old stored s e = absurd s
+none-Allows (OnDocuments act) old stored s e = absurd s
+none-Allows (OnActive act) old stored s e = rw e ((refl, refl), refl)
+none-Allows (Edits names edit) old stored s e = rw e ((refl, refl), refl)
 
-pub none-Plans : (line : Line) (old : Machine) (kept : StoreParts) → IsOfActive (rule_of line) → active_of old ≡ None → Plans line (workspace old kept) (refused NoActiveDocument) (workspace old kept)
-none-Plans line old kept s e = none-Allows (rule_of line) old kept s e
+pub none-Plans : (line : Line) (old : Machine) (stored : StoreParts) → IsOfActive (rule_of line) → active_of old ≡ None → Plans line (workspace old stored) (refused NoActiveDocument) (workspace old stored)
+none-Plans line old stored s e = none-Allows (rule_of line) old stored s e
 
 -- a document was saved, or not
 pub saves : (act : FileAct History) (h n : History) (reply : Reply) (old new : Machine) (before after : StoreParts) → IsGroup old.group → active_of old ≡ Some h → act before after h (Some reply) n

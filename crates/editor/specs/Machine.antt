@@ -16,10 +16,10 @@ pub record Machine : Type 0 where
 -- the machine, and what the store keeps
 pub record Workspace : Type 0 where
   pub machine : Machine
-  pub kept : StoreParts
+  pub stored : StoreParts
 
 abbrev pub workspace : Machine → StoreParts → Workspace
-workspace machine kept = record { machine = machine; kept = kept }
+workspace machine stored = record { machine = machine; stored = stored }
 
 -- no document is open
 abbrev pub started_machine : ℕ → Machine

@@ -45,11 +45,11 @@ pub data Rule : Type 1 where
 
 -- what a line of that rule may do; an edit may want memory, whichever it is
 abbrev pub Allows : Rule → Act Workspace
-Allows (OnFiles act) old reply new = act old.kept new.kept old.machine reply new.machine
-Allows (OnDocuments act) old reply new = Alone act old.kept new.kept old.machine reply new.machine
-Allows (OnActive act) old reply new = Alone (WithActive act (active_of old.machine)) old.kept new.kept old.machine reply new.machine
+Allows (OnFiles act) old reply new = act old.stored new.stored old.machine reply new.machine
+Allows (OnDocuments act) old reply new = Alone act old.stored new.stored old.machine reply new.machine
+Allows (OnActive act) old reply new = Alone (WithActive act (active_of old.machine)) old.stored new.stored old.machine reply new.machine
 Allows (Edits names edit) old reply new =
-    Alone (WithActive (OrNoMemory (λ h. Pushes (answer_of names (edit (current h))) h)) (active_of old.machine)) old.kept new.kept old.machine reply new.machine
+    Alone (WithActive (OrNoMemory (λ h. Pushes (answer_of names (edit (current h))) h)) (active_of old.machine)) old.stored new.stored old.machine reply new.machine
 
 abbrev pub rule_of : Line → Rule
 rule_of Quiet = OnDocuments Passes
@@ -99,7 +99,7 @@ rule_of (Limit limit) = OnActive (LimitsTo limit)
 rule_of Dirty = OnActive (Becomes UnmarksClean)
 rule_of Clear = OnActive (Becomes Clears)
 rule_of Show = OnActive (OrNoMemory (Answers λ h. replies.Map (text_of (current h).map)))
-rule_of (StepText place) = OnActive (OrNoMemory (Answers λ h. step_text_reply (text_at h place)))
+rule_of (StepText i) = OnActive (OrNoMemory (Answers λ h. step_text_reply (text_at h i)))
 
 -- what a line may do
 abbrev pub Step : Line → Act Workspace

@@ -58,8 +58,8 @@ impl<C: Command> Editor<C> {
         requires sound { IsSound C.change self.old }
         requires spelled { CanBeSpelled line.now }
         ensures sound { IsSound C.change self.new }
-        ensures plans { Plans line.now (workspace (machine_of C.change self.old) (S.kept store.old)) result (workspace (machine_of C.change self.new) (S.kept store.new)) }
-        ensures kept { KeepsPlan result (machine_of C.change self.old) (machine_of C.change self.new) }
+        ensures plans { Plans line.now (workspace (machine_of C.change self.old) (S.stored store.old)) result (workspace (machine_of C.change self.new) (S.stored store.new)) }
+        ensures unchanged { KeepsPlan result (machine_of C.change self.old) (machine_of C.change self.new) }
         ensures fits { FitsPlan (machine_of C.change self.new) result }
     {
         match line {

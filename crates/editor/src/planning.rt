@@ -97,7 +97,7 @@ fn on_history<C: Command>(alloc: Global, stack: &mut Stack<C>, line: &Line<'_>) 
             Planned::Reply(state_of(stack))
         }
         Line::Show => plan_show(alloc, stack.document()),
-        Line::StepText { place } => plan_step_text(alloc, stack, *place),
+        Line::StepText { number } => plan_step_text(alloc, stack, *number),
         Line::Tile { layer, x, y } => Planned::Reply(tile::reply(
             stack.document().map(),
             *layer,

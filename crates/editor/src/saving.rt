@@ -24,8 +24,8 @@ pub fn save_document<C: Command, S: MapStore>(
     requires short { length file.now ≤ MAX_FILE_NAME }
     ensures sound { Holds C.change stack.new }
     ensures saves { OutsideMacros (OrStoreFails (SameOthers file.now) (OrNoMemoryForFile (Saves file.now)))
-        (S.kept store.old) (S.kept store.new) (history C.change stack.old) (Some result) (history C.change stack.new) }
-    ensures kept { KeepsReply result (history C.change stack.old) (history C.change stack.new) }
+        (S.stored store.old) (S.stored store.new) (history C.change stack.old) (Some result) (history C.change stack.new) }
+    ensures unchanged { KeepsReply result (history C.change stack.old) (history C.change stack.new) }
 {
     if stack.depth() > 0 {
         return Reply::Refused(Refusal::MacroOpen);

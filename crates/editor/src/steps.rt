@@ -73,12 +73,12 @@ pub fn plan_show(alloc: Global, document: &Document) -> Planned
     }
 }
 
-/// Plans the text for lists of the step at a place.
+/// Plans the text for lists of the step with a number.
 #[inline(never)]
-pub fn plan_step_text<C: Command>(alloc: Global, stack: &Stack<C>, place: u32) -> Planned
-    ensures { (result ≡ planned.Reply (step_text_reply (text_at (history C.change stack.now) place))) ⊎ (result ≡ refused refusals.NoMemory) }
+pub fn plan_step_text<C: Command>(alloc: Global, stack: &Stack<C>, number: u32) -> Planned
+    ensures { (result ≡ planned.Reply (step_text_reply (text_at (history C.change stack.now) number))) ⊎ (result ≡ refused refusals.NoMemory) }
 {
-    match stack.text(place as usize) {
+    match stack.text(number as usize) {
         Some(text) => Planned::Reply(text_reply(alloc, text)),
         None => refused(Refusal::OutOfRange),
     }

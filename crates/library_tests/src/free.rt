@@ -11,13 +11,13 @@ use std::rc::Rc;
 use std::test::Fail;
 use undo_stack::Stack;
 
-// A row is calls on a new stack, and what they leave: the index, the count, clean or not, and how often each command was
+// A case is calls on a new stack, and what they leave: the index, the count, clean or not, and how often each command was
 // redone, undone and dropped, in order of the pushes. P and Q never vanish, I with a number is free and obsolete from
 // that turn on, of which the push is the first.
 //
 // A free command that undo, redo or a goto leaves obsolete goes, and with it a clean index above it; not in a macro. One that
 // is obsolete at its push is no step.
-const ROWS: &str = "P I1 => 1 1 dirty 1/0/0 1/0/1
+const CASES: &str = "P I1 => 1 1 dirty 1/0/0 1/0/1
 P I2 Q clean undo undo => 1 2 dirty 1/0/0 1/1/1 1/1/0
 P I2 Q clean undo undo redo => 2 2 dirty 1/0/0 1/1/1 2/1/0
 P I2 Q clean undo undo redo P => 3 3 dirty 1/0/0 1/1/1 2/1/0 1/0/0
@@ -190,8 +190,8 @@ fn told_after(alloc: Global, calls: &str) -> Result<Option<String>, AllocError> 
 #[test]
 fn free_commands_that_are_obsolete_go(rt: HostRuntime) -> Result<(), Fail> {
     let alloc = rt.alloc();
-    for row in ROWS.lines() {
-        let (calls, wanted) = row.split_once(" => ").unwrap_or((row, ""));
+    for case in CASES.lines() {
+        let (calls, wanted) = case.split_once(" => ").unwrap_or((case, ""));
         let told = told_after(alloc, calls)?;
         assert_eq!(rt; told.as_deref(), Some(wanted), "at {calls}");
     }

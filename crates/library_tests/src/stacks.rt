@@ -250,10 +250,10 @@ fn no_whole_copies_kept(rt: HostRuntime) -> Result<(), Fail> {
 #[test]
 fn each_box_is_let_go_of_once(rt: HostRuntime) -> Result<(), Fail> {
     let alloc = rt.alloc();
-    let kept = Counts::new(alloc)?;
+    let staying = Counts::new(alloc)?;
     let cut = Counts::new(alloc)?;
     let vanished = Counts::new(alloc)?;
-    let below: Box<dyn Command> = new_probe(alloc, &kept)?;
+    let below: Box<dyn Command> = new_probe(alloc, &staying)?;
     let above: Box<dyn Command> = new_probe(alloc, &cut)?;
     let idle: Box<dyn Command> = new_idle(alloc, &vanished)?;
     let mut stack: Stack<Box<dyn Command>> = Stack::new(alloc, blank(alloc)?, 0);
@@ -264,9 +264,9 @@ fn each_box_is_let_go_of_once(rt: HostRuntime) -> Result<(), Fail> {
         push(&mut stack, idle).is_ok(),
     ];
     let stands = (stack.index(), stack.count());
-    let before = [kept.all(), cut.all(), vanished.all()];
+    let before = [staying.all(), cut.all(), vanished.all()];
     drop(stack);
-    let behind = [kept.all(), cut.all(), vanished.all()];
+    let behind = [staying.all(), cut.all(), vanished.all()];
     assert_eq!(rt; (are_done, stands), ([true; 4], (1, 1)));
     assert_eq!(rt; before, [(1, 0, 0), (1, 1, 1), (1, 0, 1)]);
     assert_eq!(rt; behind, [(1, 0, 1), (1, 1, 1), (1, 0, 1)]);

@@ -8,14 +8,14 @@ use std::io::{self, Write};
 #[derive(Clone, Copy)]
 pub enum Step<'a> {
     Member(&'a str),
-    Entry(usize),
+    Element(usize),
 }
 
 // What stands behind a step.
 fn step_into<'a>(value: &'a Value, step: Step<'_>) -> Option<&'a Value> {
     match step {
         Step::Member(name) => value.get(name),
-        Step::Entry(at) => value.get(at),
+        Step::Element(at) => value.get(at),
     }
 }
 
@@ -35,7 +35,7 @@ fn write_step<W: Write>(
     output: &mut W,
 ) -> io::Result<()> {
     match step {
-        Step::Entry(at) => write!(output, "[{at}]"),
+        Step::Element(at) => write!(output, "[{at}]"),
         Step::Member(name) if !is_shown_plain(name) => {
             output.write_all(b"[")?;
             write_short(alloc, name, output)?;
@@ -50,8 +50,8 @@ fn write_step<W: Write>(
 fn write_value<W: Write>(alloc: Global, value: Option<&Value>, output: &mut W) -> io::Result<()> {
     match value {
         None => write!(output, " is absent"),
-        Some(Value::Array(entries)) => {
-            let count = entries.len();
+        Some(Value::Array(elements)) => {
+            let count = elements.len();
             write!(output, " is an array of length {count}")
         }
         Some(Value::Object(_)) => write!(output, " is an object"),

@@ -17,9 +17,9 @@ pub fn is_shown_plain(word: &str) -> bool {
 
 /// Writes a text in quotes, and dots behind one that is cut.
 pub fn write_short<W: Write>(alloc: Global, text: &str, output: &mut W) -> io::Result<()> {
-    let front: String = text.chars().take(MAX_SHOWN).collect(alloc)?;
-    write!(output, "{front:?}")?;
-    if front.len() < text.len() {
+    let prefix: String = text.chars().take(MAX_SHOWN).collect(alloc)?;
+    write!(output, "{prefix:?}")?;
+    if prefix.len() < text.len() {
         output.write_all(b"...")?;
     }
     Ok(())

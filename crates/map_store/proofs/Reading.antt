@@ -10,8 +10,8 @@ consumes_both (Some bs) None after xs ys zs e c d = absurd c
 consumes_both (Some bs) (Some cs) None xs ys zs e c d = d
 consumes_both (Some bs) (Some cs) (Some ds) xs ys zs e c d = c ∙ ap (λ ws. xs ++ ws) d ∙ sym (append_assoc xs ys ds) ∙ ap (λ ws. ws ++ ds) e
 
--- a front and what follows it
-pub front_and_range : (xs : List ℕ) (i j : ℕ) → i ≤ j → take i xs ++ slice_range xs i j ≡ take j xs
-front_and_range xs i j h =
+-- a prefix and what follows it
+pub prefix_and_range : (xs : List ℕ) (i j : ℕ) → i ≤ j → take i xs ++ slice_range xs i j ≡ take j xs
+prefix_and_range xs i j h =
     let e : j ≡ i + (j - i) = omega arith in
     ap (λ ys. ys ++ slice_range xs i j) (sym (take-take i j xs h)) ∙ ap (λ ys. take i (take j xs) ++ ys) (sym (drop-take i (j - i) xs) ∙ ap (λ n. drop i (take n xs)) (sym e)) ∙ take-append-drop i (take j xs)

@@ -1,3 +1,3 @@
 pub mod Files
 pub mod Storing
-pub mod Kept
+pub mod Stored

@@ -68,16 +68,16 @@ impl LoadError {
     }
 }
 
-// Makes room behind a place, but for no more bytes than the longest file has and one more.
-fn make_room(bytes: &mut Vec<u8>, place: usize) -> Result<(), LoadError>
-    requires within { place ≤ vec_len bytes.old }
+// Makes room behind an offset, but for no more bytes than the longest file has and one more.
+fn make_room(bytes: &mut Vec<u8>, offset: usize) -> Result<(), LoadError>
+    requires within { offset ≤ vec_len bytes.old }
     requires limit { vec_len bytes.old ≤ LONGEST + 1 }
-    ensures room { OnOk result (place < vec_len bytes.new) }
+    ensures room { OnOk result (offset < vec_len bytes.new) }
     ensures limit { OnOk result (vec_len bytes.new ≤ LONGEST + 1) }
-    ensures front { OnOk result (take place bytes.new.items ≡ take place bytes.old.items) }
+    ensures prefix { OnOk result (take offset bytes.new.items ≡ take offset bytes.old.items) }
 {
     let len = bytes.len();
-    if place < len {
+    if offset < len {
         return Ok(());
     }
     if len > LONGEST {
@@ -96,25 +96,25 @@ fn make_room(bytes: &mut Vec<u8>, place: usize) -> Result<(), LoadError>
     Ok(())
 }
 
-// Calls `read` once for what lies behind a place, and gives where the bytes end then. A call that was interrupted gives
-// the same place, and one at the file's end none.
+// Calls `read` once for what lies behind an offset, and gives where the bytes end then. A call that was interrupted gives
+// the same offset, and one at the file's end none.
 fn read_behind<F: Read>(
     file: &mut F,
     bytes: &mut [u8],
-    place: usize,
+    offset: usize,
 ) -> Result<Option<usize>, LoadError>
-    requires { place < length bytes.old }
+    requires { offset < length bytes.old }
     ensures within { IfOk result (λ end. IfSome end (λ n. n ≤ length bytes.old)) }
-    ensures front { take place bytes.new ≡ take place bytes.old }
-    ensures read { IfOk result (λ end. IfSome end (λ n. (place ≤ n) × Consumes (F.remaining file.old) (F.remaining file.new)
-        (slice_range bytes.new place n))) }
+    ensures prefix { take offset bytes.new ≡ take offset bytes.old }
+    ensures read { IfOk result (λ end. IfSome end (λ n. (offset ≤ n) × Consumes (F.remaining file.old) (F.remaining file.new)
+        (slice_range bytes.new offset n))) }
     ensures ended { IfOk result (λ end. IfNone end (Consumes (F.remaining file.old) (F.remaining file.new) []
         × IsAtEnd (F.remaining file.new))) }
 {
-    match file.read(&mut bytes[place..]) {
+    match file.read(&mut bytes[offset..]) {
         Ok(0) => Ok(None),
-        Ok(count) => Ok(Some(place + count)),
-        Err(error) if error.kind() == ErrorKind::Interrupted => Ok(Some(place)),
+        Ok(count) => Ok(Some(offset + count)),
+        Err(error) if error.kind() == ErrorKind::Interrupted => Ok(Some(offset)),
         Err(error) => Err(LoadError::Read(Reason::of(error))),
     }
 }
@@ -133,7 +133,7 @@ fn read_whole<F: Read>(alloc: Global, file: &mut F, size: usize) -> Result<Vec<u
     for _ in 0..MAX_CALLS {
         make_room(&mut bytes, end)?;
         match read_behind(file, &mut bytes, end)? {
-            Some(place) => end = place,
+            Some(offset) => end = offset,
             None => {
                 bytes.truncate(end);
                 return Ok(bytes);
@@ -198,7 +198,7 @@ impl<'a, R: Files + Eprint> FolderStore<'a, R> {
     /// The files of a folder, which is not looked at yet. Its path is not empty. The program's name stands before each reason
     /// on standard error.
     pub fn new(rt: &'a R, program: &'a str, folder: &'a str) -> FolderStore<'a, R>
-        ensures { ⟦<FolderStore<'a, R> as MapStore>⟧.kept result ≡ record { files = empty; failures = 0; honest = false } }
+        ensures { ⟦<FolderStore<'a, R> as MapStore>⟧.stored result ≡ record { files = empty; failures = 0; honest = false } }
     {
         FolderStore {
             rt,
@@ -260,22 +260,22 @@ impl<'a, R: Files + Eprint> MapStore for FolderStore<'a, R> {
     ghost use Rattle.std.specs.Prelude.{false};
     ghost use Rattle.std.specs.FinMap.{empty};
 
-    ghost kept = { λ s. record { files = empty; failures = s.failures; honest = false } };
+    ghost stored = { λ s. record { files = empty; failures = s.failures; honest = false } };
 
     /// A file of more than 67,108,864 bytes is a fault of the device.
     fn load(&mut self, alloc: Global, name: &str) -> Result<Vec<u8>, StoreFault>
         ensures short { IfOk result (λ bytes. vec_len bytes ≤ LONGEST) }
 
         // The clauses of the trait.
-        ensures honest { IsTrue (⟦<FolderStore<'a, R> as MapStore>⟧.kept self.old).honest
-            → IsTrue (⟦<FolderStore<'a, R> as MapStore>⟧.kept self.new).honest }
-        ensures loads { IsTrue (⟦<FolderStore<'a, R> as MapStore>⟧.kept self.old).honest
-            → Loads name.now (⟦<FolderStore<'a, R> as MapStore>⟧.kept self.old).files result
-            (⟦<FolderStore<'a, R> as MapStore>⟧.kept self.new).files }
+        ensures honest { IsTrue (⟦<FolderStore<'a, R> as MapStore>⟧.stored self.old).honest
+            → IsTrue (⟦<FolderStore<'a, R> as MapStore>⟧.stored self.new).honest }
+        ensures loads { IsTrue (⟦<FolderStore<'a, R> as MapStore>⟧.stored self.old).honest
+            → Loads name.now (⟦<FolderStore<'a, R> as MapStore>⟧.stored self.old).files result
+            (⟦<FolderStore<'a, R> as MapStore>⟧.stored self.new).files }
         ensures device { IsErrOf result StoreFault.Device
-            → HasFailed (⟦<FolderStore<'a, R> as MapStore>⟧.kept self.old) (⟦<FolderStore<'a, R> as MapStore>⟧.kept self.new) }
-        ensures count { (⟦<FolderStore<'a, R> as MapStore>⟧.kept self.old).failures
-            ≤ (⟦<FolderStore<'a, R> as MapStore>⟧.kept self.new).failures }
+            → HasFailed (⟦<FolderStore<'a, R> as MapStore>⟧.stored self.old) (⟦<FolderStore<'a, R> as MapStore>⟧.stored self.new) }
+        ensures count { (⟦<FolderStore<'a, R> as MapStore>⟧.stored self.old).failures
+            ≤ (⟦<FolderStore<'a, R> as MapStore>⟧.stored self.new).failures }
     {
         let Ok(path) = self.path_of(alloc, name) else {
             return Err(StoreFault::Memory);

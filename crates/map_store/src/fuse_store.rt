@@ -1,5 +1,5 @@
 ghost use Rattle.map_store.specs.Files.{FuseParts, fuse_code, HasBurned, HasFailed};
-ghost use Rattle.map_store.specs.Kept.{files_of};
+ghost use Rattle.map_store.specs.Stored.{files_of};
 
 use crate::map_store::{MapStore, StoreFault};
 use crate::memory_store::MemoryStore;
@@ -26,21 +26,21 @@ impl Model for FuseStore {
 impl FuseStore {
     ghost use Rattle.std.specs.Prelude.{◌≡◌, ◌-◌, ◌^◌, ◌<◌, ◌≤◌, ◌⊎◌, ◌↔◌, IsTrue};
 
-    /// The files of a store. Of the calls of `load` and `store`, the one at this place, counted from 1, will fail with
-    /// `Device` and change no file. Place 0 stands for none.
-    pub fn new(store: MemoryStore, place: u64) -> FuseStore
-        ensures { result ≡ record { files = (⟦<MemoryStore as MapStore>⟧.kept store).files; failures = 0; left = place } }
+    /// The files of a store. Of the calls of `load` and `store`, the one with this number, counted from 1, will fail with
+    /// `Device` and change no file. Number 0 stands for none.
+    pub fn new(store: MemoryStore, number: u64) -> FuseStore
+        ensures { result ≡ record { files = (⟦<MemoryStore as MapStore>⟧.stored store).files; failures = 0; left = number } }
     {
         FuseStore {
             store,
-            left: place,
+            left: number,
             failures: 0,
         }
     }
 
     /// The files as they are now.
     pub fn into_inner(self) -> MemoryStore
-        ensures { (⟦<MemoryStore as MapStore>⟧.kept result).files ≡ self.files }
+        ensures { (⟦<MemoryStore as MapStore>⟧.stored result).files ≡ self.files }
     {
         self.store
     }
@@ -69,7 +69,7 @@ impl MapStore for FuseStore {
     ghost use Rattle.std.specs.Prelude.{◌≡◌, ◌≤◌, ◌↔◌, IsErrOf, true};
     ghost use Rattle.map_store.specs.Storing.{Loads, Stores};
 
-    ghost kept = { λ s. record { files = s.files; failures = s.failures; honest = true } };
+    ghost stored = { λ s. record { files = s.files; failures = s.failures; honest = true } };
 
     fn load(&mut self, alloc: Global, name: &str) -> Result<Vec<u8>, StoreFault>
         ensures fails { IsErrOf result StoreFault.Device ↔ (self.old.left ≡ 1) }
@@ -78,7 +78,7 @@ impl MapStore for FuseStore {
         // The clauses of the trait.
         ensures loads { Loads name.now self.old.files result self.new.files }
         ensures device { IsErrOf result StoreFault.Device
-            → HasFailed (⟦<FuseStore as MapStore>⟧.kept self.old) (⟦<FuseStore as MapStore>⟧.kept self.new) }
+            → HasFailed (⟦<FuseStore as MapStore>⟧.stored self.old) (⟦<FuseStore as MapStore>⟧.stored self.new) }
         ensures count { self.old.failures ≤ self.new.failures }
     {
         if self.burns() {
@@ -95,7 +95,7 @@ impl MapStore for FuseStore {
         ensures stores { Stores name.now bytes.now self.old.files result self.new.files }
         ensures found { IsErrOf result StoreFault.Missing → ⊥ }
         ensures device { IsErrOf result StoreFault.Device
-            → HasFailed (⟦<FuseStore as MapStore>⟧.kept self.old) (⟦<FuseStore as MapStore>⟧.kept self.new) }
+            → HasFailed (⟦<FuseStore as MapStore>⟧.stored self.old) (⟦<FuseStore as MapStore>⟧.stored self.new) }
         ensures count { self.old.failures ≤ self.new.failures }
     {
         if self.burns() {

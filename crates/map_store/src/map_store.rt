@@ -22,26 +22,26 @@ pub trait MapStore {
     ghost use Rattle.map_store.specs.Storing.{Loads, Stores};
 
     /// Its files, how often it has failed, and whether it does with its files what it says.
-    ghost kept: { Self → StoreParts };
+    ghost stored: { Self → StoreParts };
 
     /// The bytes of a file. No file changes.
     ///
     /// `Missing` where there is no file of that name, `Device` where the device failed and `Memory` where there was no
     /// room for the bytes.
     fn load(&mut self, alloc: Global, name: &str) -> Result<Vec<u8>, StoreFault>
-        ensures honest { IsTrue (kept self.old).honest → IsTrue (kept self.new).honest }
-        ensures loads { IsTrue (kept self.old).honest → Loads name.now (kept self.old).files result (kept self.new).files }
-        ensures device { IsErrOf result StoreFault.Device → HasFailed (kept self.old) (kept self.new) }
-        ensures count { (kept self.old).failures ≤ (kept self.new).failures };
+        ensures honest { IsTrue (stored self.old).honest → IsTrue (stored self.new).honest }
+        ensures loads { IsTrue (stored self.old).honest → Loads name.now (stored self.old).files result (stored self.new).files }
+        ensures device { IsErrOf result StoreFault.Device → HasFailed (stored self.old) (stored self.new) }
+        ensures count { (stored self.old).failures ≤ (stored self.new).failures };
 
     /// Puts bytes under a name, in place of those that are there. No other file changes.
     ///
     /// `Device` where the device failed: then that one file may be gone or hold anything. `Memory` where there was no
     /// memory: then no file has changed.
     fn store(&mut self, alloc: Global, name: &str, bytes: &[u8]) -> Result<(), StoreFault>
-        ensures honest { IsTrue (kept self.old).honest → IsTrue (kept self.new).honest }
-        ensures stores { IsTrue (kept self.old).honest → Stores name.now bytes.now (kept self.old).files result (kept self.new).files }
+        ensures honest { IsTrue (stored self.old).honest → IsTrue (stored self.new).honest }
+        ensures stores { IsTrue (stored self.old).honest → Stores name.now bytes.now (stored self.old).files result (stored self.new).files }
         ensures found { IsErrOf result StoreFault.Missing → ⊥ }
-        ensures device { IsErrOf result StoreFault.Device → HasFailed (kept self.old) (kept self.new) }
-        ensures count { (kept self.old).failures ≤ (kept self.new).failures };
+        ensures device { IsErrOf result StoreFault.Device → HasFailed (stored self.old) (stored self.new) }
+        ensures count { (stored self.old).failures ≤ (stored self.new).failures };
 }

@@ -12,11 +12,11 @@ impl MemoryStore {
     ghost use Rattle.std.specs.Prelude.{◌≡◌, true, slice_get};
     ghost use Rattle.std.specs.Option.{option_copied};
     ghost use Rattle.std.specs.FinMap.{contains_key, empty, get, keys, len, remove};
-    ghost use Rattle.map_store.specs.Kept.{files_of};
+    ghost use Rattle.map_store.specs.Stored.{files_of};
 
     /// No files.
     pub fn new(alloc: Global) -> MemoryStore
-        ensures { ⟦<MemoryStore as MapStore>⟧.kept result ≡ record { files = empty; failures = 0; honest = true } }
+        ensures { ⟦<MemoryStore as MapStore>⟧.stored result ≡ record { files = empty; failures = 0; honest = true } }
     {
         MemoryStore {
             files: BTreeMap::new(alloc),
@@ -48,7 +48,7 @@ impl MemoryStore {
         self.files.len()
     }
 
-    /// The name of the file at a place in the order of names, where the first is at 0, and `None` past the last one.
+    /// The name of the file with this number in the order of names, where the first has 0, and `None` past the last one.
     pub fn name(&self, at: usize) -> Option<&str>
         ensures { option_copied result ≡ slice_get (keys (files_of self.now.files)) at }
     {
@@ -61,9 +61,9 @@ impl MemoryStore {
 
 impl MapStore for MemoryStore {
     ghost use Rattle.std.specs.Prelude.{true};
-    ghost use Rattle.map_store.specs.Kept.{files_of};
+    ghost use Rattle.map_store.specs.Stored.{files_of};
 
-    ghost kept = { λ s. record { files = files_of s.files; failures = 0; honest = true } };
+    ghost stored = { λ s. record { files = files_of s.files; failures = 0; honest = true } };
 
     fn load(&mut self, alloc: Global, name: &str) -> Result<Vec<u8>, StoreFault> {
         match self.files.get(name) {

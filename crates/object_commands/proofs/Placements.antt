@@ -25,8 +25,8 @@ use Rattle.command_api.specs.Tag.{OfObject}
 use Rattle.command_api.proofs.Swaps.{shown_made}
 use Rattle.command_api.proofs.Tags.{OfObject-same}
 use Rattle.edits.specs.ObjectEdits.{is_object_size, placing_of, moved, resized}
-use Rattle.object_commands.specs.declared.place.PlaceKind.{PlaceKind}
-use Rattle.object_commands.specs.declared.place.PlaceKind.TheVariants.{Move, Resize}
+use Rattle.object_commands.specs.declared.place.PlacingKind.{PlacingKind}
+use Rattle.object_commands.specs.declared.place.PlacingKind.TheVariants.{Move, Resize}
 use Rattle.object_commands.specs.declared.place.PlaceObject.{PlaceObject}
 use Rattle.object_commands.specs.Changes.{place_object_names, place_object_change, AllowsPlacing}
 
@@ -37,9 +37,9 @@ Decides-option_eq None (Some y) = (λ e. cc, λ e. cc)
 Decides-option_eq (Some x) None = (λ e. cc, λ e. cc)
 Decides-option_eq (Some x) (Some y) = let d = Decides-int_eq x y in (λ e. ap Some (d.0 e), λ e. let same : x ≡ y = cc in d.1 same)
 
-both_parts : (s t : Bool) → (s && t) ≡ true → (s ≡ true) × (t ≡ true)
-both_parts true t e = (refl, e)
-both_parts false t e = cc
+both_tests : (s t : Bool) → (s && t) ≡ true → (s ≡ true) × (t ≡ true)
+both_tests true t e = (refl, e)
+both_tests false t e = cc
 
 -- what the test of two placings answers
 abbrev pub placing_test : Placing → Placing → Bool
@@ -52,9 +52,9 @@ Decides-placing_test p q =
     let width = Decides-option_eq p.width q.width in
     let height = Decides-option_eq p.height q.height in (
       λ e.
-          let first = both_parts _ _ e in
-          let second = both_parts _ _ first.1 in
-          let third = both_parts _ _ second.1 in
+          let first = both_tests _ _ e in
+          let second = both_tests _ _ first.1 in
+          let third = both_tests _ _ second.1 in
           λ i. record { x = x.0 first.0 i; y = y.0 second.0 i; width = width.0 third.0 i; height = height.0 third.1 i },
       λ e. both_true (x.1 (ap (λ (r : Placing). r.x) e)) (both_true (y.1 (ap (λ (r : Placing). r.y) e))
           (both_true (width.1 (ap (λ (r : Placing). r.width) e)) (height.1 (ap (λ (r : Placing). r.height) e)))),
@@ -74,12 +74,12 @@ moved-IsPlacing x y left top p h = record { x = left; y = top; width = h.width; 
 
 pub resized-IsPlacing : (width height : ℕ) → is_object_size width height ≡ true → (p : Placing) → IsPlacing p → IsPlacing (resized width height p)
 resized-IsPlacing width height e p h =
-    let fit = both_parts _ _ e in
+    let fit = both_tests _ _ e in
     record { x = h.x; y = h.y; width = pixels width fit.0; height = pixels height fit.1 }
 
 pub placing_of-IsPlacing : (x y : ℤ) (width height : ℕ) → IsPixels x → IsPixels y → is_object_size width height ≡ true → IsPlacing (placing_of x y width height)
 placing_of-IsPlacing x y width height left top e =
-    let fit = both_parts _ _ e in
+    let fit = both_tests _ _ e in
     record { x = left; y = top; width = pixels width fit.0; height = pixels height fit.1 }
 
 -- ---- an object that is placed
@@ -113,14 +113,14 @@ AllowsPlacing-put id place d p new stands is = record { stands = placing_with_id
 pub AllowsPlacing-back : (id : ℕ) (place : ObjectPlace) (d : DocumentParts) (p held : Placing) → AllowsPlacing id place (put (placing_with_id id) p d) held → AllowsPlacing id place d held
 AllowsPlacing-back id place d p held h = record { stands = sym (placing_with_id-keeps id (λ own. p) d) ∙ h.stands; placing = h.placing }
 
-abbrev pub new_place : PlaceKind → ℕ → Bool → ObjectPlace → Placing → Bool → PlaceObject
-new_place kind id follows place p same = record { place = place; placing = p; after = p; object = id; kind = kind; follows = follows; is_made = false; is_same = same }
+abbrev pub new_place_object : PlacingKind → ℕ → Bool → ObjectPlace → Placing → Bool → PlaceObject
+new_place_object kind id follows place p same = record { place = place; placing = p; after = p; object = id; kind = kind; follows = follows; is_made = false; is_same = same }
 
-pub place_made : {E : Type 0} {after : Result DocumentParts E} (d : DocumentParts) (kind : PlaceKind) (id : ℕ) (follows : Bool) (place : ObjectPlace) (o : Object) (f : Placing → Placing) (same : Bool)
+pub place_object_made : {E : Type 0} {after : Result DocumentParts E} (d : DocumentParts) (kind : PlacingKind) (id : ℕ) (follows : Bool) (place : ObjectPlace) (o : Object) (f : Placing → Placing) (same : Bool)
     → (place_object_names kind id follows).vanishing ≡ WhenEqual → object_place d.map id ≡ Some place → object_at d.map place ≡ Some o → IsWellFormed d.map
     → ((p : Placing) → IsPlacing p → IsPlacing (f p)) → same ≡ placing_test o.placing (f o.placing) → after ≡ Ok (with_map (with_object place (λ p. object_with_placing (f p.placing) p)) d)
-    → Makes (place_object_names kind id follows) d after (place_object_change (new_place kind id follows place (f o.placing) same))
-place_made d kind id follows place o f same vanishes stands e h keeps test leads =
+    → Makes (place_object_names kind id follows) d after (place_object_change (new_place_object kind id follows place (f o.placing) same))
+place_object_made d kind id follows place o f same vanishes stands e h keeps test leads =
     let given = placing-given id place d stands o.placing (rw e refl) in
     let decides = Decides-placing_test o.placing (f o.placing) in
     let is = keeps o.placing (object_at-IsObject d.map place o e h).placing in
@@ -133,11 +133,11 @@ place_made d kind id follows place o f same vanishes stands e h keeps test leads
     (leads ∙ ap Ok put_in)
 
 -- ---- a move that takes a newer one in
-pub place-WhenEqual : (kind : PlaceKind) (id : ℕ) (follows : Bool) → (place_object_names kind id follows).vanishing ≡ WhenEqual
-place-WhenEqual Move id follows = refl
-place-WhenEqual Resize id follows = refl
+pub place_object-WhenEqual : (kind : PlacingKind) (id : ℕ) (follows : Bool) → (place_object_names kind id follows).vanishing ≡ WhenEqual
+place_object-WhenEqual Move id follows = refl
+place_object-WhenEqual Resize id follows = refl
 
 -- one that has the tag of moves of an object moves that object
-pub tag-object : (kind : PlaceKind) (own : ℕ) (follows : Bool) (id : ℕ) → (place_object_names kind own follows).tag ≡ Some (record { kind = MOVE_ID; subject = OfObject id }) → own ≡ id
+pub tag-object : (kind : PlacingKind) (own : ℕ) (follows : Bool) (id : ℕ) → (place_object_names kind own follows).tag ≡ Some (record { kind = MOVE_ID; subject = OfObject id }) → own ≡ id
 tag-object Move own follows id e = OfObject-same MOVE_ID own id e
 tag-object Resize own follows id e = cc

@@ -15,8 +15,8 @@ use Rattle.command_api.specs.Swap.{swap_shown}
 use Rattle.command_api.specs.Link.{link}
 use Rattle.object_commands.specs.declared.add.AddObject.{AddObject}
 use Rattle.object_commands.specs.declared.remove.RemoveObject.{RemoveObject}
-use Rattle.object_commands.specs.declared.place.PlaceKind.{PlaceKind}
-use Rattle.object_commands.specs.declared.place.PlaceKind.TheVariants.{Move, Resize}
+use Rattle.object_commands.specs.declared.place.PlacingKind.{PlacingKind}
+use Rattle.object_commands.specs.declared.place.PlacingKind.TheVariants.{Move, Resize}
 use Rattle.object_commands.specs.declared.place.PlaceObject.{PlaceObject}
 
 -- ---- objects that are put in and taken out
@@ -53,7 +53,7 @@ abbrev pub resize_object_names : Names
 resize_object_names = untagged (codes "Resize Object") (codes "resize object") WhenEqual
 
 -- a resize has no tag and follows nothing
-abbrev pub place_object_names : PlaceKind → ℕ → Bool → Names
+abbrev pub place_object_names : PlacingKind → ℕ → Bool → Names
 place_object_names Move id follows = move_object_names id follows
 place_object_names Resize id follows = resize_object_names
 

@@ -16,7 +16,7 @@ use std::alloc::{AllocError, Global};
 
 /// A way to place an object.
 #[derive(Clone, Copy, PartialEq, Eq, Debug)]
-enum PlaceKind {
+enum PlacingKind {
     Move,
     Resize,
 }
@@ -28,7 +28,7 @@ pub struct PlaceObject {
     placing: HeldPlacing,
     after: HeldPlacing,
     object: u32,
-    kind: PlaceKind,
+    kind: PlacingKind,
     follows: bool,
     is_made: bool,
     // Whether the object's placing before the change and the one that the command gives are the same.
@@ -64,7 +64,7 @@ impl PlaceObject {
             placing: HeldPlacing::new(placing),
             after: HeldPlacing::new(placing),
             object,
-            kind: PlaceKind::Move,
+            kind: PlacingKind::Move,
             follows,
             is_made: false,
             is_same: found.placing == placing,
@@ -100,7 +100,7 @@ impl PlaceObject {
             placing: HeldPlacing::new(placing),
             after: HeldPlacing::new(placing),
             object,
-            kind: PlaceKind::Resize,
+            kind: PlacingKind::Resize,
             follows: false,
             is_made: false,
             is_same: found.placing == placing,
@@ -113,12 +113,12 @@ impl Exchange for PlaceObject {
 
     fn label(&self) -> Label {
         match self.kind {
-            PlaceKind::Move => Label {
+            PlacingKind::Move => Label {
                 text: "Move Object",
                 action: "move object",
                 id: MOVE_ID as i32,
             },
-            PlaceKind::Resize => Label::untagged("Resize Object", "resize object"),
+            PlacingKind::Resize => Label::untagged("Resize Object", "resize object"),
         }
     }
 
@@ -138,8 +138,8 @@ impl PlaceObject {
         ensures { IsTrue result ↔ ((place_object_exchange self.now).names.tag ≡ Some (record { kind = MOVE_ID; subject = OfObject object })) }
     {
         match self.kind {
-            PlaceKind::Move => object == self.object,
-            PlaceKind::Resize => false,
+            PlacingKind::Move => object == self.object,
+            PlacingKind::Resize => false,
         }
     }
 }
@@ -177,7 +177,7 @@ impl Command for PlaceObject {
 
     fn offer(&self) -> Offer<'_> {
         match self.kind {
-            PlaceKind::Move if self.follows => Offer::Place {
+            PlacingKind::Move if self.follows => Offer::Place {
                 object: self.object,
                 before: self.placing.get(),
                 after: self.after.get(),

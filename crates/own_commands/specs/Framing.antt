@@ -12,11 +12,11 @@ use Rattle.own_commands.specs.declared.frame.TheConstants.{FRAME_ID}
 use Rattle.own_commands.specs.declared.frame.Frame.{Frame}
 
 -- ---- the block of a frame
--- whether a place is the first or the last of so many
+-- whether a number is the first or the last of so many
 abbrev pub is_end : ℕ → ℕ → Bool
 is_end at size = nat_eq at 0 || nat_eq at (size - 1)
 
--- the value at a place of the block, row by row: the tile on the border of the area, and 0 within, which leaves a cell as it is
+-- the value of a cell of the block, row by row: the tile on the border of the area, and 0 within, which leaves a cell as it is
 abbrev pub frame_value : Area → ℕ → ℕ → ℕ
 frame_value a tile at = if is_end (at % a.width) a.width || is_end (at / a.width) a.height then tile else 0
 

@@ -32,14 +32,14 @@ pub struct Frame {
     cells: CellEdits,
 }
 
-// Whether a place is the first or the last of so many.
+// Whether a number is the first or the last of so many.
 fn is_end(at: u32, size: u32) -> bool
     ensures { result ≡ is_end at size }
 {
     at == 0 || at == size.saturating_sub(1)
 }
 
-// The value at a place of the block: the tile on the border, and 0 within.
+// The value of a cell of the block: the tile on the border, and 0 within.
 fn frame_value(area: &Area, tile: Gid, at: u32) -> Gid
     requires { 1 ≤ area.now.width }
     ensures { result ≡ frame_value area.now tile at }

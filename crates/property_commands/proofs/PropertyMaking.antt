@@ -86,11 +86,11 @@ module _ (d : DocumentParts) (owner : Owner) (name kind : List ℕ) (value : Pro
       let put_in = setting-put owner name place at d stands s in
       let may : IsSetting d.map place s = rw is at allowed in
       let leads : after_set_property d owner name kind value ≡ Ok (with_map (with_property place at (property_with_setting s)) d) = rw (found, there) refl in
-      let kept = with_setting-keeps place at s d.map (rw has refl) may h in
+      let stays = with_setting-keeps place at s d.map (rw has refl) may h in
       made-shown at (Replace setting false same) shown shows (
       rw is (
       shown_made (AllowsSetting owner name place at) (setting_named-laws owner name) refl (setting_of p) given told.0 told.1 (record { stands = stands; setting = may }) h
-      (subst (λ (e : DocumentParts). IsWellFormed e.map) put_in kept) (leads ∙ ap Ok put_in)
+      (subst (λ (e : DocumentParts). IsWellFormed e.map) put_in stays) (leads ∙ ap Ok put_in)
       )
       )
 

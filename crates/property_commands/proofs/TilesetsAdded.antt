@@ -20,7 +20,7 @@ use Rattle.property_commands.specs.TilesetChanges.{add_tileset_names, add_tilese
 
 below : (first : ℕ) (ts : List Tileset) → is_above first ts ≡ true → Each (λ t. t.first_id < first) ts
 below first [] h = tt
-below first (t ∷ ts) h = let parts = and_parts _ _ h in (ltb-true _ _ parts.0, below first ts parts.1)
+below first (t ∷ ts) h = let both = and_parts _ _ h in (ltb-true _ _ both.0, below first ts both.1)
 
 pub add_tileset_made : (d : DocumentParts) (first : ℕ) (source : List ℕ) (at : ℕ) (loose : Option Tileset) → at ≡ length d.map.tilesets → loose ≡ Some (external_tileset first source) → is_above first d.map.tilesets ≡ true → 1 ≤ first
     → first ≤ MAX_FIRST_ID → length d.map.tilesets < MAX_TILESETS → IsWellFormed d.map

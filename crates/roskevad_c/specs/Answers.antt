@@ -90,7 +90,7 @@ Puts name bytes (Some s) answer new =
     × (is_name MAX_FILE_NAME name ≡ false → (answer ≡ BAD_NAME) × (new ≡ Some s))
 
 -- ---- what no line tells
--- 0 or 1 where there is a step at that place
+-- 0 or 1 where there is a step with that number
 abbrev pub TellsOfStep : Option Bool → ℕ → Type 0
 TellsOfStep None answer = answer ≡ CLOSED
 TellsOfStep (Some false) answer = answer ≡ NONE
@@ -106,7 +106,7 @@ abbrev pub GivesRun : Option Run → ℕ → SelectionRun → SelectionRun → T
 GivesRun None answer old new = (answer ≡ NONE) × (new ≡ old)
 GivesRun (Some run) answer old new = (answer ≡ DONE) × (new ≡ record { row = run.y; column = run.x; count = run.len })
 
--- the run of the selection at that place is given out
+-- the run of the selection with that number is given out
 abbrev pub TellsRun : Option SessionParts → ℕ → ℕ → SelectionRun → SelectionRun → Type 0
 TellsRun None at answer old new = (answer ≡ CLOSED) × (new ≡ old)
 TellsRun (Some s) at answer old new = (runs : List Run) × AreRunsOf (active_of s.machine) runs × GivesRun (slice_get runs at) answer old new

@@ -13,5 +13,5 @@ abbrev pub held_owns : Global → Ptr → Option the_row.Denot → Fml
 held_owns alloc at None = ftrue
 held_owns alloc at (Some session) = box_owns (ghosts.dealloc_token alloc) the_row at session
 
-abbrev pub kept_coded : Coded (Option the_row.Denot)
-kept_coded = coded_option the_row.coded
+abbrev pub held_coded : Coded (Option the_row.Denot)
+held_coded = coded_option the_row.coded

@@ -1,9 +1,9 @@
-// What a call answers in place of a length, a number or a place. None of these is the length of anything in memory.
+// What a call answers in place of a length or a number. None of these is the length of anything in memory.
 
 /// It is done, or it is there.
 pub const DONE: usize = 0;
 
-/// There is none: no reply to a quiet line, no such file, no such place, no clean position.
+/// There is none: no reply to a quiet line, no such file, no such number, no clean position.
 pub const NONE: usize = usize::MAX;
 
 /// The slot is closed.

@@ -16,8 +16,8 @@ fn copy_both(head: &[u8], body: &[u8], buffer: &mut [u8]) -> usize
 {
     let size = head.len() + body.len();
     if size <= buffer.len() {
-        let (front, rest) = buffer.split_at_mut(head.len());
-        front.copy_from_slice(head);
+        let (prefix, rest) = buffer.split_at_mut(head.len());
+        prefix.copy_from_slice(head);
         let (middle, _) = rest.split_at_mut(body.len());
         middle.copy_from_slice(body);
     }

@@ -2,7 +2,7 @@
 //!
 //! Each call but `roskevad_version` takes a slot, which C keeps and never looks into. A call that gives bytes copies them to the
 //! front of a buffer where the buffer has room for all of them, and else leaves the buffer as it was; it answers how many
-//! there are. What stands in place of a length, a number or a place is one of the constants at the end of the numbers.
+//! there are. What stands in place of a length or a number is one of the constants at the end of the numbers.
 #![tactic(auto)]
 
 mod answers;
@@ -37,7 +37,7 @@ const GREATEST_LIMIT: usize = 1_000_000;
 /// the last two the slot is closed.
 #[unsafe(no_mangle)]
 pub extern "C" fn roskevad_open(alloc: Global, slot: &mut Slot, limit: usize) -> usize
-    ensures { Opens limit result slot.new.held.kept }
+    ensures { Opens limit result slot.new.held.held_session }
 {
     let _ = slot.take(alloc);
     if limit > GREATEST_LIMIT {
@@ -61,9 +61,9 @@ pub extern "C" fn roskevad_step(
     line: &[u8],
     reply: &mut [u8],
 ) -> usize
-    ensures step { Steps line.now slot.old.held.kept slot.new.held.kept }
-    ensures size { result ≡ told_size (option_map last_reply slot.new.held.kept) }
-    ensures copied { reply.new ≡ told_bytes (option_map last_reply slot.new.held.kept) reply.old }
+    ensures step { Steps line.now slot.old.held.held_session slot.new.held.held_session }
+    ensures size { result ≡ told_size (option_map last_reply slot.new.held.held_session) }
+    ensures copied { reply.new ≡ told_bytes (option_map last_reply slot.new.held.held_session) reply.old }
 {
     let Some(mut session) = slot.take(alloc) else {
         return CLOSED;
@@ -77,9 +77,9 @@ pub extern "C" fn roskevad_step(
 /// Copies the reply to the last line again. Answers its size, `NONE` where there is none, or `CLOSED`.
 #[unsafe(no_mangle)]
 pub extern "C" fn roskevad_reply(alloc: Global, slot: &mut Slot, reply: &mut [u8]) -> usize
-    ensures kept { slot.new.held.kept ≡ slot.old.held.kept }
-    ensures size { result ≡ told_size (option_map last_reply slot.old.held.kept) }
-    ensures copied { reply.new ≡ told_bytes (option_map last_reply slot.old.held.kept) reply.old }
+    ensures unchanged { slot.new.held.held_session ≡ slot.old.held.held_session }
+    ensures size { result ≡ told_size (option_map last_reply slot.old.held.held_session) }
+    ensures copied { reply.new ≡ told_bytes (option_map last_reply slot.old.held.held_session) reply.old }
 {
     let Some(session) = slot.take(alloc) else {
         return CLOSED;
@@ -98,7 +98,7 @@ pub extern "C" fn roskevad_put_file(
     name: &[u8],
     bytes: &[u8],
 ) -> usize
-    ensures { Puts name.now bytes.now slot.old.held.kept result slot.new.held.kept }
+    ensures { Puts name.now bytes.now slot.old.held.held_session result slot.new.held.held_session }
 {
     let Some(mut session) = slot.take(alloc) else {
         return CLOSED;
@@ -122,9 +122,9 @@ pub extern "C" fn roskevad_file(
     name: &[u8],
     bytes: &mut [u8],
 ) -> usize
-    ensures kept { slot.new.held.kept ≡ slot.old.held.kept }
-    ensures size { result ≡ told_size (option_map (file_in name.now) slot.old.held.kept) }
-    ensures copied { bytes.new ≡ told_bytes (option_map (file_in name.now) slot.old.held.kept) bytes.old }
+    ensures unchanged { slot.new.held.held_session ≡ slot.old.held.held_session }
+    ensures size { result ≡ told_size (option_map (file_in name.now) slot.old.held.held_session) }
+    ensures copied { bytes.new ≡ told_bytes (option_map (file_in name.now) slot.old.held.held_session) bytes.old }
 {
     let Some(session) = slot.take(alloc) else {
         return CLOSED;
@@ -140,8 +140,8 @@ pub extern "C" fn roskevad_file(
 /// Takes a file out. Answers `DONE`, `NONE` where there is no file of that name, or `CLOSED`.
 #[unsafe(no_mangle)]
 pub extern "C" fn roskevad_remove_file(alloc: Global, slot: &mut Slot, name: &[u8]) -> usize
-    ensures found { result ≡ told_number (option_map (is_there name.now) slot.old.held.kept) }
-    ensures removed { slot.new.held.kept ≡ option_map (without name.now) slot.old.held.kept }
+    ensures found { result ≡ told_number (option_map (is_there name.now) slot.old.held.held_session) }
+    ensures removed { slot.new.held.held_session ≡ option_map (without name.now) slot.old.held.held_session }
 {
     let Some(mut session) = slot.take(alloc) else {
         return CLOSED;
@@ -163,8 +163,8 @@ pub extern "C" fn roskevad_remove_file(alloc: Global, slot: &mut Slot, name: &[u
 /// How many files there are, or `CLOSED`.
 #[unsafe(no_mangle)]
 pub extern "C" fn roskevad_file_count(alloc: Global, slot: &mut Slot) -> usize
-    ensures kept { slot.new.held.kept ≡ slot.old.held.kept }
-    ensures told { result ≡ told_number (option_map (λ s. Some (len s.files)) slot.old.held.kept) }
+    ensures unchanged { slot.new.held.held_session ≡ slot.old.held.held_session }
+    ensures told { result ≡ told_number (option_map (λ s. Some (len s.files)) slot.old.held.held_session) }
 {
     let Some(session) = slot.take(alloc) else {
         return CLOSED;
@@ -174,7 +174,7 @@ pub extern "C" fn roskevad_file_count(alloc: Global, slot: &mut Slot) -> usize
     count
 }
 
-/// Copies the name of the file at a place in the order of names, where the first is at 0. Answers its size, `NONE` past the
+/// Copies the name of the file with this number in the order of names, where the first has 0. Answers its size, `NONE` past the
 /// last one, or `CLOSED`.
 #[unsafe(no_mangle)]
 pub extern "C" fn roskevad_file_name(
@@ -183,9 +183,9 @@ pub extern "C" fn roskevad_file_name(
     at: usize,
     name: &mut [u8],
 ) -> usize
-    ensures kept { slot.new.held.kept ≡ slot.old.held.kept }
-    ensures size { result ≡ told_size (option_map (λ s. slice_get (keys s.files) at) slot.old.held.kept) }
-    ensures copied { name.new ≡ told_bytes (option_map (λ s. slice_get (keys s.files) at) slot.old.held.kept) name.old }
+    ensures unchanged { slot.new.held.held_session ≡ slot.old.held.held_session }
+    ensures size { result ≡ told_size (option_map (λ s. slice_get (keys s.files) at) slot.old.held.held_session) }
+    ensures copied { name.new ≡ told_bytes (option_map (λ s. slice_get (keys s.files) at) slot.old.held.held_session) name.old }
 {
     let Some(session) = slot.take(alloc) else {
         return CLOSED;
@@ -201,8 +201,8 @@ pub extern "C" fn roskevad_file_name(
 /// How many runs the selection of the active document has, 0 where no document is active, or `CLOSED`.
 #[unsafe(no_mangle)]
 pub extern "C" fn roskevad_selection_count(alloc: Global, slot: &mut Slot) -> usize
-    ensures kept { slot.new.held.kept ≡ slot.old.held.kept }
-    ensures told { TellsCount slot.old.held.kept result }
+    ensures unchanged { slot.new.held.held_session ≡ slot.old.held.held_session }
+    ensures told { TellsCount slot.old.held.held_session result }
 {
     let Some(session) = slot.take(alloc) else {
         return CLOSED;
@@ -212,7 +212,7 @@ pub extern "C" fn roskevad_selection_count(alloc: Global, slot: &mut Slot) -> us
     count
 }
 
-/// Gives out the run at a place of that selection, in row order, where the first is at 0. Answers `DONE`, `NONE` past the
+/// Gives out the run with this number of that selection, in row order, where the first has 0. Answers `DONE`, `NONE` past the
 /// last one, or `CLOSED`; but for `DONE` the run is as it was.
 #[unsafe(no_mangle)]
 pub extern "C" fn roskevad_selection_run(
@@ -221,8 +221,8 @@ pub extern "C" fn roskevad_selection_run(
     at: usize,
     run: &mut SelectionRun,
 ) -> usize
-    ensures kept { slot.new.held.kept ≡ slot.old.held.kept }
-    ensures told { TellsRun slot.old.held.kept at result run.old run.new }
+    ensures unchanged { slot.new.held.held_session ≡ slot.old.held.held_session }
+    ensures told { TellsRun slot.old.held.held_session at result run.old run.new }
 {
     let Some(session) = slot.take(alloc) else {
         return CLOSED;
@@ -246,8 +246,8 @@ pub extern "C" fn roskevad_selection_run(
 /// `CLOSED`.
 #[unsafe(no_mangle)]
 pub extern "C" fn roskevad_clean_index(alloc: Global, slot: &mut Slot) -> usize
-    ensures kept { slot.new.held.kept ≡ slot.old.held.kept }
-    ensures told { result ≡ told_number (option_map (λ s. clean_index_of (active_of s.machine)) slot.old.held.kept) }
+    ensures unchanged { slot.new.held.held_session ≡ slot.old.held.held_session }
+    ensures told { result ≡ told_number (option_map (λ s. clean_index_of (active_of s.machine)) slot.old.held.held_session) }
 {
     let Some(session) = slot.take(alloc) else {
         return CLOSED;
@@ -257,12 +257,12 @@ pub extern "C" fn roskevad_clean_index(alloc: Global, slot: &mut Slot) -> usize
     answer
 }
 
-/// Whether the step at this place of the active document is a macro: 1 or 0, `NONE` past the last one or where no document
+/// Whether the step with this number of the active document is a macro: 1 or 0, `NONE` past the last one or where no document
 /// is active, or `CLOSED`. The first step is at 0.
 #[unsafe(no_mangle)]
 pub extern "C" fn roskevad_is_macro(alloc: Global, slot: &mut Slot, at: usize) -> usize
-    ensures kept { slot.new.held.kept ≡ slot.old.held.kept }
-    ensures told { TellsOfStep (option_map (λ s. has_step (active_of s.machine) at) slot.old.held.kept) result }
+    ensures unchanged { slot.new.held.held_session ≡ slot.old.held.held_session }
+    ensures told { TellsOfStep (option_map (λ s. has_step (active_of s.machine) at) slot.old.held.held_session) result }
 {
     let Some(session) = slot.take(alloc) else {
         return CLOSED;
@@ -279,7 +279,7 @@ pub extern "C" fn roskevad_is_macro(alloc: Global, slot: &mut Slot, at: usize) -
 /// Closes a slot, and gives back its memory. A closed one stays closed.
 #[unsafe(no_mangle)]
 pub extern "C" fn roskevad_close(alloc: Global, slot: &mut Slot)
-    ensures { slot.new.held.kept ≡ None }
+    ensures { slot.new.held.held_session ≡ None }
 {
     let _ = slot.take(alloc);
 }

@@ -13,13 +13,13 @@ use std::mem;
 pub struct Slot {
     pub held: Held,
     pub is_open: bool,
-    ghost tied: { is_some held.kept ≡ is_open },
+    ghost tied: { is_some held.held_session ≡ is_open },
 }
 
 impl Slot {
     /// A closed one.
     pub fn closed(alloc: Global) -> Slot
-        ensures { result.held.kept ≡ None }
+        ensures { result.held.held_session ≡ None }
     {
         Slot {
             held: Held::closed(alloc),
@@ -29,7 +29,7 @@ impl Slot {
 
     /// An open one, with that session.
     pub fn of_box(session: Box<Session>) -> Slot
-        ensures { result.held.kept ≡ Some session.value }
+        ensures { result.held.held_session ≡ Some session.value }
     {
         Slot {
             held: Held::of_box(session),
@@ -39,8 +39,8 @@ impl Slot {
 
     /// Takes the session out, where it is open.
     pub fn take(&mut self, alloc: Global) -> Option<Box<Session>>
-        ensures taken { option_map (λ session. session.value) result ≡ self.old.held.kept }
-        ensures left { self.new.held.kept ≡ None }
+        ensures taken { option_map (λ session. session.value) result ≡ self.old.held.held_session }
+        ensures left { self.new.held.held_session ≡ None }
     {
         let Slot { held, is_open } = mem::replace(self, Slot::closed(alloc));
         if is_open {

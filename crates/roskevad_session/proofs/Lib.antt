@@ -1,2 +1,2 @@
 mod Counting
-mod Places
+mod Numbered

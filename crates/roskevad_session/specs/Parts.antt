@@ -23,7 +23,7 @@ pub record SessionParts : Type 0 where
   pub files : Files
   pub reply : Option Reply
 
--- the machine over these files, which are kept in memory: no call of their store fails, and each does what it says
+-- the machine over these files, which are stored in memory: no call of their store fails, and each does what it says
 abbrev pub workspace_of : SessionParts → Workspace
 workspace_of s = workspace s.machine (record { files = s.files; failures = 0; honest = true })
 
@@ -33,7 +33,7 @@ abbrev pub clean_index_of : Option History → Option ℕ
 clean_index_of None = None
 clean_index_of (Some h) = h.clean
 
--- whether it has a step at that place
+-- whether it has a step with that number
 abbrev pub has_step : Option History → ℕ → Bool
 has_step None at = false
 has_step (Some h) at = is_some (text_at h at)

@@ -30,7 +30,7 @@ impl Model for Session {
 
     ghost use Rattle.editor.specs.Editors.{IsSound, machine_of};
     ghost use Rattle.editor.specs.Planning.{edit_change};
-    ghost use Rattle.map_store.specs.Kept.{files_of};
+    ghost use Rattle.map_store.specs.Stored.{files_of};
 
     ghost view = { λ s. record { machine = machine_of edit_change s.editor; files = files_of s.store.files; reply = s.reply } };
 
@@ -80,7 +80,7 @@ impl Session {
     /// Puts bytes under a name, in place of those that are there. Where there is no memory the session is as it was.
     pub fn put_file(&mut self, name: &str, bytes: &[u8]) -> Result<(), AllocError>
         ensures put { IfOk result (λ _. self.new ≡ record self.old { files = insert self.old.files name.now bytes.now }) }
-        ensures kept { IfErr result (λ _. self.new ≡ self.old) }
+        ensures unchanged { IfErr result (λ _. self.new ≡ self.old) }
     {
         self.store
             .store(self.alloc, name, bytes)
@@ -109,7 +109,7 @@ impl Session {
         self.store.count()
     }
 
-    /// The name of the file at a place in the order of names, where the first is at 0, and `None` past the last one.
+    /// The name of the file with this number in the order of names, where the first has 0, and `None` past the last one.
     pub fn file_name(&self, at: usize) -> Option<&str>
         ensures { option_copied result ≡ slice_get (keys self.now.files) at }
     {
@@ -145,7 +145,7 @@ impl Session {
         }
     }
 
-    /// Whether the step at this place of the active document is a macro, where the first step is at 0, and `None` past the
+    /// Whether the step with this number of the active document is a macro, where the first one has 0, and `None` past the
     /// last one or where no document is active. An open macro stands last.
     pub fn is_macro(&self, at: usize) -> Option<bool>
         ensures { is_some result ≡ has_step (active_of self.now.machine) at }
@@ -166,7 +166,7 @@ impl Session {
         }
     }
 
-    /// The run at a place of that selection, in row order, and `None` past the last one.
+    /// The run with this number of that selection, in row order, and `None` past the last one.
     pub fn selection_run(&self, at: usize) -> Option<Run>
         ensures { (runs : List RunOf) × AreRunsOf (active_of self.now.machine) runs × (result ≡ slice_get runs at) }
     {

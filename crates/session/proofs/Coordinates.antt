@@ -8,7 +8,7 @@ use Rattle.std.proofs.lemmas.Fmt.{decimal_nonempty, digits_decimal}
 use Rattle.std.proofs.lemmas.Str.Parse.{not_in_digits}
 use Rattle.std.proofs.lemmas.Bool.{le-leb, leb-true, eqb-true}
 use Rattle.session.specs.declared.limits.TheConstants.{MAX_COORDINATE}
-use Rattle.session.specs.Words.{number_of, within_reach, distance_of, below_zero, coordinate_of}
+use Rattle.session.specs.Words.{number_of, as_distance, distance_of, below_zero, coordinate_of}
 use Rattle.session.specs.Spelling.{IsCoordinate}
 use Rattle.session.proofs.Digits.{decimal_numerals}
 use Rattle.session.proofs.Decimals.{number_of-decimal, decimal_from}
@@ -26,7 +26,7 @@ pub distance_of-decimal : (n : ℕ) → n ≤ MAX_COORDINATE → distance_of (de
 unfolding distance_of
 distance_of-decimal n h = rw (number_of-decimal n (omega arith), le-leb n MAX_COORDINATE h) refl
 
-within_from : (m n : ℕ) → within_reach m ≡ Some n → (m ≡ n) × (m ≤ MAX_COORDINATE)
+within_from : (m n : ℕ) → as_distance m ≡ Some n → (m ≡ n) × (m ≤ MAX_COORDINATE)
 within_from m n e = elim (leb m MAX_COORDINATE) as (λ t. leb m MAX_COORDINATE ≡ t → cond t (Some m) None ≡ Some n → (m ≡ n) × (m ≤ MAX_COORDINATE)) [
   | true ↦ λ t e. (cc, leb-true _ _ t)
   | false ↦ λ t e. absurd cc
@@ -35,7 +35,7 @@ within_from m n e = elim (leb m MAX_COORDINATE) as (λ t. leb m MAX_COORDINATE �
 pub distance_from : (word : List ℕ) (n : ℕ) → distance_of word ≡ Some n → (decimal n ≡ word) × (n ≤ MAX_COORDINATE)
 unfolding distance_of
 distance_from word n e =
-    let inner = and_then_from within_reach (number_of word) n e in
+    let inner = and_then_from as_distance (number_of word) n e in
     let same = within_from _ _ inner.2 in
     (ap decimal (sym same.0) ∙ (decimal_from word inner.0 inner.1).0, omega (arith, same.0, same.1))
 

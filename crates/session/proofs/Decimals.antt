@@ -6,7 +6,7 @@ use Rattle.std.proofs.lemmas.Fmt.{decimal_digit, decimal_nonempty, first_decimal
 use Rattle.std.proofs.lemmas.Bool.{lt-ltb, ltb-true, ne_eqb, eqb-true, eq-eqb, and_parts, or_cases, not-true, both_ways}
 use Rattle.std.specs.Char.{is_ascii_digit}
 use Rattle.std.specs.List.{list_all}
-use Rattle.session.specs.Words.{is_numeral_front, number_of}
+use Rattle.session.specs.Words.{is_numeral_prefix, number_of}
 use Rattle.session.proofs.Digits.{decimal_numerals}
 
 -- a number other than 0 has no 0 in front
@@ -17,12 +17,12 @@ no_zero (suc n) h =
     let other = ne_eqb (get_or (decimal (suc n)) 0 0) 48 (λ e. omega (arith, high, e)) in
     rw other (elim (eqb (length (decimal (suc n))) 1) as (λ t. t || true ≡ true) [ true ↦ refl | false ↦ refl ])
 
-front_decimal : (n : ℕ) → n < 2 ^ 32 → is_numeral_front (decimal n) ≡ true
-front_decimal n h = rw (lt-ltb 0 (length (decimal n)) (decimal_nonempty n (omega arith)), no_zero n h) refl
+prefix_decimal : (n : ℕ) → n < 2 ^ 32 → is_numeral_prefix (decimal n) ≡ true
+prefix_decimal n h = rw (lt-ltb 0 (length (decimal n)) (decimal_nonempty n (omega arith)), no_zero n h) refl
 
 pub number_of-decimal : (n : ℕ) → n < 2 ^ 32 → number_of (decimal n) ≡ Some n
 unfolding number_of
-number_of-decimal n h = rw (front_decimal n h, digits_decimal decimal_numerals n (omega arith), digits_value-decimal decimal_numerals n (omega arith), lt-ltb n (2 ^ 32) h) refl
+number_of-decimal n h = rw (prefix_decimal n h, digits_decimal decimal_numerals n (omega arith), digits_value-decimal decimal_numerals n (omega arith), lt-ltb n (2 ^ 32) h) refl
 
 single : (word : List ℕ) → (eqb (length word) 1 || not (eqb (get_or word 0 0) 48)) ≡ true → get_or word 0 0 ≡ 48 → length word ≡ 1
 single word h e = elim (or_cases _ _ h) [
@@ -30,13 +30,13 @@ single word h e = elim (or_cases _ _ h) [
   | inr other ↦ absurd (both_ways _ (not-true _ other) (eq-eqb _ _ e))
 ]
 
-from_tests : (word : List ℕ) (n : ℕ) (a b : Bool) → is_numeral_front word ≡ a → (list_all is_ascii_digit word && ltb (digits_value 10 word) (2 ^ 32)) ≡ b → cond a (cond b (Some (digits_value 10 word)) None) None ≡ Some n → (decimal n ≡ word) × (n < 2 ^ 32)
+from_tests : (word : List ℕ) (n : ℕ) (a b : Bool) → is_numeral_prefix word ≡ a → (list_all is_ascii_digit word && ltb (digits_value 10 word) (2 ^ 32)) ≡ b → cond a (cond b (Some (digits_value 10 word)) None) None ≡ Some n → (decimal n ≡ word) × (n < 2 ^ 32)
 from_tests word n true true is digits e =
     let value : digits_value 10 word ≡ n = cc in
-    let front = and_parts _ _ is in
+    let prefix = and_parts _ _ is in
     let tests = and_parts _ _ digits in
     let below = ltb-true _ _ tests.1 in
-    (ap decimal (sym value) ∙ decimal-digits_value decimal_numerals word tests.0 (ltb-true _ _ front.0) (single word front.1) (omega (arith, below)), omega (arith, below, value))
+    (ap decimal (sym value) ∙ decimal-digits_value decimal_numerals word tests.0 (ltb-true _ _ prefix.0) (single word prefix.1) (omega (arith, below)), omega (arith, below, value))
 from_tests word n true false is digits e = absurd cc
 from_tests word n false b is digits e = absurd cc
 

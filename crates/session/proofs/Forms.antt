@@ -30,7 +30,7 @@ value_of Color (Given Color color) = Some color
 value_of OwnerName (Given OwnerName owner) = Some owner
 value_of kind token = None
 
--- the line that parts are by a form
+-- the line that tokens are by a form
 abbrev pub follow : LineForm → List Token → Option Line
 follow (Ends line) [] = Some line
 follow (Text line) (Rest text ∷ []) = Some (line text)
@@ -54,7 +54,7 @@ given Color (Given Color color) v e = ap (Given Color) cc
 given OwnerName (Given OwnerName owner) v e = ap (Given OwnerName) cc
 given kind token v e = absurd cc
 
--- the words of parts that a form follows are read by it
+-- the words of tokens that a form follows are read by it
 pub followed_is_read : (form : LineForm) (ts : List Token) (line : Line) → follow form ts ≡ Some line → AllByRecursion IsToken ts → read form (flat_map token_words ts) ≡ Ok line
 unfolding ends_at
 followed_is_read (Ends l) [] line e h = ap Ok cc
@@ -74,19 +74,19 @@ followed_is_read (Word word form other) (Fixed w ∷ ts) line e h =
     ] e
 followed_is_read form ts line e h = absurd cc
 
--- the lines of a form have the parts that lead to them, behind those in front
+-- the lines of a form have the tokens that lead to them, behind those before them
 abbrev pub Agrees : LineForm → (List Token → List Token) → Type 0
-Agrees (Ends line) front = tokens line ≡ front []
-Agrees (Text line) front = (text : List ℕ) → tokens (line text) ≡ front (Rest text ∷ [])
-Agrees (Texts line) front = (text : List ℕ) (action : Option (List ℕ)) → tokens (line text action) ≡ front (RestTexts text action ∷ [])
-Agrees (Field kind form) front = (value : FieldValue kind) → Agrees (form value) (λ ts. front (Given kind value ∷ ts))
-Agrees (Word word form other) front = Agrees form (λ ts. front (Fixed word ∷ ts)) × Agrees other front
-Agrees (Fails fault) front = Unit {0}
+Agrees (Ends line) prefix = tokens line ≡ prefix []
+Agrees (Text line) prefix = (text : List ℕ) → tokens (line text) ≡ prefix (Rest text ∷ [])
+Agrees (Texts line) prefix = (text : List ℕ) (action : Option (List ℕ)) → tokens (line text action) ≡ prefix (RestTexts text action ∷ [])
+Agrees (Field kind form) prefix = (value : FieldValue kind) → Agrees (form value) (λ ts. prefix (Given kind value ∷ ts))
+Agrees (Word word form other) prefix = Agrees form (λ ts. prefix (Fixed word ∷ ts)) × Agrees other prefix
+Agrees (Fails fault) prefix = Unit {0}
 
--- the words are those of parts, which make the line's behind those in front
-pub record Spells (front : List Token → List Token) (ws : List (List ℕ)) (line : Line) : Type 0 where
+-- the words are those of tokens, which make the line's behind those before them
+pub record Spells (prefix : List Token → List Token) (ws : List (List ℕ)) (line : Line) : Type 0 where
   pub ts : List Token
-  pub are : tokens line ≡ front ts
+  pub are : tokens line ≡ prefix ts
   pub words : ws ≡ flat_map token_words ts
   pub fit : AllByRecursion IsToken ts
 
@@ -94,29 +94,29 @@ clean_rest : (us ws : List (List ℕ)) → AllByRecursion Clean (us ++ ws) → A
 clean_rest [] ws h = h
 clean_rest (u ∷ us) ws h = clean_rest us ws h.1
 
-pub read_is_spelled : (form : LineForm) (front : List Token → List Token) (ws : List (List ℕ)) → Agrees form front → AllByRecursion Clean ws → IfOk (read form ws) (Spells front ws)
-read_is_spelled (Ends line) front ws a h = if_bind (ends_at ws) _ (λ _. ws ≡ []) (Spells front ws) (end_is_read ws) (λ end e. record { ts = []; are = a; words = e; fit = tt })
-read_is_spelled (Text line) front ws a h = if_bind (last_text_at ws) _ (ReadText ws) (Spells front ws) (text_is_read ws h) (λ t s. record { ts = Rest t ∷ []; are = a t; words = s.words ∙ sym (append-nil _); fit = (s.fits, tt) })
-read_is_spelled (Texts line) front ws a h = if_bind (last_texts_at ws) _ (ReadTexts ws) (Spells front ws) (texts_are_read ws h) (λ t s. record { ts = RestTexts t.0 t.1 ∷ []; are = a t.0 t.1; words = s.words ∙ sym (append-nil _); fit = (s.fits, tt) })
-read_is_spelled (Field kind form) front ws a h =
-    if_bind (field_at kind ws) _ (ReadField kind ws) (Spells front ws) (field_is_read kind ws h) (λ x t.
-    if_then (read (form x.0) x.1) (Spells (λ ts. front (Given kind x.0 ∷ ts)) x.1) (Spells front ws)
-    (read_is_spelled (form x.0) (λ ts. front (Given kind x.0 ∷ ts)) x.1 (a x.0) (clean_rest (field_words kind x.0) x.1 (subst (AllByRecursion Clean) t.words h)))
+pub read_is_spelled : (form : LineForm) (prefix : List Token → List Token) (ws : List (List ℕ)) → Agrees form prefix → AllByRecursion Clean ws → IfOk (read form ws) (Spells prefix ws)
+read_is_spelled (Ends line) prefix ws a h = if_bind (ends_at ws) _ (λ _. ws ≡ []) (Spells prefix ws) (end_is_read ws) (λ end e. record { ts = []; are = a; words = e; fit = tt })
+read_is_spelled (Text line) prefix ws a h = if_bind (last_text_at ws) _ (ReadText ws) (Spells prefix ws) (text_is_read ws h) (λ t s. record { ts = Rest t ∷ []; are = a t; words = s.words ∙ sym (append-nil _); fit = (s.fits, tt) })
+read_is_spelled (Texts line) prefix ws a h = if_bind (last_texts_at ws) _ (ReadTexts ws) (Spells prefix ws) (texts_are_read ws h) (λ t s. record { ts = RestTexts t.0 t.1 ∷ []; are = a t.0 t.1; words = s.words ∙ sym (append-nil _); fit = (s.fits, tt) })
+read_is_spelled (Field kind form) prefix ws a h =
+    if_bind (field_at kind ws) _ (ReadField kind ws) (Spells prefix ws) (field_is_read kind ws h) (λ x t.
+    if_then (read (form x.0) x.1) (Spells (λ ts. prefix (Given kind x.0 ∷ ts)) x.1) (Spells prefix ws)
+    (read_is_spelled (form x.0) (λ ts. prefix (Given kind x.0 ∷ ts)) x.1 (a x.0) (clean_rest (field_words kind x.0) x.1 (subst (AllByRecursion Clean) t.words h)))
     (λ line s. record { ts = Given kind x.0 ∷ s.ts; are = s.are; words = t.words ∙ ap (λ vs. field_words kind x.0 ++ vs) s.words; fit = (t.fits, s.fit) }))
-read_is_spelled (Word word form other) front [] a h = tt
-read_is_spelled (Word word form other) front (w ∷ ws) a h =
-    cond_both (bytes_eq w word) (read form ws) (read other (w ∷ ws)) (λ r. IfOk r (Spells front (w ∷ ws)))
-    (λ is. if_then (read form ws) (Spells (λ ts. front (Fixed word ∷ ts)) ws) (Spells front (w ∷ ws)) (read_is_spelled form (λ ts. front (Fixed word ∷ ts)) ws a.0 h.1)
+read_is_spelled (Word word form other) prefix [] a h = tt
+read_is_spelled (Word word form other) prefix (w ∷ ws) a h =
+    cond_both (bytes_eq w word) (read form ws) (read other (w ∷ ws)) (λ r. IfOk r (Spells prefix (w ∷ ws)))
+    (λ is. if_then (read form ws) (Spells (λ ts. prefix (Fixed word ∷ ts)) ws) (Spells prefix (w ∷ ws)) (read_is_spelled form (λ ts. prefix (Fixed word ∷ ts)) ws a.0 h.1)
     (λ line s. record { ts = Fixed word ∷ s.ts; are = s.are; words = ap (λ v. v ∷ ws) ((bytes_eq-Decides w word).0 is) ∙ ap (λ vs. word ∷ vs) s.words; fit = (tt, s.fit) }))
-    (λ is. read_is_spelled other front (w ∷ ws) a.1 h)
-read_is_spelled (Fails fault) front ws a h = tt
+    (λ is. read_is_spelled other prefix (w ∷ ws) a.1 h)
+read_is_spelled (Fails fault) prefix ws a h = tt
 
--- a word that is none of the rows'
-pub choose_none : (rows : List (List ℕ × LineForm)) (fault : LineFault) (w : List ℕ) (ws : List (List ℕ)) → AllByRecursion (λ row. bytes_eq w row.0 ≡ false) rows → read (choose rows fault) (w ∷ ws) ≡ Err fault
+-- a word that is none of the pairs'
+pub choose_none : (pairs : List (List ℕ × LineForm)) (fault : LineFault) (w : List ℕ) (ws : List (List ℕ)) → AllByRecursion (λ pair. bytes_eq w pair.0 ≡ false) pairs → read (choose pairs fault) (w ∷ ws) ≡ Err fault
 choose_none [] fault w ws h = refl
-choose_none (row ∷ rows) fault w ws h = rw h.0 (choose_none rows fault w ws h.1)
+choose_none (pair ∷ pairs) fault w ws h = rw h.0 (choose_none pairs fault w ws h.1)
 
--- a word that is none of the first rows'
-pub choose-append : (first later : List (List ℕ × LineForm)) (fault : LineFault) (w : List ℕ) (ws : List (List ℕ)) → AllByRecursion (λ row. bytes_eq w row.0 ≡ false) first → read (choose (first ++ later) fault) (w ∷ ws) ≡ read (choose later fault) (w ∷ ws)
+-- a word that is none of the first pairs'
+pub choose-append : (first later : List (List ℕ × LineForm)) (fault : LineFault) (w : List ℕ) (ws : List (List ℕ)) → AllByRecursion (λ pair. bytes_eq w pair.0 ≡ false) first → read (choose (first ++ later) fault) (w ∷ ws) ≡ read (choose later fault) (w ∷ ws)
 choose-append [] later fault w ws h = refl
-choose-append (row ∷ rows) later fault w ws h = rw h.0 (choose-append rows later fault w ws h.1)
+choose-append (pair ∷ pairs) later fault w ws h = rw h.0 (choose-append pairs later fault w ws h.1)

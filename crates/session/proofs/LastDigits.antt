@@ -18,16 +18,16 @@ three_digits n = (48 + n / 100 % 10) ∷ (48 + n / 10 % 10) ∷ (48 + n % 10) �
 
 pub decimal-two_last : (n : ℕ) → 100 ≤ n → n < 2 ^ 64 → decimal n ≡ decimal (n / 100) ++ (48 + n / 10 % 10) ∷ (48 + n % 10) ∷ []
 decimal-two_last n more small =
-    let front : n / 10 / 10 ≡ n / 100 = omega arith in
+    let prefix : n / 10 / 10 ≡ n / 100 = omega arith in
     decimal-last n (omega arith) small
-    ∙ ap (λ ds. ds ++ (48 + n % 10) ∷ []) (decimal-last (n / 10) (omega arith) (omega arith) ∙ ap (λ (m : ℕ). decimal m ++ (48 + n / 10 % 10) ∷ []) front)
+    ∙ ap (λ ds. ds ++ (48 + n % 10) ∷ []) (decimal-last (n / 10) (omega arith) (omega arith) ∙ ap (λ (m : ℕ). decimal m ++ (48 + n / 10 % 10) ∷ []) prefix)
     ∙ append_assoc (decimal (n / 100)) ((48 + n / 10 % 10) ∷ []) ((48 + n % 10) ∷ [])
 
 pub decimal-three_last : (n : ℕ) → 1000 ≤ n → n < 2 ^ 64 → decimal n ≡ decimal (n / 1000) ++ three_digits n
 decimal-three_last n more small =
-    let front : n / 100 / 10 ≡ n / 1000 = omega arith in
+    let prefix : n / 100 / 10 ≡ n / 1000 = omega arith in
     decimal-two_last n (omega arith) small
-    ∙ ap (λ ds. ds ++ (48 + n / 10 % 10) ∷ (48 + n % 10) ∷ []) (decimal-last (n / 100) (omega arith) (omega arith) ∙ ap (λ (m : ℕ). decimal m ++ (48 + n / 100 % 10) ∷ []) front)
+    ∙ ap (λ ds. ds ++ (48 + n / 10 % 10) ∷ (48 + n % 10) ∷ []) (decimal-last (n / 100) (omega arith) (omega arith) ∙ ap (λ (m : ℕ). decimal m ++ (48 + n / 100 % 10) ∷ []) prefix)
     ∙ append_assoc (decimal (n / 1000)) ((48 + n / 100 % 10) ∷ []) ((48 + n / 10 % 10) ∷ (48 + n % 10) ∷ [])
 
 -- a number of three digits, of two, and of one

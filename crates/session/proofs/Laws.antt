@@ -22,7 +22,7 @@ use Rattle.session.proofs.FirstChecks.{checked}
 use Rattle.session.proofs.Forms.{follow, followed_is_read, Agrees, Spells}
 use Rattle.session.proofs.Forms as forms
 
--- the words that are written out in parts are plain
+-- the words that are written out in tokens are plain
 abbrev are_plain : List Token → Bool
 are_plain [] = true
 are_plain (Fixed word ∷ ts) = list_all (λ b. ltb 32 b && ltb b 128) word && are_plain ts
@@ -39,7 +39,7 @@ clean_tokens (Given kind value ∷ ts) e h = clean_append _ (flat_map token_word
 clean_tokens (Rest text ∷ ts) e h = clean_append _ (flat_map token_words ts) (clean_words text h.0.utf8) (clean_tokens ts e h.1)
 clean_tokens (RestTexts text action ∷ ts) e h = clean_append _ (flat_map token_words ts) (clean_words (joined_by_bars text action) (utf8-joined text action h.0)) (clean_tokens ts e h.1)
 
--- the parts begin with a word that neither a blank line nor a comment begins with
+-- the tokens begin with a word that neither a blank line nor a comment begins with
 abbrev is_loud : List Token → Bool
 is_loud (Fixed (b ∷ word) ∷ ts) = not (eqb b 35) && not (eqb b 32)
 is_loud ts = false
@@ -57,7 +57,7 @@ loud (Rest text ∷ ts) h = absurd cc
 loud (RestTexts text action ∷ ts) h = absurd cc
 
 -- what is found of each line by computing
-record Row (line : Line) : Type 0 where
+record LineFacts (line : Line) : Type 0 where
   follows : follow line_form (tokens line) ≡ Some line
   plain : are_plain (tokens line) ≡ true
   loud : is_loud (tokens line) ≡ true
@@ -66,22 +66,22 @@ record Row (line : Line) : Type 0 where
   more : List (List ℕ)
   words : flat_map token_words (tokens line) ≡ first ∷ more
 
-abbrev RowOf : Line → Type 0
-RowOf Quiet = Unit {0}
-RowOf line = Row line
+abbrev FactsOf : Line → Type 0
+FactsOf Quiet = Unit {0}
+FactsOf line = LineFacts line
 
-row : (line : Line) → RowOf line
-row Quiet = tt
-row (Stamp layer x y width values true) = record { follows = refl; plain = refl; loud = refl; few = refl; first = _; more = _; words = refl }
-row (Erase layer x y width height true) = record { follows = refl; plain = refl; loud = refl; few = refl; first = _; more = _; words = refl }
-row (MoveObject object x y true) = record { follows = refl; plain = refl; loud = refl; few = refl; first = _; more = _; words = refl }
-row (Select Replace x y width height) = record { follows = refl; plain = refl; loud = refl; few = refl; first = _; more = _; words = refl }
-row (SetProperty owner name (typed.String text) true) = record { follows = refl; plain = refl; loud = refl; few = refl; first = _; more = _; words = refl }
-row (SetProperty owner name value true) = record { follows = refl; plain = refl; loud = refl; few = refl; first = _; more = _; words = refl }
-row line = record { follows = refl; plain = refl; loud = refl; few = refl; first = _; more = _; words = refl }
+facts : (line : Line) → FactsOf line
+facts Quiet = tt
+facts (Stamp layer x y width values true) = record { follows = refl; plain = refl; loud = refl; few = refl; first = _; more = _; words = refl }
+facts (Erase layer x y width height true) = record { follows = refl; plain = refl; loud = refl; few = refl; first = _; more = _; words = refl }
+facts (MoveObject object x y true) = record { follows = refl; plain = refl; loud = refl; few = refl; first = _; more = _; words = refl }
+facts (Select Replace x y width height) = record { follows = refl; plain = refl; loud = refl; few = refl; first = _; more = _; words = refl }
+facts (SetProperty owner name (typed.String text) true) = record { follows = refl; plain = refl; loud = refl; few = refl; first = _; more = _; words = refl }
+facts (SetProperty owner name value true) = record { follows = refl; plain = refl; loud = refl; few = refl; first = _; more = _; words = refl }
+facts line = record { follows = refl; plain = refl; loud = refl; few = refl; first = _; more = _; words = refl }
 
-row_is_read : (line : Line) → Row line → CanBeSpelled line → line_of (spelling line) ≡ Ok line
-row_is_read line r h =
+line_is_read : (line : Line) → LineFacts line → CanBeSpelled line → line_of (spelling line) ≡ Ok line
+line_is_read line r h =
     let ws = flat_map token_words (tokens line) in
     let all = clean_tokens (tokens line) r.plain h.0 in
     let back : words (spelling line) ≡ ws = ap (λ vs. words (spaced vs)) r.words ∙ words-spaced r.first r.more (subst (AllByRecursion Clean) r.words all) ∙ sym r.words in
@@ -92,7 +92,7 @@ row_is_read line r h =
 
 pub spelled_is_read : SpelledIsRead
 spelled_is_read Quiet h = checked [] (omega arith) IsUtf8-nil
-spelled_is_read line h = row_is_read line (row line) h
+spelled_is_read line h = line_is_read line (facts line) h
 
 agrees : Agrees line_form (λ ts. ts)
 agrees = search rules

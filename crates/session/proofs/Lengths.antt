@@ -1,4 +1,4 @@
--- How long the parts of a line are.
+-- How long the tokens of a line are.
 use Rattle.std.proofs.Common.{◌≡◌, ℕ, suc, ◌+◌, ◌^◌, ◌<◌, ◌≤◌, Bool, true, false, leb, eqb, List, [], ◌∷◌, ◌++◌, length, None, Some, ℤ, pos, negsuc, ap, arith, inl, inr, IsTrue, ◌||◌, ◌&&◌, Option}
 use Rattle.std.specs.List.{AllByRecursion, flat_map, list_all}
 use Rattle.std.specs.Fmt.{decimal, signed_decimal}
@@ -31,7 +31,7 @@ field_room Key = MAX_KEY
 field_room Color = 9
 field_room OwnerName = 17
 
--- no fewer than the bytes of parts, each with a space behind it
+-- no fewer than the bytes of tokens, each with a space behind it
 abbrev pub room : List Token → ℕ
 room [] = 0
 room (Fixed word ∷ ts) = length word + 1 + room ts
@@ -88,9 +88,9 @@ truth_within false = omega arith
 color_within : (color : List ℕ) → is_color color ≡ true → length color ≤ 9
 color_within [] h = omega arith
 color_within (b ∷ digits) h =
-    let parts = and_parts (eqb b 35 && (eqb (length digits) 6 || eqb (length digits) 8)) (list_all is_color_digit digits) h in
-    let front = and_parts (eqb b 35) (eqb (length digits) 6 || eqb (length digits) 8) parts.0 in
-    elim (or_cases (eqb (length digits) 6) (eqb (length digits) 8) front.1) [
+    let halves = and_parts (eqb b 35 && (eqb (length digits) 6 || eqb (length digits) 8)) (list_all is_color_digit digits) h in
+    let prefix = and_parts (eqb b 35) (eqb (length digits) 6 || eqb (length digits) 8) halves.0 in
+    elim (or_cases (eqb (length digits) 6) (eqb (length digits) 8) prefix.1) [
       | inl six ↦ omega (arith, eqb-true (length digits) 6 six)
       | inr eight ↦ omega (arith, eqb-true (length digits) 8 eight)
     ]
@@ -128,7 +128,7 @@ tokens_within (Given kind value ∷ ts) h r = omega (arith, total-append (field_
 tokens_within (Rest text ∷ ts) h r = omega (arith, total-append (words text) (flat_map token_words ts), total-words text, h.0.short, tokens_within ts h.1 (omega (arith, r)))
 tokens_within (RestTexts text action ∷ ts) h r = omega (arith, total-append (words (joined_by_bars text action)) (flat_map token_words ts), total-words (joined_by_bars text action), joined_within text action h.0, tokens_within ts h.1 (omega (arith, r)))
 
--- parts without a block are short, and with one they have to be
+-- tokens without a block are short, and with one they have to be
 pub is_short : (ts : List Token) → (has_block ts || leb (room ts) MAX_LINE) ≡ true → AllByRecursion IsToken ts → (IsTrue (has_block ts) → length (spaced (flat_map token_words ts)) ≤ MAX_LINE) → length (spaced (flat_map token_words ts)) ≤ MAX_LINE
 is_short ts few h short = elim (or_cases _ _ few) [
   | inl block ↦ short block

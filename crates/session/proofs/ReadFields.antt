@@ -60,11 +60,11 @@ rows_is_read width [] = tt
 rows_is_read width (w ∷ ws) = if_word (numbers_of w) (λ values. cond (are_rows width (length values)) (Ok ((width, values), ws)) (Err BadWord)) (ReadRows width (w ∷ ws)) (λ values e.
     let at = commas_from w values e in
     cond_both (are_rows width (length values)) (Ok ((width, values), ws)) (Err BadWord) (λ r. IfOk r (ReadRows width (w ∷ ws))) (λ is.
-    let parts = and_parts _ _ is in
-    let wide = and_parts _ _ parts.0 in
+    let halves = and_parts _ _ is in
+    let wide = and_parts _ _ halves.0 in
     record {
       width_is = refl;
-      fits = record { some = leb-true _ _ wide.0; narrow = leb-true _ _ wide.1; rows = eqb-true _ _ parts.1; filled = at.some; numbers = at.numbers };
+      fits = record { some = leb-true _ _ wide.0; narrow = leb-true _ _ wide.1; rows = eqb-true _ _ halves.1; filled = at.some; numbers = at.numbers };
       words = ap (λ v. v ∷ ws) (sym at.spelled);
     }) (λ is. tt))
 
@@ -81,8 +81,8 @@ ne_from_not a b h e = both_ways _ (not-true _ h) (eq-eqb a b e)
 
 pub is_name_from : (limit : ℕ) (bytes : List ℕ) → is_name limit bytes ≡ true → IsName limit bytes
 is_name_from limit bytes h =
-    let parts = and_parts _ _ h in
-    let dash = and_parts _ _ parts.0 in
+    let halves = and_parts _ _ h in
+    let dash = and_parts _ _ halves.0 in
     let dot = and_parts _ _ dash.0 in
     let size = and_parts _ _ dot.0 in
     record {
@@ -90,7 +90,7 @@ is_name_from limit bytes h =
       short = leb-true _ _ size.1;
       no_dot = ne_from_not _ _ dot.1;
       no_dash = ne_from_not _ _ dash.1;
-      bytes = AllPass-from_list_all is_name_byte bytes parts.1;
+      bytes = AllPass-from_list_all is_name_byte bytes halves.1;
     }
 
 -- a name up to that limit was read, and these words are left
@@ -136,12 +136,12 @@ truth_is_read (w ∷ ws) = if_word (truth_of w) (λ a. Ok (a, ws)) (ReadField Tr
 
 is_key_from : (bytes : List ℕ) → is_key bytes ≡ true → IsUtf8 bytes → IsKey bytes
 is_key_from bytes h u =
-    let parts = and_parts _ _ h in
-    let size = and_parts _ _ parts.0 in
+    let halves = and_parts _ _ h in
+    let size = and_parts _ _ halves.0 in
     record {
       some = leb-true _ _ size.0;
       short = leb-true _ _ size.1;
-      bytes = λ k d l. let at = and_parts _ _ (AllPass-from_list_all is_key_byte bytes parts.1 k d l) in (leb-true _ _ at.0, ne_from_not _ _ at.1);
+      bytes = λ k d l. let at = and_parts _ _ (AllPass-from_list_all is_key_byte bytes halves.1 k d l) in (leb-true _ _ at.0, ne_from_not _ _ at.1);
       utf8 = u;
     }
 
@@ -178,12 +178,12 @@ field_is_read YesNo ws h = yes_no_is_read ws
 
 pub is_text_from : (bytes : List ℕ) → is_text bytes ≡ true → IsUtf8 bytes → IsText bytes
 is_text_from bytes h u =
-    let parts = and_parts _ _ h in
-    let size = and_parts _ _ parts.0 in
+    let halves = and_parts _ _ h in
+    let size = and_parts _ _ halves.0 in
     record {
       some = leb-true _ _ size.0;
       short = leb-true _ _ size.1;
-      bytes = λ k d l. let at = and_parts _ _ (AllPass-from_list_all is_text_byte bytes parts.1 k d l) in (leb-true _ _ at.0, ne_from_not _ _ at.1);
+      bytes = λ k d l. let at = and_parts _ _ (AllPass-from_list_all is_text_byte bytes halves.1 k d l) in (leb-true _ _ at.0, ne_from_not _ _ at.1);
       utf8 = u;
     }
 

@@ -53,7 +53,7 @@ plain_by (w ∷ ws) k (Some x) h = (k w ws refl ∙ ap (option_map pos) h.0, h.1
 pub plain_found : (text : List ℕ) → ((rest : List ℕ) → text ≢ 45 ∷ rest) → (found : Option (ℕ × Option (Bor (List ℕ)))) → IsFirst distance_of (words text) 32 found → IsFirst coordinate_of (words text) 32 (option_map (λ x. (pos x.0, x.1)) found)
 plain_found text h found f = plain_by (words text) (λ w ws e. without_minus w (no_minus_word text h w ws e)) found f
 
--- a number below 0 within reach is an `i32`
+-- a number below 0 that is a distance is an `i32`
 pub fits_below : (n : ℕ) (z : ℤ) → Some z ≡ below_zero n → n ≤ MAX_COORDINATE → FitsSigned w32 z
 fits_below zero z e h = absurd cc
 fits_below (suc n) z e h = let same : negsuc n ≡ z = cc in subst (FitsSigned w32) same (omega (arith, ints))

@@ -30,8 +30,8 @@ pub record Plain (word : List ℕ) : Type 0 where
 plain_digits : (ds : List ℕ) → list_all is_ascii_digit ds ≡ true → AllByRecursion (λ b. (44 < b) × (b < 128)) ds
 plain_digits [] h = tt
 plain_digits (c ∷ cs) h =
-    let parts = digits_test.parts c cs h in
-    ((omega (arith, parts.0.0), omega (arith, parts.0.1)), plain_digits cs parts.1)
+    let halves = digits_test.parts c cs h in
+    ((omega (arith, halves.0.0), omega (arith, halves.0.1)), plain_digits cs halves.1)
 
 -- no space in front of the comma
 pub lower : (ds : List ℕ) → AllByRecursion (λ b. (44 < b) × (b < 128)) ds → AllByRecursion IsPlain ds
@@ -76,9 +76,9 @@ space = IsUtf8-from_ascii (32 ∷ []) (IsAscii-from_all (32 ∷ []) (All-from_re
 plain_tested : (word : List ℕ) → list_all (λ b. ltb 32 b && ltb b 128) word ≡ true → AllByRecursion IsPlain word
 plain_tested [] h = tt
 plain_tested (b ∷ word) h =
-    let parts = and_parts _ _ h in
-    let both = and_parts _ _ parts.0 in
-    ((ltb-true _ _ both.0, ltb-true _ _ both.1), plain_tested word parts.1)
+    let halves = and_parts _ _ h in
+    let both = and_parts _ _ halves.0 in
+    ((ltb-true _ _ both.0, ltb-true _ _ both.1), plain_tested word halves.1)
 
 -- a word that is written out
 pub plain_literal : (word : List ℕ) → list_all (λ b. ltb 32 b && ltb b 128) word ≡ true → Plain word

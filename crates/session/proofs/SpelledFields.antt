@@ -128,15 +128,15 @@ color_digit b h = (grind (arith, nat_tests), grind (arith, nat_tests))
 
 color_digits : (digits : List ℕ) → list_all is_color_digit digits ≡ true → AllByRecursion IsPlain digits
 color_digits [] h = tt
-color_digits (b ∷ digits) h = let parts = and_parts _ _ h in (color_digit b parts.0, color_digits digits parts.1)
+color_digits (b ∷ digits) h = let halves = and_parts _ _ h in (color_digit b halves.0, color_digits digits halves.1)
 
 plain_color : (color : List ℕ) → is_color color ≡ true → Plain color
 plain_color [] h = absurd cc
 plain_color (b ∷ digits) h =
-    let parts = and_parts _ _ h in
-    let front = and_parts _ _ parts.0 in
-    let hash : b ≡ 35 = eqb-true b 35 front.0 in
-    record { bytes = ((omega (arith, hash), omega (arith, hash)), color_digits digits parts.1) }
+    let halves = and_parts _ _ h in
+    let prefix = and_parts _ _ halves.0 in
+    let hash : b ≡ 35 = eqb-true b 35 prefix.0 in
+    record { bytes = ((omega (arith, hash), omega (arith, hash)), color_digits digits halves.1) }
 
 clean_key : (name : List ℕ) → IsKey name → Clean name
 clean_key name h = record { no_space = recursion_from_All _ name (λ k d l. ne_eqb _ 32 (λ e. omega (arith, (h.bytes k d l).0, e))); utf8 = h.utf8 }

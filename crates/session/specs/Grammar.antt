@@ -178,7 +178,7 @@ read (Fails fault) ws = Err fault
 -- one of those words with what it leads to, or else that fault
 abbrev pub choose : List (List ℕ × LineForm) → LineFault → LineForm
 choose [] fault = Fails fault
-choose (row ∷ rows) fault = Word row.0 row.1 (choose rows fault)
+choose (pair ∷ pairs) fault = Word pair.0 pair.1 (choose pairs fault)
 
 abbrev pub add_layer_form : LineForm
 add_layer_form = Field LayerSort λ kind. Text (AddLayer kind)
@@ -302,7 +302,7 @@ abbrev pub limit_form : LineForm
 limit_form = Field Number λ limit. Ends (Limit limit)
 
 abbrev pub step_text_form : LineForm
-step_text_form = Field Number λ place. Ends (StepText place)
+step_text_form = Field Number λ i. Ends (StepText i)
 
 -- what is selected
 abbrev pub select_lines : List (List ℕ × LineForm)

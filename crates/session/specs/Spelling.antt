@@ -57,7 +57,7 @@ abbrev pub joined_by_bars : List ℕ → Option (List ℕ) → List ℕ
 joined_by_bars text None = text
 joined_by_bars text (Some action) = text ++ (bars ++ action)
 
--- a part of a spelled line: a word that is written out, a field with its value, a text that goes to the end, or the texts
+-- a token of a spelled line: a word that is written out, a field with its value, a text that goes to the end, or the texts
 -- of a macro, which go there too
 pub data Token : Type 0 where
   Fixed : List ℕ → Token
@@ -77,7 +77,7 @@ selection_mode_word Add = codes "add"
 selection_mode_word Subtract = codes "subtract"
 selection_mode_word Intersect = codes "intersect"
 
--- the parts of a property's type and value
+-- the tokens of a property's type and value
 abbrev pub value_tokens : TypedValue → List Token
 value_tokens (typed.String text) = Fixed (codes "string") ∷ Rest text ∷ []
 value_tokens (typed.File text) = Fixed (codes "file") ∷ Rest text ∷ []
@@ -86,7 +86,7 @@ value_tokens (typed.Bool truth) = Fixed (codes "bool") ∷ Given Truth truth ∷
 value_tokens (typed.Color color) = Fixed (codes "color") ∷ Given Color color ∷ []
 value_tokens (typed.Object id) = Fixed (codes "object") ∷ Given Number id ∷ []
 
--- the parts of each line; a quiet one has none
+-- the tokens of each line; a quiet one has none
 abbrev pub tokens : Line → List Token
 tokens Quiet = []
 tokens (New name width height tile_width tile_height source) =
@@ -148,7 +148,7 @@ tokens Show = Fixed (codes "show") ∷ []
 tokens Status = Fixed (codes "status") ∷ []
 tokens UndoText = Fixed (codes "undotext") ∷ []
 tokens RedoText = Fixed (codes "redotext") ∷ []
-tokens (StepText place) = Fixed (codes "text") ∷ Given Number place ∷ []
+tokens (StepText i) = Fixed (codes "text") ∷ Given Number i ∷ []
 
 -- the word of a document's name, or of none
 abbrev pub choice_word : Option (List ℕ) → List ℕ
@@ -170,7 +170,7 @@ field_words Key name = name ∷ []
 field_words Color color = color ∷ []
 field_words OwnerName owner = owner_word owner ∷ []
 
--- the words of a part
+-- the words of a token
 abbrev pub token_words : Token → List (List ℕ)
 token_words (Fixed word) = word ∷ []
 token_words (Given kind value) = field_words kind value
@@ -205,13 +205,13 @@ pub record IsText (text : List ℕ) : Type 0 where
   pub bytes : All (λ b. (32 ≤ b) × (b ≢ 127)) text
   pub utf8 : IsUtf8 text
 
--- a part stands nowhere in the bytes
+-- a piece stands nowhere in the bytes
 abbrev pub IsNotIn : List ℕ → List ℕ → Type 0
-IsNotIn part bytes = (front back : List ℕ) → bytes ≢ front ++ (part ++ back)
+IsNotIn piece bytes = (prefix back : List ℕ) → bytes ≢ prefix ++ (piece ++ back)
 
--- a part does not stand at the end of the bytes
+-- a piece does not stand at the end of the bytes
 abbrev pub IsNotEndOf : List ℕ → List ℕ → Type 0
-IsNotEndOf part bytes = (front : List ℕ) → bytes ≢ front ++ part
+IsNotEndOf piece bytes = (prefix : List ℕ) → bytes ≢ prefix ++ piece
 
 -- the text holds no bars, and in front of an action its end makes none with the bars behind it
 abbrev pub HasNoBars : List ℕ → Option (List ℕ) → Type 0
@@ -264,24 +264,24 @@ IsField Key name = IsKey name
 IsField Color color = IsTrue (is_color color)
 IsField OwnerName owner = IsOwner owner
 
--- a part that can be spelled
+-- a token that can be spelled
 abbrev pub IsToken : Token → Type 0
 IsToken (Fixed word) = ⊤
 IsToken (Given kind value) = IsField kind value
 IsToken (Rest text) = IsText text
 IsToken (RestTexts text action) = AreTexts text action
 
--- whether a part is a block
+-- whether a token is a block
 abbrev pub is_block_token : Token → Bool
 is_block_token (Given Block block) = true
 is_block_token token = false
 
--- whether a part of a line is a block
+-- whether a token of a line is a block
 abbrev pub has_block : List Token → Bool
 has_block [] = false
 has_block (t ∷ ts) = has_block ts || is_block_token t
 
--- the lines that have a spelling: their parts have one, and with a block it is not too long
+-- the lines that have a spelling: their tokens have one, and with a block it is not too long
 abbrev pub CanBeSpelled : Line → Type 0
 CanBeSpelled line =
     AllByRecursion IsToken (tokens line) × (IsTrue (has_block (tokens line)) → length (spelling line) ≤ MAX_LINE)

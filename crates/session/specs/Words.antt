@@ -18,8 +18,8 @@ abbrev pub words : List ℕ → List (List ℕ)
 words bytes = slice_split (λ b. b == 32) bytes
 
 -- a byte, and no leading zero
-abbrev pub is_numeral_front : List ℕ → Bool
-is_numeral_front word = nat_lt 0 (length word) && (length word == 1 || not (slice_index word 0 == 48))
+abbrev pub is_numeral_prefix : List ℕ → Bool
+is_numeral_prefix word = nat_lt 0 (length word) && (length word == 1 || not (slice_index word 0 == 48))
 
 -- the value of digits, where it is below 2^32
 abbrev pub digits_of : List ℕ → Option ℕ
@@ -28,7 +28,7 @@ digits_of word =
 
 -- the number that a word is: `0`, or digits without a leading zero, of a value below 2^32
 unfoldable pub number_of : List ℕ → Option ℕ
-number_of word = if is_numeral_front word then digits_of word else None
+number_of word = if is_numeral_prefix word then digits_of word else None
 
 -- the digits in front of other bytes, if any, and their value
 pub record AreLeadingDigits (bytes : List ℕ) (len value : ℕ) : Type 0 where
@@ -39,19 +39,19 @@ pub record AreLeadingDigits (bytes : List ℕ) (len value : ℕ) : Type 0 where
   pub end : len < length bytes → is_ascii_digit (slice_index bytes len) ≡ false
 
 -- digits in front have a value of 2^32 or more
-pub record HasLargeFront (bytes : List ℕ) : Type 0 where
+pub record HasLargePrefix (bytes : List ℕ) : Type 0 where
   pub len : ℕ
   pub within : len ≤ length bytes
   pub digits : list_all is_ascii_digit (take len bytes) ≡ true
   pub large : 2 ^ 32 ≤ digits_value 10 (take len bytes)
 
 -- a number that is not above the greatest distance of a coordinate
-abbrev pub within_reach : ℕ → Option ℕ
-within_reach n = if nat_le n MAX_COORDINATE then Some n else None
+abbrev pub as_distance : ℕ → Option ℕ
+as_distance n = if nat_le n MAX_COORDINATE then Some n else None
 
 -- the distance that a word is: a number that is not above the greatest distance
 unfoldable pub distance_of : List ℕ → Option ℕ
-distance_of word = option_and_then within_reach (number_of word)
+distance_of word = option_and_then as_distance (number_of word)
 
 -- the number below 0 that is so far from it; there is none for 0
 abbrev pub below_zero : ℕ → Option ℤ

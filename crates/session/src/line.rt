@@ -115,7 +115,7 @@ pub enum Line<'a> {
         dx: i32,
         dy: i32,
     },
-    /// A new object of the layer, with its place and size in pixels and its name.
+    /// A new object of the layer, with its position and size in pixels and its name.
     AddObject {
         layer: u32,
         x: i32,
@@ -124,7 +124,7 @@ pub enum Line<'a> {
         height: u32,
         name: Text<'a>,
     },
-    /// The object goes to that place, in pixels. Where it follows, it merges with the step before it, if that moves the
+    /// The object goes to that position, in pixels. Where it follows, it merges with the step before it, if that moves the
     /// same object.
     MoveObject {
         object: u32,
@@ -195,9 +195,9 @@ pub enum Line<'a> {
     UndoText,
     /// The text of the step that a redo makes again.
     RedoText,
-    /// The text of the step at that place, where the first one is at 0.
+    /// The text of the step with that number, where the first one has 0.
     StepText {
-        place: u32,
+        number: u32,
     },
 }
 

@@ -190,9 +190,9 @@ fn limit<'a>(fields: &mut Fields<'a>) -> Result<Line<'a>, LineFault>
 fn step_text<'a>(fields: &mut Fields<'a>) -> Result<Line<'a>, LineFault>
     ensures { Gives (λ x. x) result (read step_text_form (words_left fields.old.rest)) }
 {
-    let place = fields.number()?;
+    let number = fields.number()?;
     fields.end()?;
-    Ok(Line::StepText { place })
+    Ok(Line::StepText { number })
 }
 
 // A line of the commands that are not common. They have a frame of their own, since a function pays at its entry for all

@@ -263,7 +263,7 @@ fn push_tile(head: &mut ArrayString<512>, value: Gid, local: Option<LocalTile>)
     push_local(head, local);
 }
 
-// Writes a word, and a space where a text follows, which is no part of the head.
+// Writes a word, and a space where a text follows, which does not belong to the head.
 fn push_word(head: &mut ArrayString<512>, word: &'static str, text: &str)
     requires empty { head.old.bytes ≡ [] }
     requires short { length word.now ≤ 10 }

@@ -2,7 +2,7 @@ ghost use Rattle.std.specs.Char.{is_ascii_digit};
 ghost use Rattle.std.specs.Prelude.{◌≡◌, List, ℕ, false, ◌<◌, ◌∷◌, ◌==◌, ◌≤◌, ◌≢◌, ◌+◌, ◌++◌, All, take, drop, length, Some, IfSome, IfNone, option_map};
 ghost use Rattle.std.specs.List.{list_all, slice_split};
 ghost use Rattle.session.specs.declared.limits.TheConstants.{MAX_COORDINATE};
-ghost use Rattle.session.specs.Words.{number_of, is_numeral_front, AreLeadingDigits, HasLargeFront, IsFirst, words, distance_of, below_zero, coordinate_of, is_name, is_name_byte, is_text, is_text_byte, cut_at_bars, are_texts, pieces_left, size_left};
+ghost use Rattle.session.specs.Words.{number_of, is_numeral_prefix, AreLeadingDigits, HasLargePrefix, IsFirst, words, distance_of, below_zero, coordinate_of, is_name, is_name_byte, is_text, is_text_byte, cut_at_bars, are_texts, pieces_left, size_left};
 
 use crate::limits::{MAX_COORDINATE, MAX_TEXT};
 use memchr::memchr;
@@ -10,7 +10,7 @@ use memchr::memchr;
 /// The largest number.
 const MAX: u64 = 4_294_967_295;
 
-/// The place of the first separator.
+/// The offset of the first separator.
 fn separator_at(bytes: &[u8], separator: u8) -> Option<usize>
     ensures within { IfSome result (λ n. n < length bytes.now) }
     ensures found { IfSome result (λ n. All (λ b. b ≢ separator) (take n bytes.now)
@@ -35,11 +35,11 @@ pub fn cut(text: &str, separator: u8) -> (&str, Option<&str>)
 
 /// What stands in front of the first bars and what stands behind, or the whole text and nothing.
 pub fn cut_at_bars(text: &str) -> (&str, Option<&str>)
-    ensures front { result.0.now ≡ (cut_at_bars text.now).0 }
+    ensures prefix { result.0.now ≡ (cut_at_bars text.now).0 }
     ensures behind { option_map (λ s. s.now) result.1 ≡ (cut_at_bars text.now).1 }
 {
     match text.split_once(" || ") {
-        Some((front, behind)) => (front, Some(behind)),
+        Some((prefix, behind)) => (prefix, Some(behind)),
         None => (text, None),
     }
 }
@@ -47,7 +47,7 @@ pub fn cut_at_bars(text: &str) -> (&str, Option<&str>)
 /// The digits in front of other bytes: how many, and their value. There is none where it is 2^32 or more.
 fn leading_digits(bytes: &[u8]) -> Option<(usize, u32)>
     ensures some { IfSome result (λ x. AreLeadingDigits bytes.now x.0 x.1) }
-    ensures none { IfNone result (HasLargeFront bytes.now) }
+    ensures none { IfNone result (HasLargePrefix bytes.now) }
 {
     let mut len = 0;
     let mut n: u64 = 0;
@@ -65,8 +65,8 @@ fn leading_digits(bytes: &[u8]) -> Option<(usize, u32)>
 }
 
 /// Whether a word has a byte, and no zero in front of others.
-fn has_numeral_front(word: &[u8]) -> bool
-    ensures { result ≡ is_numeral_front word.now }
+fn has_numeral_prefix(word: &[u8]) -> bool
+    ensures { result ≡ is_numeral_prefix word.now }
 {
     if word.is_empty() {
         return false;
@@ -83,7 +83,7 @@ pub fn number_before(text: &str, separator: u8) -> Option<(u32, Option<&str>)>
 {
     let bytes = text.as_bytes();
     let (len, number) = leading_digits(bytes)?;
-    if !has_numeral_front(&bytes[..len]) {
+    if !has_numeral_prefix(&bytes[..len]) {
         return None;
     }
     if len == bytes.len() {

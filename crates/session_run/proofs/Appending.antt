@@ -6,7 +6,7 @@ use Rattle.std.proofs.Common.{Result, Ok, Err, OnErr, OnOk, true, false}
 use Rattle.std.specs.Result.{is_err}
 use Rattle.session.specs.declared.reply.Reply.{Reply}
 use Rattle.session.specs.Replies.{reply_text}
-use Rattle.session_run.specs.Runs.{TakesPart, reply_line}
+use Rattle.session_run.specs.Runs.{TakesBeginning, reply_line}
 use Rattle.std.proofs.lemmas.Bool.{eqb-true}
 use Rattle.std.proofs.lemmas.List.{append-nil, nil_from_length, take-append-drop}
 
@@ -17,17 +17,17 @@ appends_more (Some old) (Some bs) None xs ys h k = k
 appends_more (Some old) (Some bs) (Some cs) xs ys h k = k ∙ ap (λ zs. zs ++ ys) h ∙ append_assoc old xs ys
 
 -- the next write takes n of the bytes that are left
-pub takes_more : (a b c : Option (List ℕ)) (whole part rest : List ℕ) (n : ℕ) → whole ≡ part ++ rest → Appends a b part → Appends b c (take n rest) → (more : List ℕ) × (whole ≡ more ++ drop n rest) × Appends a c more
-takes_more a b c whole part rest n e h k =
-    (part ++ take n rest, e ∙ ap (λ zs. part ++ zs) (sym (take-append-drop n rest)) ∙ sym (append_assoc part (take n rest) (drop n rest)), appends_more a b c part (take n rest) h k)
+pub takes_more : (a b c : Option (List ℕ)) (whole beginning rest : List ℕ) (n : ℕ) → whole ≡ beginning ++ rest → Appends a b beginning → Appends b c (take n rest) → (more : List ℕ) × (whole ≡ more ++ drop n rest) × Appends a c more
+takes_more a b c whole beginning rest n e h k =
+    (beginning ++ take n rest, e ∙ ap (λ zs. beginning ++ zs) (sym (take-append-drop n rest)) ∙ sym (append_assoc beginning (take n rest) (drop n rest)), appends_more a b c beginning (take n rest) h k)
 
--- a part of the first bytes is one of all
-pub part_of_first : (a b : Option (List ℕ)) (xs ys : List ℕ) → TakesPart xs a b → TakesPart (xs ++ ys) a b
-part_of_first a b xs ys p = (p.0, p.1 ++ ys, ap (λ zs. zs ++ ys) p.2 ∙ append_assoc p.0 p.1 ys, p.3)
+-- a beginning of the first bytes is one of all
+pub beginning_of_first : (a b : Option (List ℕ)) (xs ys : List ℕ) → TakesBeginning xs a b → TakesBeginning (xs ++ ys) a b
+beginning_of_first a b xs ys p = (p.0, p.1 ++ ys, ap (λ zs. zs ++ ys) p.2 ∙ append_assoc p.0 p.1 ys, p.3)
 
--- the first bytes were taken, and a part of those behind them
-pub part_of_second : (a b c : Option (List ℕ)) (xs ys : List ℕ) → Appends a b xs → TakesPart ys b c → TakesPart (xs ++ ys) a c
-part_of_second a b c xs ys h p = (xs ++ p.0, p.1, ap (λ zs. xs ++ zs) p.2 ∙ sym (append_assoc xs p.0 p.1), appends_more a b c xs p.0 h p.3)
+-- the first bytes were taken, and a beginning of those behind them
+pub beginning_of_second : (a b c : Option (List ℕ)) (xs ys : List ℕ) → Appends a b xs → TakesBeginning ys b c → TakesBeginning (xs ++ ys) a c
+beginning_of_second a b c xs ys h p = (xs ++ p.0, p.1, ap (λ zs. xs ++ zs) p.2 ∙ sym (append_assoc xs p.0 p.1), appends_more a b c xs p.0 h p.3)
 
 pub on_err : {T E P : Type 0} (r : Result T E) → P → OnErr r P
 on_err (Ok x) p = tt

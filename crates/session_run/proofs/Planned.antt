@@ -25,14 +25,14 @@ same-IsSame v w e = record {
 
 -- the edit was committed, in a command that does the same
 pub push_step : (line : Line) (old mid : Workspace) (new : Machine) (edit : Edit) (w : Change) (reply : Reply) → Plans line old (planned.Push edit) mid → IsSame (edit_change edit) w
-    → Commits (active_of mid.machine) w reply mid.machine new → Step line old (Some reply) (workspace new mid.kept)
+    → Commits (active_of mid.machine) w reply mid.machine new → Step line old (Some reply) (workspace new mid.stored)
 push_step line old mid new edit w reply p same c =
     let P : Workspace → Type 0 = λ m. Commits (active_of m.machine) w reply m.machine new in
-    let Q : Workspace → Type 0 = λ m. Step line old (Some reply) (workspace new m.kept) in
-    subst Q (sym p.0) (commit_step line old.machine new old.kept (edit_change edit) w reply p.1 same (subst P p.0 c))
+    let Q : Workspace → Type 0 = λ m. Step line old (Some reply) (workspace new m.stored) in
+    subst Q (sym p.0) (commit_step line old.machine new old.stored (edit_change edit) w reply p.1 same (subst P p.0 c))
 
 -- there was no memory for a command
 pub unput_step : (line : Line) (old mid : Workspace) (edit : Edit) → Plans line old (planned.Push edit) mid → Step line old (Some (Refused NoMemory)) mid
 unput_step line old mid edit p =
     let Q : Workspace → Type 0 = λ m. Step line old (Some (Refused NoMemory)) m in
-    subst Q (sym p.0) (uncommitted line old.machine old.kept (edit_change edit) p.1)
+    subst Q (sym p.0) (uncommitted line old.machine old.stored (edit_change edit) p.1)

@@ -18,7 +18,7 @@ use Rattle.session.specs.Grammar.{line_of}
 use Rattle.session.specs.Replies.{refusal_of}
 use Rattle.editor.specs.Machine.{Workspace}
 use Rattle.editor.specs.Steps.{StepIn}
-use Rattle.session_run.specs.Runs.{Run, Progress, Goes, StepFound, TakesPart, AreClean, IsAccepted, RunsAll, RunsSome, RunsToRead, RunsToRefused, RunsToUnsaved, RunsToWrite, output, reply_line}
+use Rattle.session_run.specs.Runs.{Run, Progress, Goes, StepFound, TakesBeginning, AreClean, IsAccepted, RunsAll, RunsSome, RunsToRead, RunsToRefused, RunsToUnsaved, RunsToWrite, output, reply_line}
 use Rattle.session_run.proofs.Appending.{appends_more, appends_nothing}
 
 pub too_long : (long : List ℕ) → 2 ^ 16 ≤ length long → line_of long ≡ Err TooLong
@@ -39,11 +39,11 @@ run_more (l ∷ handled) line from now mid replies reply r s = (
   ap (λ rs. rs ++ option_to_list reply) r.5 ∙ append_assoc (option_to_list r.1) r.2 (option_to_list reply),
 )
 
-pub kept_appends : (a b c : Option (List ℕ)) (xs : List ℕ) → Appends a b xs → Keeps b c → Appends a c xs
-kept_appends None b c xs h k = tt
-kept_appends (Some old) None c xs h k = absurd h
-kept_appends (Some old) (Some bs) None xs h k = k
-kept_appends (Some old) (Some bs) (Some cs) xs h k = k ∙ h
+pub keeps_appends : (a b c : Option (List ℕ)) (xs : List ℕ) → Appends a b xs → Keeps b c → Appends a c xs
+keeps_appends None b c xs h k = tt
+keeps_appends (Some old) None c xs h k = absurd h
+keeps_appends (Some old) (Some bs) None xs h k = k
+keeps_appends (Some old) (Some bs) (Some cs) xs h k = k ∙ h
 
 -- the refusal of a reply is the reply's own
 pub refusal_of-Some : (reply : Reply) (refusal : Refusal) → refusal_of reply ≡ Some refusal → reply ≡ Refused refusal
@@ -54,8 +54,8 @@ refusal_of-Some reply refusal e = by_reply reply e
     by_reply r h = absurd cc
 
 -- a reply was written whole, and could not be flushed
-pub written_TakesPart : (bytes : List ℕ) (before after shown : Option (List ℕ)) → Appends before after bytes → Keeps after shown → TakesPart bytes before shown
-written_TakesPart bytes before after shown w e = (bytes, [], sym (append-nil bytes), kept_appends before after shown bytes w e)
+pub written_TakesBeginning : (bytes : List ℕ) (before after shown : Option (List ℕ)) → Appends before after bytes → Keeps after shown → TakesBeginning bytes before shown
+written_TakesBeginning bytes before after shown w e = (bytes, [], sym (append-nil bytes), keeps_appends before after shown bytes w e)
 
 -- a run that began at start
 module _ (strict : Bool) (start : Workspace) where
@@ -108,7 +108,7 @@ module _ (strict : Bool) (start : Workspace) where
       (λ h. All-cons IsAccepted reply [] (a h) (All-nil IsAccepted))
 
   pub goes_all : (known left left' : Option (List ℕ)) (line : List ℕ) (now : Workspace) (before after : Option (List ℕ)) (n k : ℕ) → Goes strict start known left now before after n k
-      → FindsLine left left' None line → (IsTrue strict → AreClean now.machine.group.documents) → IfSome known (λ input. RunsAll strict start input before after now.kept n k)
+      → FindsLine left left' None line → (IsTrue strict → AreClean now.machine.group.documents) → IfSome known (λ input. RunsAll strict start input before after now.stored n k)
   goes_all None left left' line now before after n k g l c = tt
   goes_all (Some input) None left' line now before after n k g l c = absurd g
   goes_all (Some input) (Some xs) None line now before after n k g l c = absurd l
@@ -117,16 +117,16 @@ module _ (strict : Bool) (start : Workspace) where
 
   -- a strict run leaves a document that is not clean
   pub goes_unsaved : (known left left' : Option (List ℕ)) (line : List ℕ) (now : Workspace) (before after : Option (List ℕ)) (n k : ℕ) → Goes strict start known left now before after n k
-      → FindsLine left left' None line → IsTrue strict → (AreClean now.machine.group.documents → ⊥) → IfSome known (λ input. RunsToUnsaved strict start input before after now.kept)
+      → FindsLine left left' None line → IsTrue strict → (AreClean now.machine.group.documents → ⊥) → IfSome known (λ input. RunsToUnsaved strict start input before after now.stored)
   goes_unsaved None left left' line now before after n k g l h u = tt
   goes_unsaved (Some input) None left' line now before after n k g l h u = absurd g
   goes_unsaved (Some input) (Some xs) None line now before after n k g l h u = absurd l
   goes_unsaved (Some input) (Some xs) (Some ys) line now before after n k g l h u =
       record { now = now.machine; lines = n; replied = k; progress = progress_with_left input _ _ now before after n k l.0 g; strictly = h; unsaved = u }
 
-  -- a part of a line had come, and the reader has the rest
+  -- the beginning of a line had come, and the reader has the rest
   pub goes_read : (known left left' reader : Option (List ℕ)) (pending : List ℕ) (now : Workspace) (before after : Option (List ℕ)) (n k : ℕ) → Goes strict start known left now before after n k
-      → StopsInLine left left' → left' ≡ prepend_known pending reader → HasNoNewline pending → IfSome known (λ input. RunsToRead strict start input reader before after now.kept)
+      → StopsInLine left left' → left' ≡ prepend_known pending reader → HasNoNewline pending → IfSome known (λ input. RunsToRead strict start input reader before after now.stored)
   goes_read None left left' reader pending now before after n k g l e h = tt
   goes_read (Some input) None left' reader pending now before after n k g l e h = absurd g
   goes_read (Some input) (Some xs) None reader pending now before after n k g l e h = absurd l
@@ -135,7 +135,7 @@ module _ (strict : Bool) (start : Workspace) where
       let same : ys ≡ pending ++ rest = cc in
       let whole : xs ≡ (l.0 ++ pending) ++ rest = l.2 ∙ ap (λ zs. l.0 ++ zs) same ∙ sym (append_assoc l.0 pending rest) in
       record {
-        part = l.0 ++ pending;
+        beginning = l.0 ++ pending;
         rest = rest;
         unfinished = All-append (λ b. b ≢ 10) l.0 pending l.1 h;
         unread = refl;
@@ -143,14 +143,14 @@ module _ (strict : Bool) (start : Workspace) where
       }
 
   goes_some : (known left : Option (List ℕ)) (now : Workspace) (before after : Option (List ℕ)) (n k : ℕ) → Goes strict start known left now before after n k
-      → IfSome known (λ input. RunsSome strict start input before after now.kept)
+      → IfSome known (λ input. RunsSome strict start input before after now.stored)
   goes_some None left now before after n k g = tt
   goes_some (Some input) None now before after n k g = absurd g
   goes_some (Some input) (Some xs) now before after n k g = record { left = lines_of xs; runs = record { now = now.machine; lines = n; replied = k; progress = g } }
 
   goes_write : (known left left' : Option (List ℕ)) (f : Found) (line : List ℕ) (mid now : Workspace) (reply : Reply) (before after after' : Option (List ℕ)) (n k : ℕ)
-      → Goes strict start known left mid before after n k → FindsLine left left' (Some f) line → StepFound f line mid (Some reply) now → TakesPart (reply_line reply) after after'
-      → IfSome known (λ input. RunsToWrite strict start input before after' now.kept)
+      → Goes strict start known left mid before after n k → FindsLine left left' (Some f) line → StepFound f line mid (Some reply) now → TakesBeginning (reply_line reply) after after'
+      → IfSome known (λ input. RunsToWrite strict start input before after' now.stored)
   goes_write None left left' f line mid now reply before after after' n k g l s w = tt
   goes_write (Some input) None left' f line mid now reply before after after' n k g l s w = absurd g
   goes_write (Some input) (Some xs) None f line mid now reply before after after' n k g l s w = absurd l
@@ -165,7 +165,7 @@ module _ (strict : Bool) (start : Workspace) where
     reply = reply;
     now = now.machine;
     step = s;
-    part = w;
+    beginning = w;
   }
   goes_write (Some input) (Some xs) (Some ys) found.TooLong line mid now reply before after after' n k g l s w = record {
     mid = mid;
@@ -178,7 +178,7 @@ module _ (strict : Bool) (start : Workspace) where
     reply = reply;
     now = now.machine;
     step = s l.0 l.2;
-    part = w;
+    beginning = w;
   }
 
   or_left : (P Q : List ℕ → Type 0) (known : Option (List ℕ)) → IfSome known P → IfSome known (λ input. P input ⊎ Q input)
@@ -191,27 +191,27 @@ module _ (strict : Bool) (start : Workspace) where
 
   -- the reply to a line could not be written
   pub goes_unwritten : (known left left' : Option (List ℕ)) (f : Found) (line : List ℕ) (mid now : Workspace) (reply : Reply) (before after after' : Option (List ℕ)) (n k : ℕ)
-      → Goes strict start known left mid before after n k → FindsLine left left' (Some f) line → StepFound f line mid (Some reply) now → TakesPart (reply_line reply) after after'
-      → IfSome known (λ input. RunsSome strict start input before after' now.kept ⊎ RunsToWrite strict start input before after' now.kept)
+      → Goes strict start known left mid before after n k → FindsLine left left' (Some f) line → StepFound f line mid (Some reply) now → TakesBeginning (reply_line reply) after after'
+      → IfSome known (λ input. RunsSome strict start input before after' now.stored ⊎ RunsToWrite strict start input before after' now.stored)
   goes_unwritten known left left' f line mid now reply before after after' n k g l s w =
       or_right _ _ known (goes_write known left left' f line mid now reply before after after' n k g l s w)
 
   -- the replies could not be flushed
   pub goes_unflushed : (known left : Option (List ℕ)) (now : Workspace) (before after : Option (List ℕ)) (n k : ℕ) → Goes strict start known left now before after n k
-      → IfSome known (λ input. RunsSome strict start input before after now.kept ⊎ RunsToWrite strict start input before after now.kept)
+      → IfSome known (λ input. RunsSome strict start input before after now.stored ⊎ RunsToWrite strict start input before after now.stored)
   goes_unflushed known left now before after n k g = or_left _ _ known (goes_some known left now before after n k g)
 
   -- a flush shows what was written
-  pub goes_kept : (known left : Option (List ℕ)) (now : Workspace) (before after after' : Option (List ℕ)) (n k : ℕ) → Goes strict start known left now before after n k → Keeps after after'
+  pub goes_keeps : (known left : Option (List ℕ)) (now : Workspace) (before after after' : Option (List ℕ)) (n k : ℕ) → Goes strict start known left now before after n k → Keeps after after'
       → Goes strict start known left now before after' n k
-  goes_kept None left now before after after' n k g h = tt
-  goes_kept (Some input) None now before after after' n k g h = g
-  goes_kept (Some input) (Some xs) now before after after' n k g h = record {
+  goes_keeps None left now before after after' n k g h = tt
+  goes_keeps (Some input) None now before after after' n k g h = g
+  goes_keeps (Some input) (Some xs) now before after after' n k g h = record {
     handled = g.handled;
     replies = g.replies;
     split = g.split;
     run = g.run;
-    written = kept_appends before after after' (output g.replies) g.written h;
+    written = keeps_appends before after after' (output g.replies) g.written h;
     accepted = g.accepted;
     lines_counted = g.lines_counted;
     replies_counted = g.replies_counted;
@@ -220,7 +220,7 @@ module _ (strict : Bool) (start : Workspace) where
   -- a strict run ends at a refused line, whose reply is written whole and flushed
   pub goes_refused : (known left left' : Option (List ℕ)) (f : Found) (line : List ℕ) (mid now : Workspace) (refusal : Refusal) (before after after' : Option (List ℕ)) (n k : ℕ)
       → Goes strict start known left mid before after n k → FindsLine left left' (Some f) line → StepFound f line mid (Some (Refused refusal)) now
-      → Appends after after' (reply_line (Refused refusal)) → IsTrue strict → IfSome known (λ input. RunsToRefused strict start input before after' now.kept)
+      → Appends after after' (reply_line (Refused refusal)) → IsTrue strict → IfSome known (λ input. RunsToRefused strict start input before after' now.stored)
   goes_refused None left left' f line mid now refusal before after after' n k g l s w h = tt
   goes_refused (Some input) None left' f line mid now refusal before after after' n k g l s w h = absurd g
   goes_refused (Some input) (Some xs) None f line mid now refusal before after after' n k g l s w h = absurd l

@@ -31,9 +31,9 @@ reply_line reply = reply_text reply ++ 10 ∷ []
 abbrev pub output : List Reply → List ℕ
 output replies = flat_map reply_line replies
 
--- the writer took a first part of the bytes, and not the rest
-abbrev pub TakesPart : List ℕ → Option (List ℕ) → Option (List ℕ) → Type 0
-TakesPart bytes before after = (part : List ℕ) × (rest : List ℕ) × (bytes ≡ part ++ rest) × Appends before after part
+-- the writer took the beginning of the bytes, and not the rest
+abbrev pub TakesBeginning : List ℕ → Option (List ℕ) → Option (List ℕ) → Type 0
+TakesBeginning bytes before after = (beginning : List ℕ) × (rest : List ℕ) × (bytes ≡ beginning ++ rest) × Appends before after beginning
 
 -- a reply that is no refusal
 abbrev pub IsAccepted : Reply → Type 0
@@ -60,43 +60,43 @@ pub record Progress (strict : Bool) (start : Workspace) (input : List ℕ) (left
   pub replies_counted : replied ≡ length replies
 
 -- All lines were handled, and the store keeps what the run leaves. A strict run leaves each document clean.
-pub record RunsAll (strict : Bool) (start : Workspace) (input : List ℕ) (before after : Option (List ℕ)) (kept : StoreParts) (lines replied : ℕ) : Type 0 where
+pub record RunsAll (strict : Bool) (start : Workspace) (input : List ℕ) (before after : Option (List ℕ)) (stored : StoreParts) (lines replied : ℕ) : Type 0 where
   pub now : Machine
-  pub progress : Progress strict start input [] (workspace now kept) before after lines replied
+  pub progress : Progress strict start input [] (workspace now stored) before after lines replied
   pub clean : IsTrue strict → AreClean now.group.documents
 
 -- a strict run: all lines were handled, and not each document is clean
-pub record RunsToUnsaved (strict : Bool) (start : Workspace) (input : List ℕ) (before after : Option (List ℕ)) (kept : StoreParts) : Type 0 where
+pub record RunsToUnsaved (strict : Bool) (start : Workspace) (input : List ℕ) (before after : Option (List ℕ)) (stored : StoreParts) : Type 0 where
   pub now : Machine
   pub lines : ℕ
   pub replied : ℕ
-  pub progress : Progress strict start input [] (workspace now kept) before after lines replied
+  pub progress : Progress strict start input [] (workspace now stored) before after lines replied
   pub strictly : IsTrue strict
   pub unsaved : AreClean now.group.documents → ⊥
 
 -- the lines were handled but for these, each is done, files and all, and each reply is written whole
-pub record RunsUpTo (left : List (List ℕ)) (strict : Bool) (start : Workspace) (input : List ℕ) (before after : Option (List ℕ)) (kept : StoreParts) : Type 0 where
+pub record RunsUpTo (left : List (List ℕ)) (strict : Bool) (start : Workspace) (input : List ℕ) (before after : Option (List ℕ)) (stored : StoreParts) : Type 0 where
   pub now : Machine
   pub lines : ℕ
   pub replied : ℕ
-  pub progress : Progress strict start input left (workspace now kept) before after lines replied
+  pub progress : Progress strict start input left (workspace now stored) before after lines replied
 
 -- some lines were handled
-pub record RunsSome (strict : Bool) (start : Workspace) (input : List ℕ) (before after : Option (List ℕ)) (kept : StoreParts) : Type 0 where
+pub record RunsSome (strict : Bool) (start : Workspace) (input : List ℕ) (before after : Option (List ℕ)) (stored : StoreParts) : Type 0 where
   pub left : List (List ℕ)
-  pub runs : RunsUpTo left strict start input before after kept
+  pub runs : RunsUpTo left strict start input before after stored
 
 -- All lines were handled before the one that had not come whole: what came of that one has no newline, and the rest of the input the
 -- reader still has.
-pub record RunsToRead (strict : Bool) (start : Workspace) (input : List ℕ) (reader : Option (List ℕ)) (before after : Option (List ℕ)) (kept : StoreParts) : Type 0 where
-  pub part : List ℕ
+pub record RunsToRead (strict : Bool) (start : Workspace) (input : List ℕ) (reader : Option (List ℕ)) (before after : Option (List ℕ)) (stored : StoreParts) : Type 0 where
+  pub beginning : List ℕ
   pub rest : List ℕ
-  pub unfinished : HasNoNewline part
+  pub unfinished : HasNoNewline beginning
   pub unread : reader ≡ Some rest
-  pub runs : RunsUpTo (lines_of (part ++ rest)) strict start input before after kept
+  pub runs : RunsUpTo (lines_of (beginning ++ rest)) strict start input before after stored
 
--- some lines were handled, and one more, whose step is done, files and all, and of the reply to which a first part is written
-pub record RunsToWrite (strict : Bool) (start : Workspace) (input : List ℕ) (before after : Option (List ℕ)) (kept : StoreParts) : Type 0 where
+-- some lines were handled, and one more, whose step is done, files and all, and of the reply to which the beginning is written
+pub record RunsToWrite (strict : Bool) (start : Workspace) (input : List ℕ) (before after : Option (List ℕ)) (stored : StoreParts) : Type 0 where
   pub mid : Workspace
   pub line : List ℕ
   pub left : List (List ℕ)
@@ -106,11 +106,11 @@ pub record RunsToWrite (strict : Bool) (start : Workspace) (input : List ℕ) (b
   pub progress : Progress strict start input (line ∷ left) mid before written lines replied
   pub reply : Reply
   pub now : Machine
-  pub step : StepIn line mid (Some reply) (workspace now kept)
-  pub part : TakesPart (reply_line reply) written after
+  pub step : StepIn line mid (Some reply) (workspace now stored)
+  pub beginning : TakesBeginning (reply_line reply) written after
 
 -- a strict run: the lines were handled up to and with the first that was refused, and each reply is written whole
-pub record RunsToRefused (strict : Bool) (start : Workspace) (input : List ℕ) (before after : Option (List ℕ)) (kept : StoreParts) : Type 0 where
+pub record RunsToRefused (strict : Bool) (start : Workspace) (input : List ℕ) (before after : Option (List ℕ)) (stored : StoreParts) : Type 0 where
   pub mid : Workspace
   pub line : List ℕ
   pub left : List (List ℕ)
@@ -121,7 +121,7 @@ pub record RunsToRefused (strict : Bool) (start : Workspace) (input : List ℕ) 
   pub strictly : IsTrue strict
   pub refusal : Refusal
   pub now : Machine
-  pub step : StepIn line mid (Some (Refused refusal)) (workspace now kept)
+  pub step : StepIn line mid (Some (Refused refusal)) (workspace now stored)
   pub reply : Appends written after (reply_line (Refused refusal))
 
 -- ---- within a run

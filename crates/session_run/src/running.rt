@@ -69,7 +69,7 @@ fn carry_out<C: Command, S: MapStore, F: Fn(Edit) -> Option<C>>(
     requires same { (edit : Edit) (command : Option C) → F.post put.now edit command → PutsSame C.change edit command }
     ensures sound { IsSound C.change editor.new }
     ensures step { Step line.now
-        (workspace (machine_of C.change editor.old) (S.kept store.old)) result (workspace (machine_of C.change editor.new) (S.kept store.new)) }
+        (workspace (machine_of C.change editor.old) (S.stored store.old)) result (workspace (machine_of C.change editor.new) (S.stored store.new)) }
 {
     match editor.plan(alloc, store, line) {
         Planned::Quiet => None,
@@ -96,7 +96,7 @@ pub fn step<C: Command, S: MapStore, F: Fn(Edit) -> Option<C>>(
     requires same { (edit : Edit) (command : Option C) → F.post put.now edit command → PutsSame C.change edit command }
     ensures sound { IsSound C.change editor.new }
     ensures step { StepIn line.now
-        (workspace (machine_of C.change editor.old) (S.kept store.old)) result (workspace (machine_of C.change editor.new) (S.kept store.new)) }
+        (workspace (machine_of C.change editor.old) (S.stored store.old)) result (workspace (machine_of C.change editor.new) (S.stored store.new)) }
 {
     match &parse_line(line) {
         Ok(line) => carry_out(alloc, editor, store, line, put),
@@ -119,7 +119,7 @@ fn step_found<C: Command, S: MapStore, F: Fn(Edit) -> Option<C>>(
     requires same { (edit : Edit) (command : Option C) → F.post put.now edit command → PutsSame C.change edit command }
     ensures sound { IsSound C.change editor.new }
     ensures step { StepFound found line.now
-        (workspace (machine_of C.change editor.old) (S.kept store.old)) result (workspace (machine_of C.change editor.new) (S.kept store.new)) }
+        (workspace (machine_of C.change editor.old) (S.stored store.old)) result (workspace (machine_of C.change editor.new) (S.stored store.new)) }
 {
     match found {
         Found::TooLong => Some(Reply::Refused(Refusal::Line(LineFault::TooLong))),
@@ -141,18 +141,18 @@ fn step_all<C: Command, R: Read, W: Write, S: MapStore, F: Fn(Edit) -> Option<C>
     requires callable { F.IsAlwaysCallable put }
     requires same { (edit : Edit) (command : Option C) → F.post put edit command → PutsSame C.change edit command }
     ensures ok { IfOk result (λ summary. IfSome (R.remaining reader.old) (λ input.
-        RunsAll (is_some strict.entry) (workspace (machine_of C.change editor) (S.kept store.old)) input (W.contents writer.old) (W.contents writer.new) (S.kept store.new)
+        RunsAll (is_some strict.entry) (workspace (machine_of C.change editor) (S.stored store.old)) input (W.contents writer.old) (W.contents writer.new) (S.stored store.new)
         summary.lines summary.replies)) }
     ensures read { IsErrOf result RunFault.Read → IfSome (R.remaining reader.old) (λ input.
-        RunsToRead (is_some strict.entry) (workspace (machine_of C.change editor) (S.kept store.old)) input (R.remaining reader.new) (W.contents writer.old) (W.contents writer.new) (S.kept store.new)) }
+        RunsToRead (is_some strict.entry) (workspace (machine_of C.change editor) (S.stored store.old)) input (R.remaining reader.new) (W.contents writer.old) (W.contents writer.new) (S.stored store.new)) }
     ensures write { IsErrOf result RunFault.Write → IfSome (R.remaining reader.old) (λ input.
-        RunsSome (is_some strict.entry) (workspace (machine_of C.change editor) (S.kept store.old)) input (W.contents writer.old) (W.contents writer.new) (S.kept store.new)
-        ⊎ RunsToWrite (is_some strict.entry) (workspace (machine_of C.change editor) (S.kept store.old)) input (W.contents writer.old) (W.contents writer.new) (S.kept store.new)) }
+        RunsSome (is_some strict.entry) (workspace (machine_of C.change editor) (S.stored store.old)) input (W.contents writer.old) (W.contents writer.new) (S.stored store.new)
+        ⊎ RunsToWrite (is_some strict.entry) (workspace (machine_of C.change editor) (S.stored store.old)) input (W.contents writer.old) (W.contents writer.new) (S.stored store.new)) }
     ensures memory { IsErrOf result RunFault.Memory → (writer.new ≡ writer.old) × (reader.new ≡ reader.old) × (store.new ≡ store.old) }
     ensures refused { IsErrOf result RunFault.Refused → IfSome (R.remaining reader.old) (λ input.
-        RunsToRefused (is_some strict.entry) (workspace (machine_of C.change editor) (S.kept store.old)) input (W.contents writer.old) (W.contents writer.new) (S.kept store.new)) }
+        RunsToRefused (is_some strict.entry) (workspace (machine_of C.change editor) (S.stored store.old)) input (W.contents writer.old) (W.contents writer.new) (S.stored store.new)) }
     ensures unsaved { IsErrOf result RunFault.Unsaved → IfSome (R.remaining reader.old) (λ input.
-        RunsToUnsaved (is_some strict.entry) (workspace (machine_of C.change editor) (S.kept store.old)) input (W.contents writer.old) (W.contents writer.new) (S.kept store.new)) }
+        RunsToUnsaved (is_some strict.entry) (workspace (machine_of C.change editor) (S.stored store.old)) input (W.contents writer.old) (W.contents writer.new) (S.stored store.new)) }
 {
     let Ok(mut lines) = LineReader::new(alloc) else {
         return Err(RunFault::Memory);
@@ -213,31 +213,31 @@ pub fn run<R: Read, W: Write, S: MapStore, T: Report>(
 
     // All lines of the input were handled, and the replies and the files are those of the machine.
     ensures ok { IfOk result (λ summary. IfSome (R.remaining reader.old) (λ input.
-        RunsAll (is_some strict.entry) (workspace (started_machine limit) (S.kept store.old)) input (W.contents writer.old) (W.contents writer.new) (S.kept store.new)
+        RunsAll (is_some strict.entry) (workspace (started_machine limit) (S.stored store.old)) input (W.contents writer.old) (W.contents writer.new) (S.stored store.new)
         summary.lines summary.replies)) }
 
     // All lines before the one that had not come whole are done, files and all, and the replies to them were written whole.
     // What came of that one and what the reader still has are the rest of the input.
     ensures read { IsErrOf result RunFault.Read → IfSome (R.remaining reader.old) (λ input.
-        RunsToRead (is_some strict.entry) (workspace (started_machine limit) (S.kept store.old)) input (R.remaining reader.new) (W.contents writer.old) (W.contents writer.new) (S.kept store.new)) }
+        RunsToRead (is_some strict.entry) (workspace (started_machine limit) (S.stored store.old)) input (R.remaining reader.new) (W.contents writer.old) (W.contents writer.new) (S.stored store.new)) }
 
     // All lines that were handled are done, files and all, and all replies were written whole and could not be flushed; or all
-    // replies before the one that could not be written were written whole, its line is done too, and of it a first part was
+    // replies before the one that could not be written were written whole, its line is done too, and of it the beginning was
     // written.
     ensures write { IsErrOf result RunFault.Write → IfSome (R.remaining reader.old) (λ input.
-        RunsSome (is_some strict.entry) (workspace (started_machine limit) (S.kept store.old)) input (W.contents writer.old) (W.contents writer.new) (S.kept store.new)
-        ⊎ RunsToWrite (is_some strict.entry) (workspace (started_machine limit) (S.kept store.old)) input (W.contents writer.old) (W.contents writer.new) (S.kept store.new)) }
+        RunsSome (is_some strict.entry) (workspace (started_machine limit) (S.stored store.old)) input (W.contents writer.old) (W.contents writer.new) (S.stored store.new)
+        ⊎ RunsToWrite (is_some strict.entry) (workspace (started_machine limit) (S.stored store.old)) input (W.contents writer.old) (W.contents writer.new) (S.stored store.new)) }
 
     // For the line buffer alone, and before anything was read or written.
     ensures memory { IsErrOf result RunFault.Memory → (writer.new ≡ writer.old) × (reader.new ≡ reader.old) × (store.new ≡ store.old) }
 
     // A strict run has handled the lines up to and with the first that was refused, and they are done.
     ensures refused { IsErrOf result RunFault.Refused → IfSome (R.remaining reader.old) (λ input.
-        RunsToRefused (is_some strict.entry) (workspace (started_machine limit) (S.kept store.old)) input (W.contents writer.old) (W.contents writer.new) (S.kept store.new)) }
+        RunsToRefused (is_some strict.entry) (workspace (started_machine limit) (S.stored store.old)) input (W.contents writer.old) (W.contents writer.new) (S.stored store.new)) }
 
     // A strict run has handled all lines, and leaves a document that is not clean.
     ensures unsaved { IsErrOf result RunFault.Unsaved → IfSome (R.remaining reader.old) (λ input.
-        RunsToUnsaved (is_some strict.entry) (workspace (started_machine limit) (S.kept store.old)) input (W.contents writer.old) (W.contents writer.new) (S.kept store.new)) }
+        RunsToUnsaved (is_some strict.entry) (workspace (started_machine limit) (S.stored store.old)) input (W.contents writer.old) (W.contents writer.new) (S.stored store.new)) }
 {
     let editor: Editor<Box<dyn Command>> = Editor::new(alloc, limit);
     // Each kind of command is boxed by its own type.

@@ -1,6 +1,6 @@
 ghost use Rattle.std.specs.Prelude.{◌≡◌, ◌∷◌, ◌++◌, [], OnOk, OnErr};
 ghost use Rattle.std.specs.Io.KnownBytes.{Appends, Keeps};
-ghost use Rattle.session_run.specs.Runs.{reply_line, TakesPart};
+ghost use Rattle.session_run.specs.Runs.{reply_line, TakesBeginning};
 
 use arrayvec::ArrayString;
 use session::Reply;
@@ -14,7 +14,7 @@ pub struct WriteFault;
 #[tactic(auto, using(crate::proofs::Appending::appends_more))]
 fn write_whole<W: Write>(writer: &mut W, bytes: &[u8]) -> Result<(), WriteFault>
     ensures ok { OnOk result (Appends (W.contents writer.old) (W.contents writer.new) bytes.now) }
-    ensures err { OnErr result (TakesPart bytes.now (W.contents writer.old) (W.contents writer.new)) }
+    ensures err { OnErr result (TakesBeginning bytes.now (W.contents writer.old) (W.contents writer.new)) }
 {
     let mut rest = bytes;
     while !rest.is_empty() {
@@ -31,7 +31,7 @@ fn write_whole<W: Write>(writer: &mut W, bytes: &[u8]) -> Result<(), WriteFault>
 #[tactic(auto, using(crate::proofs::Appending::appends_more))]
 fn write_pieces<W: Write>(writer: &mut W, head: &[u8], body: &[u8]) -> Result<(), WriteFault>
     ensures ok { OnOk result (Appends (W.contents writer.old) (W.contents writer.new) (head.now ++ body.now ++ 10 ∷ [])) }
-    ensures err { OnErr result (TakesPart (head.now ++ body.now ++ 10 ∷ []) (W.contents writer.old) (W.contents writer.new)) }
+    ensures err { OnErr result (TakesBeginning (head.now ++ body.now ++ 10 ∷ []) (W.contents writer.old) (W.contents writer.new)) }
 {
     write_whole(writer, head)?;
     write_whole(writer, body)?;
@@ -47,7 +47,7 @@ pub fn write_reply<W: Write>(
     reply: Reply,
 ) -> Result<(), WriteFault>
     ensures ok { OnOk result (Appends (W.contents writer.old) (W.contents writer.new) (reply_line reply)) }
-    ensures err { OnErr result (TakesPart (reply_line reply) (W.contents writer.old) (W.contents writer.new)) }
+    ensures err { OnErr result (TakesBeginning (reply_line reply) (W.contents writer.old) (W.contents writer.new)) }
 {
     head.clear();
     reply.write_into(head);

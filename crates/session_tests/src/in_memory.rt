@@ -18,16 +18,16 @@ fn told(alloc: Global, session: &mut Session, line: &str) -> Result<String, Allo
     format!(in alloc; "{head}{body}")
 }
 
-/// The first row `line => reply`, or line alone where it gets no reply, to which a session answers otherwise.
+/// The first pair `line => reply`, or line alone where it gets no reply, to which a session answers otherwise.
 fn first_fault<'a>(
     alloc: Global,
     session: &mut Session,
-    rows: &'a str,
+    pairs: &'a str,
 ) -> Result<Option<&'a str>, AllocError> {
-    for row in rows.lines() {
-        let (line, reply) = row.split_once(" => ").unwrap_or((row, ""));
+    for pair in pairs.lines() {
+        let (line, reply) = pair.split_once(" => ").unwrap_or((pair, ""));
         if told(alloc, session, line)?.as_str() != reply {
-            return Ok(Some(row));
+            return Ok(Some(pair));
         }
     }
     Ok(None)
@@ -36,9 +36,9 @@ fn first_fault<'a>(
 #[test]
 fn sessions_have_the_replies_of_runs(rt: HostRuntime) -> Result<(), Fail> {
     let alloc = rt.alloc();
-    for rows in [ONE, SEVERAL, "# quiet\n\nstatus => ok none clean"] {
+    for pairs in [ONE, SEVERAL, "# quiet\n\nstatus => ok none clean"] {
         let mut session = Session::new(alloc, 0);
-        assert_eq!(rt; first_fault(alloc, &mut session, rows)?, None);
+        assert_eq!(rt; first_fault(alloc, &mut session, pairs)?, None);
     }
     Ok(())
 }
@@ -49,8 +49,8 @@ fn files_are_put_and_taken_out(rt: HostRuntime) -> Result<(), Fail> {
     let mut session = Session::new(alloc, 0);
     session.put_file("m.tmj", MAP.as_bytes())?;
     session.put_file("empty", b"")?;
-    let rows = "open m m.tmj => ok 0/0 clean 0\nsave n.tmj => saved n.tmj 384";
-    assert_eq!(rt; first_fault(alloc, &mut session, rows)?, None);
+    let pairs = "open m m.tmj => ok 0/0 clean 0\nsave n.tmj => saved n.tmj 384";
+    assert_eq!(rt; first_fault(alloc, &mut session, pairs)?, None);
     assert_eq!(rt; session.file_count(), 3);
     assert_eq!(rt; session.file_name(0), Some("empty"));
     assert_eq!(rt; session.file_name(2), Some("n.tmj"));

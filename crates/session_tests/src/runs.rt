@@ -66,8 +66,8 @@ impl<'a> Read for Source<'a> {
         }
         self.calls_left -= 1;
         let n = self.step.min(self.bytes.len()).min(buf.len());
-        let (front, rest) = self.bytes.split_at(n);
-        buf[..n].copy_from_slice(front);
+        let (prefix, rest) = self.bytes.split_at(n);
+        buf[..n].copy_from_slice(prefix);
         self.bytes = rest;
         Ok(n)
     }
@@ -160,14 +160,14 @@ struct Script {
     replies: String,
 }
 
-/// The script whose rows are `line => reply`, or a line alone where it gets no reply.
-fn read_script(alloc: Global, rows: &str) -> Result<Script, Fail> {
+/// The script whose pairs are `line => reply`, or a line alone where it gets no reply.
+fn read_script(alloc: Global, pairs: &str) -> Result<Script, Fail> {
     let mut script = Script {
         session: String::new(alloc),
         replies: String::new(alloc),
     };
-    for row in rows.lines() {
-        let (line, reply) = row.split_once(" => ").unwrap_or((row, ""));
+    for pair in pairs.lines() {
+        let (line, reply) = pair.split_once(" => ").unwrap_or((pair, ""));
         push_line(&mut script.session, line)?;
         if !reply.is_empty() {
             push_line(&mut script.replies, reply)?;

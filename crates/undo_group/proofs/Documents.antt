@@ -1,4 +1,4 @@
--- Documents by name, and by their places: what changing, adding or taking out one of them leaves.
+-- Documents by name, and by their numbers: what changing, adding or taking out one of them leaves.
 use Rattle.std.proofs.Common.{◌≡◌, ℕ, zero, suc, List, [], ◌∷◌, ◌++◌, remove, slice_get, Option, Some, None, refl, ap, arith}
 use Rattle.std.proofs.lemmas.Bool.Decides.{nat_tests}
 use Rattle.std.proofs.lemmas.Grind.{elements}
@@ -7,7 +7,7 @@ use Rattle.std.proofs.lemmas.Slice.Eq.{bytes_eq-Decides}
 use Rattle.std.specs.Option.{option_map}
 use Rattle.undo_stack.specs.History.{History}
 use Rattle.undo_group.specs.Groups.{OpenDocument, GroupParts, IsGroup, IsNew, AreDistinct, history_named, active_history, removed, without, with_history, with_active}
-use Rattle.undo_group.specs.Stacks.{group_at, place_without}
+use Rattle.undo_group.specs.Stacks.{group_at, number_without}
 
 -- where no document has the name, nothing changes and nothing goes
 pub with_history-new : (name : List ℕ) (h : History) (ds : List OpenDocument) → IsNew name ds → with_history name h ds ≡ ds
@@ -31,35 +31,35 @@ with_history-same name h (d ∷ ds) distinct at = grind (arith, with_history-sam
 pub with_active-same : (h : History) (g : GroupParts) → IsGroup g → active_history g ≡ Some h → with_active h g ≡ g
 with_active-same h g whole at = grind (arith, with_history-same, whole.distinct)
 
--- the document at a place is found by its name
+-- the document at a number is found by its name
 pub history_named-at : (ds : List OpenDocument) (i : ℕ) (d : OpenDocument) → AreDistinct ds → slice_get ds i ≡ Some d → history_named d.name ds ≡ Some d.history
 history_named-at [] i d distinct at = absurd cc
 history_named-at (e ∷ ds) zero d distinct at = grind (arith, bytes_eq-Decides)
 history_named-at (e ∷ ds) (suc i) d distinct at = grind (arith, history_named-at ds i d distinct.1, bytes_eq-Decides)
 
--- and no other place has the name
-same_place : (ds : List OpenDocument) (i j : ℕ) (d e : OpenDocument) → AreDistinct ds → slice_get ds i ≡ Some d → slice_get ds j ≡ Some e → d.name ≡ e.name → i ≡ j
-same_place [] i j d e distinct at there same = absurd cc
-same_place (x ∷ ds) zero zero d e distinct at there same = refl
-same_place (x ∷ ds) zero (suc j) d e distinct at there same = absurd (grind (arith, history_named-at ds j e distinct.1))
-same_place (x ∷ ds) (suc i) zero d e distinct at there same = absurd (grind (arith, history_named-at ds i d distinct.1))
-same_place (x ∷ ds) (suc i) (suc j) d e distinct at there same = ap suc (same_place ds i j d e distinct.1 at there same)
+-- and no other number has the name
+same_number : (ds : List OpenDocument) (i j : ℕ) (d e : OpenDocument) → AreDistinct ds → slice_get ds i ≡ Some d → slice_get ds j ≡ Some e → d.name ≡ e.name → i ≡ j
+same_number [] i j d e distinct at there same = absurd cc
+same_number (x ∷ ds) zero zero d e distinct at there same = refl
+same_number (x ∷ ds) zero (suc j) d e distinct at there same = absurd (grind (arith, history_named-at ds j e distinct.1))
+same_number (x ∷ ds) (suc i) zero d e distinct at there same = absurd (grind (arith, history_named-at ds i d distinct.1))
+same_number (x ∷ ds) (suc i) (suc j) d e distinct at there same = ap suc (same_number ds i j d e distinct.1 at there same)
 
--- the document at the active place is the active one
+-- the document at the active number is the active one
 pub active_history-at : (ds : List OpenDocument) (i : ℕ) → AreDistinct ds → active_history (group_at ds (Some i)) ≡ option_map (λ d. d.history) (slice_get ds i)
 active_history-at ds i distinct = grind (arith, history_named-at ds i)
 
-pub IsGroup-at : (ds : List OpenDocument) (place : Option ℕ) → AreDistinct ds → IsGroup (group_at ds place)
+pub IsGroup-at : (ds : List OpenDocument) (number : Option ℕ) → AreDistinct ds → IsGroup (group_at ds number)
 IsGroup-at ds None distinct = record { distinct = distinct; active = tt }
 IsGroup-at ds (Some i) distinct = record { distinct = distinct; active = grind (arith, history_named-at ds i) }
 
--- the document at a place goes
+-- the document at a number goes
 without-at : (ds : List OpenDocument) (i : ℕ) (d : OpenDocument) → AreDistinct ds → slice_get ds i ≡ Some d → remove ds i ≡ without d.name ds
 without-at [] i d distinct at = absurd cc
 without-at (e ∷ ds) zero d distinct at = grind (arith, bytes_eq-Decides, without-new)
 without-at (e ∷ ds) (suc i) d distinct at = grind (arith, without-at ds i d distinct.1, history_named-at ds i d distinct.1, bytes_eq-Decides)
 
-pub group_at-remove : (ds : List OpenDocument) (i : ℕ) (d : OpenDocument) (place : Option ℕ) → AreDistinct ds → slice_get ds i ≡ Some d
-    → group_at (remove ds i) (place_without i place) ≡ removed d.name (group_at ds place)
+pub group_at-remove : (ds : List OpenDocument) (i : ℕ) (d : OpenDocument) (number : Option ℕ) → AreDistinct ds → slice_get ds i ≡ Some d
+    → group_at (remove ds i) (number_without i number) ≡ removed d.name (group_at ds number)
 group_at-remove ds i d None distinct at = grind (arith, without-at ds i d)
-group_at-remove ds i d (Some j) distinct at = grind (arith, elements, gets, nat_tests, without-at ds i d, same_place ds i j d, bytes_eq-Decides)
+group_at-remove ds i d (Some j) distinct at = grind (arith, elements, gets, nat_tests, without-at ds i d, same_number ds i j d, bytes_eq-Decides)

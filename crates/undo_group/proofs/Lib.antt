@@ -1,3 +1,3 @@
 pub mod Documents
-pub mod Places
-pub mod Entries
+pub mod Lookups
+pub mod NamedStacks

@@ -16,32 +16,32 @@ module _ {C : Type 0} (f : C → Change) where
   abbrev pub document_of : {Y : Type 0} → String Y × Stack C → OpenDocument
   document_of e = record { name = string_bytes e.0; history = history f e.1 }
 
-  -- the documents that the entries stand for
+  -- the documents that the stacks stand for
   abbrev pub documents_of : {Y : Type 0} → List (String Y × Stack C) → List OpenDocument
   documents_of es = map document_of es
 
--- the name of the document at a place
+-- the name of the document at a number
 abbrev pub name_at : List OpenDocument → Option ℕ → Option (List ℕ)
 name_at ds None = None
 name_at ds (Some at) = option_map (λ d. d.name) (slice_get ds at)
 
--- these documents, of which the one at a place is active
+-- these documents, of which the one at a number is active
 abbrev pub group_at : List OpenDocument → Option ℕ → GroupParts
-group_at ds place = record { documents = ds; active = name_at ds place }
+group_at ds number = record { documents = ds; active = name_at ds number }
 
 -- the group that it stands for
 abbrev pub group_of : {C : Type 0} → (C → Change) → Group C → GroupParts
 group_of f g = group_at (documents_of f g.stacks.entries) g.active
 
--- the stacks hold, and the place of the active one is among them
+-- the stacks hold, and the number of the active one is among them
 pub record AreHeld {C : Type 0} (f : C → Change) (g : Group C) : Type 0 where
   pub stacks : All (λ e. Holds f e.1) g.stacks.entries
   pub within : IfSome g.active (λ at. at < length g.stacks.entries)
 
--- the place of the active one, once the entry at another place is taken out and those behind it stand one place lower
-abbrev pub place_without : ℕ → Option ℕ → Option ℕ
-place_without gone None = None
-place_without gone (Some at) = if at == gone then None else Some (if nat_lt gone at then at - 1 else at)
+-- the number of the active one, once the stack at another number is taken out and those behind it stand one lower
+abbrev pub number_without : ℕ → Option ℕ → Option ℕ
+number_without gone None = None
+number_without gone (Some at) = if at == gone then None else Some (if nat_lt gone at then at - 1 else at)
 
 -- a document is not added where its name is taken, or, with a new name, where memory runs out
 abbrev pub IsNotAdded : List ℕ → List OpenDocument → GroupFault → Type 0

@@ -6,7 +6,7 @@ ghost use Rattle.undo_stack.specs.Reading.{undo_text_of, redo_text_of};
 ghost use Rattle.undo_stack.specs.Stacks.{history, Holds};
 ghost use Rattle.undo_group.specs.Groups.{history_named, active_history, text_of_active, is_clean_active, IsNew, IsGroup, empty_group, added, removed, chosen};
 ghost use Rattle.undo_group.specs.Lending.{LendsActive};
-ghost use Rattle.undo_group.specs.Stacks.{group_of, place_without, AreHeld, IsNotAdded};
+ghost use Rattle.undo_group.specs.Stacks.{group_of, number_without, AreHeld, IsNotAdded};
 
 use crate::names::Names;
 use command_api::Command;
@@ -38,7 +38,7 @@ pub struct NotAdded<C> {
 #[derive(Drop)]
 pub struct Group<C> {
     stacks: IndexMap<String, Stack<C>>,
-    // The place of the active one.
+    // The number of the active one.
     active: Option<usize>,
 }
 
@@ -64,7 +64,7 @@ impl<C: Command> Group<C> {
         ensures sound { AreHeld C.change self.new }
         ensures new { OnOk result (IsNew name.now (group_of C.change self.old).documents) }
         ensures added { OnOk result (group_of C.change self.new ≡ added name.now (history C.change stack) (group_of C.change self.old)) }
-        ensures kept { IfErr result (λ _. group_of C.change self.new ≡ group_of C.change self.old) }
+        ensures unchanged { IfErr result (λ _. group_of C.change self.new ≡ group_of C.change self.old) }
         ensures stack { IfErr result (λ refused. refused.stack ≡ stack) }
         ensures fault { IfErr result (λ refused. IsNotAdded name.now (group_of C.change self.old).documents refused.fault) }
     {
@@ -104,7 +104,7 @@ impl<C: Command> Group<C> {
         ensures sound { AreHeld C.change self.new }
         ensures new { OnOk result (IsNew name.now (group_of C.change self.old).documents) }
         ensures added { OnOk result (group_of C.change self.new ≡ chosen (Some name.now) (added name.now (history C.change stack) (group_of C.change self.old))) }
-        ensures kept { IfErr result (λ _. group_of C.change self.new ≡ group_of C.change self.old) }
+        ensures unchanged { IfErr result (λ _. group_of C.change self.new ≡ group_of C.change self.old) }
         ensures stack { IfErr result (λ refused. refused.stack ≡ stack) }
         ensures fault { IfErr result (λ refused. IsNotAdded name.now (group_of C.change self.old).documents refused.fault) }
     {
@@ -127,13 +127,13 @@ impl<C: Command> Group<C> {
         ensures removed { IfOk result (λ _. group_of C.change self.new ≡ removed name.now (group_of C.change self.old)) }
         ensures fault { IfErr result (λ fault. fault ≡ GroupFault.NoSuchDocument) }
         ensures none { IfErr result (λ _. IsNew name.now (group_of C.change self.old).documents) }
-        ensures kept { IfErr result (λ _. group_of C.change self.new ≡ group_of C.change self.old) }
+        ensures unchanged { IfErr result (λ _. group_of C.change self.new ≡ group_of C.change self.old) }
     {
         let Some(at) = self.stacks.get_index_of(name) else {
             return Err(GroupFault::NoSuchDocument);
         };
         let (_, stack) = self.stacks.shift_remove_index(at).unwrap();
-        self.active = place_without(self.active, at);
+        self.active = number_without(self.active, at);
         Ok(stack)
     }
 
@@ -147,7 +147,7 @@ impl<C: Command> Group<C> {
         ensures chosen { OnOk result (group_of C.change self.new ≡ chosen (option_copied name.entry) (group_of C.change self.old)) }
         ensures fault { IfErr result (λ fault. fault ≡ GroupFault.NoSuchDocument) }
         ensures none { IfErr result (λ _. IsSomeAnd name.entry (λ n. IsNew n.now (group_of C.change self.old).documents)) }
-        ensures kept { IfErr result (λ _. group_of C.change self.new ≡ group_of C.change self.old) }
+        ensures unchanged { IfErr result (λ _. group_of C.change self.new ≡ group_of C.change self.old) }
     {
         let Some(name) = name else {
             self.active = None;
@@ -246,9 +246,9 @@ impl<C: Command> Group<C> {
     }
 }
 
-// The place of the active one, once the entry at another place is taken out and those behind it stand one place lower.
-fn place_without(active: Option<usize>, gone: usize) -> Option<usize>
-    ensures { result ≡ place_without gone active }
+// The number of the active one, once the stack at another number is taken out and those behind it stand one lower.
+fn number_without(active: Option<usize>, gone: usize) -> Option<usize>
+    ensures { result ≡ number_without gone active }
 {
     let at = active?;
     if at == gone {

@@ -2,9 +2,9 @@
 use Rattle.std.proofs.Common.{◌≡◌, ℕ, ◌+◌, List, [], ◌∷◌, map, Box, Global, refl, ap, sym, ◌∙◌}
 use Rattle.map_model.specs.Document.{DocumentParts}
 use Rattle.command_api.specs.Law.{Change}
-use Rattle.undo_stack.specs.Row.{row_change, before, after, FitsDown, FitsUp}
+use Rattle.undo_stack.specs.Sequence.{sequence_change, before, after, FitsDown, FitsUp}
 use Rattle.undo_stack.specs.Entries.{entry_change, layer_change, greatest, nesting, layer_nesting}
-use Rattle.undo_stack.specs.declared.entry.MacroBody.{MacroBody}
+use Rattle.undo_stack.specs.declared.entry.MacroContents.{MacroContents}
 use Rattle.undo_stack.specs.declared.entry.Entry.{Entry, rec-roll-Entry, fold-roll-Entry, roll-Entry}
 use Rattle.undo_stack.specs.declared.entry.Entry.TheOpen as open_form
 use Rattle.undo_stack.specs.declared.entry.Entry.TheOpen.{Entry-F}
@@ -30,12 +30,12 @@ FitsDown_map k v (x ∷ xs) =
     let other : (DocumentParts → DocumentParts) → DocumentParts → Type 0 = λ b d. (k (v x)).fits_undo (b d) × FitsDown k (map v xs) d in
     ap step (FitsDown_map k v xs) ∙ ap other (before_map k v xs)
 
-row_change_map : {X Y : Type 0} (t a : List ℕ) (k : Y → Change) (v : X → Y) (xs : List X) → row_change t a (λ x. k (v x)) xs ≡ row_change t a k (map v xs)
-row_change_map t a k v xs = rw (before_map k v xs, after_map k v xs, FitsUp_map k v xs, FitsDown_map k v xs) refl
+sequence_change_map : {X Y : Type 0} (t a : List ℕ) (k : Y → Change) (v : X → Y) (xs : List X) → sequence_change t a (λ x. k (v x)) xs ≡ sequence_change t a k (map v xs)
+sequence_change_map t a k v xs = rw (before_map k v xs, after_map k v xs, FitsUp_map k v xs, FitsDown_map k v xs) refl
 
 layer_change-natural : {C : Type 0} (f : C → Change) (X : Type 0) (v : X → Entry C) (k : Entry C → Change) (x : Entry-F C X) → layer_change f (λ p. k (v p)) x ≡ layer_change f k (map-Entry C X (Entry C) v x)
 layer_change-natural f X v k (open_form.Command c) = refl
-layer_change-natural f X v k (open_form.Macro body) = row_change_map body.value.text body.value.action k v body.value.children.items
+layer_change-natural f X v k (open_form.Macro contents) = sequence_change_map contents.value.text contents.value.action k v contents.value.children.items
 
 entry_change-roll : {C : Type 0} (f : C → Change) (x : Entry-F C (Entry C)) → entry_change f (roll-Entry C x) ≡ layer_change f (entry_change f) x
 entry_change-roll f x = rec-roll-Entry _ Change (λ X v k e. layer_change f k e) (layer_change-natural f) x
@@ -43,8 +43,8 @@ entry_change-roll f x = rec-roll-Entry _ Change (λ X v k e. layer_change f k e)
 pub entry_change-Command : {C : Type 0} (f : C → Change) (c : C) → entry_change f (Command c) ≡ f c
 entry_change-Command f c = ap (entry_change f) (sym (rolls-Command c)) ∙ entry_change-roll f (open_form.Command c)
 
-pub entry_change-Macro : {C : Type 0} (f : C → Change) (body : Box (MacroBody (Entry C)) Global) → entry_change f (Macro body) ≡ row_change body.value.text body.value.action (entry_change f) body.value.children.items
-entry_change-Macro f body = ap (entry_change f) (sym (rolls-Macro body)) ∙ entry_change-roll f (open_form.Macro body)
+pub entry_change-Macro : {C : Type 0} (f : C → Change) (contents : Box (MacroContents (Entry C)) Global) → entry_change f (Macro contents) ≡ sequence_change contents.value.text contents.value.action (entry_change f) contents.value.children.items
+entry_change-Macro f contents = ap (entry_change f) (sym (rolls-Macro contents)) ∙ entry_change-roll f (open_form.Macro contents)
 
 nesting-roll : {C : Type 0} (x : Entry-F C (Entry C)) → nesting (roll-Entry C x) ≡ layer_nesting (map-Entry C (Entry C) ℕ nesting x)
 nesting-roll {C} x = fold-roll-Entry C ℕ layer_nesting x
@@ -52,5 +52,5 @@ nesting-roll {C} x = fold-roll-Entry C ℕ layer_nesting x
 pub nesting-Command : {C : Type 0} (c : C) → nesting (Command c) ≡ 0
 nesting-Command c = ap nesting (sym (rolls-Command c)) ∙ nesting-roll (open_form.Command c)
 
-pub nesting-Macro : {C : Type 0} (body : Box (MacroBody (Entry C)) Global) → nesting (Macro body) ≡ greatest (map nesting body.value.children.items) + 1
-nesting-Macro body = ap nesting (sym (rolls-Macro body)) ∙ nesting-roll (open_form.Macro body)
+pub nesting-Macro : {C : Type 0} (contents : Box (MacroContents (Entry C)) Global) → nesting (Macro contents) ≡ greatest (map nesting contents.value.children.items) + 1
+nesting-Macro contents = ap nesting (sym (rolls-Macro contents)) ∙ nesting-roll (open_form.Macro contents)

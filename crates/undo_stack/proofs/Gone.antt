@@ -9,14 +9,14 @@ use Rattle.undo_stack.specs.History.{Step, History, step_named, last_after}
 use Rattle.undo_stack.specs.Pushing.{up_to}
 use Rattle.undo_stack.specs.Calm.{IsGone}
 use Rattle.undo_stack.specs.Entries.{entry_change, nesting}
-use Rattle.undo_stack.specs.Row.{before, steps_down, steps_up, steps_of, FitsDown, FitsUp}
-use Rattle.undo_stack.specs.Sound.{history_of, IsTurnable, IsAtMost, row_nesting}
+use Rattle.undo_stack.specs.Sequence.{before, steps_down, steps_up, steps_of, FitsDown, FitsUp}
+use Rattle.undo_stack.specs.Sound.{history_of, IsTurnable, IsAtMost, sequence_nesting}
 use Rattle.undo_stack.specs.Stacks.{history, Holds}
 use Rattle.undo_stack.specs.Turning.{MayGo, Drops, without_step}
 use Rattle.undo_stack.specs.declared.entry.Entry.{Entry}
 use Rattle.undo_stack.specs.declared.stack.Stack.{Stack}
-use Rattle.undo_stack.proofs.Pushes.{greatest-append, at_most-up_to, row_nesting-take, row_nesting-drop}
-use Rattle.undo_stack.proofs.Rows.{before-append, steps_down-append, FitsDown-pop, length-down, take_last, drop_first, last_after-down}
+use Rattle.undo_stack.proofs.Pushes.{greatest-append, at_most-up_to, sequence_nesting-take, sequence_nesting-drop}
+use Rattle.undo_stack.proofs.Sequences.{before-append, steps_down-append, FitsDown-pop, length-down, take_last, drop_first, last_after-down}
 use Rattle.undo_stack.proofs.Stacks.{inners_closed}
 use Rattle.undo_stack.proofs.Turnings.{false-true}
 use Rattle.undo_stack.proofs.Views.{bounded_closed}
@@ -25,7 +25,7 @@ pub where_some : {X : Type 0} {P : Type 0} (o : Option X) → OnSome o P → IsS
 where_some None h some = false-true some
 where_some (Some x) h some = h
 
--- ---- a list without the thing at a place
+-- ---- a list without the thing at a number
 take-remove : {A : Type 0} (xs : List A) (j : ℕ) → j ≤ length xs → take j (remove xs j) ≡ take j xs
 take-remove xs j h = take_at (take j xs) (drop (suc j) xs) j (length-take-le j xs h)
 
@@ -34,10 +34,10 @@ drop-remove xs j h =
     let next : suc j ≡ j + 1 = omega arith in
     drop_at (take j xs) (drop (suc j) xs) j (length-take-le j xs h) ∙ ap (λ (n : ℕ). drop n xs) next
 
-row_nesting-remove : {C : Type 0} (es : List (Entry C)) (j : ℕ) → row_nesting (remove es j) ≤ row_nesting es
-row_nesting-remove es j =
-    let first = row_nesting-take j es in
-    let last = row_nesting-drop (suc j) es in
+sequence_nesting-remove : {C : Type 0} (es : List (Entry C)) (j : ℕ) → sequence_nesting (remove es j) ≤ sequence_nesting es
+sequence_nesting-remove es j =
+    let first = sequence_nesting-take j es in
+    let last = sequence_nesting-drop (suc j) es in
     rw (map-append nesting (take j es) (drop (suc j) es), greatest-append (map nesting (take j es)) (map nesting (drop (suc j) es))) (omega (arith, first, last))
 
 -- ---- a step s with some before it and some behind it
@@ -73,7 +73,7 @@ at_most-more : (clean : Option ℕ) (n m : ℕ) → n ≤ m → IsAtMost clean n
 at_most-more None n m h a = tt
 at_most-more (Some k) n m h a = omega (arith, h, a)
 
--- ---- entries of which the one at the place j goes, where n of them are done, all at the document d
+-- ---- entries of which the one at the number j goes, where n of them are done, all at the document d
 module _ {C : Type 0} (f : C → Change) (es : List (Entry C)) (v : Entry C) (j : ℕ) (d : DocumentParts) (inside : j < length es) (at : v ≡ get_or es j v) (gone : IsGone (entry_change f v)) where
   abbrev k : Entry C → Change
   k = entry_change f
@@ -147,7 +147,7 @@ module _ {C : Type 0} (f : C → Change) (es : List (Entry C)) (v : Entry C) (j 
         ∙ append_assoc below (step ∷ []) above in
         left_view clean limit (history_of f d es (j + 1) clean limit []) (rw (base, steps) refl)
 
--- ---- stacks with no open level, of which t is s without the entry at the place j
+-- ---- stacks with no open level, of which t is s without the entry at the number j
 pub record IsWithout {C : Type 0} (j : ℕ) (s t : Stack C) : Type 0 where
   pub document : t.document ≡ s.document
   pub entries : t.entries.items ≡ remove s.entries.items j
@@ -168,7 +168,7 @@ module _ {C : Type 0} (f : C → Change) (s t : Stack C) (v : Entry C) (j : ℕ)
   sound_of down up =
       let b = sound.bounded in
       let more = length-remove s.entries.items j inside in
-      let less = row_nesting-remove s.entries.items j in
+      let less = sequence_nesting-remove s.entries.items j in
       record {
         turnable = rw (inners_closed t.levels.items closed_too, w.document, w.entries, w.index, w.clean) (left_sound f s.entries.items v j s.document inside at gone s.clean down up);
         bounded = bounded_closed t closed_too (rw w.limit b.limit) (rw (w.limit, w.entries) (λ h. omega (arith, more, b.count h))) (rw w.entries (omega (arith, less, b.entry_nesting)));

@@ -1,4 +1,4 @@
--- A newer change that is merged into a change, and into the last one of a row; and the last one of a row that goes.
+-- A newer change that is merged into a change, and into the last one of a sequence; and the last one of a sequence that goes.
 use Rattle.std.proofs.Common.{◌≡◌, ℕ, ◌+◌, ◌-◌, ◌<◌, ◌≤◌, List, [], ◌∷◌, ◌++◌, Some, take, drop, length, set, get_or, refl, sym, ◌∙◌, ap, subst, arith, length-set, Bool, true, false, Ok, Err}
 use Rattle.std.specs.Prelude.{Result}
 use Rattle.std.proofs.lemmas.List.{take_all, drop-set-lt}
@@ -6,12 +6,12 @@ use Rattle.std.proofs.lemmas.Grind.{take-set_at}
 use Rattle.map_model.specs.Document.{DocumentParts}
 use Rattle.command_api.specs.Law.{Change, IsSame, IsLawful, IsSettled}
 use Rattle.undo_stack.specs.History.{Step, step_named, last_after}
-use Rattle.undo_stack.specs.Pushing.{front, last_step, led_to, vanishing_of}
-use Rattle.undo_stack.specs.Row.{before, steps_down, FitsDown, FitsUp, IsMoved}
-use Rattle.undo_stack.specs.Merging.{IsJoined, MergesChange, IsAltered, MergesRow, SettlesRow}
-use Rattle.undo_stack.proofs.Rows.{before-append, steps_down-append, FitsDown-pop, FitsDown-push, last_after-down, take_last}
+use Rattle.undo_stack.specs.Pushing.{without_last, last_step, led_to, vanishing_of}
+use Rattle.undo_stack.specs.Sequence.{before, steps_down, FitsDown, FitsUp, IsMoved}
+use Rattle.undo_stack.specs.Merging.{IsJoined, MergesChange, IsAltered, MergesSequence, SettlesSequence}
+use Rattle.undo_stack.proofs.Sequences.{before-append, steps_down-append, FitsDown-pop, FitsDown-push, last_after-down, take_last}
 use Rattle.undo_stack.proofs.Pushes.{settled-same, settled-back}
-use Rattle.undo_stack.proofs.Levels.{front-append}
+use Rattle.undo_stack.proofs.Levels.{without_last-append}
 
 -- a change that stays what it is does the same
 pub same_change : (v : Change) → IsSame v v
@@ -40,10 +40,10 @@ length-led_to d [] = refl
 length-led_to d (s ∷ []) = refl
 length-led_to d (s ∷ t ∷ ss) = let h = length-led_to d (t ∷ ss) in omega arith
 
-pub length-front : (ss : List Step) → length (front ss) ≡ length ss - 1
-length-front [] = refl
-length-front (s ∷ []) = refl
-length-front (s ∷ t ∷ ss) = let h = length-front (t ∷ ss) in omega arith
+pub length-without_last : (ss : List Step) → length (without_last ss) ≡ length ss - 1
+length-without_last [] = refl
+length-without_last (s ∷ []) = refl
+length-without_last (s ∷ t ∷ ss) = let h = length-without_last (t ∷ ss) in omega arith
 
 pub vanishing_of-led_to : (d : DocumentParts) (ss : List Step) → vanishing_of (last_step (led_to d ss)) ≡ vanishing_of (last_step ss)
 vanishing_of-led_to d [] = refl
@@ -51,15 +51,15 @@ vanishing_of-led_to d (s ∷ []) = refl
 vanishing_of-led_to d (s ∷ t ∷ []) = refl
 vanishing_of-led_to d (s ∷ t ∷ u ∷ ss) = vanishing_of-led_to d (t ∷ u ∷ ss)
 
-pub front-led_to : (d : DocumentParts) (ss : List Step) → front (led_to d ss) ≡ front ss
-front-led_to d [] = refl
-front-led_to d (s ∷ []) = refl
-front-led_to d (s ∷ t ∷ []) = refl
-front-led_to d (s ∷ t ∷ u ∷ ss) = ap (λ xs. s ∷ xs) (front-led_to d (t ∷ u ∷ ss))
+pub without_last-led_to : (d : DocumentParts) (ss : List Step) → without_last (led_to d ss) ≡ without_last ss
+without_last-led_to d [] = refl
+without_last-led_to d (s ∷ []) = refl
+without_last-led_to d (s ∷ t ∷ []) = refl
+without_last-led_to d (s ∷ t ∷ u ∷ ss) = ap (λ xs. s ∷ xs) (without_last-led_to d (t ∷ u ∷ ss))
 
--- another change in the place of a row's last one
-joined_row : {B : Type 0} (f : B → Change) (xs : List B) (v w : B) (c : Change) (d : DocumentParts) → FitsDown f (xs ++ v ∷ []) (c.undone d) → IsJoined (f v) (f w) c d → IsAltered f (led_to d) (xs ++ v ∷ []) (c.undone d) (xs ++ w ∷ []) d
-joined_row f xs v w c d h j =
+-- another change in the place of a sequence's last one
+joined_sequence : {B : Type 0} (f : B → Change) (xs : List B) (v w : B) (c : Change) (d : DocumentParts) → FitsDown f (xs ++ v ∷ []) (c.undone d) → IsJoined (f v) (f w) c d → IsAltered f (led_to d) (xs ++ v ∷ []) (c.undone d) (xs ++ w ∷ []) d
+joined_sequence f xs v w c d h j =
     let b = c.undone d in
     let old = FitsDown-pop f xs v b h in
     record {
@@ -68,8 +68,8 @@ joined_row f xs v w c d h j =
       steps = rw (steps_down-append f xs w d, steps_down-append f xs v b, led_to-append d (steps_down f xs ((f v).undone b)) (step_named (f v).names b), j.undone, j.names) refl;
     }
 
-same_row : {B : Type 0} (f : B → Change) (xs : List B) (v w : B) (d : DocumentParts) → FitsDown f (xs ++ v ∷ []) d → IsSame (f v) (f w) → IsAltered f (λ ss. ss) (xs ++ v ∷ []) d (xs ++ w ∷ []) d
-same_row f xs v w d h s =
+same_sequence : {B : Type 0} (f : B → Change) (xs : List B) (v w : B) (d : DocumentParts) → FitsDown f (xs ++ v ∷ []) d → IsSame (f v) (f w) → IsAltered f (λ ss. ss) (xs ++ v ∷ []) d (xs ++ w ∷ []) d
+same_sequence f xs v w d h s =
     let old = FitsDown-pop f xs v d h in
     record {
       down = FitsDown-push f xs w d (rw (s.undone d) old.0) ((s.fits_undo d).0 old.1);
@@ -80,12 +80,12 @@ same_row f xs v w d h s =
 last_of : {B : Type 0} (f : B → Change) (xs : List B) (v : B) (d : DocumentParts) → last_step (steps_down f (xs ++ v ∷ []) d) ≡ Some (step_named (f v).names d)
 last_of f xs v d = ap last_step (steps_down-append f xs v d) ∙ last_step-append (steps_down f xs ((f v).undone d)) (step_named (f v).names d)
 
-merges_end : {E B : Type 0} (f : B → Change) (xs : List B) (v w : B) (c : Change) (d : DocumentParts) (r : Result Bool E) → FitsDown f (xs ++ v ∷ []) (c.undone d) → MergesChange (f v) c d r (f w) → MergesRow f (xs ++ v ∷ []) c d r (xs ++ w ∷ [])
-merges_end f xs v w c d (Ok true) h m = (rw (last_of f xs v (c.undone d)) m.0, joined_row f xs v w c d h m.1)
-merges_end f xs v w c d (Ok false) h m = (rw (last_of f xs v (c.undone d)) m.0, same_row f xs v w (c.undone d) h m.1)
-merges_end f xs v w c d (Err e) h m = same_row f xs v w (c.undone d) h m
+merges_end : {E B : Type 0} (f : B → Change) (xs : List B) (v w : B) (c : Change) (d : DocumentParts) (r : Result Bool E) → FitsDown f (xs ++ v ∷ []) (c.undone d) → MergesChange (f v) c d r (f w) → MergesSequence f (xs ++ v ∷ []) c d r (xs ++ w ∷ [])
+merges_end f xs v w c d (Ok true) h m = (rw (last_of f xs v (c.undone d)) m.0, joined_sequence f xs v w c d h m.1)
+merges_end f xs v w c d (Ok false) h m = (rw (last_of f xs v (c.undone d)) m.0, same_sequence f xs v w (c.undone d) h m.1)
+merges_end f xs v w c d (Err e) h m = same_sequence f xs v w (c.undone d) h m
 
--- the row below a place, by its last change
+-- the sequence below a number, by its last change
 pub take_below : {B : Type 0} (xs : List B) (v : B) (n : ℕ) → 0 < n → n ≤ length xs → v ≡ get_or xs (n - 1) v → take n xs ≡ take (n - 1) xs ++ v ∷ []
 take_below xs v n p q k =
     let same : n - 1 + 1 ≡ n = omega arith in
@@ -98,83 +98,83 @@ take_below-set xs w n p q = take-set_at xs (n - 1) n w (omega arith) (omega arit
 pub last_fits : {B : Type 0} (f : B → Change) (xs : List B) (v : B) (n : ℕ) (d : DocumentParts) → 0 < n → n ≤ length xs → v ≡ get_or xs (n - 1) v → FitsDown f (take n xs) d → (f v).fits_undo d
 last_fits f xs v n d p q k h = (FitsDown-pop f (take (n - 1) xs) v d (rw (take_below xs v n p q k) at h)).1
 
-pub merges_below : {E B : Type 0} (f : B → Change) (xs : List B) (v w : B) (n : ℕ) (c : Change) (d : DocumentParts) (r : Result Bool E) → 0 < n → n ≤ length xs → v ≡ get_or xs (n - 1) v → FitsDown f (take n xs) (c.undone d) → MergesChange (f v) c d r (f w) → MergesRow f (take n xs) c d r (take n (set xs (n - 1) w))
+pub merges_below : {E B : Type 0} (f : B → Change) (xs : List B) (v w : B) (n : ℕ) (c : Change) (d : DocumentParts) (r : Result Bool E) → 0 < n → n ≤ length xs → v ≡ get_or xs (n - 1) v → FitsDown f (take n xs) (c.undone d) → MergesChange (f v) c d r (f w) → MergesSequence f (take n xs) c d r (take n (set xs (n - 1) w))
 merges_below f xs v w n c d r p q k h m =
     rw (take_below xs v n p q k, take_below-set xs w n p q) (merges_end f (take (n - 1) xs) v w c d r (rw (take_below xs v n p q k) at h) m)
 
--- the whole row by its last change
+-- the whole sequence by its last change
 module _ {B : Type 0} (xs : List B) (n : ℕ) (some : 0 < n) (count : n ≡ length xs) where
-  pub last_row : (v : B) → v ≡ get_or xs (n - 1) v → xs ≡ take (n - 1) xs ++ v ∷ []
-  last_row v is =
+  pub last_sequence : (v : B) → v ≡ get_or xs (n - 1) v → xs ≡ take (n - 1) xs ++ v ∷ []
+  last_sequence v is =
       let all : length xs ≤ n = omega (arith, count) in
       sym (take_all n xs all) ∙ take_below xs v n some (omega (arith, count)) is
 
-  pub last_row-set : (w : B) → set xs (n - 1) w ≡ take (n - 1) xs ++ w ∷ []
-  last_row-set w =
+  pub last_sequence-set : (w : B) → set xs (n - 1) w ≡ take (n - 1) xs ++ w ∷ []
+  last_sequence-set w =
       let all : length (set xs (n - 1) w) ≤ n = omega (arith, count, length-set xs (n - 1) w) in
       sym (take_all n (set xs (n - 1) w) all) ∙ take_below-set xs w n some (omega (arith, count))
 
--- the same of a whole row
+-- the same of a whole sequence
 pub last_fits_all : {B : Type 0} (f : B → Change) (xs : List B) (v : B) (n : ℕ) (d : DocumentParts) → 0 < n → n ≡ length xs → v ≡ get_or xs (n - 1) v → FitsDown f xs d → (f v).fits_undo d
 last_fits_all f xs v n d p q k h =
     let all : length xs ≤ n = omega arith in
     last_fits f xs v n d p (omega arith) k (rw (take_all n xs all) h)
 
-pub merges_last : {E B : Type 0} (f : B → Change) (xs : List B) (v w : B) (n : ℕ) (c : Change) (d : DocumentParts) (r : Result Bool E) → 0 < n → n ≡ length xs → v ≡ get_or xs (n - 1) v → FitsDown f xs (c.undone d) → MergesChange (f v) c d r (f w) → MergesRow f xs c d r (set xs (n - 1) w)
+pub merges_last : {E B : Type 0} (f : B → Change) (xs : List B) (v w : B) (n : ℕ) (c : Change) (d : DocumentParts) (r : Result Bool E) → 0 < n → n ≡ length xs → v ≡ get_or xs (n - 1) v → FitsDown f xs (c.undone d) → MergesChange (f v) c d r (f w) → MergesSequence f xs c d r (set xs (n - 1) w)
 merges_last f xs v w n c d r p q k h m =
     let all : length xs ≤ n = omega arith in
     let both : length (set xs (n - 1) w) ≤ n = omega (arith, length-set xs (n - 1) w) in
     let known = merges_below f xs v w n c d r p (omega arith) k (rw (take_all n xs all) h) m in
     rw (take_all n xs all, take_all n (set xs (n - 1) w) both) at known
 
--- a row is as it is
+-- a sequence is as it is
 pub altered_none : {B : Type 0} (f : B → Change) (xs : List B) (d : DocumentParts) → FitsDown f xs d → IsAltered f (λ ss. ss) xs d xs d
 altered_none f xs d h = record { down = h; base = refl; steps = refl }
 
--- the last change of a row goes where it is obsolete
-before_last : {B : Type 0} (f : B → Change) (xs : List B) (v : B) (d : DocumentParts) → last_after (before f (xs ++ v ∷ []) d) (front (steps_down f (xs ++ v ∷ []) d)) ≡ (f v).undone d
-before_last f xs v d = rw (before-append f xs v d, steps_down-append f xs v d, front-append (steps_down f xs ((f v).undone d)) (step_named (f v).names d)) (last_after-down f xs ((f v).undone d))
+-- the last change of a sequence goes where it is obsolete
+before_last : {B : Type 0} (f : B → Change) (xs : List B) (v : B) (d : DocumentParts) → last_after (before f (xs ++ v ∷ []) d) (without_last (steps_down f (xs ++ v ∷ []) d)) ≡ (f v).undone d
+before_last f xs v d = rw (before-append f xs v d, steps_down-append f xs v d, without_last-append (steps_down f xs ((f v).undone d)) (step_named (f v).names d)) (last_after-down f xs ((f v).undone d))
 
-settled_last : {B : Type 0} (f : B → Change) (xs : List B) (v : B) (d : DocumentParts) (b : Bool) → FitsDown f (xs ++ v ∷ []) d → IsLawful (f v) → (f v).obsolete ≡ b → IsSettled (vanishing_of (last_step (steps_down f (xs ++ v ∷ []) d))) b (last_after (before f (xs ++ v ∷ []) d) (front (steps_down f (xs ++ v ∷ []) d))) d
+settled_last : {B : Type 0} (f : B → Change) (xs : List B) (v : B) (d : DocumentParts) (b : Bool) → FitsDown f (xs ++ v ∷ []) d → IsLawful (f v) → (f v).obsolete ≡ b → IsSettled (vanishing_of (last_step (steps_down f (xs ++ v ∷ []) d))) b (last_after (before f (xs ++ v ∷ []) d) (without_last (steps_down f (xs ++ v ∷ []) d))) d
 settled_last f xs v d b h law is =
     let one = law.undo d (FitsDown-pop f xs v d h).1 in
     rw (last_of f xs v d, before_last f xs v d) (settled-back (f v).names.vanishing b d ((f v).undone d) (rw is at one))
 
-pub settles_kept : {B : Type 0} (f : B → Change) (xs : List B) (v : B) (n : ℕ) (d : DocumentParts) → 0 < n → n ≡ length xs → v ≡ get_or xs (n - 1) v → IsLawful (f v) → (f v).obsolete ≡ false → FitsDown f xs d → SettlesRow f false xs d xs
-settles_kept f xs v n d p q k law is h =
+pub settles_stays : {B : Type 0} (f : B → Change) (xs : List B) (v : B) (n : ℕ) (d : DocumentParts) → 0 < n → n ≡ length xs → v ≡ get_or xs (n - 1) v → IsLawful (f v) → (f v).obsolete ≡ false → FitsDown f xs d → SettlesSequence f false xs d xs
+settles_stays f xs v n d p q k law is h =
     let all : length xs ≤ n = omega arith in
-    let row : xs ≡ take (n - 1) xs ++ v ∷ [] = sym (take_all n xs all) ∙ take_below xs v n p (omega arith) k in
-    let one = settled_last f (take (n - 1) xs) v d false (rw row at h) law is in
+    let sequence : xs ≡ take (n - 1) xs ++ v ∷ [] = sym (take_all n xs all) ∙ take_below xs v n p (omega arith) k in
+    let one = settled_last f (take (n - 1) xs) v d false (rw sequence at h) law is in
     record {
-      gone_where = subst (λ (ys : List _). IsSettled (vanishing_of (last_step (steps_down f ys d))) false (last_after (before f ys d) (front (steps_down f ys d))) d) (sym row) one;
-      row = altered_none f xs d h;
+      gone_where = subst (λ (ys : List _). IsSettled (vanishing_of (last_step (steps_down f ys d))) false (last_after (before f ys d) (without_last (steps_down f ys d))) d) (sym sequence) one;
+      sequence = altered_none f xs d h;
     }
 
-gone_row : {B : Type 0} (f : B → Change) (xs : List B) (v : B) (d : DocumentParts) → FitsDown f (xs ++ v ∷ []) d → (f v).undone d ≡ d → IsAltered f front (xs ++ v ∷ []) d xs d
-gone_row f xs v d h same =
+gone_sequence : {B : Type 0} (f : B → Change) (xs : List B) (v : B) (d : DocumentParts) → FitsDown f (xs ++ v ∷ []) d → (f v).undone d ≡ d → IsAltered f without_last (xs ++ v ∷ []) d xs d
+gone_sequence f xs v d h same =
     let old = FitsDown-pop f xs v d h in
     record {
       down = rw same at old.0;
       base = rw (before-append f xs v d, same) refl;
-      steps = rw (steps_down-append f xs v d, front-append (steps_down f xs ((f v).undone d)) (step_named (f v).names d), same) refl;
+      steps = rw (steps_down-append f xs v d, without_last-append (steps_down f xs ((f v).undone d)) (step_named (f v).names d), same) refl;
     }
 
-settles_end : {B : Type 0} (f : B → Change) (xs : List B) (v : B) (d : DocumentParts) → IsLawful (f v) → (f v).obsolete ≡ true → FitsDown f (xs ++ v ∷ []) d → SettlesRow f true (xs ++ v ∷ []) d xs
+settles_end : {B : Type 0} (f : B → Change) (xs : List B) (v : B) (d : DocumentParts) → IsLawful (f v) → (f v).obsolete ≡ true → FitsDown f (xs ++ v ∷ []) d → SettlesSequence f true (xs ++ v ∷ []) d xs
 settles_end f xs v d law is h =
     let one = law.undo d (FitsDown-pop f xs v d h).1 in
     let same : (f v).undone d ≡ d = settled-same (f v).names.vanishing d ((f v).undone d) (rw is at one) in
     record {
       gone_where = settled_last f xs v d true h law is;
-      row = gone_row f xs v d h same;
+      sequence = gone_sequence f xs v d h same;
     }
 
-pub settles_gone : {B : Type 0} (f : B → Change) (xs : List B) (v : B) (n : ℕ) (d : DocumentParts) → 0 < n → n ≡ length xs → v ≡ get_or xs (n - 1) v → IsLawful (f v) → (f v).obsolete ≡ true → FitsDown f xs d → SettlesRow f true xs d (take (n - 1) xs)
+pub settles_gone : {B : Type 0} (f : B → Change) (xs : List B) (v : B) (n : ℕ) (d : DocumentParts) → 0 < n → n ≡ length xs → v ≡ get_or xs (n - 1) v → IsLawful (f v) → (f v).obsolete ≡ true → FitsDown f xs d → SettlesSequence f true xs d (take (n - 1) xs)
 settles_gone f xs v n d p q k law is h =
     let all : length xs ≤ n = omega arith in
-    let row : xs ≡ take (n - 1) xs ++ v ∷ [] = sym (take_all n xs all) ∙ take_below xs v n p (omega arith) k in
-    subst (λ (ys : List _). SettlesRow f true ys d (take (n - 1) xs)) (sym row) (settles_end f (take (n - 1) xs) v d law is (rw row at h))
+    let sequence : xs ≡ take (n - 1) xs ++ v ∷ [] = sym (take_all n xs all) ∙ take_below xs v n p (omega arith) k in
+    subst (λ (ys : List _). SettlesSequence f true ys d (take (n - 1) xs)) (sym sequence) (settles_end f (take (n - 1) xs) v d law is (rw sequence at h))
 
--- a row of which those that are done were altered, but for their steps
+-- a sequence of which those that are done were altered, but for their steps
 pub altered_moved : {B : Type 0} (f : B → Change) (xs ys : List B) (n : ℕ) (d : DocumentParts) → IsAltered f (λ ss. ss) (take n xs) d (take n ys) d → drop n ys ≡ drop n xs → length ys ≡ length xs → FitsUp f (drop n xs) d → IsMoved f xs n d ys n d
 altered_moved f xs ys n d a past len up = record {
   same_length = len;

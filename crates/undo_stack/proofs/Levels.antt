@@ -3,49 +3,49 @@ use Rattle.std.proofs.Common.{◌≡◌, ℕ, ◌+◌, ◌-◌, ◌<◌, ◌≤�
 use Rattle.map_model.specs.Document.{DocumentParts}
 use Rattle.command_api.specs.Law.{Change}
 use Rattle.undo_stack.specs.History.{step_named, Open, innermost}
-use Rattle.undo_stack.specs.Pushing.{front, with_innermost}
-use Rattle.undo_stack.specs.Row.{before, steps_down, FitsDown}
+use Rattle.undo_stack.specs.Pushing.{without_last, with_innermost}
+use Rattle.undo_stack.specs.Sequence.{before, steps_down, FitsDown}
 use Rattle.undo_stack.specs.Entries.{entry_change, nesting}
-use Rattle.undo_stack.specs.Sound.{Inner, start_of, opens, FitsOpens, with_child, row_nesting, level_nesting}
+use Rattle.undo_stack.specs.Sound.{Inner, start_of, opens, FitsOpens, with_child, sequence_nesting, level_nesting}
 use Rattle.undo_stack.specs.Stacks.{inner_of, WhereOpen, HaveRoom, LastHasRoom}
 use Rattle.undo_stack.specs.declared.entry.Entry.{Entry}
 use Rattle.undo_stack.specs.declared.level.Level.{Level}
-use Rattle.undo_stack.proofs.Rows.{before-append, steps_down-append, FitsDown-push}
-use Rattle.undo_stack.proofs.Pushes.{row_nesting-append}
+use Rattle.undo_stack.proofs.Sequences.{before-append, steps_down-append, FitsDown-push}
+use Rattle.undo_stack.proofs.Pushes.{sequence_nesting-append}
 
 -- a level in a history
 abbrev pub open_of : {C : Type 0} → (C → Change) → Inner C → DocumentParts → Open
-open_of f l d = record { text = l.text; action = l.action; start = before (entry_change f) l.row d; steps = steps_down (entry_change f) l.row d }
+open_of f l d = record { text = l.text; action = l.action; start = before (entry_change f) l.sequence d; steps = steps_down (entry_change f) l.sequence d }
 
-pub start_of-append : {C : Type 0} (f : C → Change) (ls : List (Inner C)) (l : Inner C) (d : DocumentParts) → start_of f (ls ++ l ∷ []) d ≡ start_of f ls (before (entry_change f) l.row d)
+pub start_of-append : {C : Type 0} (f : C → Change) (ls : List (Inner C)) (l : Inner C) (d : DocumentParts) → start_of f (ls ++ l ∷ []) d ≡ start_of f ls (before (entry_change f) l.sequence d)
 start_of-append f [] l d = refl
-start_of-append f (m ∷ ls) l d = ap (before (entry_change f) m.row) (start_of-append f ls l d)
+start_of-append f (m ∷ ls) l d = ap (before (entry_change f) m.sequence) (start_of-append f ls l d)
 
-pub opens-append : {C : Type 0} (f : C → Change) (ls : List (Inner C)) (l : Inner C) (d : DocumentParts) → opens f (ls ++ l ∷ []) d ≡ opens f ls (before (entry_change f) l.row d) ++ open_of f l d ∷ []
+pub opens-append : {C : Type 0} (f : C → Change) (ls : List (Inner C)) (l : Inner C) (d : DocumentParts) → opens f (ls ++ l ∷ []) d ≡ opens f ls (before (entry_change f) l.sequence d) ++ open_of f l d ∷ []
 opens-append f [] l d = refl
 opens-append f (m ∷ ls) l d = rw (start_of-append f ls l d, opens-append f ls l d) refl
 
-pub FitsOpens-pop : {C : Type 0} (f : C → Change) (ls : List (Inner C)) (l : Inner C) (d : DocumentParts) → FitsOpens f (ls ++ l ∷ []) d → FitsOpens f ls (before (entry_change f) l.row d) × FitsDown (entry_change f) l.row d
+pub FitsOpens-pop : {C : Type 0} (f : C → Change) (ls : List (Inner C)) (l : Inner C) (d : DocumentParts) → FitsOpens f (ls ++ l ∷ []) d → FitsOpens f ls (before (entry_change f) l.sequence d) × FitsDown (entry_change f) l.sequence d
 FitsOpens-pop f [] l d h = (tt, h.0)
 FitsOpens-pop f (m ∷ ls) l d h =
     let rest = FitsOpens-pop f ls l d h.1 in
     ((rw (start_of-append f ls l d) at h.0, rest.0), rest.1)
 
-pub FitsOpens-push : {C : Type 0} (f : C → Change) (ls : List (Inner C)) (l : Inner C) (d : DocumentParts) → FitsOpens f ls (before (entry_change f) l.row d) → FitsDown (entry_change f) l.row d → FitsOpens f (ls ++ l ∷ []) d
+pub FitsOpens-push : {C : Type 0} (f : C → Change) (ls : List (Inner C)) (l : Inner C) (d : DocumentParts) → FitsOpens f ls (before (entry_change f) l.sequence d) → FitsDown (entry_change f) l.sequence d → FitsOpens f (ls ++ l ∷ []) d
 FitsOpens-push f [] l d h g = (g, tt)
 FitsOpens-push f (m ∷ ls) l d h g = (rw (start_of-append f ls l d) h.0, FitsOpens-push f ls l d h.1 g)
 
 -- an entry x, which led to d, in the last level
 pub start_of-with_child : {C : Type 0} (f : C → Change) (x : Entry C) (l : Inner C) (ls : List (Inner C)) (d : DocumentParts) → start_of f (with_child x (l ∷ ls)) d ≡ start_of f (l ∷ ls) ((entry_change f x).undone d)
-start_of-with_child f x l [] d = before-append (entry_change f) l.row x d
-start_of-with_child f x l (m ∷ ls) d = ap (before (entry_change f) l.row) (start_of-with_child f x m ls d)
+start_of-with_child f x l [] d = before-append (entry_change f) l.sequence x d
+start_of-with_child f x l (m ∷ ls) d = ap (before (entry_change f) l.sequence) (start_of-with_child f x m ls d)
 
 pub opens-with_child : {C : Type 0} (f : C → Change) (x : Entry C) (l : Inner C) (ls : List (Inner C)) (d : DocumentParts) → opens f (with_child x (l ∷ ls)) d ≡ with_innermost (λ ss. ss ++ step_named (entry_change f x).names d ∷ []) (opens f (l ∷ ls) ((entry_change f x).undone d))
-opens-with_child f x l [] d = rw (before-append (entry_change f) l.row x d, steps_down-append (entry_change f) l.row x d) refl
+opens-with_child f x l [] d = rw (before-append (entry_change f) l.sequence x d, steps_down-append (entry_change f) l.sequence x d) refl
 opens-with_child f x l (m ∷ ls) d = rw (start_of-with_child f x m ls d, opens-with_child f x m ls d) refl
 
 pub FitsOpens-with_child : {C : Type 0} (f : C → Change) (x : Entry C) (l : Inner C) (ls : List (Inner C)) (d : DocumentParts) → FitsOpens f (l ∷ ls) ((entry_change f x).undone d) → (entry_change f x).fits_undo d → FitsOpens f (with_child x (l ∷ ls)) d
-FitsOpens-with_child f x l [] d h g = (FitsDown-push (entry_change f) l.row x d h.0 g, tt)
+FitsOpens-with_child f x l [] d h g = (FitsDown-push (entry_change f) l.sequence x d h.0 g, tt)
 FitsOpens-with_child f x l (m ∷ ls) d h g = (rw (start_of-with_child f x m ls d) h.0, FitsOpens-with_child f x m ls d h.1 g)
 
 -- how deep levels are once they are closed
@@ -53,7 +53,7 @@ pub length-level_nesting : {C : Type 0} (ls : List (Inner C)) → length ls ≤ 
 length-level_nesting [] = omega arith
 length-level_nesting (l ∷ ls) = let h = length-level_nesting ls in omega arith
 
-pub level_nesting-append : {C : Type 0} (ls : List (Inner C)) (l : Inner C) (n : ℕ) → level_nesting ls ≤ n → length ls + row_nesting l.row + 1 ≤ n → level_nesting (ls ++ l ∷ []) ≤ n
+pub level_nesting-append : {C : Type 0} (ls : List (Inner C)) (l : Inner C) (n : ℕ) → level_nesting ls ≤ n → length ls + sequence_nesting l.sequence + 1 ≤ n → level_nesting (ls ++ l ∷ []) ≤ n
 level_nesting-append [] l n h g = omega arith
 level_nesting-append (m ∷ ls) l n h g =
     let below : level_nesting ls ≤ n - 1 = omega arith in
@@ -62,28 +62,28 @@ level_nesting-append (m ∷ ls) l n h g =
 
 pub level_nesting-with_child : {C : Type 0} (x : Entry C) (ls : List (Inner C)) → nesting x ≡ 0 → level_nesting (with_child x ls) ≡ level_nesting ls
 level_nesting-with_child x [] h = refl
-level_nesting-with_child x (l ∷ []) h = let more = row_nesting-append l.row x in omega arith
+level_nesting-with_child x (l ∷ []) h = let more = sequence_nesting-append l.sequence x in omega arith
 level_nesting-with_child x (l ∷ m ∷ ls) h = let rest = level_nesting-with_child x (m ∷ ls) h in omega arith
 
-pub level_nesting-closed : {C : Type 0} (x : Entry C) (ls : List (Inner C)) (l : Inner C) → 0 < length ls → nesting x ≡ row_nesting l.row + 1 → level_nesting (with_child x ls) ≡ level_nesting (ls ++ l ∷ [])
+pub level_nesting-closed : {C : Type 0} (x : Entry C) (ls : List (Inner C)) (l : Inner C) → 0 < length ls → nesting x ≡ sequence_nesting l.sequence + 1 → level_nesting (with_child x ls) ≡ level_nesting (ls ++ l ∷ [])
 level_nesting-closed x [] l h e = absurd (omega arith)
-level_nesting-closed x (m ∷ []) l h e = let more = row_nesting-append m.row x in omega arith
+level_nesting-closed x (m ∷ []) l h e = let more = sequence_nesting-append m.sequence x in omega arith
 level_nesting-closed x (m ∷ k ∷ ls) l h e =
     let some : 0 < length (k ∷ ls) = omega arith in
     let rest = level_nesting-closed x (k ∷ ls) l some e in
     omega arith
 
-pub level_nesting-front : {C : Type 0} (ls : List (Inner C)) (l : Inner C) → level_nesting ls ≤ level_nesting (ls ++ l ∷ [])
-level_nesting-front [] l = omega arith
-level_nesting-front (m ∷ ls) l = let rest = level_nesting-front ls l in omega arith
+pub level_nesting-without_last : {C : Type 0} (ls : List (Inner C)) (l : Inner C) → level_nesting ls ≤ level_nesting (ls ++ l ∷ [])
+level_nesting-without_last [] l = omega arith
+level_nesting-without_last (m ∷ ls) l = let rest = level_nesting-without_last ls l in omega arith
 
-pub level_nesting-last : {C : Type 0} (ls : List (Inner C)) (l m : Inner C) → row_nesting m.row ≤ row_nesting l.row → level_nesting (ls ++ m ∷ []) ≤ level_nesting (ls ++ l ∷ [])
+pub level_nesting-last : {C : Type 0} (ls : List (Inner C)) (l m : Inner C) → sequence_nesting m.sequence ≤ sequence_nesting l.sequence → level_nesting (ls ++ m ∷ []) ≤ level_nesting (ls ++ l ∷ [])
 level_nesting-last [] l m h = omega arith
 level_nesting-last (k ∷ ls) l m h = let rest = level_nesting-last ls l m h in omega arith
 
--- free places
+-- free room
 abbrev pub HasRoom : {C : Type 0} → Level C → Type 0
-HasRoom l = vec_len l.body.value.children < vec_capacity l.body.value.children
+HasRoom l = vec_len l.contents.value.children < vec_capacity l.contents.value.children
 
 pub HaveRoom-pop : {C : Type 0} (ls : List (Level C)) (l : Level C) → HaveRoom (ls ++ l ∷ []) → HaveRoom ls × LastHasRoom ls
 HaveRoom-pop [] l h = (tt, tt)
@@ -119,18 +119,18 @@ HasRoom-last (m ∷ k ∷ ls) l zero e is h = absurd (omega arith)
 HasRoom-last (m ∷ k ∷ ls) l (suc at) e is h = HasRoom-last (k ∷ ls) l at (omega arith) is h
 
 -- an entry that was put into the last level
-pub inners-with_child : {C : Type 0} (x : Entry C) (ls : List (Level C)) (v w : Level C) (at : ℕ) → at + 1 ≡ length ls → v ≡ get_or ls at v → inner_of w ≡ (let i = inner_of v in record i { row = i.row ++ x ∷ [] }) → map inner_of (set ls at w) ≡ with_child x (map inner_of ls)
+pub inners-with_child : {C : Type 0} (x : Entry C) (ls : List (Level C)) (v w : Level C) (at : ℕ) → at + 1 ≡ length ls → v ≡ get_or ls at v → inner_of w ≡ (let i = inner_of v in record i { sequence = i.sequence ++ x ∷ [] }) → map inner_of (set ls at w) ≡ with_child x (map inner_of ls)
 inners-with_child x [] v w at e is h = refl
-inners-with_child x (m ∷ []) v w zero e is h = ap (λ i. i ∷ []) (h ∙ ap (λ (l : Level _). let i = inner_of l in record i { row = i.row ++ x ∷ [] }) is)
+inners-with_child x (m ∷ []) v w zero e is h = ap (λ i. i ∷ []) (h ∙ ap (λ (l : Level _). let i = inner_of l in record i { sequence = i.sequence ++ x ∷ [] }) is)
 inners-with_child x (m ∷ []) v w (suc at) e is h = absurd (omega arith)
 inners-with_child x (m ∷ k ∷ ls) v w zero e is h = absurd (omega arith)
 inners-with_child x (m ∷ k ∷ ls) v w (suc at) e is h = ap (λ is. inner_of m ∷ is) (inners-with_child x (k ∷ ls) v w at (omega arith) is h)
 
 -- the last of some things, and those before it
-pub front-append : {A : Type 0} (xs : List A) (x : A) → front (xs ++ x ∷ []) ≡ xs
-front-append [] x = refl
-front-append (y ∷ []) x = refl
-front-append (y ∷ z ∷ xs) x = ap (λ ys. y ∷ ys) (front-append (z ∷ xs) x)
+pub without_last-append : {A : Type 0} (xs : List A) (x : A) → without_last (xs ++ x ∷ []) ≡ xs
+without_last-append [] x = refl
+without_last-append (y ∷ []) x = refl
+without_last-append (y ∷ z ∷ xs) x = ap (λ ys. y ∷ ys) (without_last-append (z ∷ xs) x)
 
 pub innermost-append : (o : Open) (os : List Open) (p : Open) → innermost o (os ++ p ∷ []) ≡ p
 innermost-append o [] p = refl

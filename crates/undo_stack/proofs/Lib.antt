@@ -1,5 +1,5 @@
 pub mod EntryChanges
-pub mod Rows
+pub mod Sequences
 pub mod Turns
 pub mod Turnings
 pub mod Steadiness

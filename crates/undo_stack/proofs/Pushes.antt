@@ -6,12 +6,12 @@ use Rattle.map_model.specs.Document.{DocumentParts}
 use Rattle.command_api.specs.Law.{Change, IsLawful, IsSettled, Vanishing, Never, WhenEqual, Free, IsRedone}
 use Rattle.undo_stack.specs.History.{Step, step_named, History, last_after, current}
 use Rattle.undo_stack.specs.Pushing.{step_of, up_to, lowered, limited_to, with_added, dropped, cut, Merges, IsPushed}
-use Rattle.undo_stack.specs.Row.{before, steps_down, FitsDown}
-use Rattle.undo_stack.specs.Merging.{IsPlaced}
+use Rattle.undo_stack.specs.Sequence.{before, steps_down, FitsDown}
+use Rattle.undo_stack.specs.Merging.{IsEntered}
 use Rattle.undo_stack.specs.Entries.{entry_change, nesting, greatest}
-use Rattle.undo_stack.specs.Sound.{Inner, history_of, IsTurnable, IsAtMost, row_nesting}
+use Rattle.undo_stack.specs.Sound.{Inner, history_of, IsTurnable, IsAtMost, sequence_nesting}
 use Rattle.undo_stack.specs.declared.entry.Entry.{Entry}
-use Rattle.undo_stack.proofs.Rows.{before-append, steps_down-append, FitsDown-push, last_after-down, length-down, take-steps, last_after-take, drop-steps_down, FitsDown-drop}
+use Rattle.undo_stack.proofs.Sequences.{before-append, steps_down-append, FitsDown-push, last_after-down, length-down, take-steps, last_after-take, drop-steps_down, FitsDown-drop}
 use Rattle.undo_stack.proofs.Views.{current-view}
 
 -- an obsolete change leaves the document as it is
@@ -27,8 +27,8 @@ settled-back WhenEqual b d e h = ((λ p. sym (h.0 p)), (λ p. h.1 (sym p)))
 settled-back Free b d e h = λ p. sym (h p)
 
 -- what pushing an edit makes of a history, where it is not merged
-pub pushed_placed : (gone : Bool) (h : History) (s : Step) (n : History) → (Merges (cut h) s → ⊥) → IsPlaced gone h s n → IsPushed h s n
-pushed_placed gone h s n alone p = record {
+pub pushed_entered : (gone : Bool) (h : History) (s : Step) (n : History) → (Merges (cut h) s → ⊥) → IsEntered gone h s n → IsPushed h s n
+pushed_entered gone h s n alone p = record {
   merged = false;
   gone = gone;
   merged_where = ((λ q. absurd (let bad : false ≡ true = q in let worse : ⊥ = cc in worse)), (λ m. absurd (alone m)));
@@ -61,18 +61,18 @@ pub greatest-append : (ns ms : List ℕ) → greatest (ns ++ ms) ≡ max (greate
 greatest-append [] ms = omega arith
 greatest-append (n ∷ ns) ms = let h = greatest-append ns ms in omega arith
 
-pub row_nesting-append : {C : Type 0} (es : List (Entry C)) (x : Entry C) → row_nesting (es ++ x ∷ []) ≡ max (row_nesting es) (nesting x)
-row_nesting-append es x = let h = greatest-append (map nesting es) (nesting x ∷ []) in rw (map-append nesting es (x ∷ [])) (omega arith)
+pub sequence_nesting-append : {C : Type 0} (es : List (Entry C)) (x : Entry C) → sequence_nesting (es ++ x ∷ []) ≡ max (sequence_nesting es) (nesting x)
+sequence_nesting-append es x = let h = greatest-append (map nesting es) (nesting x ∷ []) in rw (map-append nesting es (x ∷ [])) (omega arith)
 
-pub row_nesting-take : {C : Type 0} (k : ℕ) (es : List (Entry C)) → row_nesting (take k es) ≤ row_nesting es
-row_nesting-take zero es = omega arith
-row_nesting-take (suc k) [] = omega arith
-row_nesting-take (suc k) (x ∷ es) = let h = row_nesting-take k es in omega arith
+pub sequence_nesting-take : {C : Type 0} (k : ℕ) (es : List (Entry C)) → sequence_nesting (take k es) ≤ sequence_nesting es
+sequence_nesting-take zero es = omega arith
+sequence_nesting-take (suc k) [] = omega arith
+sequence_nesting-take (suc k) (x ∷ es) = let h = sequence_nesting-take k es in omega arith
 
-pub row_nesting-drop : {C : Type 0} (k : ℕ) (es : List (Entry C)) → row_nesting (drop k es) ≤ row_nesting es
-row_nesting-drop zero es = omega arith
-row_nesting-drop (suc k) [] = omega arith
-row_nesting-drop (suc k) (x ∷ es) = let h = row_nesting-drop k es in omega arith
+pub sequence_nesting-drop : {C : Type 0} (k : ℕ) (es : List (Entry C)) → sequence_nesting (drop k es) ≤ sequence_nesting es
+sequence_nesting-drop zero es = omega arith
+sequence_nesting-drop (suc k) [] = omega arith
+sequence_nesting-drop (suc k) (x ∷ es) = let h = sequence_nesting-drop k es in omega arith
 
 -- entries that are all done
 pub done_view : {C : Type 0} (f : C → Change) (d : DocumentParts) (es : List (Entry C)) (n : ℕ) (clean : Option ℕ) (limit : ℕ) → length es ≡ n → history_of f d es n clean limit [] ≡ record { base = before (entry_change f) es d; steps = steps_down (entry_change f) es d; position = n; clean = clean; limit = limit; levels = [] }
@@ -107,8 +107,8 @@ cut_sound f d es n clean s = done_sound f d (take n es) n (up_to n clean) (lengt
 
 cut_current : {C : Type 0} (f : C → Change) (d : DocumentParts) (es : List (Entry C)) (n : ℕ) (clean : Option ℕ) (limit : ℕ) → n ≤ length es → current (cut (history_of f d es n clean limit [])) ≡ d
 cut_current f d es n clean limit h =
-    let row = steps_down (entry_change f) (take n es) d in
-    ap current (cut_done f d es n clean limit h) ∙ rw (take_all n row (all_done f d es n h)) (last_after-down (entry_change f) (take n es) d)
+    let sequence = steps_down (entry_change f) (take n es) d in
+    ap current (cut_done f d es n clean limit h) ∙ rw (take_all n sequence (all_done f d es n h)) (last_after-down (entry_change f) (take n es) d)
 
 -- the current document stays where the steps past the position go
 pub current-cut : {C : Type 0} (f : C → Change) (d : DocumentParts) (es : List (Entry C)) (n : ℕ) (clean : Option ℕ) (limit : ℕ) (ls : List (Inner C)) → n ≤ length es → current (cut (history_of f d es n clean limit ls)) ≡ d
@@ -116,23 +116,23 @@ current-cut f d es n clean limit [] h = cut_current f d es n clean limit h
 current-cut f d es n clean limit (l ∷ ls) h = current-view f d es n clean limit (l ∷ ls) h
 
 -- an edit that left the document as it is, and one that became a step
-pub placed_gone : (h : History) (s : Step) (n : History) (d : DocumentParts) → current (cut h) ≡ d → IsSettled s.names.vanishing true d s.after → n ≡ cut h → IsPlaced true h s n
-placed_gone h s n d at settled next = record { gone_where = rw at settled; next = next }
+pub entered_gone : (h : History) (s : Step) (n : History) (d : DocumentParts) → current (cut h) ≡ d → IsSettled s.names.vanishing true d s.after → n ≡ cut h → IsEntered true h s n
+entered_gone h s n d at settled next = record { gone_where = rw at settled; next = next }
 
-pub placed_added : (h : History) (s : Step) (n : History) (d : DocumentParts) → current (cut h) ≡ d → IsSettled s.names.vanishing false d s.after → n ≡ (let k = cut h in with_added s k.levels k) → IsPlaced false h s n
-placed_added h s n d at settled next = record { gone_where = rw at settled; next = next }
+pub entered_added : (h : History) (s : Step) (n : History) (d : DocumentParts) → current (cut h) ≡ d → IsSettled s.names.vanishing false d s.after → n ≡ (let k = cut h in with_added s k.levels k) → IsEntered false h s n
+entered_added h s n d at settled next = record { gone_where = rw at settled; next = next }
 
 -- an entry x above the others, which are all done, led to e
 pub added_view : {C : Type 0} (f : C → Change) (e : DocumentParts) (es : List (Entry C)) (x : Entry C) (n : ℕ) (clean : Option ℕ) (limit : ℕ) → length es ≡ n → history_of f e (es ++ x ∷ []) (n + 1) clean limit [] ≡ (let h = history_of f ((entry_change f x).undone e) es n clean limit [] in record h { steps = h.steps ++ step_named (entry_change f x).names e ∷ []; position = h.position + 1 })
 added_view f e es x n clean limit len =
     let k = entry_change f in
-    let row = es ++ x ∷ [] in
+    let sequence = es ++ x ∷ [] in
     let d = (k x).undone e in
-    let more : length row ≡ n + 1 = length-append es (x ∷ []) ∙ ap (λ (m : ℕ). m + 1) len in
+    let more : length sequence ≡ n + 1 = length-append es (x ∷ []) ∙ ap (λ (m : ℕ). m + 1) len in
     let make : DocumentParts → List Step → History = λ b ss. record { base = b; steps = ss; position = n + 1; clean = clean; limit = limit; levels = [] } in
     let grown : History → History = λ h. record h { steps = h.steps ++ step_named (k x).names e ∷ []; position = h.position + 1 } in
-    done_view f e row (n + 1) clean limit more
-    ∙ ap (λ (b : DocumentParts). make b (steps_down k row e)) (before-append k es x e)
+    done_view f e sequence (n + 1) clean limit more
+    ∙ ap (λ (b : DocumentParts). make b (steps_down k sequence e)) (before-append k es x e)
     ∙ ap (make (before k es d)) (steps_down-append k es x e)
     ∙ sym (ap grown (done_view f d es n clean limit len))
 

@@ -8,12 +8,12 @@ use Rattle.undo_stack.specs.History.{History, step_named, current}
 use Rattle.undo_stack.specs.Pushing.{cut, step_of, Merges, next_of}
 use Rattle.undo_stack.specs.Entries.{entry_change}
 use Rattle.undo_stack.specs.Merging.{MergesChange, stack_before}
-use Rattle.undo_stack.specs.Reporting.{last_entry, innermost_row, target_entry, reports, TakesIn, EndsIn, IsReported}
+use Rattle.undo_stack.specs.Reporting.{last_entry, innermost_sequence, target_entry, reports, TakesIn, EndsIn, IsReported}
 use Rattle.undo_stack.specs.Stacks.{inner_of, inners, history}
 use Rattle.undo_stack.specs.declared.entry.Entry.{Entry}
 use Rattle.undo_stack.specs.declared.level.Level.{Level}
 use Rattle.undo_stack.specs.declared.stack.Stack.{Stack}
-use Rattle.undo_stack.proofs.Joins.{take_below, take_below-set, last_row, last_row-set}
+use Rattle.undo_stack.proofs.Joins.{take_below, take_below-set, last_sequence, last_sequence-set}
 use Rattle.undo_stack.proofs.Pushes.{redone_step}
 use Rattle.undo_stack.proofs.Views.{current-view}
 
@@ -27,21 +27,21 @@ both_ok P Q R (Ok u) h p q = h u p q
 both_ok P Q R (Err e) h p q = tt
 
 -- ---- the entries of the innermost level
-pub innermost_row-last : {C : Type 0} (es : List (Entry C)) (ls : List (Level C)) (v : Level C) (at : ℕ) → at + 1 ≡ length ls → v ≡ get_or ls at v → innermost_row es ls ≡ (inner_of v).row
-innermost_row-last es [] v at e is = absurd (omega arith)
-innermost_row-last es (m ∷ []) v zero e is = ap (λ (l : Level _). (inner_of l).row) (sym is)
-innermost_row-last es (m ∷ []) v (suc at) e is = absurd (omega arith)
-innermost_row-last es (m ∷ k ∷ ls) v zero e is = absurd (omega arith)
-innermost_row-last es (m ∷ k ∷ ls) v (suc at) e is = innermost_row-last (inner_of m).row (k ∷ ls) v at (omega arith) is
+pub innermost_sequence-last : {C : Type 0} (es : List (Entry C)) (ls : List (Level C)) (v : Level C) (at : ℕ) → at + 1 ≡ length ls → v ≡ get_or ls at v → innermost_sequence es ls ≡ (inner_of v).sequence
+innermost_sequence-last es [] v at e is = absurd (omega arith)
+innermost_sequence-last es (m ∷ []) v zero e is = ap (λ (l : Level _). (inner_of l).sequence) (sym is)
+innermost_sequence-last es (m ∷ []) v (suc at) e is = absurd (omega arith)
+innermost_sequence-last es (m ∷ k ∷ ls) v zero e is = absurd (omega arith)
+innermost_sequence-last es (m ∷ k ∷ ls) v (suc at) e is = innermost_sequence-last (inner_of m).sequence (k ∷ ls) v at (omega arith) is
 
-innermost_row-set : {C : Type 0} (es : List (Entry C)) (ls : List (Level C)) (w : Level C) (at : ℕ) → at + 1 ≡ length ls → innermost_row es (set ls at w) ≡ (inner_of w).row
-innermost_row-set es [] w at e = absurd (omega arith)
-innermost_row-set es (m ∷ []) w zero e = refl
-innermost_row-set es (m ∷ []) w (suc at) e = absurd (omega arith)
-innermost_row-set es (m ∷ k ∷ ls) w zero e = absurd (omega arith)
-innermost_row-set es (m ∷ k ∷ ls) w (suc at) e = innermost_row-set (inner_of m).row (k ∷ ls) w at (omega arith)
+innermost_sequence-set : {C : Type 0} (es : List (Entry C)) (ls : List (Level C)) (w : Level C) (at : ℕ) → at + 1 ≡ length ls → innermost_sequence es (set ls at w) ≡ (inner_of w).sequence
+innermost_sequence-set es [] w at e = absurd (omega arith)
+innermost_sequence-set es (m ∷ []) w zero e = refl
+innermost_sequence-set es (m ∷ []) w (suc at) e = absurd (omega arith)
+innermost_sequence-set es (m ∷ k ∷ ls) w zero e = absurd (omega arith)
+innermost_sequence-set es (m ∷ k ∷ ls) w (suc at) e = innermost_sequence-set (inner_of m).sequence (k ∷ ls) w at (omega arith)
 
--- ---- a merge into the last entry of a row
+-- ---- a merge into the last entry of a sequence
 takes_in : {E C : Type 0} (f : C → Change) (c : C) (d : DocumentParts) (v w : Entry C) (xs ys : Option (Entry C)) (r : Result Bool E) → xs ≡ Some v → (r ≡ Ok true → ys ≡ Some w) → MergesChange (entry_change f v) (f c) d r (entry_change f w) → TakesIn f c d xs r ys
 takes_in f c d v w xs ys (Ok true) was is m = record { older = v; newer = w; was = was; is = is refl; joined = m.1 }
 takes_in f c d v w xs ys (Ok false) was is m = tt
@@ -52,20 +52,20 @@ takes_in_err f c d xs ys (Ok b) e = absurd (let bad : false ≡ true = e in let 
 takes_in_err f c d xs ys (Err x) e = tt
 
 module _ {C : Type 0} (xs : List (Entry C)) (v : Entry C) (n : ℕ) (some : 0 < n) (is : v ≡ get_or xs (n - 1) v) where
-  pub last_entry-row : n ≡ length xs → last_entry xs ≡ Some v
-  last_entry-row count = ap last_entry (last_row xs n some count v is) ∙ last_entry-append (take (n - 1) xs) v
+  pub last_entry-sequence : n ≡ length xs → last_entry xs ≡ Some v
+  last_entry-sequence count = ap last_entry (last_sequence xs n some count v is) ∙ last_entry-append (take (n - 1) xs) v
 
   last_entry-below : n ≤ length xs → last_entry (take n xs) ≡ Some v
   last_entry-below within = ap last_entry (take_below xs v n some within is) ∙ last_entry-append (take (n - 1) xs) v
 
-  pub takes_in_row : {E : Type 0} (f : C → Change) (c : C) (d : DocumentParts) (w : Entry C) (r : Result Bool E) → n ≡ length xs → MergesChange (entry_change f v) (f c) d r (entry_change f w) → TakesIn f c d (last_entry xs) r (last_entry (set xs (n - 1) w))
-  takes_in_row f c d w r count m =
-      takes_in f c d v w (last_entry xs) (last_entry (set xs (n - 1) w)) r (last_entry-row count) (λ _. ap last_entry (last_row-set xs n some count w) ∙ last_entry-append (take (n - 1) xs) w) m
+  pub takes_in_sequence : {E : Type 0} (f : C → Change) (c : C) (d : DocumentParts) (w : Entry C) (r : Result Bool E) → n ≡ length xs → MergesChange (entry_change f v) (f c) d r (entry_change f w) → TakesIn f c d (last_entry xs) r (last_entry (set xs (n - 1) w))
+  takes_in_sequence f c d w r count m =
+      takes_in f c d v w (last_entry xs) (last_entry (set xs (n - 1) w)) r (last_entry-sequence count) (λ _. ap last_entry (last_sequence-set xs n some count w) ∙ last_entry-append (take (n - 1) xs) w) m
 
 -- the same of the target of a stack
 pub takes_in_child : {E C : Type 0} (f : C → Change) (c : C) (d : DocumentParts) (es ts : List (Entry C)) (ls : List (Level C)) (v w : Level C) (at : ℕ) (r : Result Bool E) → at + 1 ≡ length ls → v ≡ get_or ls at v
-    → TakesIn f c d (last_entry (inner_of v).row) r (last_entry (inner_of w).row) → TakesIn f c d (last_entry (innermost_row es ls)) r (last_entry (innermost_row ts (set ls at w)))
-takes_in_child f c d es ts ls v w at r last is t = rw (innermost_row-last es ls v at last is, innermost_row-set ts ls w at last) t
+    → TakesIn f c d (last_entry (inner_of v).sequence) r (last_entry (inner_of w).sequence) → TakesIn f c d (last_entry (innermost_sequence es ls)) r (last_entry (innermost_sequence ts (set ls at w)))
+takes_in_child f c d es ts ls v w at r last is t = rw (innermost_sequence-last es ls v at last is, innermost_sequence-set ts ls w at last) t
 
 module _ {C : Type 0} (s : Stack C) (v : Entry C) (closed : s.levels.items ≡ []) (some : 0 < s.index) (within : s.index ≤ length s.entries.items) (is : v ≡ get_or s.entries.items (s.index - 1) v) where
   pub target_entry-closed : target_entry s ≡ Some v

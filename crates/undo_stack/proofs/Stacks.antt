@@ -4,14 +4,14 @@ use Rattle.std.proofs.lemmas.List.{length-take-le}
 use Rattle.map_model.specs.Document.{DocumentParts}
 use Rattle.command_api.specs.Law.{Change}
 use Rattle.undo_stack.specs.Pushing.{up_to, cut}
-use Rattle.undo_stack.specs.Sound.{Inner, history_of, IsTurnable, row_nesting, level_nesting}
+use Rattle.undo_stack.specs.Sound.{Inner, history_of, IsTurnable, sequence_nesting, level_nesting}
 use Rattle.undo_stack.specs.Merging.{stack_before}
 use Rattle.undo_stack.specs.Stacks.{inner_of, inners, history, Holds, IsBounded}
 use Rattle.undo_stack.specs.declared.entry.Entry.{Entry}
 use Rattle.undo_stack.specs.declared.level.Level.{Level}
 use Rattle.undo_stack.specs.declared.stack.Stack.{Stack}
 use Rattle.undo_stack.proofs.Levels.{HaveRoom-set, WhereOpen-some, WhereOpen-of}
-use Rattle.undo_stack.proofs.Pushes.{cut_view, cut_sound, row_nesting-take}
+use Rattle.undo_stack.proofs.Pushes.{cut_view, cut_sound, sequence_nesting-take}
 use Rattle.undo_stack.proofs.Views.{bounded_closed}
 
 pub turnable_at : {C : Type 0} (f : C → Change) (d e : DocumentParts) (es ts : List (Entry C)) (n m : ℕ) (clean mark : Option ℕ) (ls ms : List (Inner C)) → e ≡ d → ts ≡ es → m ≡ n → mark ≡ clean → ms ≡ ls → IsTurnable f d es n clean ls → IsTurnable f e ts m mark ms
@@ -33,8 +33,8 @@ bounded_as s t p q r u b = record {
 }
 
 -- a stack of which the last level is another one, no deeper
-pub placed_bounded : {C : Type 0} (s t : Stack C) (l : Level C) (at : ℕ) → 0 < length s.levels.items → at + 1 ≡ length s.levels.items → t.limit ≡ s.limit → t.entries ≡ s.entries → t.index ≡ s.index → t.levels.items ≡ set s.levels.items at l → level_nesting (map inner_of (set s.levels.items at l)) ≤ level_nesting (inners s) → IsBounded s → IsBounded t
-placed_bounded s t l at some last p q r u less b =
+pub entered_bounded : {C : Type 0} (s t : Stack C) (l : Level C) (at : ℕ) → 0 < length s.levels.items → at + 1 ≡ length s.levels.items → t.limit ≡ s.limit → t.entries ≡ s.entries → t.index ≡ s.index → t.levels.items ≡ set s.levels.items at l → level_nesting (map inner_of (set s.levels.items at l)) ≤ level_nesting (inners s) → IsBounded s → IsBounded t
+entered_bounded s t l at some last p q r u less b =
     let ls = set s.levels.items at l in
     record {
       limit = rw p b.limit;
@@ -73,15 +73,15 @@ cut_holds f s t closed k h =
     let limit : t.limit ≡ s.limit = ap (λ (x : Stack _). x.limit) k.rest in
     let none = inners_closed s.levels.items closed in
     let len : length t.entries.items ≡ s.index = ap length k.entries ∙ length-take-le s.index s.entries.items h.turnable.within in
-    let deep : row_nesting t.entries.items ≡ row_nesting (take s.index s.entries.items) = ap row_nesting k.entries in
+    let deep : sequence_nesting t.entries.items ≡ sequence_nesting (take s.index s.entries.items) = ap sequence_nesting k.entries in
     let within = h.turnable.within in
     record {
       turnable = turnable_at f s.document t.document (take s.index s.entries.items) t.entries.items s.index t.index (up_to s.index s.clean) t.clean [] (inners t) document k.entries index k.clean (ap inners k.rest ∙ none)
           (cut_sound f s.document s.entries.items s.index s.clean (rw none at h.turnable));
       bounded = bounded_closed t (ap (λ (x : Stack _). x.levels.items) k.rest ∙ closed)
           (rw limit h.bounded.limit)
-          (λ p. let kept = h.bounded.count (omega arith) in omega arith)
-          (let all = h.bounded.entry_nesting in let less = row_nesting-take s.index s.entries.items in omega arith);
+          (λ p. let unchanged = h.bounded.count (omega arith) in omega arith)
+          (let all = h.bounded.entry_nesting in let less = sequence_nesting-take s.index s.entries.items in omega arith);
     }
 
 pub cut_history : {C : Type 0} (f : C → Change) (s t : Stack C) → s.levels.items ≡ [] → IsCut s t → Holds f s → history f t ≡ cut (history f s)

@@ -4,14 +4,14 @@ use Rattle.map_model.specs.Document.{DocumentParts}
 use Rattle.command_api.specs.Law.{Change, is_free}
 use Rattle.undo_stack.specs.Entries.{entry_change}
 use Rattle.undo_stack.specs.History.{Step, Open, History, new_history, innermost}
-use Rattle.undo_stack.specs.Pushing.{cut, front, led_to, dropped, limited, limited_to, without_target, with_target_at, with_added, next_of, IsPushed}
+use Rattle.undo_stack.specs.Pushing.{cut, without_last, led_to, dropped, limited, limited_to, without_target, with_target_at, with_added, next_of, IsPushed}
 use Rattle.undo_stack.specs.Macros.{Begins, Ends, begun, ended_in, step_of_level}
 use Rattle.undo_stack.specs.Moving.{Answer, Leads, StepsBack, StepsOn, GoesTo, MarksClean, UnmarksClean, SetsLimit, Clears, cleared, positioned}
 use Rattle.undo_stack.specs.Sound.{start_of}
 use Rattle.undo_stack.specs.Stacks.{history, inner_of, Holds}
 use Rattle.undo_stack.specs.Turning.{AreBound, IsSteady, SetsIndex}
 use Rattle.undo_stack.specs.declared.stack.Stack.{Stack}
-use Rattle.undo_stack.proofs.Rows.{length-steps}
+use Rattle.undo_stack.proofs.Sequences.{length-steps}
 use Rattle.undo_stack.proofs.Turnings.{SetsIndex-steady}
 
 -- ---- lists of steps
@@ -29,10 +29,10 @@ pub AreBound-append : (ss ts : List Step) → AreBound ss → AreBound ts → Ar
 AreBound-append [] ts h k = k
 AreBound-append (s ∷ ss) ts h k = (h.0, AreBound-append ss ts h.1 k)
 
-AreBound-front : (ss : List Step) → AreBound ss → AreBound (front ss)
-AreBound-front [] h = tt
-AreBound-front (s ∷ []) h = tt
-AreBound-front (s ∷ t ∷ ss) h = (h.0, AreBound-front (t ∷ ss) h.1)
+AreBound-without_last : (ss : List Step) → AreBound ss → AreBound (without_last ss)
+AreBound-without_last [] h = tt
+AreBound-without_last (s ∷ []) h = tt
+AreBound-without_last (s ∷ t ∷ ss) h = (h.0, AreBound-without_last (t ∷ ss) h.1)
 
 AreBound-led_to : (d : DocumentParts) (ss : List Step) → AreBound ss → AreBound (led_to d ss)
 AreBound-led_to d [] h = tt
@@ -48,7 +48,7 @@ limited_to-steady zero h steady = steady
 limited_to-steady (suc m) h steady = AreBound-drop (length h.steps - suc m) h.steps steady
 
 without_target-steady : (ls : List Open) (h : History) → IsSteady h → IsSteady (without_target ls h)
-without_target-steady [] h steady = AreBound-front h.steps steady
+without_target-steady [] h steady = AreBound-without_last h.steps steady
 without_target-steady (l ∷ ls) h steady = steady
 
 with_target_at-steady : (d : DocumentParts) (ls : List Open) (h : History) → IsSteady h → IsSteady (with_target_at d ls h)
@@ -67,7 +67,7 @@ next_of-steady false false s h bound steady = with_added-steady s h.levels h bou
 
 ended_in-steady : (ls : List Open) (h : History) → IsSteady h → IsSteady (ended_in ls h)
 ended_in-steady [] h steady = steady
-ended_in-steady (l ∷ ls) h steady = with_added-steady (step_of_level (innermost l ls)) (front (l ∷ ls)) (record h { levels = front (l ∷ ls) }) refl steady
+ended_in-steady (l ∷ ls) h steady = with_added-steady (step_of_level (innermost l ls)) (without_last (l ∷ ls)) (record h { levels = without_last (l ∷ ls) }) refl steady
 
 Leads-steady : (answer : Answer) (h next n : History) → IsSteady h → IsSteady next → Leads answer h next n → IsSteady n
 Leads-steady (Ok done) h next n old new is = rw is new

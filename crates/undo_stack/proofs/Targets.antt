@@ -4,16 +4,16 @@ use Rattle.std.specs.Prelude.{if◌then◌else◌}
 use Rattle.map_model.specs.Document.{DocumentParts}
 use Rattle.command_api.specs.Law.{Change}
 use Rattle.undo_stack.specs.History.{Step, Open, History, last_after}
-use Rattle.undo_stack.specs.Pushing.{cut, front, last_step, led_to, up_to, target, before_target, vanishing_of, Continues, IsUnclean, Merges, with_innermost, with_target_at, next_of, IsPushed}
-use Rattle.undo_stack.specs.Row.{before, steps_down}
+use Rattle.undo_stack.specs.Pushing.{cut, without_last, last_step, led_to, up_to, target, before_target, vanishing_of, Continues, IsUnclean, Merges, with_innermost, with_target_at, next_of, IsPushed}
+use Rattle.undo_stack.specs.Sequence.{before, steps_down}
 use Rattle.undo_stack.specs.Entries.{entry_change}
 use Rattle.undo_stack.specs.Sound.{Inner, history_of, IsTurnable, IsAtMost}
-use Rattle.undo_stack.specs.Merging.{IsAltered, SettlesRow, HasTarget, SettlesTarget, left_of, settled_to}
+use Rattle.undo_stack.specs.Merging.{IsAltered, SettlesSequence, HasTarget, SettlesTarget, left_of, settled_to}
 use Rattle.undo_stack.specs.declared.entry.Entry.{Entry}
-use Rattle.undo_stack.proofs.Rows.{length-down, take-steps}
+use Rattle.undo_stack.proofs.Sequences.{length-down, take-steps}
 use Rattle.undo_stack.proofs.Levels.{open_of, start_of-append, opens-append, FitsOpens-pop, FitsOpens-push, innermost-append}
 use Rattle.undo_stack.proofs.Pushes.{cut_done, done_view}
-use Rattle.undo_stack.proofs.Joins.{length-front, vanishing_of-led_to, front-led_to}
+use Rattle.undo_stack.proofs.Joins.{length-without_last, vanishing_of-led_to, without_last-led_to}
 
 -- the history h with these open levels, of which o is the innermost
 abbrev pub levelled : History → List Open → Open → History
@@ -23,9 +23,9 @@ pub target-levelled : (h : History) (os : List Open) (o : Open) → target (leve
 target-levelled h [] o = refl
 target-levelled h (p ∷ os) o = ap (λ (q : Open). last_step q.steps) (innermost-append p os o)
 
-pub before_target-levelled : (h : History) (os : List Open) (o : Open) → before_target (levelled h os o) ≡ last_after o.start (front o.steps)
+pub before_target-levelled : (h : History) (os : List Open) (o : Open) → before_target (levelled h os o) ≡ last_after o.start (without_last o.steps)
 before_target-levelled h [] o = refl
-before_target-levelled h (p ∷ os) o = ap (λ (q : Open). last_after q.start (front q.steps)) (innermost-append p os o)
+before_target-levelled h (p ∷ os) o = ap (λ (q : Open). last_after q.start (without_last q.steps)) (innermost-append p os o)
 
 pub cut-levelled : (h : History) (os : List Open) (o : Open) → cut (levelled h os o) ≡ levelled h os o
 cut-levelled h [] o = refl
@@ -54,7 +54,7 @@ with_target_at-levelled d h (p ∷ os) o = ap (λ rest. record h { levels = rest
 
 pub settled_to-levelled : (gone : Bool) (h : History) (os : List Open) (o : Open) → settled_to gone (levelled h os o) ≡ levelled h os (record o { steps = left_of gone o.steps })
 settled_to-levelled true h [] o = refl
-settled_to-levelled true h (p ∷ os) o = ap (λ rest. record h { levels = rest }) (with_innermost-append front (p ∷ os) o)
+settled_to-levelled true h (p ∷ os) o = ap (λ rest. record h { levels = rest }) (with_innermost-append without_last (p ∷ os) o)
 settled_to-levelled false h os o = refl
 
 -- some levels have a last one
@@ -75,24 +75,24 @@ vanishing_led d (p ∷ os) h =
     subst (λ (qs : List Open). vanishing_of (target (with_target_at d qs (record h { levels = qs }))) ≡ vanishing_of (target (record h { levels = qs }))) (sym r.1.1) end
 
 before_led : (d : DocumentParts) (os : List Open) (h : History) → before_target (with_target_at d os (record h { levels = os })) ≡ before_target (record h { levels = os })
-before_led d [] h = ap (last_after h.base) (front-led_to d h.steps)
+before_led d [] h = ap (last_after h.base) (without_last-led_to d h.steps)
 before_led d (p ∷ os) h =
     let r = last_level p os in
     let o = r.1.0 in
     let end = ap before_target (with_target_at-levelled d h r.0 o)
     ∙ before_target-levelled h r.0 (record o { steps = led_to d o.steps })
-    ∙ ap (last_after o.start) (front-led_to d o.steps)
+    ∙ ap (last_after o.start) (without_last-led_to d o.steps)
     ∙ sym (before_target-levelled h r.0 o) in
     subst (λ (qs : List Open). before_target (with_target_at d qs (record h { levels = qs })) ≡ before_target (record h { levels = qs })) (sym r.1.1) end
 
 left_led : (d : DocumentParts) (os : List Open) (h : History) → settled_to true (with_target_at d os (record h { levels = os })) ≡ settled_to true (record h { levels = os })
-left_led d [] h = ap (λ ss. record h { steps = ss; position = h.position - 1; levels = [] }) (front-led_to d h.steps)
+left_led d [] h = ap (λ ss. record h { steps = ss; position = h.position - 1; levels = [] }) (without_last-led_to d h.steps)
 left_led d (p ∷ os) h =
     let r = last_level p os in
     let o = r.1.0 in
     let end = ap (settled_to true) (with_target_at-levelled d h r.0 o)
     ∙ settled_to-levelled true h r.0 (record o { steps = led_to d o.steps })
-    ∙ ap (λ (ss : List Step). levelled h r.0 (record o { steps = ss })) (front-led_to d o.steps)
+    ∙ ap (λ (ss : List Step). levelled h r.0 (record o { steps = ss })) (without_last-led_to d o.steps)
     ∙ sym (settled_to-levelled true h r.0 o) in
     subst (λ (qs : List Open). settled_to true (with_target_at d qs (record h { levels = qs })) ≡ settled_to true (record h { levels = qs })) (sym r.1.1) end
 
@@ -130,16 +130,16 @@ pub at_most-unclean : (n m : ℕ) (clean : Option ℕ) → IsAtMost clean n → 
 at_most-unclean n m None h other le = tt
 at_most-unclean n m (Some k) h other le = let ne : k ≡ n → ⊥ = λ e. other (ap Some e) in omega arith
 
--- levels of which the last one's row was altered
-pub open_view : {C : Type 0} (f : C → Change) (d : DocumentParts) (es : List (Entry C)) (n : ℕ) (clean : Option ℕ) (limit : ℕ) (ls : List (Inner C)) (l : Inner C) → history_of f d es n clean limit (ls ++ l ∷ []) ≡ (let h = history_of f (before (entry_change f) l.row d) es n clean limit ls in levelled h h.levels (open_of f l d))
+-- levels of which the last one's sequence was altered
+pub open_view : {C : Type 0} (f : C → Change) (d : DocumentParts) (es : List (Entry C)) (n : ℕ) (clean : Option ℕ) (limit : ℕ) (ls : List (Inner C)) (l : Inner C) → history_of f d es n clean limit (ls ++ l ∷ []) ≡ (let h = history_of f (before (entry_change f) l.sequence d) es n clean limit ls in levelled h h.levels (open_of f l d))
 open_view f d es n clean limit ls l = rw (start_of-append f ls l d, opens-append f ls l d) refl
 
-pub altered_view : {C : Type 0} (f : C → Change) (change : List Step → List Step) (d e : DocumentParts) (es : List (Entry C)) (n : ℕ) (clean : Option ℕ) (limit : ℕ) (ls : List (Inner C)) (l : Inner C) (ys : List (Entry C)) → IsAltered (entry_change f) change l.row d ys e → history_of f e es n clean limit (ls ++ record l { row = ys } ∷ []) ≡ (let h = history_of f (before (entry_change f) l.row d) es n clean limit ls in levelled h h.levels (record (open_of f l d) { steps = change (open_of f l d).steps }))
-altered_view f change d e es n clean limit ls l ys a = open_view f e es n clean limit ls (record l { row = ys }) ∙ rw (a.base, a.steps) refl
+pub altered_view : {C : Type 0} (f : C → Change) (change : List Step → List Step) (d e : DocumentParts) (es : List (Entry C)) (n : ℕ) (clean : Option ℕ) (limit : ℕ) (ls : List (Inner C)) (l : Inner C) (ys : List (Entry C)) → IsAltered (entry_change f) change l.sequence d ys e → history_of f e es n clean limit (ls ++ record l { sequence = ys } ∷ []) ≡ (let h = history_of f (before (entry_change f) l.sequence d) es n clean limit ls in levelled h h.levels (record (open_of f l d) { steps = change (open_of f l d).steps }))
+altered_view f change d e es n clean limit ls l ys a = open_view f e es n clean limit ls (record l { sequence = ys }) ∙ rw (a.base, a.steps) refl
 
-pub altered_turnable : {C : Type 0} (f : C → Change) (change : List Step → List Step) (d e : DocumentParts) (es : List (Entry C)) (n : ℕ) (clean : Option ℕ) (ls : List (Inner C)) (l : Inner C) (ys : List (Entry C)) → IsAltered (entry_change f) change l.row d ys e → IsTurnable f d es n clean (ls ++ l ∷ []) → IsTurnable f e es n clean (ls ++ record l { row = ys } ∷ [])
+pub altered_turnable : {C : Type 0} (f : C → Change) (change : List Step → List Step) (d e : DocumentParts) (es : List (Entry C)) (n : ℕ) (clean : Option ℕ) (ls : List (Inner C)) (l : Inner C) (ys : List (Entry C)) → IsAltered (entry_change f) change l.sequence d ys e → IsTurnable f d es n clean (ls ++ l ∷ []) → IsTurnable f e es n clean (ls ++ record l { sequence = ys } ∷ [])
 altered_turnable f change d e es n clean ls l ys a s =
-    let m : Inner _ = record l { row = ys } in
+    let m : Inner _ = record l { sequence = ys } in
     record {
       within = s.within;
       clean_within = s.clean_within;
@@ -148,41 +148,41 @@ altered_turnable f change d e es n clean ls l ys a s =
       inner = FitsOpens-push f ls m e (rw a.base (FitsOpens-pop f ls l d s.inner).0) a.down;
     }
 
-pub settles_open : {C : Type 0} (f : C → Change) (gone : Bool) (d : DocumentParts) (es : List (Entry C)) (n : ℕ) (clean : Option ℕ) (limit : ℕ) (ls : List (Inner C)) (l : Inner C) (ys : List (Entry C)) → SettlesRow (entry_change f) gone l.row d ys → SettlesTarget d gone (history_of f d es n clean limit (ls ++ l ∷ [])) (history_of f d es n clean limit (ls ++ record l { row = ys } ∷ []))
+pub settles_open : {C : Type 0} (f : C → Change) (gone : Bool) (d : DocumentParts) (es : List (Entry C)) (n : ℕ) (clean : Option ℕ) (limit : ℕ) (ls : List (Inner C)) (l : Inner C) (ys : List (Entry C)) → SettlesSequence (entry_change f) gone l.sequence d ys → SettlesTarget d gone (history_of f d es n clean limit (ls ++ l ∷ [])) (history_of f d es n clean limit (ls ++ record l { sequence = ys } ∷ []))
 settles_open f gone d es n clean limit ls l ys s =
-    let h = history_of f (before (entry_change f) l.row d) es n clean limit ls in
+    let h = history_of f (before (entry_change f) l.sequence d) es n clean limit ls in
     let o = open_of f l d in
     let is = open_view f d es n clean limit ls l in
     record {
       gone_where = rw (ap (λ (x : History). vanishing_of (target x)) is, ap before_target is, target-levelled h h.levels o, before_target-levelled h h.levels o) s.gone_where;
-      next = altered_view f (left_of gone) d d es n clean limit ls l ys s.row ∙ sym (settled_to-levelled gone h h.levels o) ∙ sym (ap (settled_to gone) is);
+      next = altered_view f (left_of gone) d d es n clean limit ls l ys s.sequence ∙ sym (settled_to-levelled gone h h.levels o) ∙ sym (ap (settled_to gone) is);
     }
 
 -- the target of entries that are all done, with no level open
 settled_view : {C : Type 0} (f : C → Change) (gone : Bool) (d : DocumentParts) (es ys : List (Entry C)) (n m : ℕ) (clean : Option ℕ) (limit : ℕ) → length es ≡ n → length ys ≡ m → IsAltered (entry_change f) (left_of gone) es d ys d → history_of f d ys m clean limit [] ≡ settled_to gone (history_of f d es n clean limit [])
 settled_view f true d es ys n m clean limit len left a =
-    let place : m ≡ n - 1 = omega (arith, left, len, length-down (entry_change f) ys d, length-down (entry_change f) es d, ap length a.steps, length-front (steps_down (entry_change f) es d)) in
+    let number : m ≡ n - 1 = omega (arith, left, len, length-down (entry_change f) ys d, length-down (entry_change f) es d, ap length a.steps, length-without_last (steps_down (entry_change f) es d)) in
     let make : DocumentParts → List Step → ℕ → History = λ b ss k. record { base = b; steps = ss; position = k; clean = clean; limit = limit; levels = [] } in
     done_view f d ys m clean limit left
     ∙ ap (λ b. make b (steps_down (entry_change f) ys d) m) a.base
     ∙ ap (λ ss. make (before (entry_change f) es d) ss m) a.steps
-    ∙ ap (make (before (entry_change f) es d) (front (steps_down (entry_change f) es d))) place
+    ∙ ap (make (before (entry_change f) es d) (without_last (steps_down (entry_change f) es d))) number
     ∙ sym (ap (settled_to true) (done_view f d es n clean limit len))
 settled_view f false d es ys n m clean limit len left a =
-    let place : m ≡ n = omega (arith, left, len, length-down (entry_change f) ys d, length-down (entry_change f) es d, ap length a.steps) in
+    let number : m ≡ n = omega (arith, left, len, length-down (entry_change f) ys d, length-down (entry_change f) es d, ap length a.steps) in
     let make : DocumentParts → List Step → ℕ → History = λ b ss k. record { base = b; steps = ss; position = k; clean = clean; limit = limit; levels = [] } in
     done_view f d ys m clean limit left
     ∙ ap (λ b. make b (steps_down (entry_change f) ys d) m) a.base
     ∙ ap (λ ss. make (before (entry_change f) es d) ss m) a.steps
-    ∙ ap (make (before (entry_change f) es d) (steps_down (entry_change f) es d)) place
+    ∙ ap (make (before (entry_change f) es d) (steps_down (entry_change f) es d)) number
     ∙ sym (done_view f d es n clean limit len)
 
-pub settles_done : {C : Type 0} (f : C → Change) (gone : Bool) (d : DocumentParts) (es ys : List (Entry C)) (n m : ℕ) (clean : Option ℕ) (limit : ℕ) → length es ≡ n → length ys ≡ m → SettlesRow (entry_change f) gone es d ys → SettlesTarget d gone (history_of f d es n clean limit []) (history_of f d ys m clean limit [])
+pub settles_done : {C : Type 0} (f : C → Change) (gone : Bool) (d : DocumentParts) (es ys : List (Entry C)) (n m : ℕ) (clean : Option ℕ) (limit : ℕ) → length es ≡ n → length ys ≡ m → SettlesSequence (entry_change f) gone es d ys → SettlesTarget d gone (history_of f d es n clean limit []) (history_of f d ys m clean limit [])
 settles_done f gone d es ys n m clean limit len left s =
     let is = done_view f d es n clean limit len in
     record {
       gone_where = rw (ap (λ (x : History). vanishing_of (target x)) is, ap before_target is) s.gone_where;
-      next = settled_view f gone d es ys n m clean limit len left s.row;
+      next = settled_view f gone d es ys n m clean limit len left s.sequence;
     }
 
 -- a merge into the last of the entries that are done, with no level open
@@ -207,9 +207,9 @@ pub continues_some : (ss : List Step) (s : Step) → Continues (last_step ss) s 
 continues_some [] s c = absurd c
 continues_some (t ∷ ss) s c = omega arith
 
-pub merges_open : {C : Type 0} (f : C → Change) (d : DocumentParts) (es : List (Entry C)) (n : ℕ) (clean : Option ℕ) (limit : ℕ) (ls : List (Inner C)) (l : Inner C) (s : Step) → Continues (last_step (steps_down (entry_change f) l.row d)) s → Merges (cut (history_of f d es n clean limit (ls ++ l ∷ []))) s
+pub merges_open : {C : Type 0} (f : C → Change) (d : DocumentParts) (es : List (Entry C)) (n : ℕ) (clean : Option ℕ) (limit : ℕ) (ls : List (Inner C)) (l : Inner C) (s : Step) → Continues (last_step (steps_down (entry_change f) l.sequence d)) s → Merges (cut (history_of f d es n clean limit (ls ++ l ∷ []))) s
 merges_open f d es n clean limit ls l s c =
-    let h = history_of f (before (entry_change f) l.row d) es n clean limit ls in
+    let h = history_of f (before (entry_change f) l.sequence d) es n clean limit ls in
     let o = open_of f l d in
     let is = ap cut (open_view f d es n clean limit ls l) ∙ cut-levelled h h.levels o in
     subst (λ (x : History). Merges x s) (sym is) (record {
@@ -217,9 +217,9 @@ merges_open f d es n clean limit ls l s c =
       unclean = unclean-levelled h h.levels o;
     })
 
-pub continues_open : {C : Type 0} (f : C → Change) (d : DocumentParts) (es : List (Entry C)) (n : ℕ) (clean : Option ℕ) (limit : ℕ) (ls : List (Inner C)) (l : Inner C) (s : Step) → Merges (cut (history_of f d es n clean limit (ls ++ l ∷ []))) s → Continues (last_step (steps_down (entry_change f) l.row d)) s
+pub continues_open : {C : Type 0} (f : C → Change) (d : DocumentParts) (es : List (Entry C)) (n : ℕ) (clean : Option ℕ) (limit : ℕ) (ls : List (Inner C)) (l : Inner C) (s : Step) → Merges (cut (history_of f d es n clean limit (ls ++ l ∷ []))) s → Continues (last_step (steps_down (entry_change f) l.sequence d)) s
 continues_open f d es n clean limit ls l s m =
-    let h = history_of f (before (entry_change f) l.row d) es n clean limit ls in
+    let h = history_of f (before (entry_change f) l.sequence d) es n clean limit ls in
     let o = open_of f l d in
     let is = ap target (ap cut (open_view f d es n clean limit ls l) ∙ cut-levelled h h.levels o) ∙ target-levelled h h.levels o in
     subst (λ (t : Option Step). Continues t s) is m.continues

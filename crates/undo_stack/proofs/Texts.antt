@@ -1,4 +1,4 @@
--- The texts of a row's steps are those of its changes.
+-- The texts of a sequence's steps are those of its changes.
 use Rattle.std.proofs.Common.{◌≡◌, ℕ, ◌<◌, ◌≤◌, zero, suc, List, [], ◌∷◌, ◌++◌, Option, Some, None, take, drop, length, map, get_or, refl, sym, ◌∙◌, ap, arith}
 use Rattle.std.specs.Prelude.{slice_get}
 use Rattle.std.specs.Option.{option_map}
@@ -8,7 +8,7 @@ use Rattle.map_model.specs.Document.{DocumentParts}
 use Rattle.command_api.specs.Law.{Change}
 use Rattle.undo_stack.specs.History.{Step, step_named}
 use Rattle.undo_stack.specs.Reading.{action_of, text_at}
-use Rattle.undo_stack.specs.Row.{before, steps_down, steps_up, steps_of}
+use Rattle.undo_stack.specs.Sequence.{before, steps_down, steps_up, steps_of}
 use Rattle.undo_stack.specs.Entries.{entry_change}
 use Rattle.undo_stack.specs.Sound.{Inner, start_of, history_of}
 use Rattle.undo_stack.specs.Stacks.{inner_of}
@@ -29,14 +29,14 @@ map-steps f g p h xs n d =
     map-append g (steps_down f (take n xs) d) (steps_up f (drop n xs) d)
     ∙ rw (map-down f g p h (take n xs) d, map-up f g p h (drop n xs) d, ← map-append p (take n xs) (drop n xs), take-append-drop n xs) refl
 
--- what p reads at a place of the row, and past it
+-- what p reads at a number of the sequence, and past it
 read_some : {A B : Type 0} (p : B → A) (xs : List B) (x : B) (at : ℕ) → at < length xs → x ≡ get_or xs at x → slice_get (map p xs) at ≡ Some (p x)
 read_some p xs x at h k = slice_get-map p xs at ∙ ap (option_map p) (slice_get_read xs (length xs) at x refl h k)
 
 read_none : {A B : Type 0} (p : B → A) (xs : List B) (at : ℕ) → length xs ≤ at → slice_get (map p xs) at ≡ None
 read_none p xs at h = slice_get-map p xs at ∙ ap (option_map p) (slice_get_past xs at h)
 
--- what stands at a place before the end of a list, and at its end
+-- what stands at a number before the end of a list, and at its end
 slice_get-append_left : {A : Type 0} (xs ys : List A) (at : ℕ) → at < length xs → slice_get (xs ++ ys) at ≡ slice_get xs at
 slice_get-append_left [] ys at h = absurd (omega arith)
 slice_get-append_left (x ∷ xs) ys zero h = refl
@@ -52,7 +52,7 @@ slice_get-append_at (x ∷ xs) y (suc at) h = slice_get-append_at xs y at (omega
 texts-closed : {C : Type 0} (f : C → Change) (d : DocumentParts) (es : List (Entry C)) (n : ℕ) → map (λ s. s.names.text) (steps_of (entry_change f) es n d) ≡ map (λ (y : Entry C). (entry_change f y).names.text) es
 texts-closed f d es n = map-steps (entry_change f) (λ s. s.names.text) (λ (y : Entry _). (entry_change f y).names.text) (λ y e. refl) es n d
 
--- the text for lists at the place of an entry
+-- the text for lists at the number of an entry
 pub text_some : {C : Type 0} (f : C → Change) (d : DocumentParts) (es : List (Entry C)) (x : Entry C) (n at : ℕ) (clean : Option ℕ) (limit : ℕ) (ls : List (Inner C)) → at < length es → x ≡ get_or es at x → Some (entry_change f x).names.text ≡ text_at (history_of f d es n clean limit ls) at
 text_some f d es x n at clean limit [] h k =
     let p = λ (y : Entry _). (entry_change f y).names.text in
@@ -101,7 +101,7 @@ action_none : (o : Option Step) → option_map (λ s. s.names.action) o ≡ None
 action_none None h = refl
 action_none (Some s) h = absurd (let bad : Some s.names.action ≡ None = h in let worse : ⊥ = cc in worse)
 
--- the action text at the place of an entry, and past the entries
+-- the action text at the number of an entry, and past the entries
 pub action_inside : {C : Type 0} (f : C → Change) (d : DocumentParts) (es : List (Entry C)) (x : Entry C) (n at : ℕ) → at < length es → x ≡ get_or es at x → (entry_change f x).names.action ≡ action_of (slice_get (steps_of (entry_change f) es n d) at)
 action_inside f d es x n at h k =
     let p = λ (y : Entry _). (entry_change f y).names.action in

@@ -1,19 +1,19 @@
--- Rows of changes of which one is turned.
+-- Sequences of changes of which one is turned.
 use Rattle.std.proofs.Common.{◌≡◌, ℕ, ◌+◌, ◌-◌, ◌<◌, ◌≤◌, List, [], take, drop, length, set, get_or, refl, sym, ◌∙◌, ap, subst, arith, append_assoc, length-set}
 use Rattle.std.proofs.lemmas.List.{take-set, drop-set, take_more_set}
 use Rattle.map_model.specs.Document.{DocumentParts}
 use Rattle.command_api.specs.Law.{Change, IsRedone, IsUndone}
-use Rattle.undo_stack.specs.Row.{FitsDown, FitsUp, IsMoved, Between, after, row_change}
-use Rattle.undo_stack.proofs.Rows.{before-append, steps_down-append, FitsDown-pop, FitsDown-push, take_last, drop_first, drop_past}
+use Rattle.undo_stack.specs.Sequence.{FitsDown, FitsUp, IsMoved, Between, after, sequence_change}
+use Rattle.undo_stack.proofs.Sequences.{before-append, steps_down-append, FitsDown-pop, FitsDown-push, take_last, drop_first, drop_past}
 
--- the change below the place fits, and so does the one at it
+-- the change below the number fits, and so does the one at it
 pub fits_last : {B : Type 0} (f : B → Change) (xs : List B) (v : B) (j : ℕ) (d : DocumentParts) → FitsDown f (take (j + 1) xs) d → j < length xs → v ≡ get_or xs j v → (f v).fits_undo d
 fits_last f xs v j d p h k = (FitsDown-pop f (take j xs) v d (rw (take_last xs v j h k) at p)).1
 
 pub fits_next : {B : Type 0} (f : B → Change) (xs : List B) (v : B) (j : ℕ) (d : DocumentParts) → FitsUp f (drop j xs) d → j < length xs → v ≡ get_or xs j v → (f v).fits_redo d
 fits_next f xs v j d p h k = (rw (drop_first xs v j h k) at p).0
 
--- the change below the place is undone
+-- the change below the number is undone
 pub moved_back : {B : Type 0} (f : B → Change) (xs : List B) (v w : B) (j : ℕ) (d e : DocumentParts) → FitsDown f (take (j + 1) xs) d → FitsUp f (drop (j + 1) xs) d → j < length xs → v ≡ get_or xs j v → IsUndone (f v) (f w) d e → IsMoved f xs (j + 1) d (set xs j w) j e
 moved_back f xs v w j d e p q h k t =
     let took = take_last xs v j h k in
@@ -26,7 +26,7 @@ moved_back f xs v w j d e p q h k t =
       steps = rw (take-set xs j w, drop-set xs j w h, took, steps_down-append f (take j xs) v d, t.names, t.back, t.document, append_assoc) refl;
     }
 
--- the change at the place is redone
+-- the change at the number is redone
 pub moved_on : {B : Type 0} (f : B → Change) (xs : List B) (v w : B) (j : ℕ) (d e : DocumentParts) → FitsDown f (take j xs) d → FitsUp f (drop j xs) d → j < length xs → v ≡ get_or xs j v → IsRedone (f v) (f w) d e → IsMoved f xs j d (set xs j w) (j + 1) e
 moved_on f xs v w j d e p q h k t =
     let first = drop_first xs v j h k in
@@ -39,7 +39,7 @@ moved_on f xs v w j d e p q h k t =
       steps = rw (take_more_set xs j w h, drop_past xs w j, first, steps_down-append f (take j xs) w e, t.names, t.back, t.document, append_assoc) refl;
     }
 
--- the change below the place is undone, and the one at it is redone, in a row between two documents
+-- the change below the number is undone, and the one at it is redone, in a sequence between two documents
 pub between_back : {B : Type 0} (f : B → Change) (xs : List B) (v w : B) (j : ℕ) (d e first last : DocumentParts) → Between f xs (j + 1) d first last → j < length xs → v ≡ get_or xs j v → IsUndone (f v) (f w) d e → Between f (set xs j w) j e first last
 between_back f xs v w j d e first last b h k t =
     let took = take_last xs v j h k in
@@ -63,18 +63,18 @@ between_on f xs v w j d e first last b h k t =
       ends = rw (drop_past xs w j, t.document) (rw first_is at b.ends);
     }
 
--- the change below the place fits
+-- the change below the number fits
 pub between_last : {B : Type 0} (f : B → Change) (xs : List B) (v : B) (j : ℕ) (d first last : DocumentParts) → Between f xs (j + 1) d first last → j < length xs → v ≡ get_or xs j v → (f v).fits_undo d
 between_last f xs v j d first last b h k = fits_last f xs v j d b.down h k
 
--- the texts of a row say nothing of how it is turned
-pub redone_named : {B : Type 0} (f : B → Change) (t a : List ℕ) (xs ys : List B) (d e : DocumentParts) → IsRedone (row_change [] [] f xs) (row_change [] [] f ys) d e → IsRedone (row_change t a f xs) (row_change t a f ys) d e
+-- the texts of a sequence say nothing of how it is turned
+pub redone_named : {B : Type 0} (f : B → Change) (t a : List ℕ) (xs ys : List B) (d e : DocumentParts) → IsRedone (sequence_change [] [] f xs) (sequence_change [] [] f ys) d e → IsRedone (sequence_change t a f xs) (sequence_change t a f ys) d e
 redone_named f t a xs ys d e r = record { document = r.document; fits = r.fits; back = r.back; names = refl }
 
-pub undone_named : {B : Type 0} (f : B → Change) (t a : List ℕ) (xs ys : List B) (d e : DocumentParts) → IsUndone (row_change [] [] f xs) (row_change [] [] f ys) d e → IsUndone (row_change t a f xs) (row_change t a f ys) d e
+pub undone_named : {B : Type 0} (f : B → Change) (t a : List ℕ) (xs ys : List B) (d e : DocumentParts) → IsUndone (sequence_change [] [] f xs) (sequence_change [] [] f ys) d e → IsUndone (sequence_change t a f xs) (sequence_change t a f ys) d e
 undone_named f t a xs ys d e r = record { document = r.document; fits = r.fits; back = r.back; names = refl }
 
--- the same by the place above the change
+-- the same by the number above the change
 pub fits_below : {B : Type 0} (f : B → Change) (xs : List B) (v : B) (i : ℕ) (d : DocumentParts) → 0 < i → i ≤ length xs → v ≡ get_or xs (i - 1) v → FitsDown f (take i xs) d → (f v).fits_undo d
 fits_below f xs v i d p q k =
     let same : i - 1 + 1 ≡ i = omega arith in

@@ -6,20 +6,20 @@ use Rattle.command_api.specs.Law.{Change}
 use Rattle.undo_stack.specs.History.{History, Open, current, count, is_clean, last_after, innermost}
 use Rattle.undo_stack.specs.Reading.{undo_text_of, redo_text_of}
 use Rattle.undo_stack.specs.Moving.{Answer, positioned, outside, redo_answer, cleared}
-use Rattle.undo_stack.specs.Row.{before, steps_down, steps_of, IsMoved}
+use Rattle.undo_stack.specs.Sequence.{before, steps_down, steps_of, IsMoved}
 use Rattle.undo_stack.specs.Entries.{entry_change}
-use Rattle.undo_stack.specs.Sound.{Inner, start_of, opens, history_of, IsTurnable, row_nesting}
+use Rattle.undo_stack.specs.Sound.{Inner, start_of, opens, history_of, IsTurnable, sequence_nesting}
 use Rattle.undo_stack.specs.Stacks.{inner_of, IsBounded}
 use Rattle.undo_stack.specs.declared.entry.Entry.{Entry}
 use Rattle.undo_stack.specs.declared.level.Level.{Level}
 use Rattle.undo_stack.specs.declared.limits.TheConstants.{MAX_DEPTH, MAX_LIMIT}
 use Rattle.undo_stack.specs.declared.stack.Stack.{Stack}
 use Rattle.undo_stack.specs.declared.stack.StackFault.TheVariants.{MacroOpen, NothingToRedo}
-use Rattle.undo_stack.proofs.Rows.{last_after-down, take-steps, length-steps}
+use Rattle.undo_stack.proofs.Sequences.{last_after-down, take-steps, length-steps}
 
 -- the levels lead to the current document
-last_after-innermost : {C : Type 0} (f : C → Change) (l : Inner C) (ls : List (Inner C)) (d : DocumentParts) (o : Open) → o.start ≡ before (entry_change f) l.row (start_of f ls d) → o.steps ≡ steps_down (entry_change f) l.row (start_of f ls d) → last_after (innermost o (opens f ls d)).start (innermost o (opens f ls d)).steps ≡ d
-last_after-innermost f l [] d o p q = rw (p, q) (last_after-down (entry_change f) l.row d)
+last_after-innermost : {C : Type 0} (f : C → Change) (l : Inner C) (ls : List (Inner C)) (d : DocumentParts) (o : Open) → o.start ≡ before (entry_change f) l.sequence (start_of f ls d) → o.steps ≡ steps_down (entry_change f) l.sequence (start_of f ls d) → last_after (innermost o (opens f ls d)).start (innermost o (opens f ls d)).steps ≡ d
+last_after-innermost f l [] d o p q = rw (p, q) (last_after-down (entry_change f) l.sequence d)
 last_after-innermost f l (m ∷ ls) d o p q = last_after-innermost f m ls d _ refl refl
 
 -- the current document is the one that the entries lead to
@@ -65,7 +65,7 @@ length-opens f [] d = refl
 length-opens f (l ∷ ls) d = let h = length-opens f ls d in omega arith
 
 -- a stack with no open level keeps its limits
-pub bounded_closed : {C : Type 0} (s : Stack C) → s.levels.items ≡ [] → s.limit ≤ MAX_LIMIT → (0 < s.limit → length s.entries.items ≤ s.limit) → row_nesting s.entries.items ≤ MAX_DEPTH → IsBounded s
+pub bounded_closed : {C : Type 0} (s : Stack C) → s.levels.items ≡ [] → s.limit ≤ MAX_LIMIT → (0 < s.limit → length s.entries.items ≤ s.limit) → sequence_nesting s.entries.items ≤ MAX_DEPTH → IsBounded s
 bounded_closed s closed limit count deep = record {
   limit = limit;
   count = count;
@@ -107,7 +107,7 @@ step_above f d es n h = rw (length-steps (entry_change f) es n d) h
 pub cleared_view : {C : Type 0} (f : C → Change) (d : DocumentParts) (es ts : List (Entry C)) (n : ℕ) (clean : Option ℕ) (limit : ℕ) (ls ms : List (Level C)) → n ≤ length es → ts ≡ [] → ms ≡ [] → history_of f d ts 0 (Some 0) limit (map inner_of ms) ≡ cleared (history_of f d es n clean limit (map inner_of ls))
 cleared_view f d es ts n clean limit ls ms h none closed = rw (none, closed, current-view f d es n clean limit (map inner_of ls) h) refl
 
--- steps that were undone to a place at most, and then made again up to it
+-- steps that were undone to a number at most, and then made again up to it
 pub turned_view : (h u now : History) (i : ℕ) → h.position ≤ length h.steps → u ≡ positioned (min i h.position) h → now ≡ positioned (max (min i (length u.steps)) u.position) u → now ≡ positioned (min i (length h.steps)) h
 turned_view h u now i within back on =
     let to : max (min i (length h.steps)) (min i h.position) ≡ min i (length h.steps) = omega arith in

@@ -4,7 +4,7 @@ use Rattle.std.specs.List.{All}
 use Rattle.map_model.specs.Document.{DocumentParts}
 use Rattle.command_api.specs.Law.{Change, is_free}
 use Rattle.undo_stack.specs.Entries.{entry_change}
-use Rattle.undo_stack.specs.Pushing.{front}
+use Rattle.undo_stack.specs.Pushing.{without_last}
 use Rattle.undo_stack.specs.Stacks.{inner_of}
 use Rattle.undo_stack.specs.declared.entry.Entry.{Entry}
 use Rattle.undo_stack.specs.declared.level.Level.{Level}
@@ -30,7 +30,7 @@ NoneFree {C} f es = All (λ (e : Entry C). is_free (entry_change f e).names.vani
 
 -- none of the entries of these levels is a free command that is obsolete
 abbrev pub AreLiveLevels : {C : Type 0} → (C → Change) → List (Level C) → Type 0
-AreLiveLevels {C} f ls = All (λ (l : Level C). AreLive f (inner_of l).row) ls
+AreLiveLevels {C} f ls = All (λ (l : Level C). AreLive f (inner_of l).sequence) ls
 
 -- none of these entries, and of those of these levels, is a free command that is obsolete; and where has_free is false, none
 -- of these entries is a free command at all
@@ -43,7 +43,7 @@ pub record AreCalm {C : Type 0} (f : C → Change) (has_free : Bool) (es : List 
 abbrev pub IsCalm : {C : Type 0} → (C → Change) → Stack C → Type 0
 IsCalm f s = AreCalm f s.has_free s.entries.items s.levels.items
 
--- the same, where the entry at a place was just turned and is not looked at
+-- the same, where the entry at a number was just turned and is not looked at
 pub record IsCalmBut {C : Type 0} (f : C → Change) (at : ℕ) (s : Stack C) : Type 0 where
   pub below : AreLive f (take at s.entries.items)
   pub above : AreLive f (drop (at + 1) s.entries.items)
@@ -52,17 +52,17 @@ pub record IsCalmBut {C : Type 0} (f : C → Change) (at : ℕ) (s : Stack C) : 
 
 -- none of these entries, and of those of these levels, is a free command that is obsolete, but for the last one of all
 abbrev pub AreLiveToLast : {C : Type 0} → (C → Change) → List (Entry C) → List (Level C) → Type 0
-AreLiveToLast f es [] = AreLive f (front es)
-AreLiveToLast f es (l ∷ ls) = AreLive f es × AreLiveToLast f (inner_of l).row ls
+AreLiveToLast f es [] = AreLive f (without_last es)
+AreLiveToLast f es (l ∷ ls) = AreLive f es × AreLiveToLast f (inner_of l).sequence ls
 
 -- the same, where the target just took a command in and is not looked at
 pub record IsCalmToLast {C : Type 0} (f : C → Change) (s : Stack C) : Type 0 where
-  pub rows : AreLiveToLast f s.entries.items s.levels.items
+  pub sequences : AreLiveToLast f s.entries.items s.levels.items
   pub none_free : s.has_free ≡ false → NoneFree f s.entries.items
 
--- what a merge into the last of a row leaves of it
+-- what a merge into the last of a sequence leaves of it
 abbrev pub LeavesLive : {E C : Type 0} → (C → Change) → List (Entry C) → Result Bool E → List (Entry C) → Type 0
-LeavesLive f xs (Ok true) ys = AreLive f xs → AreLive f (front ys)
+LeavesLive f xs (Ok true) ys = AreLive f xs → AreLive f (without_last ys)
 LeavesLive f xs (Ok false) ys = AreLive f xs → AreLive f ys
 LeavesLive f xs (Err e) ys = AreLive f xs → AreLive f ys
 

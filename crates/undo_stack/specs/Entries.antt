@@ -1,14 +1,14 @@
 -- What an entry does, and how deep macros stand in one another.
 use Rattle.std.specs.Prelude.{ℕ, ◌+◌, max, Bool, true, false, List, [], ◌∷◌}
 use Rattle.command_api.specs.Law.{Change}
-use Rattle.undo_stack.specs.Row.{row_change}
+use Rattle.undo_stack.specs.Sequence.{sequence_change}
 use Rattle.undo_stack.specs.declared.entry.Entry.{Entry, rec-Entry, fold-Entry}
 use Rattle.undo_stack.specs.declared.entry.Entry.TheOpen.{Entry-F, Command, Macro}
 
 -- one layer of an entry, where f says what a command does, and k what an entry of a macro does
 abbrev pub layer_change : {C X : Type 0} → (C → Change) → (X → Change) → Entry-F C X → Change
 layer_change f k (Command c) = f c
-layer_change f k (Macro body) = row_change body.value.text body.value.action k body.value.children.items
+layer_change f k (Macro contents) = sequence_change contents.value.text contents.value.action k contents.value.children.items
 
 -- an entry does what its command does, where f says what a command does, and a macro what its entries do in turn
 abbrev pub entry_change : {C : Type 0} → (C → Change) → Entry C → Change
@@ -22,7 +22,7 @@ greatest (n ∷ ns) = max n (greatest ns)
 -- one layer of an entry whose entries have these nestings
 abbrev pub layer_nesting : {C : Type 0} → Entry-F C ℕ → ℕ
 layer_nesting (Command c) = 0
-layer_nesting (Macro body) = greatest body.value.children.items + 1
+layer_nesting (Macro contents) = greatest contents.value.children.items + 1
 
 -- how many macros stand in one another in an entry
 abbrev pub nesting : {C : Type 0} → Entry C → ℕ
@@ -31,7 +31,7 @@ nesting {C} = fold-Entry C ℕ layer_nesting
 -- whether an entry is a macro
 abbrev pub layer_is_macro : {C : Type 0} → Entry-F C Bool → Bool
 layer_is_macro (Command c) = false
-layer_is_macro (Macro body) = true
+layer_is_macro (Macro contents) = true
 
 abbrev pub is_macro : {C : Type 0} → Entry C → Bool
 is_macro {C} = fold-Entry C Bool layer_is_macro

@@ -36,7 +36,7 @@ abbrev pub last_after : DocumentParts → List Step → DocumentParts
 last_after d [] = d
 last_after d (s ∷ ss) = last_after s.after ss
 
--- the document at a place in the steps: the one after that many of them, and at 0 the base
+-- the document at a number of steps: the one after that many of them, and at 0 the base
 abbrev pub document_at : History → ℕ → DocumentParts
 document_at h n = last_after h.base (take n h.steps)
 

@@ -5,7 +5,7 @@ pub mod Turning
 pub mod Calm
 pub mod Macros
 pub mod Reading
-pub mod Row
+pub mod Sequence
 pub mod Entries
 pub mod Sound
 pub mod Stacks

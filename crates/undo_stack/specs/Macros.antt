@@ -7,7 +7,7 @@
 use Rattle.std.specs.Prelude.{◌≡◌, ℕ, List, [], ◌∷◌, ◌++◌, length, nat_lt, Bool, true, false, ◌⊎◌, Ok, Err}
 use Rattle.command_api.specs.Law.{untagged, Never}
 use Rattle.undo_stack.specs.History.{Step, step_named, Open, History, last_after, innermost, current}
-use Rattle.undo_stack.specs.Pushing.{cut, front, with_added}
+use Rattle.undo_stack.specs.Pushing.{cut, without_last, with_added}
 use Rattle.undo_stack.specs.Moving.{Answer, Leads}
 use Rattle.undo_stack.specs.declared.limits.TheConstants.{MAX_DEPTH}
 use Rattle.undo_stack.specs.declared.stack.StackFault.TheVariants.{NoMacroOpen, TooDeep, NoMemory}
@@ -37,7 +37,7 @@ step_of_level l = step_named (untagged l.text l.action Never) (last_after l.star
 -- the innermost level closes, and its step is added as that of an edit is
 abbrev pub ended_in : List Open → History → History
 ended_in [] h = h
-ended_in (l ∷ ls) h = with_added (step_of_level (innermost l ls)) (front (l ∷ ls)) (record h { levels = front (l ∷ ls) })
+ended_in (l ∷ ls) h = with_added (step_of_level (innermost l ls)) (without_last (l ∷ ls)) (record h { levels = without_last (l ∷ ls) })
 
 -- end has nothing to close where no level is open
 abbrev pub end_answer_in : List Open → Answer

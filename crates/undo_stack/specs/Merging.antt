@@ -1,10 +1,10 @@
--- What the merge of a pushed edit makes of a change, a row, a history and a stack.
+-- What the merge of a pushed edit makes of a change, a sequence, a history and a stack.
 use Rattle.std.specs.Prelude.{◌≡◌, ◌<◌, List, [], ◌∷◌, Some, None, Bool, true, false, Result, Ok, Err, length}
 use Rattle.map_model.specs.Document.{DocumentParts}
 use Rattle.command_api.specs.Law.{Change, IsSame, IsSettled}
 use Rattle.undo_stack.specs.History.{Step, step_named, Open, History, last_after, innermost}
-use Rattle.undo_stack.specs.Pushing.{cut, front, last_step, led_to, target, before_target, vanishing_of, Continues, Merges, Vanishes, with_target_at, without_target, next_of}
-use Rattle.undo_stack.specs.Row.{before, steps_down, FitsDown}
+use Rattle.undo_stack.specs.Pushing.{cut, without_last, last_step, led_to, target, before_target, vanishing_of, Continues, Merges, Vanishes, with_target_at, without_target, next_of}
+use Rattle.undo_stack.specs.Sequence.{before, steps_down, FitsDown}
 use Rattle.undo_stack.specs.Stacks.{history, Holds}
 use Rattle.undo_stack.specs.declared.stack.Stack.{Stack}
 
@@ -24,27 +24,27 @@ MergesChange v c d (Ok true) w = Joins v c × IsJoined v w c d
 MergesChange v c d (Ok false) w = (Joins v c → ⊥) × IsSame v w
 MergesChange v c d (Err e) w = IsSame v w
 
--- the row ys, which led to e, is the row xs, which led to d, but for its steps, which were changed so
+-- the sequence ys, which led to e, is the sequence xs, which led to d, but for its steps, which were changed so
 pub record IsAltered {B : Type 0} (f : B → Change) (change : List Step → List Step) (xs : List B) (d : DocumentParts) (ys : List B) (e : DocumentParts) : Type 0 where
   pub down : FitsDown f ys e
   pub base : before f ys e ≡ before f xs d
   pub steps : steps_down f ys e ≡ change (steps_down f xs d)
 
--- merging the newer change c, which led to d, made ys of the row xs
-abbrev pub MergesRow : {E B : Type 0} → (B → Change) → List B → Change → DocumentParts → Result Bool E → List B → Type 0
-MergesRow f xs c d (Ok true) ys = Continues (last_step (steps_down f xs (c.undone d))) (step_named c.names d) × IsAltered f (led_to d) xs (c.undone d) ys d
-MergesRow f xs c d (Ok false) ys = (Continues (last_step (steps_down f xs (c.undone d))) (step_named c.names d) → ⊥) × IsAltered f (λ ss. ss) xs (c.undone d) ys (c.undone d)
-MergesRow f xs c d (Err e) ys = IsAltered f (λ ss. ss) xs (c.undone d) ys (c.undone d)
+-- merging the newer change c, which led to d, made ys of the sequence xs
+abbrev pub MergesSequence : {E B : Type 0} → (B → Change) → List B → Change → DocumentParts → Result Bool E → List B → Type 0
+MergesSequence f xs c d (Ok true) ys = Continues (last_step (steps_down f xs (c.undone d))) (step_named c.names d) × IsAltered f (led_to d) xs (c.undone d) ys d
+MergesSequence f xs c d (Ok false) ys = (Continues (last_step (steps_down f xs (c.undone d))) (step_named c.names d) → ⊥) × IsAltered f (λ ss. ss) xs (c.undone d) ys (c.undone d)
+MergesSequence f xs c d (Err e) ys = IsAltered f (λ ss. ss) xs (c.undone d) ys (c.undone d)
 
 -- the steps that are left where the last one is gone, and where it is not
 abbrev pub left_of : Bool → List Step → List Step
-left_of true ss = front ss
+left_of true ss = without_last ss
 left_of false ss = ss
 
--- ys is the row xs, which led to d, without its last thing where that is gone, as it is where it is obsolete
-pub record SettlesRow {B : Type 0} (f : B → Change) (gone : Bool) (xs : List B) (d : DocumentParts) (ys : List B) : Type 0 where
-  pub gone_where : IsSettled (vanishing_of (last_step (steps_down f xs d))) gone (last_after (before f xs d) (front (steps_down f xs d))) d
-  pub row : IsAltered f (left_of gone) xs d ys d
+-- ys is the sequence xs, which led to d, without its last thing where that is gone, as it is where it is obsolete
+pub record SettlesSequence {B : Type 0} (f : B → Change) (gone : Bool) (xs : List B) (d : DocumentParts) (ys : List B) : Type 0 where
+  pub gone_where : IsSettled (vanishing_of (last_step (steps_down f xs d))) gone (last_after (before f xs d) (without_last (steps_down f xs d))) d
+  pub sequence : IsAltered f (left_of gone) xs d ys d
 
 -- the target exists, nothing stands above it, and outside levels the position is not the clean one
 abbrev pub HasTarget : List Open → History → Type 0
@@ -62,7 +62,7 @@ pub record SettlesTarget (d : DocumentParts) (gone : Bool) (h n : History) : Typ
   pub next : n ≡ settled_to gone h
 
 -- the edit s, which is not merged into the history h, makes of it the history n, and is gone there or not
-pub record IsPlaced (gone : Bool) (h : History) (s : Step) (n : History) : Type 0 where
+pub record IsEntered (gone : Bool) (h : History) (s : Step) (n : History) : Type 0 where
   pub gone_where : Vanishes false gone (cut h) s
   pub next : n ≡ next_of false gone s (cut h)
 
@@ -71,7 +71,7 @@ abbrev pub stack_before : {C : Type 0} → (C → Change) → C → Stack C → 
 stack_before f c s = record s { document = (f c).undone s.document }
 
 -- before the command c, the stacks s and t hold the same history
-pub record IsKept {C : Type 0} (f : C → Change) (c : C) (s t : Stack C) : Type 0 where
+pub record IsUnchanged {C : Type 0} (f : C → Change) (c : C) (s t : Stack C) : Type 0 where
   pub document : t.document ≡ s.document
   pub sound : Holds f (stack_before f c t)
   pub same : history f (stack_before f c t) ≡ history f (stack_before f c s)
@@ -87,5 +87,5 @@ pub record IsTakenIn {C : Type 0} (f : C → Change) (c : C) (s t : Stack C) : T
 -- merging the command c, which led to the document of s, made t of the stack s
 abbrev pub MergesStack : {E C : Type 0} → (C → Change) → C → Stack C → Result Bool E → Stack C → Type 0
 MergesStack f c s (Ok true) t = IsTakenIn f c s t
-MergesStack f c s (Ok false) t = (Merges (cut (history f (stack_before f c s))) (step_named (f c).names s.document) → ⊥) × IsKept f c s t
-MergesStack f c s (Err e) t = IsKept f c s t
+MergesStack f c s (Ok false) t = (Merges (cut (history f (stack_before f c s))) (step_named (f c).names s.document) → ⊥) × IsUnchanged f c s t
+MergesStack f c s (Err e) t = IsUnchanged f c s t

@@ -31,9 +31,9 @@ abbrev pub cut : History → History
 cut h = cut_in h.levels h
 
 -- the steps that t is the last of, once the history was cut, and the document before them
-abbrev pub row_in : List Open → History → List Step
-row_in [] h = h.steps
-row_in (l ∷ ls) h = (innermost l ls).steps
+abbrev pub sequence_in : List Open → History → List Step
+sequence_in [] h = h.steps
+sequence_in (l ∷ ls) h = (innermost l ls).steps
 
 abbrev pub start_in : List Open → History → DocumentParts
 start_in [] h = h.base
@@ -46,10 +46,10 @@ last_step (s ∷ []) = Some s
 last_step (s ∷ t ∷ ss) = last_step (t ∷ ss)
 
 -- the things before the last one
-abbrev pub front : {A : Type 0} → List A → List A
-front [] = []
-front (s ∷ []) = []
-front (s ∷ t ∷ ss) = s ∷ front (t ∷ ss)
+abbrev pub without_last : {A : Type 0} → List A → List A
+without_last [] = []
+without_last (s ∷ []) = []
+without_last (s ∷ t ∷ ss) = s ∷ without_last (t ∷ ss)
 
 -- the same steps, with d as the document of the last one
 abbrev pub led_to : DocumentParts → List Step → List Step
@@ -59,11 +59,11 @@ led_to d (s ∷ t ∷ ss) = s ∷ led_to d (t ∷ ss)
 
 -- t
 abbrev pub target : History → Option Step
-target h = last_step (row_in h.levels h)
+target h = last_step (sequence_in h.levels h)
 
 -- the document before t
 abbrev pub before_target : History → DocumentParts
-before_target h = last_after (start_in h.levels h) (front (row_in h.levels h))
+before_target h = last_after (start_in h.levels h) (without_last (sequence_in h.levels h))
 
 -- t exists, the edit follows, and both have the same tag
 abbrev pub Continues : Option Step → Step → Type 0
@@ -119,8 +119,8 @@ with_innermost change (l ∷ m ∷ ls) = l ∷ with_innermost change (m ∷ ls)
 
 -- t is removed, and outside levels the position goes down by one
 abbrev pub without_target : List Open → History → History
-without_target [] h = record h { steps = front h.steps; position = h.position - 1 }
-without_target (l ∷ ls) h = record h { levels = with_innermost front (l ∷ ls) }
+without_target [] h = record h { steps = without_last h.steps; position = h.position - 1 }
+without_target (l ∷ ls) h = record h { levels = with_innermost without_last (l ∷ ls) }
 
 -- t's document becomes d
 abbrev pub with_target_at : DocumentParts → List Open → History → History

@@ -33,6 +33,6 @@ abbrev pub texts_in : List Open → List Step → List (List ℕ)
 texts_in [] ss = map (λ s. s.names.text) ss
 texts_in (l ∷ ls) ss = map (λ s. s.names.text) ss ++ l.text ∷ []
 
--- the text for lists at a place, and none past the last one
+-- the text for lists at a number, and none past the last one
 abbrev pub text_at : History → ℕ → Option (List ℕ)
 text_at h at = slice_get (texts_in h.levels h.steps) at

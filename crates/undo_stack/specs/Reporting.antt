@@ -22,13 +22,13 @@ last_entry (e ∷ []) = Some e
 last_entry (e ∷ d ∷ es) = last_entry (d ∷ es)
 
 -- the entries of the innermost of these levels, and those outside where there are no levels
-abbrev pub innermost_row : {C : Type 0} → List (Entry C) → List (Level C) → List (Entry C)
-innermost_row es [] = es
-innermost_row es (l ∷ ls) = innermost_row (inner_of l).row ls
+abbrev pub innermost_sequence : {C : Type 0} → List (Entry C) → List (Level C) → List (Entry C)
+innermost_sequence es [] = es
+innermost_sequence es (l ∷ ls) = innermost_sequence (inner_of l).sequence ls
 
 -- the entry that is the target once the entries above the index are gone
 abbrev pub target_entry : {C : Type 0} → Stack C → Option (Entry C)
-target_entry s = last_entry (innermost_row (take s.index s.entries.items) s.levels.items)
+target_entry s = last_entry (innermost_sequence (take s.index s.entries.items) s.levels.items)
 
 -- whether an entry, where there is one, reports that it is obsolete
 abbrev pub reports : {C : Type 0} → (C → Change) → Option (Entry C) → Bool

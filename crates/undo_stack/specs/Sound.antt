@@ -3,7 +3,7 @@ use Rattle.std.specs.Prelude.{ℕ, ◌+◌, ◌≤◌, max, List, [], ◌∷◌,
 use Rattle.map_model.specs.Document.{DocumentParts}
 use Rattle.command_api.specs.Law.{Change}
 use Rattle.undo_stack.specs.History.{Open, History}
-use Rattle.undo_stack.specs.Row.{before, steps_down, steps_of, FitsDown, FitsUp}
+use Rattle.undo_stack.specs.Sequence.{before, steps_down, steps_of, FitsDown, FitsUp}
 use Rattle.undo_stack.specs.Entries.{entry_change, nesting, greatest}
 use Rattle.undo_stack.specs.declared.entry.Entry.{Entry}
 
@@ -11,12 +11,12 @@ use Rattle.undo_stack.specs.declared.entry.Entry.{Entry}
 pub record Inner (C : Type 0) : Type 0 where
   pub text : List ℕ
   pub action : List ℕ
-  pub row : List (Entry C)
+  pub sequence : List (Entry C)
 
 -- the document where these levels begin, which led to d
 abbrev pub start_of : {C : Type 0} → (C → Change) → List (Inner C) → DocumentParts → DocumentParts
 start_of f [] d = d
-start_of f (l ∷ ls) d = before (entry_change f) l.row (start_of f ls d)
+start_of f (l ∷ ls) d = before (entry_change f) l.sequence (start_of f ls d)
 
 -- these levels, which led to d, in a history
 abbrev pub opens : {C : Type 0} → (C → Change) → List (Inner C) → DocumentParts → List Open
@@ -24,14 +24,14 @@ opens f [] d = []
 opens f (l ∷ ls) d = record {
   text = l.text;
   action = l.action;
-  start = before (entry_change f) l.row (start_of f ls d);
-  steps = steps_down (entry_change f) l.row (start_of f ls d);
+  start = before (entry_change f) l.sequence (start_of f ls d);
+  steps = steps_down (entry_change f) l.sequence (start_of f ls d);
 } ∷ opens f ls d
 
 -- each entry of these levels, which led to d, fits for undo
 abbrev pub FitsOpens : {C : Type 0} → (C → Change) → List (Inner C) → DocumentParts → Type 0
 FitsOpens f [] d = Unit {0}
-FitsOpens f (l ∷ ls) d = FitsDown (entry_change f) l.row (start_of f ls d) × FitsOpens f ls d
+FitsOpens f (l ∷ ls) d = FitsDown (entry_change f) l.sequence (start_of f ls d) × FitsOpens f ls d
 
 -- the history of these entries and levels, which led to the document d, where n entries are below the levels
 abbrev pub history_of : {C : Type 0} → (C → Change) → DocumentParts → List (Entry C) → ℕ → Option ℕ → ℕ → List (Inner C) → History
@@ -59,14 +59,14 @@ pub record IsTurnable {C : Type 0} (f : C → Change) (d : DocumentParts) (es : 
 -- the same levels, with an entry behind those of the last one
 abbrev pub with_child : {C : Type 0} → Entry C → List (Inner C) → List (Inner C)
 with_child e [] = []
-with_child e (l ∷ []) = record l { row = l.row ++ e ∷ [] } ∷ []
+with_child e (l ∷ []) = record l { sequence = l.sequence ++ e ∷ [] } ∷ []
 with_child e (l ∷ m ∷ ls) = l ∷ with_child e (m ∷ ls)
 
 -- how many macros stand in one another in these entries
-abbrev pub row_nesting : {C : Type 0} → List (Entry C) → ℕ
-row_nesting es = greatest (map nesting es)
+abbrev pub sequence_nesting : {C : Type 0} → List (Entry C) → ℕ
+sequence_nesting es = greatest (map nesting es)
 
 -- how deep the first of these levels is as an entry, once all are closed
 abbrev pub level_nesting : {C : Type 0} → List (Inner C) → ℕ
 level_nesting [] = 0
-level_nesting (l ∷ ls) = max (row_nesting l.row) (level_nesting ls) + 1
+level_nesting (l ∷ ls) = max (sequence_nesting l.sequence) (level_nesting ls) + 1

@@ -5,7 +5,7 @@ use Rattle.std.specs.VecDeque.{deque_len, deque_capacity}
 use Rattle.command_api.specs.Law.{Change}
 use Rattle.undo_stack.specs.History.{History}
 use Rattle.undo_stack.specs.Entries.{is_macro}
-use Rattle.undo_stack.specs.Sound.{Inner, history_of, IsTurnable, row_nesting, level_nesting}
+use Rattle.undo_stack.specs.Sound.{Inner, history_of, IsTurnable, sequence_nesting, level_nesting}
 use Rattle.undo_stack.specs.declared.entry.Entry.{Entry}
 use Rattle.undo_stack.specs.declared.entry.Entry.TheVariants.{Macro}
 use Rattle.undo_stack.specs.declared.level.Level.{Level}
@@ -14,14 +14,14 @@ use Rattle.undo_stack.specs.declared.stack.Stack.{Stack}
 
 -- what a level of a stack holds
 abbrev pub inner_of : {C : Type 0} → Level C → Inner C
-inner_of l = record { text = l.body.value.text; action = l.body.value.action; row = l.body.value.children.items }
+inner_of l = record { text = l.contents.value.text; action = l.contents.value.action; sequence = l.contents.value.children.items }
 
 abbrev pub inners : {C : Type 0} → Stack C → List (Inner C)
 inners s = map inner_of s.levels.items
 
 -- the entry that a level is once it is closed
 abbrev pub closed_level : {C : Type 0} → Level C → Entry C
-closed_level l = Macro l.body
+closed_level l = Macro l.contents
 
 -- the history that a stack holds
 abbrev pub history : {C : Type 0} → (C → Change) → Stack C → History
@@ -40,22 +40,22 @@ abbrev pub WhereOpen : {A : Type 0} → List A → Type 0 → Type 0
 WhereOpen [] P = Unit {0}
 WhereOpen (l ∷ ls) P = P
 
--- each of these levels but the last has a free place
+-- each of these levels but the last has free room
 abbrev pub HaveRoom : {C : Type 0} → List (Level C) → Type 0
 HaveRoom [] = Unit {0}
-HaveRoom (l ∷ ls) = WhereOpen ls (vec_len l.body.value.children < vec_capacity l.body.value.children) × HaveRoom ls
+HaveRoom (l ∷ ls) = WhereOpen ls (vec_len l.contents.value.children < vec_capacity l.contents.value.children) × HaveRoom ls
 
--- there is a free place in the last of these levels
+-- there is free room in the last of these levels
 abbrev pub LastHasRoom : {C : Type 0} → List (Level C) → Type 0
 LastHasRoom [] = Unit {0}
-LastHasRoom (l ∷ []) = vec_len l.body.value.children < vec_capacity l.body.value.children
+LastHasRoom (l ∷ []) = vec_len l.contents.value.children < vec_capacity l.contents.value.children
 LastHasRoom (l ∷ m ∷ ls) = LastHasRoom (m ∷ ls)
 
--- the limits of a stack, and, while a level is open, a free place for what it becomes
+-- the limits of a stack, and, while a level is open, free room for what it becomes
 pub record IsBounded {C : Type 0} (s : Stack C) : Type 0 where
   pub limit : s.limit ≤ MAX_LIMIT
   pub count : 0 < s.limit → length s.entries.items ≤ s.limit
-  pub entry_nesting : row_nesting s.entries.items ≤ MAX_DEPTH
+  pub entry_nesting : sequence_nesting s.entries.items ≤ MAX_DEPTH
   pub open_nesting : level_nesting (inners s) ≤ MAX_DEPTH
   pub none_above : WhereOpen s.levels.items (s.index ≡ length s.entries.items)
   pub entry_room : WhereOpen s.levels.items (deque_len s.entries < deque_capacity s.entries)

@@ -1,7 +1,7 @@
 -- Turns of steps where commands may be free.
 --
 -- A free command says itself when it is obsolete. Where a turn leaves it so, its step goes: the documents on its two sides
--- are equal then. The position becomes the place of the step that went, and a clean position above it is lost. A macro
+-- are equal then. The position becomes the number of the step that went, and a clean position above it is lost. A macro
 -- stays, whatever is in it.
 use Rattle.std.specs.Prelude.{◌≡◌, ℕ, ◌+◌, ◌-◌, min, length, Option, Some, None, Ok, Err, zero, suc, true, false, ◌⊎◌, List, [], ◌∷◌, slice_get}
 use Rattle.std.specs.List.{remove}
@@ -15,16 +15,16 @@ abbrev pub IsFreeStep : Option Step → Type 0
 IsFreeStep None = ⊥
 IsFreeStep (Some s) = is_free s.names.vanishing ≡ true
 
--- the step at a place may go: its command is free, and the documents on its two sides are equal
+-- the step at a number may go: its command is free, and the documents on its two sides are equal
 pub record MayGo (at : ℕ) (h : History) : Type 0 where
   pub free : IsFreeStep (slice_get h.steps at)
   pub equal : document_at h (at + 1) ≡ document_at h at
 
--- the step at a place is gone, and that place is the position; a clean position above it is lost
+-- the step at a number is gone, and that number is the position; a clean position above it is lost
 abbrev pub without_step : ℕ → History → History
 without_step at h = record h { steps = remove h.steps at; position = at; clean = up_to at h.clean }
 
--- the step at a place goes, or the history is next
+-- the step at a number goes, or the history is next
 abbrev pub Drops : ℕ → History → History → History → Type 0
 Drops at h next n = (n ≡ next) ⊎ (MayGo at h × (n ≡ without_step at h))
 
@@ -40,7 +40,7 @@ abbrev pub TurnBy : (History → History → Type 0) → ℕ → History → His
 TurnBy R zero = λ h n. n ≡ h
 TurnBy R (suc k) = λ h n. (m : History) × R h m × TurnBy R k m n
 
--- back to the place i, and on to it. One of the two is no turn at all
+-- back to the number i, and on to it. One of the two is no turn at all
 pub record TurnsTo (i : ℕ) (h n : History) : Type 0 where
   pub between : History
   pub back : TurnBy TurnsBack (h.position - i) h between

@@ -4,7 +4,7 @@ ghost use Rattle.command_api.specs.Offers.{IsOfferOf};
 ghost use Rattle.undo_stack.specs.Calm.{IsGone, IsLive};
 ghost use Rattle.undo_stack.specs.Entries.{entry_change, is_macro, nesting};
 ghost use Rattle.undo_stack.specs.Merging.{MergesChange};
-ghost use Rattle.undo_stack.specs.Row.{row_change, FitsDown, FitsUp, IsMoved};
+ghost use Rattle.undo_stack.specs.Sequence.{sequence_change, FitsDown, FitsUp, IsMoved};
 
 use command_api::{Command, Offer};
 use map_model::{Document, MapText};
@@ -16,12 +16,12 @@ use std::collections::VecDeque;
 pub enum Entry<C> {
     Command(C),
     // In a box, so that an entry is not made larger by the macros.
-    Macro(Box<MacroBody<Entry<C>>>),
+    Macro(Box<MacroContents<Entry<C>>>),
 }
 
 /// What a macro holds: the text that stands for it in a list of steps, the text that names its action, and its entries.
 #[derive(Drop)]
-pub struct MacroBody<E> {
+pub struct MacroContents<E> {
     pub text: MapText,
     pub action: MapText,
     pub children: Vec<E>,
@@ -34,7 +34,7 @@ impl<C: Command> Entry<C> {
     {
         match self {
             Entry::Command(command) => command.text(),
-            Entry::Macro(body) => body.text.as_str(),
+            Entry::Macro(contents) => contents.text.as_str(),
         }
     }
 
@@ -44,7 +44,7 @@ impl<C: Command> Entry<C> {
     {
         match self {
             Entry::Command(command) => command.action_text(),
-            Entry::Macro(body) => body.action.as_str(),
+            Entry::Macro(contents) => contents.action.as_str(),
         }
     }
 
@@ -58,7 +58,7 @@ impl<C: Command> Entry<C> {
     {
         match self {
             Entry::Command(command) => command.redo(document),
-            Entry::Macro(body) => redo_all(&mut body.children, document),
+            Entry::Macro(contents) => redo_all(&mut contents.children, document),
         }
     }
 
@@ -72,7 +72,7 @@ impl<C: Command> Entry<C> {
     {
         match self {
             Entry::Command(command) => command.undo(document),
-            Entry::Macro(body) => undo_all(&mut body.children, document),
+            Entry::Macro(contents) => undo_all(&mut contents.children, document),
         }
     }
 }
@@ -112,7 +112,7 @@ impl<C: Command> Entry<C> {
     /// Whether the entry is a free command that is obsolete.
     pub fn is_gone(&self) -> bool
         ensures gone { result ≡ true → IsGone (entry_change C.change self.now) }
-        ensures kept { result ≡ false → IsLive (entry_change C.change self.now) }
+        ensures live { result ≡ false → IsLive (entry_change C.change self.now) }
     {
         match self {
             Entry::Command(command) => command.is_free() && command.obsolete(),
@@ -168,8 +168,8 @@ fn merge_commands<C: Command>(
 fn redo_all<C: Command>(children: &mut Vec<Entry<C>>, document: &mut Document)
     requires { FitsUp (entry_change C.change) children.old.items document.old }
     ensures turned { IsRedone
-        (row_change [] [] (entry_change C.change) children.old.items)
-        (row_change [] [] (entry_change C.change) children.new.items) document.old document.new }
+        (sequence_change [] [] (entry_change C.change) children.old.items)
+        (sequence_change [] [] (entry_change C.change) children.new.items) document.old document.new }
     ensures nesting { map nesting children.new.items ≡ map nesting children.old.items }
 {
     for i in 0..children.len() {
@@ -182,8 +182,8 @@ fn redo_all<C: Command>(children: &mut Vec<Entry<C>>, document: &mut Document)
 fn undo_all<C: Command>(children: &mut Vec<Entry<C>>, document: &mut Document)
     requires { FitsDown (entry_change C.change) children.old.items document.old }
     ensures turned { IsUndone
-        (row_change [] [] (entry_change C.change) children.old.items)
-        (row_change [] [] (entry_change C.change) children.new.items) document.old document.new }
+        (sequence_change [] [] (entry_change C.change) children.old.items)
+        (sequence_change [] [] (entry_change C.change) children.new.items) document.old document.new }
     ensures nesting { map nesting children.new.items ≡ map nesting children.old.items }
 {
     for i in (0..children.len()).rev() {
@@ -191,40 +191,50 @@ fn undo_all<C: Command>(children: &mut Vec<Entry<C>>, document: &mut Document)
     }
 }
 
-/// Turns back the entries of a row from the place `to` up to `from`, last to first.
-pub fn undo_down<C: Command>(row: &mut [Entry<C>], document: &mut Document, from: usize, to: usize)
+/// Turns back the entries of a sequence from the number `to` up to `from`, last to first.
+pub fn undo_down<C: Command>(
+    sequence: &mut [Entry<C>],
+    document: &mut Document,
+    from: usize,
+    to: usize,
+)
     requires order { to ≤ from }
-    requires within { from ≤ length row.old }
-    requires down { FitsDown (entry_change C.change) (take from row.old) document.old }
-    requires up { FitsUp (entry_change C.change) (drop from row.old) document.old }
-    ensures moved { IsMoved (entry_change C.change) row.old from document.old row.new to document.new }
-    ensures nesting { map nesting row.new ≡ map nesting row.old }
+    requires within { from ≤ length sequence.old }
+    requires down { FitsDown (entry_change C.change) (take from sequence.old) document.old }
+    requires up { FitsUp (entry_change C.change) (drop from sequence.old) document.old }
+    ensures moved { IsMoved (entry_change C.change) sequence.old from document.old sequence.new to document.new }
+    ensures nesting { map nesting sequence.new ≡ map nesting sequence.old }
 {
-    // Counted by the turns that are left: a loop over the place takes more instructions a turn.
+    // Counted by the turns that are left: a loop over the number takes more instructions a turn.
     let mut left = from - to;
     while left > 0 {
         left -= 1;
-        row[to + left].undo(document);
+        sequence[to + left].undo(document);
     }
 }
 
-/// Makes the entries of a row from the place `from` up to `to` again, first to last.
-pub fn redo_up<C: Command>(row: &mut [Entry<C>], document: &mut Document, from: usize, to: usize)
+/// Makes the entries of a sequence from the number `from` up to `to` again, first to last.
+pub fn redo_up<C: Command>(
+    sequence: &mut [Entry<C>],
+    document: &mut Document,
+    from: usize,
+    to: usize,
+)
     requires order { from ≤ to }
-    requires within { to ≤ length row.old }
-    requires down { FitsDown (entry_change C.change) (take from row.old) document.old }
-    requires up { FitsUp (entry_change C.change) (drop from row.old) document.old }
-    ensures moved { IsMoved (entry_change C.change) row.old from document.old row.new to document.new }
-    ensures nesting { map nesting row.new ≡ map nesting row.old }
+    requires within { to ≤ length sequence.old }
+    requires down { FitsDown (entry_change C.change) (take from sequence.old) document.old }
+    requires up { FitsUp (entry_change C.change) (drop from sequence.old) document.old }
+    ensures moved { IsMoved (entry_change C.change) sequence.old from document.old sequence.new to document.new }
+    ensures nesting { map nesting sequence.new ≡ map nesting sequence.old }
 {
     let mut at = from;
     while at < to {
-        row[at].redo(document);
+        sequence[at].redo(document);
         at += 1;
     }
 }
 
-/// The same as `undo_down`, of entries that need not lie in one row.
+/// The same as `undo_down`, of entries that need not lie in one sequence.
 pub fn undo_each<C: Command>(
     entries: &mut VecDeque<Entry<C>>,
     document: &mut Document,
@@ -245,7 +255,7 @@ pub fn undo_each<C: Command>(
     }
 }
 
-/// The same as `redo_up`, of entries that need not lie in one row.
+/// The same as `redo_up`, of entries that need not lie in one sequence.
 pub fn redo_each<C: Command>(
     entries: &mut VecDeque<Entry<C>>,
     document: &mut Document,

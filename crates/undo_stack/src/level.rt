@@ -2,15 +2,15 @@ ghost use Rattle.std.specs.Prelude.{◌≡◌, ◌<◌, ◌≤◌, [], ◌∷◌
 ghost use Rattle.map_model.specs.Document.{DocumentParts};
 ghost use Rattle.command_api.specs.Offers.{IsOfferOf};
 ghost use Rattle.undo_stack.specs.Calm.{AreLive, LeavesLive};
-ghost use Rattle.undo_stack.specs.Pushing.{front};
-ghost use Rattle.undo_stack.specs.Row.{FitsDown};
+ghost use Rattle.undo_stack.specs.Pushing.{without_last};
+ghost use Rattle.undo_stack.specs.Sequence.{FitsDown};
 ghost use Rattle.undo_stack.specs.Entries.{entry_change};
-ghost use Rattle.undo_stack.specs.Sound.{row_nesting};
-ghost use Rattle.undo_stack.specs.Merging.{MergesRow, SettlesRow};
+ghost use Rattle.undo_stack.specs.Sound.{sequence_nesting};
+ghost use Rattle.undo_stack.specs.Merging.{MergesSequence, SettlesSequence};
 ghost use Rattle.undo_stack.specs.Reporting.{TakesIn, last_entry, reports};
 ghost use Rattle.undo_stack.specs.Stacks.{inner_of, closed_level};
 
-use crate::entry::{Entry, MacroBody};
+use crate::entry::{Entry, MacroContents};
 use command_api::{Command, Offer};
 use map_model::{Document, MapText};
 use std::alloc::{AllocError, Global};
@@ -18,23 +18,23 @@ use std::alloc::{AllocError, Global};
 /// A macro that is open. Its box is had from the beginning, so that its end takes no memory.
 #[derive(Drop)]
 pub struct Level<C> {
-    pub body: Box<MacroBody<Entry<C>>>,
+    pub contents: Box<MacroContents<Entry<C>>>,
 }
 
 impl<C: Command> Level<C> {
     /// A level with these texts, and no entries.
     pub fn new(alloc: Global, text: &str, action: &str) -> Result<Level<C>, AllocError>
-        ensures { IfOk result (λ level. inner_of level ≡ record { text = text.now; action = action.now; row = [] }) }
+        ensures { IfOk result (λ level. inner_of level ≡ record { text = text.now; action = action.now; sequence = [] }) }
     {
         let text = MapText::new(String::from_str(alloc, text)?);
         let action = MapText::new(String::from_str(alloc, action)?);
-        let body = MacroBody {
+        let contents = MacroContents {
             text,
             action,
             children: Vec::new(alloc),
         };
-        let body = Box::new(alloc, body)?;
-        Ok(Level { body })
+        let contents = Box::new(alloc, contents)?;
+        Ok(Level { contents })
     }
 
     /// The text that stands for the level in a list of steps.
@@ -42,30 +42,30 @@ impl<C: Command> Level<C> {
         ensures { result.now ≡ (inner_of self.now).text }
     {
         // A level keeps its macro alone, and that its two texts and its entries: no document.
-        let Level { body } = self;
-        let MacroBody {
+        let Level { contents } = self;
+        let MacroContents {
             text,
             action: _,
             children: _,
-        } = &**body;
+        } = &**contents;
         text.as_str()
     }
 
-    /// Sees to it that there is a place for one more entry.
-    pub fn take_place(&mut self) -> Result<(), AllocError>
+    /// Sees to it that there is room for one more entry.
+    pub fn take_room(&mut self) -> Result<(), AllocError>
         ensures same { inner_of self.new ≡ inner_of self.old }
-        ensures room { IfOk result (λ _. vec_len self.new.body.value.children < vec_capacity self.new.body.value.children) }
+        ensures room { IfOk result (λ _. vec_len self.new.contents.value.children < vec_capacity self.new.contents.value.children) }
     {
-        self.body.children.reserve(1)?;
+        self.contents.children.reserve(1)?;
         Ok(())
     }
 
     /// Puts an entry behind the others.
     pub fn add(&mut self, entry: Entry<C>)
-        requires { vec_len self.old.body.value.children < vec_capacity self.old.body.value.children }
-        ensures { inner_of self.new ≡ record (inner_of self.old) { row = (inner_of self.old).row ++ entry ∷ [] } }
+        requires { vec_len self.old.contents.value.children < vec_capacity self.old.contents.value.children }
+        ensures { inner_of self.new ≡ record (inner_of self.old) { sequence = (inner_of self.old).sequence ++ entry ∷ [] } }
     {
-        self.body.children.push_reserved(entry);
+        self.contents.children.push_reserved(entry);
     }
 
     /// The last entry takes a newer command in, which led to the document and shows this offer, and says whether it did.
@@ -80,32 +80,32 @@ impl<C: Command> Level<C> {
     ) -> Result<bool, AllocError>
         requires offer { IsOfferOf (C.change newer.now) offer.now }
         requires newer { (C.change newer.now).fits_undo document.now }
-        requires older { FitsDown (entry_change C.change) (inner_of self.old).row ((C.change newer.now).undone document.now) }
-        ensures texts { inner_of self.new ≡ record (inner_of self.old) { row = (inner_of self.new).row } }
-        ensures merged { MergesRow (entry_change C.change) (inner_of self.old).row (C.change newer.now) document.now result (inner_of self.new).row }
-        ensures joined { TakesIn C.change newer.now document.now (last_entry (inner_of self.old).row) result (last_entry (inner_of self.new).row) }
-        ensures live { LeavesLive C.change (inner_of self.old).row result (inner_of self.new).row }
-        ensures nesting { row_nesting (inner_of self.new).row ≡ row_nesting (inner_of self.old).row }
+        requires older { FitsDown (entry_change C.change) (inner_of self.old).sequence ((C.change newer.now).undone document.now) }
+        ensures texts { inner_of self.new ≡ record (inner_of self.old) { sequence = (inner_of self.new).sequence } }
+        ensures merged { MergesSequence (entry_change C.change) (inner_of self.old).sequence (C.change newer.now) document.now result (inner_of self.new).sequence }
+        ensures joined { TakesIn C.change newer.now document.now (last_entry (inner_of self.old).sequence) result (last_entry (inner_of self.new).sequence) }
+        ensures live { LeavesLive C.change (inner_of self.old).sequence result (inner_of self.new).sequence }
+        ensures nesting { sequence_nesting (inner_of self.new).sequence ≡ sequence_nesting (inner_of self.old).sequence }
     {
-        let count = self.body.children.len();
+        let count = self.contents.children.len();
         if count == 0 {
             return Ok(false);
         }
-        self.body.children[count - 1].merge(alloc, newer, offer, document)
+        self.contents.children[count - 1].merge(alloc, newer, offer, document)
     }
 
     /// The last entry goes where it is obsolete.
     pub fn settle(&mut self)
-        requires some { 0 < length (inner_of self.old).row }
-        ensures texts { inner_of self.new ≡ record (inner_of self.old) { row = (inner_of self.new).row } }
-        ensures settled { (d : DocumentParts) → FitsDown (entry_change C.change) (inner_of self.old).row d
-            → SettlesRow (entry_change C.change) (reports C.change (last_entry (inner_of self.old).row)) (inner_of self.old).row d (inner_of self.new).row }
-        ensures live { AreLive C.change (front (inner_of self.old).row) → AreLive C.change (inner_of self.new).row }
-        ensures nesting { row_nesting (inner_of self.new).row ≤ row_nesting (inner_of self.old).row }
+        requires some { 0 < length (inner_of self.old).sequence }
+        ensures texts { inner_of self.new ≡ record (inner_of self.old) { sequence = (inner_of self.new).sequence } }
+        ensures settled { (d : DocumentParts) → FitsDown (entry_change C.change) (inner_of self.old).sequence d
+            → SettlesSequence (entry_change C.change) (reports C.change (last_entry (inner_of self.old).sequence)) (inner_of self.old).sequence d (inner_of self.new).sequence }
+        ensures live { AreLive C.change (without_last (inner_of self.old).sequence) → AreLive C.change (inner_of self.new).sequence }
+        ensures nesting { sequence_nesting (inner_of self.new).sequence ≤ sequence_nesting (inner_of self.old).sequence }
     {
-        let below = self.body.children.len() - 1;
-        if self.body.children[below].obsolete() {
-            self.body.children.truncate(below);
+        let below = self.contents.children.len() - 1;
+        if self.contents.children[below].obsolete() {
+            self.contents.children.truncate(below);
         }
     }
 
@@ -113,7 +113,7 @@ impl<C: Command> Level<C> {
     pub fn into_entry(self) -> Entry<C>
         ensures { result ≡ closed_level self }
     {
-        let Level { body } = self;
-        Entry::Macro(body)
+        let Level { contents } = self;
+        Entry::Macro(contents)
     }
 }

@@ -9,7 +9,7 @@ ghost use Rattle.undo_stack.specs.Calm.{IsCalm, IsLive};
 ghost use Rattle.undo_stack.specs.Entries.{entry_change, nesting};
 ghost use Rattle.undo_stack.specs.Sound.{history_of, opens, with_child, IsTurnable, level_nesting};
 ghost use Rattle.undo_stack.specs.Stacks.{history, inners, macros, Holds, IsBounded, LastHasRoom};
-ghost use Rattle.undo_stack.specs.Merging.{IsPlaced, stack_before};
+ghost use Rattle.undo_stack.specs.Merging.{IsEntered, stack_before};
 ghost use Rattle.undo_stack.specs.Reporting.{IsReported};
 ghost use Rattle.undo_stack.specs.declared.limits.TheConstants.{MAX_DEPTH, MAX_LIMIT};
 
@@ -58,7 +58,7 @@ pub struct Stack<C> {
     clean: Option<usize>,
     // The most entries that are kept, or 0 for any number.
     limit: usize,
-    // The open macros, outermost first. While there are any, no entry stands above the index, and there is a free place
+    // The open macros, outermost first. While there are any, no entry stands above the index, and there is free room
     // for what each of them becomes: among the entries, or in the macro around it.
     levels: Vec<Level<C>>,
     // Whether a free command may stand among the entries. Only then is each one looked at when it was turned.
@@ -189,7 +189,7 @@ impl<C: Command> Stack<C> {
         self.action_text(self.index)
     }
 
-    /// The text for lists of the step at this place, where the first step is at 0, and `None` past the last one. An open
+    /// The text for lists of the step with this number, where the first one has 0, and `None` past the last one. An open
     /// macro stands last, with the text of the outermost one.
     pub fn text(&self, at: usize) -> Option<&str>
         ensures { option_copied result ≡ text_at (history C.change self.now) at }
@@ -200,7 +200,7 @@ impl<C: Command> Stack<C> {
         }
     }
 
-    // The text of the outermost open macro, at the place behind the entries.
+    // The text of the outermost open macro, at the number behind the entries.
     fn open_text(&self, at: usize) -> Option<&str>
         requires { length self.now.entries.items ≤ at }
         ensures { option_copied result ≡ text_at (history C.change self.now) at }
@@ -214,7 +214,7 @@ impl<C: Command> Stack<C> {
         }
     }
 
-    /// Whether the step at this place is a macro, where the first step is at 0, and `None` past the last one. An open macro
+    /// Whether the step with this number is a macro, where the first one has 0, and `None` past the last one. An open macro
     /// stands last.
     pub fn is_macro(&self, at: usize) -> Option<bool>
         ensures { result ≡ slice_get (macros self.now) at }
@@ -225,7 +225,7 @@ impl<C: Command> Stack<C> {
         }
     }
 
-    // The same at a place behind the entries.
+    // The same at a number behind the entries.
     fn is_open_macro(&self, at: usize) -> Option<bool>
         requires { length self.now.entries.items ≤ at }
         ensures { result ≡ slice_get (macros self.now) at }
@@ -236,11 +236,11 @@ impl<C: Command> Stack<C> {
         None
     }
 
-    // The action text of the step at this place, and empty where there is none.
-    fn action_text(&self, place: usize) -> &str
-        ensures { result.now ≡ action_of (slice_get (history C.change self.now).steps place) }
+    // The action text of the step with this number, and empty where there is none.
+    fn action_text(&self, number: usize) -> &str
+        ensures { result.now ≡ action_of (slice_get (history C.change self.now).steps number) }
     {
-        match self.entries.get(place) {
+        match self.entries.get(number) {
             Some(entry) => entry.action_text(),
             None => "",
         }
@@ -272,7 +272,7 @@ impl<C: Command> Stack<C> {
             (step_of (C.change command) (current (history C.change self.old)))
             (history C.change self.new)) }
         ensures reported { IfOk result (λ _. IsReported C.change command self.old self.new) }
-        ensures kept { IfErr result (λ _. history C.change self.new ≡ history C.change self.old) }
+        ensures unchanged { IfErr result (λ _. history C.change self.new ≡ history C.change self.old) }
     {
         command.redo(&mut self.document);
         match self.merge(&command) {
@@ -281,7 +281,7 @@ impl<C: Command> Stack<C> {
                 self.settle();
                 Ok(())
             }
-            Ok(false) => self.place(command),
+            Ok(false) => self.enter(command),
             Err(error) => {
                 command.undo(&mut self.document);
                 Err(error)
@@ -292,44 +292,44 @@ impl<C: Command> Stack<C> {
     // Puts a command, which led to the document and merges into nothing, into the history. Where there is no memory it is
     // undone.
     #[inline(always)]
-    fn place(&mut self, command: C) -> Result<(), AllocError>
+    fn enter(&mut self, command: C) -> Result<(), AllocError>
         requires sound { Holds C.change (stack_before C.change command self.old) }
         requires fits { (C.change command).fits_undo self.old.document }
         ensures sound { Holds C.change self.new }
         ensures calm { IsCalm C.change self.old → IsCalm C.change self.new }
         ensures document { IfOk result (λ _. self.new.document ≡ self.old.document) }
-        ensures placed { IfOk result (λ _. IsPlaced (C.change command).obsolete
+        ensures entered { IfOk result (λ _. IsEntered (C.change command).obsolete
             (history C.change (stack_before C.change command self.old))
             (step_named (C.change command).names self.old.document)
             (history C.change self.new)) }
-        ensures kept { IfErr result (λ _. history C.change self.new ≡ history C.change (stack_before C.change command self.old)) }
+        ensures unchanged { IfErr result (λ _. history C.change self.new ≡ history C.change (stack_before C.change command self.old)) }
     {
         if self.is_open() {
-            return self.place_child(command);
+            return self.enter_child(command);
         }
-        self.place_step(command)
+        self.enter_step(command)
     }
 
     // The same where no macro is open.
-    fn place_step(&mut self, mut command: C) -> Result<(), AllocError>
+    fn enter_step(&mut self, mut command: C) -> Result<(), AllocError>
         requires closed { self.old.levels.items ≡ [] }
         requires sound { Holds C.change (stack_before C.change command self.old) }
         requires fits { (C.change command).fits_undo self.old.document }
         ensures sound { Holds C.change self.new }
         ensures calm { IsCalm C.change self.old → IsCalm C.change self.new }
         ensures document { IfOk result (λ _. self.new.document ≡ self.old.document) }
-        ensures placed { IfOk result (λ _. IsPlaced (C.change command).obsolete
+        ensures entered { IfOk result (λ _. IsEntered (C.change command).obsolete
             (history C.change (stack_before C.change command self.old))
             (step_named (C.change command).names self.old.document)
             (history C.change self.new)) }
-        ensures kept { IfErr result (λ _. history C.change self.new ≡ history C.change (stack_before C.change command self.old)) }
+        ensures unchanged { IfErr result (λ _. history C.change self.new ≡ history C.change (stack_before C.change command self.old)) }
     {
         if command.obsolete() {
             self.cut();
             return Ok(());
         }
-        // The place is taken before the cut: a refused push keeps the steps above the index.
-        if let Err(error) = self.take_place() {
+        // The room is taken before the cut: a refused push keeps the steps above the index.
+        if let Err(error) = self.take_room() {
             command.undo(&mut self.document);
             return Err(error);
         }
@@ -339,23 +339,23 @@ impl<C: Command> Stack<C> {
     }
 
     // The same where a macro is open.
-    fn place_child(&mut self, mut command: C) -> Result<(), AllocError>
+    fn enter_child(&mut self, mut command: C) -> Result<(), AllocError>
         requires open { 0 < length self.old.levels.items }
         requires sound { Holds C.change (stack_before C.change command self.old) }
         requires fits { (C.change command).fits_undo self.old.document }
         ensures sound { Holds C.change self.new }
         ensures calm { IsCalm C.change self.old → IsCalm C.change self.new }
         ensures document { IfOk result (λ _. self.new.document ≡ self.old.document) }
-        ensures placed { IfOk result (λ _. IsPlaced (C.change command).obsolete
+        ensures entered { IfOk result (λ _. IsEntered (C.change command).obsolete
             (history C.change (stack_before C.change command self.old))
             (step_named (C.change command).names self.old.document)
             (history C.change self.new)) }
-        ensures kept { IfErr result (λ _. history C.change self.new ≡ history C.change (stack_before C.change command self.old)) }
+        ensures unchanged { IfErr result (λ _. history C.change self.new ≡ history C.change (stack_before C.change command self.old)) }
     {
         if command.obsolete() {
             return Ok(());
         }
-        if let Err(error) = self.take_child_place() {
+        if let Err(error) = self.take_child_room() {
             command.undo(&mut self.document);
             return Err(error);
         }
@@ -363,8 +363,8 @@ impl<C: Command> Stack<C> {
         Ok(())
     }
 
-    // Sees to it that there is a place for an entry at the index once those above it are gone.
-    fn take_place(&mut self) -> Result<(), AllocError>
+    // Sees to it that there is room for an entry at the index once those above it are gone.
+    fn take_room(&mut self) -> Result<(), AllocError>
         requires { self.old.index ≤ length self.old.entries.items }
         ensures rest { self.new ≡ record self.old { entries = self.new.entries } }
         ensures items { self.new.entries.items ≡ self.old.entries.items }
@@ -376,8 +376,8 @@ impl<C: Command> Stack<C> {
         Ok(())
     }
 
-    // Sees to it that there is a place for an entry in the innermost macro.
-    fn take_child_place(&mut self) -> Result<(), AllocError>
+    // Sees to it that there is room for an entry in the innermost macro.
+    fn take_child_room(&mut self) -> Result<(), AllocError>
         requires { 0 < length self.old.levels.items }
         ensures rest { self.new ≡ record self.old { levels = self.new.levels } }
         ensures same { inners self.new ≡ inners self.old }
@@ -387,7 +387,7 @@ impl<C: Command> Stack<C> {
         ensures room { IfOk result (λ _. LastHasRoom self.new.levels.items) }
     {
         let last = self.levels.len() - 1;
-        self.levels[last].take_place()?;
+        self.levels[last].take_room()?;
         Ok(())
     }
 
@@ -421,7 +421,7 @@ impl<C: Command> Stack<C> {
     fn add_step(&mut self, entry: Entry<C>)
         requires closed { self.old.levels.items ≡ [] }
         requires bounded { IsBounded self.old }
-        requires place { self.old.index ≡ length self.old.entries.items }
+        requires at_end { self.old.index ≡ length self.old.entries.items }
         requires room { self.old.index < deque_capacity self.old.entries }
         requires turnable { IsTurnable C.change ((entry_change C.change entry).undone self.old.document) self.old.entries.items self.old.index self.old.clean [] }
         requires fits { (entry_change C.change entry).fits_undo self.old.document }
@@ -444,7 +444,7 @@ impl<C: Command> Stack<C> {
     // Where the entries are one more than the limit, the first one goes. All are done.
     fn drop_surplus(&mut self)
         requires limit { 0 < self.old.limit }
-        requires place { self.old.index ≡ length self.old.entries.items }
+        requires at_end { self.old.index ≡ length self.old.entries.items }
         requires count { self.old.index ≤ self.old.limit + 1 }
         ensures rest { self.new ≡ record self.old { entries = self.new.entries; index = self.new.index; clean = self.new.clean } }
         ensures entries { self.new.entries.items ≡ drop (self.old.index - self.old.limit) self.old.entries.items }
@@ -647,9 +647,9 @@ impl<C: Command> Stack<C> {
             ≡ positioned (min index (history C.change self.old).position) (history C.change self.old) }
     {
         let index = index.min(self.index);
-        if self.is_worth_a_row(self.index - index) {
-            let row = self.entries.make_contiguous();
-            undo_down(row, &mut self.document, self.index, index);
+        if self.is_worth_a_sequence(self.index - index) {
+            let sequence = self.entries.make_contiguous();
+            undo_down(sequence, &mut self.document, self.index, index);
         } else {
             undo_each(&mut self.entries, &mut self.document, self.index, index);
         }
@@ -681,9 +681,9 @@ impl<C: Command> Stack<C> {
         ensures has_free { self.new.has_free ≡ self.old.has_free }
         ensures history { history C.change self.new ≡ positioned index (history C.change self.old) }
     {
-        if self.is_worth_a_row(index - self.index) {
-            let row = self.entries.make_contiguous();
-            redo_up(row, &mut self.document, self.index, index);
+        if self.is_worth_a_sequence(index - self.index) {
+            let sequence = self.entries.make_contiguous();
+            redo_up(sequence, &mut self.document, self.index, index);
         } else {
             redo_each(&mut self.entries, &mut self.document, self.index, index);
         }
@@ -692,7 +692,7 @@ impl<C: Command> Stack<C> {
 
     // Whether it is worth laying the entries side by side for so many turns. They lie so until the limit drops one. Later
     // all of them would move, which pays where at least half are turned.
-    fn is_worth_a_row(&self, turns: usize) -> bool {
+    fn is_worth_a_sequence(&self, turns: usize) -> bool {
         let (_, rest) = self.entries.as_slices();
         rest.is_empty() || turns >= self.entries.len() / 2
     }

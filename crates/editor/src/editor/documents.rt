@@ -120,8 +120,8 @@ impl<C: Command> Editor<C> {
         requires spelled { CanBeSpelled line.now }
         requires about { IsOfDocuments line.now }
         ensures sound { IsSound C.change self.new }
-        ensures step { Step line.now (workspace (machine_of C.change self.old) (S.kept store.old)) (Some result) (workspace (machine_of C.change self.new) (S.kept store.new)) }
-        ensures kept { KeepsReply result (machine_of C.change self.old) (machine_of C.change self.new) }
+        ensures step { Step line.now (workspace (machine_of C.change self.old) (S.stored store.old)) (Some result) (workspace (machine_of C.change self.new) (S.stored store.new)) }
+        ensures unchanged { KeepsReply result (machine_of C.change self.old) (machine_of C.change self.new) }
     {
         match line {
             Line::New {
@@ -160,7 +160,7 @@ impl<C: Command> Editor<C> {
         ensures sound { IsSound C.change self.new }
         ensures step { NotTaken name.now (OrNoMemory (Creates name.now sizes.width sizes.height sizes.tile_width sizes.tile_height source.now))
             (machine_of C.change self.old) (Some result) (machine_of C.change self.new) }
-        ensures kept { KeepsReply result (machine_of C.change self.old) (machine_of C.change self.new) }
+        ensures unchanged { KeepsReply result (machine_of C.change self.old) (machine_of C.change self.new) }
     {
         if self.group.get(name.as_str()).is_some() {
             return Reply::Refused(Refusal::NameTaken);
@@ -186,7 +186,7 @@ impl<C: Command> Editor<C> {
         ensures sound { IsSound C.change self.new }
         ensures step { OrNoMemory (Opens name.now (new_history document (machine_of C.change self.old).limit))
             (machine_of C.change self.old) (Some result) (machine_of C.change self.new) }
-        ensures kept { KeepsReply result (machine_of C.change self.old) (machine_of C.change self.new) }
+        ensures unchanged { KeepsReply result (machine_of C.change self.old) (machine_of C.change self.new) }
     {
         let stack = Stack::new(alloc, document, self.limit);
         let reply = state_of(&stack);
@@ -201,7 +201,7 @@ impl<C: Command> Editor<C> {
         requires { IsSound C.change self.old }
         ensures sound { IsSound C.change self.new }
         ensures step { Named name.now (Closes name.now) (machine_of C.change self.old) (Some result) (machine_of C.change self.new) }
-        ensures kept { KeepsReply result (machine_of C.change self.old) (machine_of C.change self.new) }
+        ensures unchanged { KeepsReply result (machine_of C.change self.old) (machine_of C.change self.new) }
     {
         if let Some(stack) = self.group.get(name.as_str()) {
             if !stack.is_clean() {
@@ -216,7 +216,7 @@ impl<C: Command> Editor<C> {
         requires { IsSound C.change self.old }
         ensures sound { IsSound C.change self.new }
         ensures step { Named name.now (λ h. GoesOn (removed name.now)) (machine_of C.change self.old) (Some result) (machine_of C.change self.new) }
-        ensures kept { KeepsReply result (machine_of C.change self.old) (machine_of C.change self.new) }
+        ensures unchanged { KeepsReply result (machine_of C.change self.old) (machine_of C.change self.new) }
     {
         let Ok(_) = self.group.remove(name.as_str()) else {
             return Reply::Refused(Refusal::NoSuchDocument);
@@ -229,7 +229,7 @@ impl<C: Command> Editor<C> {
         requires { IsSound C.change self.old }
         ensures sound { IsSound C.change self.new }
         ensures step { Uses choice.now (machine_of C.change self.old) (Some result) (machine_of C.change self.new) }
-        ensures kept { KeepsReply result (machine_of C.change self.old) (machine_of C.change self.new) }
+        ensures unchanged { KeepsReply result (machine_of C.change self.old) (machine_of C.change self.new) }
     {
         let name = match choice {
             Some(name) => Some(name.as_str()),

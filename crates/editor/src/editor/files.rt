@@ -29,8 +29,8 @@ impl<C: Command> Editor<C> {
         requires { IsSound C.change self.old }
         ensures sound { IsSound C.change self.new }
         ensures step { NewName name.now (OrStoreFails FilesStay (OrNoMemoryForFile (Loads name.now file.now)))
-            (S.kept store.old) (S.kept store.new) (machine_of C.change self.old) (Some result) (machine_of C.change self.new) }
-        ensures kept { KeepsReply result (machine_of C.change self.old) (machine_of C.change self.new) }
+            (S.stored store.old) (S.stored store.new) (machine_of C.change self.old) (Some result) (machine_of C.change self.new) }
+        ensures unchanged { KeepsReply result (machine_of C.change self.old) (machine_of C.change self.new) }
     {
         if self.group.get(name.as_str()).is_some() {
             return Reply::Refused(Refusal::NameTaken);
@@ -57,8 +57,8 @@ impl<C: Command> Editor<C> {
         requires short { length file.now ≤ MAX_FILE_NAME }
         ensures sound { IsSound C.change self.new }
         ensures step { OfActive (OutsideMacros (OrStoreFails (SameOthers file.now) (OrNoMemoryForFile (Saves file.now))))
-            (S.kept store.old) (S.kept store.new) (machine_of C.change self.old) (Some result) (machine_of C.change self.new) }
-        ensures kept { KeepsReply result (machine_of C.change self.old) (machine_of C.change self.new) }
+            (S.stored store.old) (S.stored store.new) (machine_of C.change self.old) (Some result) (machine_of C.change self.new) }
+        ensures unchanged { KeepsReply result (machine_of C.change self.old) (machine_of C.change self.new) }
     {
         match self.group.active_mut() {
             Some(stack) => save_document(alloc, store, stack, file),

@@ -39,10 +39,10 @@ fn changed(alloc: Global, bytes: &[u8], change: &str) -> Result<Option<String>, 
     let (Ok(text), Some((from, to))) = (str::from_utf8(bytes), change.split_once(" -> ")) else {
         return Ok(None);
     };
-    let Some((front, rest)) = text.split_once(from) else {
+    let Some((before, rest)) = text.split_once(from) else {
         return Ok(None);
     };
-    Ok(Some(format!(in alloc; "{front}{to}{rest}")?))
+    Ok(Some(format!(in alloc; "{before}{to}{rest}")?))
 }
 
 /// Writes what a text is read as, or the text with a change, where there is one.

@@ -44,19 +44,19 @@ impl Ids {
     }
 }
 
-// The entries of a member; none where it is no array.
-fn entries_or_none<'v>(members: &'v Members, name: &str) -> &'v [Value] {
+// The elements of a member; none where it is no array.
+fn elements_or_none<'v>(members: &'v Members, name: &str) -> &'v [Value] {
     match members.get(name).and_then(Value::as_array) {
-        Some(entries) => entries.as_slice(),
+        Some(elements) => elements.as_slice(),
         None => &[],
     }
 }
 
 impl<'a> Walk<'a> {
-    // The id of an entry.
-    fn id(&mut self, entry: &Value, name: &'a str, ids: &mut Ids) -> Result<(), MapFault> {
+    // The id of an element.
+    fn id(&mut self, element: &Value, name: &'a str, ids: &mut Ids) -> Result<(), MapFault> {
         self.enter(Step::Member(name))?;
-        let id = entry.get(name).and_then(Value::as_u64).unwrap_or(0);
+        let id = element.get(name).and_then(Value::as_u64).unwrap_or(0);
         ids.meet(u32::try_from(id).unwrap_or(0))?;
         self.leave();
         Ok(())
@@ -71,9 +71,9 @@ impl<'a> Walk<'a> {
         ids: &mut Ids,
     ) -> Result<(), MapFault> {
         self.enter(Step::Member(list))?;
-        for (at, entry) in entries_or_none(owner, list).iter().enumerate() {
-            self.enter(Step::Entry(at))?;
-            self.id(entry, name, ids)?;
+        for (at, element) in elements_or_none(owner, list).iter().enumerate() {
+            self.enter(Step::Element(at))?;
+            self.id(element, name, ids)?;
             self.leave();
         }
         self.leave();
@@ -84,10 +84,13 @@ impl<'a> Walk<'a> {
     fn property_names(&mut self, owner: &Members) -> Result<(), MapFault> {
         let mut met = BTreeSet::new(self.alloc);
         self.enter(Step::Member(names::PROPERTIES))?;
-        for (at, property) in entries_or_none(owner, names::PROPERTIES).iter().enumerate() {
+        for (at, property) in elements_or_none(owner, names::PROPERTIES)
+            .iter()
+            .enumerate()
+        {
             let name = property.get(names::NAME).and_then(Value::as_str);
             if !met.insert(name.unwrap_or(""))? {
-                self.enter(Step::Entry(at))?;
+                self.enter(Step::Element(at))?;
                 return self.stop_at(names::NAME, MapRefusal::IdUsedTwice);
             }
         }
@@ -102,8 +105,8 @@ impl<'a> Walk<'a> {
             return Ok(());
         }
         self.enter(Step::Member(names::OBJECTS))?;
-        for (at, object) in entries_or_none(layer, names::OBJECTS).iter().enumerate() {
-            self.enter(Step::Entry(at))?;
+        for (at, object) in elements_or_none(layer, names::OBJECTS).iter().enumerate() {
+            self.enter(Step::Element(at))?;
             if let Some(object) = object.as_object() {
                 self.property_names(object)?;
             }
@@ -159,8 +162,8 @@ impl<'a> Walk<'a> {
         ids: &mut Ids,
     ) -> Result<(), MapFault> {
         self.enter(Step::Member(names::LAYERS))?;
-        for (at, layer) in entries_or_none(owner, names::LAYERS).iter().enumerate() {
-            self.enter(Step::Entry(at))?;
+        for (at, layer) in elements_or_none(owner, names::LAYERS).iter().enumerate() {
+            self.enter(Step::Element(at))?;
             self.look_in_layer(layer, room, look, ids)?;
             self.leave();
         }

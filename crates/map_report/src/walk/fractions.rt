@@ -12,16 +12,16 @@ impl<'a> Walk<'a> {
         match value {
             Value::Null | Value::Bool(_) | Value::String(_) => Ok(()),
             Value::Number(number) => Ok(ensured(!number.is_f64(), MapRefusal::Fraction)?),
-            Value::Array(entries) => self.fractions_of_entries(entries),
+            Value::Array(elements) => self.fractions_of_elements(elements),
             Value::Object(members) => self.fractions_of_members(members),
         }
     }
 
     #[cycle(fractions)]
-    fn fractions_of_entries(&mut self, entries: &'a Vec<Value>) -> Result<(), MapFault> {
-        for (at, entry) in entries.iter().enumerate() {
-            self.enter(Step::Entry(at))?;
-            self.fractions_of_value(entry)?;
+    fn fractions_of_elements(&mut self, elements: &'a Vec<Value>) -> Result<(), MapFault> {
+        for (at, element) in elements.iter().enumerate() {
+            self.enter(Step::Element(at))?;
+            self.fractions_of_value(element)?;
             self.leave();
         }
         Ok(())

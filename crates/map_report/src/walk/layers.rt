@@ -1,7 +1,7 @@
 // The layers of a map, its tilesets and its properties.
 use crate::place::Step;
 use crate::walk::Walk;
-use crate::walk::members::{Kind, Members, ensured, entries_of, is_of_type, is_text, members_of};
+use crate::walk::members::{Kind, Members, elements_of, ensured, is_of_type, is_text, members_of};
 use base64::DecodeAllocError;
 use base64::engine::general_purpose::STANDARD;
 use map_json::{MapFault, MapRefusal};
@@ -41,17 +41,17 @@ fn has_length(alloc: Global, text: &str, length: usize) -> Result<bool, MapFault
 }
 
 impl<'a> Walk<'a> {
-    // Goes into a member, an array of at most so many entries.
-    fn enter_entries<'v>(
+    // Goes into a member, an array of at most so many elements.
+    fn enter_elements<'v>(
         &mut self,
         members: &'v Members,
         name: &'a str,
         most: usize,
     ) -> Result<&'v Vec<Value>, MapFault> {
         self.enter(Step::Member(name))?;
-        let entries = entries_of(members, name)?;
-        ensured(entries.len() <= most, MapRefusal::OverLimit)?;
-        Ok(entries)
+        let elements = elements_of(members, name)?;
+        ensured(elements.len() <= most, MapRefusal::OverLimit)?;
+        Ok(elements)
     }
 
     fn property(&mut self, value: &Value) -> Result<(), MapFault> {
@@ -66,9 +66,9 @@ impl<'a> Walk<'a> {
         if owner.get(names::PROPERTIES).is_none() {
             return Ok(());
         }
-        let properties = self.enter_entries(owner, names::PROPERTIES, MAX_PROPERTIES)?;
+        let properties = self.enter_elements(owner, names::PROPERTIES, MAX_PROPERTIES)?;
         for (at, property) in properties.iter().enumerate() {
-            self.enter(Step::Entry(at))?;
+            self.enter(Step::Element(at))?;
             self.property(property)?;
             self.leave();
         }
@@ -90,9 +90,9 @@ impl<'a> Walk<'a> {
     }
 
     fn objects(&mut self, layer: &Members) -> Result<(), MapFault> {
-        let objects = self.enter_entries(layer, names::OBJECTS, MAX_OBJECTS)?;
+        let objects = self.enter_elements(layer, names::OBJECTS, MAX_OBJECTS)?;
         for (at, object) in objects.iter().enumerate() {
-            self.enter(Step::Entry(at))?;
+            self.enter(Step::Element(at))?;
             self.object(object)?;
             self.leave();
         }
@@ -108,9 +108,9 @@ impl<'a> Walk<'a> {
 
     /// Looks at the tilesets of a map.
     pub fn tilesets(&mut self, map: &Members) -> Result<(), MapFault> {
-        let tilesets = self.enter_entries(map, names::TILESETS, MAX_TILESETS)?;
+        let tilesets = self.enter_elements(map, names::TILESETS, MAX_TILESETS)?;
         for (at, tileset) in tilesets.iter().enumerate() {
-            self.enter(Step::Entry(at))?;
+            self.enter(Step::Element(at))?;
             self.tileset(tileset)?;
             self.leave();
         }
@@ -120,9 +120,9 @@ impl<'a> Walk<'a> {
 
     // The values of a tile layer, as numbers.
     fn numbers(&mut self, layer: &Members) -> Result<(), MapFault> {
-        let cells = self.enter_entries(layer, names::DATA, usize::MAX)?;
+        let cells = self.enter_elements(layer, names::DATA, usize::MAX)?;
         if let Some(at) = cells.iter().position(|cell| !is_cell(cell)) {
-            self.enter(Step::Entry(at))?;
+            self.enter(Step::Element(at))?;
             return Err(MapFault::Refused(MapRefusal::BadData));
         }
         ensured(cells.len() == self.cell_count(), MapRefusal::BadData)?;
@@ -181,13 +181,13 @@ impl<'a> Walk<'a> {
     // The layers of a map or a group, counted before one of them is looked at.
     #[cycle(layers)]
     fn layers(&mut self, owner: &Members, room: usize) -> Result<(), MapFault> {
-        let layers = self.enter_entries(owner, names::LAYERS, usize::MAX)?;
+        let layers = self.enter_elements(owner, names::LAYERS, usize::MAX)?;
         self.layer_count = self.layer_count.saturating_add(layers.len());
         if room == 0 || self.layer_count > MAX_LAYERS {
             return Err(MapFault::Refused(MapRefusal::OverLimit));
         }
         for (at, layer) in layers.iter().enumerate() {
-            self.enter(Step::Entry(at))?;
+            self.enter(Step::Element(at))?;
             self.layer(layer, room - 1)?;
             self.leave();
         }

@@ -111,13 +111,13 @@ pub fn is_of_type(members: &Members, text: &str) -> bool {
     is_text(members, names::TYPE, text)
 }
 
-/// The members of an entry, which is an object.
+/// The members of an element, which is an object.
 pub fn members_of(value: &Value) -> Result<&Members, MapRefusal> {
     value.as_object().ok_or(MapRefusal::MemberOfAnotherKind)
 }
 
-/// The entries of a member, an array that must be there.
-pub fn entries_of<'v>(members: &'v Members, name: &str) -> Result<&'v Vec<Value>, MapRefusal> {
+/// The elements of a member, an array that must be there.
+pub fn elements_of<'v>(members: &'v Members, name: &str) -> Result<&'v Vec<Value>, MapRefusal> {
     let value = members.get(name).ok_or(MapRefusal::MemberMissing)?;
     value.as_array().ok_or(MapRefusal::MemberOfAnotherKind)
 }

@@ -33,8 +33,8 @@ fn each_read_may_fail(
 #[test]
 fn read_faults_come_behind_all_replies(rt: HostRuntime) -> Result<(), Fail> {
     let alloc = rt.alloc();
-    for rows in [ONE, SEVERAL] {
-        let script = read_script(alloc, rows)?;
+    for pairs in [ONE, SEVERAL] {
+        let script = read_script(alloc, pairs)?;
         for (step, has_buffer) in [(1, false), (1, true), (5, false), (64, false), (64, true)] {
             assert!(rt;
                 each_read_may_fail(alloc, &script, step, has_buffer)?,
@@ -70,13 +70,13 @@ fn each_whole_write_may_fail(
 #[test]
 fn write_faults_come_behind_whole_replies(rt: HostRuntime) -> Result<(), Fail> {
     let alloc = rt.alloc();
-    for (rows, step, has_buffer) in [
+    for (pairs, step, has_buffer) in [
         (ONE, WHOLE, false),
         (ONE, 1, true),
         (SEVERAL, WHOLE, false),
         (SEVERAL, 1, true),
     ] {
-        let script = read_script(alloc, rows)?;
+        let script = read_script(alloc, pairs)?;
         assert!(rt;
             each_whole_write_may_fail(alloc, &script, step, has_buffer)?,
             "by {step}"
@@ -105,8 +105,8 @@ fn each_byte_may_fail(alloc: Global, script: &Script) -> Result<bool, Fail> {
 #[test]
 fn write_faults_come_behind_each_byte(rt: HostRuntime) -> Result<(), Fail> {
     let alloc = rt.alloc();
-    for rows in [ONE, SEVERAL] {
-        let script = read_script(alloc, rows)?;
+    for pairs in [ONE, SEVERAL] {
+        let script = read_script(alloc, pairs)?;
         assert!(rt; each_byte_may_fail(alloc, &script)?);
     }
     Ok(())

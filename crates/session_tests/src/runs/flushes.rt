@@ -33,8 +33,8 @@ fn lengths_at_flushes(alloc: Global, script: &Script, step: usize) -> Result<Vec
 #[test]
 fn flush_faults_come_behind_whole_replies(rt: HostRuntime) -> Result<(), Fail> {
     let alloc = rt.alloc();
-    for rows in [ONE, SEVERAL] {
-        let script = read_script(alloc, rows)?;
+    for pairs in [ONE, SEVERAL] {
+        let script = read_script(alloc, pairs)?;
         let all = script.replies.len();
         for step in [1, 50, WHOLE] {
             let lengths = lengths_at_flushes(alloc, &script, step)?;

@@ -38,8 +38,8 @@ fn told_over_files(
 }
 
 /// Whether a session over a store that fails at its k-th call has these replies, and leaves that file.
-fn is_told(alloc: Global, rows: &str, fails_at: u64, file: &str) -> Result<bool, Fail> {
-    let script = read_script(alloc, rows)?;
+fn is_told(alloc: Global, pairs: &str, fails_at: u64, file: &str) -> Result<bool, Fail> {
+    let script = read_script(alloc, pairs)?;
     let sink = Sink::new(alloc, WHOLE, MANY, MANY);
     let told = told_over_files(alloc, source_of(&script, WHOLE, MANY), sink, fails_at)?;
     let replies = script.replies.as_str();
@@ -85,8 +85,8 @@ fn each_call_of_the_store_may_fail(rt: HostRuntime) -> Result<(), Fail> {
         (2, NOT_SAVED, ""),
         (3, NOT_LOOKED_FOR, file.as_str()),
     ];
-    for (fails_at, rows, file) in cases {
-        assert!(rt; is_told(alloc, rows, fails_at, file)?, "at {fails_at}");
+    for (fails_at, pairs, file) in cases {
+        assert!(rt; is_told(alloc, pairs, fails_at, file)?, "at {fails_at}");
     }
     Ok(())
 }
@@ -146,8 +146,8 @@ list => docs *a b",
 
 #[test]
 fn each_call_for_two_documents_may_fail(rt: HostRuntime) -> Result<(), Fail> {
-    for (rows, fails_at) in OVER_TWO.iter().zip(0..5) {
-        assert!(rt; is_told(rt.alloc(), rows, fails_at, "")?, "at {fails_at}");
+    for (pairs, fails_at) in OVER_TWO.iter().zip(0..5) {
+        assert!(rt; is_told(rt.alloc(), pairs, fails_at, "")?, "at {fails_at}");
     }
     Ok(())
 }

@@ -31,7 +31,7 @@ impl<C: Command> Stack<C> {
         let Ok(level) = Level::new(self.alloc, text, action) else {
             return Err(StackFault::NoMemory);
         };
-        let Ok(()) = self.take_level_places() else {
+        let Ok(()) = self.take_level_room() else {
             return Err(StackFault::NoMemory);
         };
         self.cut_outside();
@@ -62,8 +62,8 @@ impl<C: Command> Stack<C> {
         Ok(())
     }
 
-    // Sees to it that there is a place for a further level, and for what it becomes.
-    fn take_level_places(&mut self) -> Result<(), AllocError>
+    // Sees to it that there is room for a further level, and for what it becomes.
+    fn take_level_room(&mut self) -> Result<(), AllocError>
         requires { Holds C.change self.old }
         ensures sound { Holds C.change self.new }
         ensures calm { IsCalm C.change self.old → IsCalm C.change self.new }
@@ -75,9 +75,9 @@ impl<C: Command> Stack<C> {
     {
         self.levels.reserve(1)?;
         if self.is_open() {
-            return self.take_child_place();
+            return self.take_child_room();
         }
-        self.take_place()
+        self.take_room()
     }
 
     // With no level open the entries above the index go, and a clean index above it is lost.
@@ -87,7 +87,7 @@ impl<C: Command> Stack<C> {
         ensures sound { Holds C.change self.new }
         ensures calm { IsCalm C.change self.old → IsCalm C.change self.new }
         ensures cut { history C.change self.new ≡ cut (history C.change self.old) }
-        ensures place { self.new.index ≡ length self.new.entries.items }
+        ensures at_end { self.new.index ≡ length self.new.entries.items }
         ensures room { deque_len self.new.entries < deque_capacity self.new.entries }
         ensures levels { self.new.levels ≡ self.old.levels }
         ensures document { self.new.document ≡ self.old.document }

@@ -1,12 +1,12 @@
 use Rattle.std.proofs.Common.{rules, ◌≡◌, ℕ, ◌+◌, ◌-◌, ◌<◌, length, refl, ◌∙◌, ap, subst, get_or, arith, Box, Global, length-set, get_or-set_other}
 use Rattle.undo_stack.specs.Entries.{entry_change, nesting}
-use Rattle.undo_stack.specs.Row.{Between, before}
+use Rattle.undo_stack.specs.Sequence.{Between, before}
 use Rattle.undo_stack.proofs.EntryChanges.{entry_change-Command, entry_change-Macro, nesting-Command, nesting-Macro}
-use Rattle.undo_stack.proofs.Rows.{map-set_same}
+use Rattle.undo_stack.proofs.Sequences.{map-set_same}
 use Rattle.undo_stack.proofs.Turns.{undone_named, between_back, between_last}
 use Rattle.undo_stack.specs.declared.entry.Entry.TheVariants.{outs-Command, outs-Macro}
 use Rattle.undo_stack.specs.declared.entry.Entry.{Entry, size_is-Entry, size-Entry}
-use Rattle.undo_stack.specs.declared.entry.MacroBody.{MacroBody}
+use Rattle.undo_stack.specs.declared.entry.MacroContents.{MacroContents}
 use denote.Param.Weighed.{at_most}
 use Rattle.undo_stack.proofs.entry.+undo.Goals as goal
 
@@ -26,30 +26,30 @@ Entry::undo-returns-in-Command-clause-nesting g t c =
 
 pub Entry::undo-undo_all-requires : goal.Entry::undo-undo_all-requires
 Entry::undo-undo_all-requires g t c κs within =
-    let known = rw (c.in-Macro.is, entry_change-Macro g.C.Command.change c.in-Macro.body) at c.requires in
+    let known = rw (c.in-Macro.is, entry_change-Macro g.C.Command.change c.in-Macro.contents) at c.requires in
     let whole = size_is-Entry g.row.C.Denot c.args.self.now in
-    let size = rw (c.in-Macro.is, outs-Macro c.in-Macro.body) at whole in
+    let size = rw (c.in-Macro.is, outs-Macro c.in-Macro.contents) at whole in
     let measure = rw c.in-Macro.is at c.decreases in
-    let same = c.deref_mut.ensures.value ∙ ap (λ (b : Box (MacroBody (Entry g.row.C.Denot)) Global). b.value) c.in-Macro.body-is in
+    let same = c.deref_mut.ensures.value ∙ ap (λ (b : Box (MacroContents (Entry g.row.C.Denot)) Global). b.value) c.in-Macro.contents-is in
     rw same (omega (arith, size), (search rules, known))
 
 pub Entry::undo-returns-in-Macro-clause-turned : goal.Entry::undo-returns-in-Macro-clause-turned
 Entry::undo-returns-in-Macro-clause-turned g t c =
     let f = g.C.Command.change in
-    let body = c.in-Macro.body in
-    let same = c.deref_mut.ensures.value ∙ ap (λ (b : Box (MacroBody (Entry g.row.C.Denot)) Global). b.value) c.in-Macro.body-is in
-    let new : Box (MacroBody (Entry g.row.C.Denot)) Global = record { ptr = body.ptr; alloc = body.alloc; value = record body.value { children = c.undo_all.new.children } } in
+    let contents = c.in-Macro.contents in
+    let same = c.deref_mut.ensures.value ∙ ap (λ (b : Box (MacroContents (Entry g.row.C.Denot)) Global). b.value) c.in-Macro.contents-is in
+    let new : Box (MacroContents (Entry g.row.C.Denot)) Global = record { ptr = contents.ptr; alloc = contents.alloc; value = record contents.value { children = c.undo_all.new.children } } in
     let known = rw same at c.undo_all.ensures.turned in
-    rw (c.in-Macro.is, outs-Macro body, same, entry_change-Macro f body, entry_change-Macro f new)
-    (undone_named (entry_change f) body.value.text body.value.action body.value.children.items c.undo_all.new.children.items c.args.document.now c.undo_all.new.document known)
+    rw (c.in-Macro.is, outs-Macro contents, same, entry_change-Macro f contents, entry_change-Macro f new)
+    (undone_named (entry_change f) contents.value.text contents.value.action contents.value.children.items c.undo_all.new.children.items c.args.document.now c.undo_all.new.document known)
 
 pub Entry::undo-returns-in-Macro-clause-nesting : goal.Entry::undo-returns-in-Macro-clause-nesting
 Entry::undo-returns-in-Macro-clause-nesting g t c =
-    let body = c.in-Macro.body in
-    let same = c.deref_mut.ensures.value ∙ ap (λ (b : Box (MacroBody (Entry g.row.C.Denot)) Global). b.value) c.in-Macro.body-is in
-    let new : Box (MacroBody (Entry g.row.C.Denot)) Global = record { ptr = body.ptr; alloc = body.alloc; value = record body.value { children = c.undo_all.new.children } } in
+    let contents = c.in-Macro.contents in
+    let same = c.deref_mut.ensures.value ∙ ap (λ (b : Box (MacroContents (Entry g.row.C.Denot)) Global). b.value) c.in-Macro.contents-is in
+    let new : Box (MacroContents (Entry g.row.C.Denot)) Global = record { ptr = contents.ptr; alloc = contents.alloc; value = record contents.value { children = c.undo_all.new.children } } in
     let known = rw same at c.undo_all.ensures.nesting in
-    rw (c.in-Macro.is, outs-Macro body, same, nesting-Macro body, nesting-Macro new, known) refl
+    rw (c.in-Macro.is, outs-Macro contents, same, nesting-Macro contents, nesting-Macro new, known) refl
 
 pub undo_all-undo-requires : goal.undo_all-undo-requires
 undo_all-undo-requires g t c κs within =

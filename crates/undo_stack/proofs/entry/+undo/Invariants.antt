@@ -1,5 +1,5 @@
 use Rattle.std.proofs.Common.{◌≡◌, map}
-use Rattle.undo_stack.specs.Row.{Between, before}
+use Rattle.undo_stack.specs.Sequence.{Between, before}
 use Rattle.undo_stack.specs.Entries.{entry_change, nesting}
 use Rattle.undo_stack.proofs.entry.+undo.Given as goal
 

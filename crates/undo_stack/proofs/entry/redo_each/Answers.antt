@@ -1,6 +1,6 @@
 use Rattle.std.proofs.Common.{◌<◌, arith, length, length-set, refl, ◌∙◌}
 use Rattle.undo_stack.specs.Entries.{entry_change, nesting}
-use Rattle.undo_stack.proofs.Rows.{map-set_same}
+use Rattle.undo_stack.proofs.Sequences.{map-set_same}
 use Rattle.undo_stack.proofs.Turns.{fits_next, moved_on, moved_none, moved_more}
 use Rattle.undo_stack.proofs.entry.redo_each.Goals as goal
 

@@ -1,5 +1,5 @@
 use Rattle.std.proofs.Common.{◌-◌, ◌≡◌, ◌≤◌, length, map}
-use Rattle.undo_stack.specs.Row.{IsMoved}
+use Rattle.undo_stack.specs.Sequence.{IsMoved}
 use Rattle.undo_stack.specs.Entries.{entry_change, nesting}
 use Rattle.undo_stack.proofs.entry.redo_each.Given as goal
 

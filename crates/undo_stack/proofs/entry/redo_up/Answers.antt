@@ -1,7 +1,7 @@
 use Rattle.std.proofs.Common.{◌<◌, arith, length, length-set, refl, ◌∙◌, slice_index_or}
 use Rattle.std.proofs.lemmas.List.{get_or_default}
 use Rattle.undo_stack.specs.Entries.{entry_change, nesting}
-use Rattle.undo_stack.proofs.Rows.{map-set_same}
+use Rattle.undo_stack.proofs.Sequences.{map-set_same}
 use Rattle.undo_stack.proofs.Turns.{fits_next, moved_on, moved_none, moved_more}
 use Rattle.undo_stack.proofs.entry.redo_up.Goals as goal
 
@@ -10,18 +10,18 @@ loop-at-init g c = record { moved = moved_none _ _ _ _ c.requires.down c.require
 
 pub redo-requires : goal.redo-requires
 redo-requires g c =
-    let xs = c.loop-at.row in
+    let xs = c.loop-at.sequence in
     let j = c.loop-at.at in
-    let v = slice_index_or xs j c.index-row-at.result in
+    let v = slice_index_or xs j c.index-sequence-at.result in
     let inside : j < length xs = omega (arith, c.loop-at.invariant.within) in
     fits_next (entry_change g.C.Command.change) xs v j c.loop-at.document c.loop-at.invariant.moved.up inside (get_or_default xs j _ v inside)
 
 pub loop-at-preserved : goal.loop-at-preserved
 loop-at-preserved g c =
     let f = entry_change g.C.Command.change in
-    let xs = c.loop-at.row in
+    let xs = c.loop-at.sequence in
     let j = c.loop-at.at in
-    let v = slice_index_or xs j c.index-row-at.result in
+    let v = slice_index_or xs j c.index-sequence-at.result in
     let w = c.redo.new.self in
     let m = c.loop-at.invariant.moved in
     let inside : j < length xs = omega (arith, c.loop-at.invariant.within) in

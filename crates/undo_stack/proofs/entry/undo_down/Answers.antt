@@ -1,8 +1,8 @@
 use Rattle.std.proofs.Common.{◌≡◌, ◌+◌, ◌-◌, ◌<◌, ℕ, arith, length, length-set, refl, subst, ◌∙◌, take, drop, slice_index_or}
 use Rattle.std.proofs.lemmas.List.{get_or_default}
-use Rattle.undo_stack.specs.Row.{IsMoved, FitsDown, FitsUp}
+use Rattle.undo_stack.specs.Sequence.{IsMoved, FitsDown, FitsUp}
 use Rattle.undo_stack.specs.Entries.{entry_change, nesting}
-use Rattle.undo_stack.proofs.Rows.{map-set_same}
+use Rattle.undo_stack.proofs.Sequences.{map-set_same}
 use Rattle.undo_stack.proofs.Turns.{fits_last, moved_back, moved_none, moved_more}
 use Rattle.undo_stack.proofs.entry.undo_down.Goals as goal
 
@@ -11,7 +11,7 @@ loop-left-init g c =
     let f = entry_change g.C.Command.change in
     let same : c.args.from ≡ c.args.to + (c.args.from - c.args.to) = omega (arith, c.requires.order) in
     record {
-      moved = subst (λ (n : ℕ). IsMoved f c.args.row.now c.args.from c.args.document.now c.args.row.now n c.args.document.now) same (moved_none f c.args.row.now c.args.from c.args.document.now c.requires.down c.requires.up);
+      moved = subst (λ (n : ℕ). IsMoved f c.args.sequence.now c.args.from c.args.document.now c.args.sequence.now n c.args.document.now) same (moved_none f c.args.sequence.now c.args.from c.args.document.now c.requires.down c.requires.up);
       order = omega arith;
       within = omega (arith, c.requires.within, c.requires.order);
       nesting = refl;
@@ -20,11 +20,11 @@ loop-left-init g c =
 pub undo-requires : goal.undo-requires
 undo-requires g c =
     let f = entry_change g.C.Command.change in
-    let xs = c.loop-left.row in
+    let xs = c.loop-left.sequence in
     let i = c.args.to + c.loop-left.left in
     let j = c.args.to + (c.loop-left.left - 1) in
     let d = c.loop-left.document in
-    let v = slice_index_or xs j c.index-row-to.result in
+    let v = slice_index_or xs j c.index-sequence-to.result in
     let m = c.loop-left.invariant.moved in
     let same : i ≡ j + 1 = omega arith in
     let inside : j < length xs = omega (arith, c.loop-left.invariant.within) in
@@ -35,11 +35,11 @@ undo-requires g c =
 pub loop-left-preserved : goal.loop-left-preserved
 loop-left-preserved g c =
     let f = entry_change g.C.Command.change in
-    let xs = c.loop-left.row in
+    let xs = c.loop-left.sequence in
     let i = c.args.to + c.loop-left.left in
     let j = c.args.to + (c.loop-left.left - 1) in
     let d = c.loop-left.document in
-    let v = slice_index_or xs j c.index-row-to.result in
+    let v = slice_index_or xs j c.index-sequence-to.result in
     let m = c.loop-left.invariant.moved in
     let same : i ≡ j + 1 = omega arith in
     let inside : j < length xs = omega (arith, c.loop-left.invariant.within) in
@@ -47,9 +47,9 @@ loop-left-preserved g c =
     let down = subst (λ (n : ℕ). FitsDown f (take n xs) d) same m.down in
     let w = c.undo.new.self in
     let up = subst (λ (n : ℕ). FitsUp f (drop n xs) d) same m.up in
-    let before = subst (λ (n : ℕ). IsMoved f c.args.row.now c.args.from c.args.document.now xs n d) same m in
+    let before = subst (λ (n : ℕ). IsMoved f c.args.sequence.now c.args.from c.args.document.now xs n d) same m in
     record {
-      moved = moved_more f c.args.row.now xs _ c.args.from (j + 1) j c.args.document.now d c.undo.new.document before (moved_back f xs v w j d c.undo.new.document down up inside is c.undo.ensures.turned);
+      moved = moved_more f c.args.sequence.now xs _ c.args.from (j + 1) j c.args.document.now d c.undo.new.document before (moved_back f xs v w j d c.undo.new.document down up inside is c.undo.ensures.turned);
       order = omega (arith, c.loop-left.invariant.order);
       within = omega (arith, c.loop-left.invariant.within, length-set xs j w);
       nesting = map-set_same nesting xs v w j is c.undo.ensures.nesting ∙ c.loop-left.invariant.nesting;

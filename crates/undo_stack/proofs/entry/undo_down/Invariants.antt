@@ -1,14 +1,14 @@
 use Rattle.std.proofs.Common.{◌+◌, ◌≡◌, ◌≤◌, length, map}
-use Rattle.undo_stack.specs.Row.{IsMoved}
+use Rattle.undo_stack.specs.Sequence.{IsMoved}
 use Rattle.undo_stack.specs.Entries.{entry_change, nesting}
 use Rattle.undo_stack.proofs.entry.undo_down.Given as goal
 
 abbrev pub invariant-loop-left : goal.invariant-loop-left
 invariant-loop-left g l = record {
-  moved : IsMoved (entry_change g.C.Command.change) l.fn.row l.fn.from l.fn.document l.row (l.to + l.left) l.document;
+  moved : IsMoved (entry_change g.C.Command.change) l.fn.sequence l.fn.from l.fn.document l.sequence (l.to + l.left) l.document;
   order : l.to + l.left ≤ l.from;
-  within : l.to + l.left ≤ length l.row;
-  nesting : map nesting l.row ≡ map nesting l.fn.row;
+  within : l.to + l.left ≤ length l.sequence;
+  nesting : map nesting l.sequence ≡ map nesting l.fn.sequence;
 }
 
 abbrev pub decreases-loop-left : goal.decreases-loop-left

@@ -20,4 +20,4 @@ returns-in-Ok-clause-sound g c =
 pub returns-in-Err-clause-sound : goal.returns-in-Err-clause-sound
 returns-in-Err-clause-sound g c =
     let f = g.C.Command.change in
-    group-IsSound f _ (group_of f c.args.self.now.group) c.requires.sound.limit c.add_active.ensures.sound c.in-Err.ensures.kept c.requires.sound.steady
+    group-IsSound f _ (group_of f c.args.self.now.group) c.requires.sound.limit c.add_active.ensures.sound c.in-Err.ensures.unchanged c.requires.sound.steady

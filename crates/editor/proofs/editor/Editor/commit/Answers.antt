@@ -6,7 +6,7 @@ use Rattle.undo_stack.specs.Turning.{IsSteady}
 use Rattle.undo_stack.proofs.Steadiness.{IsPushed-steady}
 use Rattle.editor.specs.Editors.{machine_of}
 use Rattle.editor.proofs.Lent.{active-IsSteady, left-IsSound, left-machine}
-use Rattle.editor.proofs.Lifting.{with_active-kept}
+use Rattle.editor.proofs.Lifting.{with_active-unchanged}
 use Rattle.editor.proofs.Committing.{Commits-pushed, Commits-refused}
 use Rattle.editor.proofs.editor.Editor.commit.Goals as goal
 
@@ -30,11 +30,11 @@ returns-in-Err-clause-sound g c =
     let h = history change c.in-Some.stack.now in
     let steady = active-IsSteady change c.args.self.now h c.requires.sound c.in-Some.ensures.active in
     left-IsSound change c.args.self.now _ c.push.new.self refl (c.active_mut.follows.holds c.push.new.self c.push.ensures.sound)
-    (subst (λ (n : History). IsSteady n) (sym c.in-Err.ensures.kept) steady) c.requires.sound
+    (subst (λ (n : History). IsSteady n) (sym c.in-Err.ensures.unchanged) steady) c.requires.sound
 
 pub returns-in-Err-clause-commits : goal.returns-in-Err-clause-commits
 returns-in-Err-clause-commits g c =
     let change = g.C.Command.change in
     let left = left-machine change c.args.self.now _ c.push.new.self refl (c.active_mut.follows.holds c.push.new.self c.push.ensures.sound) in
     Commits-refused (change c.args.command) (history change c.in-Some.stack.now) (machine_of change c.args.self.now) _ (sym c.in-Some.ensures.active)
-    (left ∙ with_active-kept (history change c.in-Some.stack.now) (history change c.push.new.self) (machine_of change c.args.self.now) c.in-Some.ensures.whole (sym c.in-Some.ensures.active) c.in-Err.ensures.kept)
+    (left ∙ with_active-unchanged (history change c.in-Some.stack.now) (history change c.push.new.self) (machine_of change c.args.self.now) c.in-Some.ensures.whole (sym c.in-Some.ensures.active) c.in-Err.ensures.unchanged)

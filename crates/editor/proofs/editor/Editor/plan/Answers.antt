@@ -24,16 +24,16 @@ returns-in-Some-clause-sound g c =
 
 pub returns-in-Some-clause-plans : goal.returns-in-Some-clause-plans
 returns-in-Some-clause-plans g c =
-    let kept = g.S.MapStore.kept c.args.store.now in
+    let stored = g.S.MapStore.stored c.args.store.now in
     let change = g.C.Command.change in
     let stack = c.on_document.new.stack in
     let old = machine_of change c.args.self.now in
-    let P : Machine → Type 0 = λ m. Plans c.args.line.now (workspace old kept) c.on_document.result (workspace m kept) in
+    let P : Machine → Type 0 = λ m. Plans c.args.line.now (workspace old stored) c.on_document.result (workspace m stored) in
     subst P (sym (left-machine change c.args.self.now _ stack refl (c.active_mut.follows.holds stack c.on_document.ensures.sound)))
-    (on-Plans (history change c.in-Some.stack.now) (history change stack) old c.in-Some.ensures.whole (sym c.in-Some.ensures.active) c.args.line.now c.on_document.result kept c.on_document.ensures.plans)
+    (on-Plans (history change c.in-Some.stack.now) (history change stack) old c.in-Some.ensures.whole (sym c.in-Some.ensures.active) c.args.line.now c.on_document.result stored c.on_document.ensures.plans)
 
-pub returns-in-Some-clause-kept : goal.returns-in-Some-clause-kept
-returns-in-Some-clause-kept g c =
+pub returns-in-Some-clause-unchanged : goal.returns-in-Some-clause-unchanged
+returns-in-Some-clause-unchanged g c =
     let change = g.C.Command.change in
     let stack = c.on_document.new.stack in
     let old = machine_of change c.args.self.now in

@@ -3,8 +3,8 @@ use Rattle.std.proofs.lemmas.Int.{to_z-of_z}
 use Rattle.map_model.specs.Objects.{object_at, object_place}
 use Rattle.map_model.specs.WellFormed.{IsWellFormed}
 use Rattle.edits.specs.ObjectEdits.{moved}
-use Rattle.object_commands.specs.declared.place.PlaceKind.TheVariants.{Move}
-use Rattle.object_commands.proofs.Placements.{moved-IsPlacing, place_made}
+use Rattle.object_commands.specs.declared.place.PlacingKind.TheVariants.{Move}
+use Rattle.object_commands.proofs.Placements.{moved-IsPlacing, place_object_made}
 use Rattle.object_commands.proofs.place.PlaceObject.moved.Goals as goal
 
 pub returns-clause-command : goal.returns-clause-command
@@ -18,6 +18,6 @@ returns-clause-command c =
     let found : object_at d.map place ≡ Some o = rw c.map.ensures at c.in-Some.ensures.object in
     let well_formed : IsWellFormed d.map = rw c.map.ensures at c.in-Some.ensures.well_formed in
     rw (c.new.ensures, c.new-2.ensures, x, y) (
-    place_made d Move c.args.object c.args.follows place o (moved c.args.x c.args.y) c.eq.result refl there found well_formed
+    place_object_made d Move c.args.object c.args.follows place o (moved c.args.x c.args.y) c.eq.result refl there found well_formed
     (moved-IsPlacing c.args.x c.args.y c.requires.x c.requires.y) (rw (x, y) at c.eq.ensures) (rw there refl)
     )

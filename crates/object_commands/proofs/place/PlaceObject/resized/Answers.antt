@@ -3,8 +3,8 @@ use Rattle.std.proofs.lemmas.Int.{to_z-of_z}
 use Rattle.map_model.specs.Objects.{object_at, object_place}
 use Rattle.map_model.specs.WellFormed.{IsWellFormed}
 use Rattle.edits.specs.ObjectEdits.{is_object_size, resized}
-use Rattle.object_commands.specs.declared.place.PlaceKind.TheVariants.{Resize}
-use Rattle.object_commands.proofs.Placements.{given_by, resized-IsPlacing, place_made}
+use Rattle.object_commands.specs.declared.place.PlacingKind.TheVariants.{Resize}
+use Rattle.object_commands.proofs.Placements.{given_by, resized-IsPlacing, place_object_made}
 use Rattle.object_commands.proofs.place.PlaceObject.resized.Goals as goal
 
 pub returns-clause-command : goal.returns-clause-command
@@ -21,6 +21,6 @@ returns-clause-command c =
     let found : object_at d.map place ≡ Some o = rw c.map.ensures at c.in-Some.ensures.object in
     let well_formed : IsWellFormed d.map = rw c.map.ensures at c.in-Some.ensures.well_formed in
     rw (c.new.ensures, c.new-2.ensures, width, height) (
-    place_made d Resize c.args.object false place o (resized c.args.width c.args.height) c.eq.result refl there found well_formed (resized-IsPlacing c.args.width c.args.height given.0) (rw (width, height) at c.eq.ensures)
+    place_object_made d Resize c.args.object false place o (resized c.args.width c.args.height) c.eq.result refl there found well_formed (resized-IsPlacing c.args.width c.args.height given.0) (rw (width, height) at c.eq.ensures)
     (rw (there, given.0) refl)
     )

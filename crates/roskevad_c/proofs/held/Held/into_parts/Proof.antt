@@ -49,12 +49,12 @@ module _ {M : Type 1} {𝓤 : Ura M} (𝓛 : Logic 𝓤) (at_mem : Memory → SP
       let Post = (walk_of 𝓛 F.ended stayed (F.clauses 𝓛 at_mem run)).post z in
       let To = type_at (F.signature).result tt in
       let d = z.0.3.0 in
-      qed 𝓛 ((‵ ftrue ⊛ ‵ (fsep (Seal.the_row.own_val d z.0.4.0) ftrue)) ∷ raw (fact 𝓤 (IsSome d.kept)) ∷ []) ∵ move ! (1 ∷ []) $ heard ! (IsSome d.kept) (λ is.
-      let some = some_is d.kept is in
+      qed 𝓛 ((‵ ftrue ⊛ ‵ (fsep (Seal.the_row.own_val d z.0.4.0) ftrue)) ∷ raw (fact 𝓤 (IsSome d.held_session)) ∷ []) ∵ move ! (1 ∷ []) $ heard ! (IsSome d.held_session) (λ is.
+      let some = some_is d.held_session is in
       let v : D E = record { ptr = d.at; alloc = d.alloc; value = some.0 } in
       let made : To.Denot = record { ptr = v.ptr; alloc = v.alloc; value = v.value } in
       split ! $ drop ! $ fsplit ! $
-      rewrite ! 0 (λ (k : Option (Session.the_row.Denot)). ‵ (Seal.the_row.own_val (record { at = d.at; alloc = d.alloc; kept = k }) z.0.4.0)) some.1 refl $
+      rewrite ! 0 (λ (k : Option (Session.the_row.Denot)). ‵ (Seal.the_row.own_val (record { at = d.at; alloc = d.alloc; held_session = k }) z.0.4.0)) some.1 refl $
       use1 𝓛 (‵ ((B E).own_val v z.0.4.0)) (id⊢ 𝓤 _) $
       box_out E ! v z.0.4.0 (λ b o hv e ws fa. box_in E ! v b o v.value e refl $ use1 𝓛 (‵ (To.own_val made (word E hv b o ∷ []))) (id⊢ 𝓤 _) $ move ! (1 ∷ 2 ∷ []) $ drop ! $ drop ! $
       let w = word E hv b o in

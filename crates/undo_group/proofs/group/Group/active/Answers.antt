@@ -1,8 +1,8 @@
 use Rattle.std.proofs.Common.{sym, arith}
 use Rattle.std.proofs.lemmas.Option.{slice_get-map}
 use Rattle.undo_stack.specs.Stacks.{Holds}
-use Rattle.undo_group.proofs.Places.{All-at}
-use Rattle.undo_group.proofs.Entries.{history_named-documents_of}
+use Rattle.undo_group.proofs.Lookups.{All-at}
+use Rattle.undo_group.proofs.NamedStacks.{history_named-documents_of}
 use Rattle.undo_group.proofs.group.Group.active.Goals as goal
 
 pub returns-clause-active : goal.returns-clause-active

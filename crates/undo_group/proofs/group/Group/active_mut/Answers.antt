@@ -2,7 +2,7 @@ use Rattle.std.proofs.Common.{refl, arith}
 use Rattle.std.proofs.lemmas.Option.{slice_get-map, gets}
 use Rattle.undo_group.specs.Stacks.{documents_of}
 use Rattle.undo_group.proofs.Documents.{IsGroup-at, active_history-at}
-use Rattle.undo_group.proofs.Entries.{AreDistinct-documents_of, IsLeft-set_value_at}
+use Rattle.undo_group.proofs.NamedStacks.{AreDistinct-documents_of, IsLeft-set_value_at}
 use Rattle.undo_group.proofs.group.Group.active_mut.Goals as goal
 
 pub returns-in-Some : goal.returns-in-Some

@@ -1,5 +1,5 @@
 use Rattle.std.proofs.Common.{refl, sym, ◌∙◌, arith}
-use Rattle.undo_group.proofs.Entries.{history_named-documents_of, AreHeld-added, group_of-added}
+use Rattle.undo_group.proofs.NamedStacks.{history_named-documents_of, AreHeld-added, group_of-added}
 use Rattle.undo_group.proofs.group.Group.add.Goals as goal
 
 pub returns-then-contains_key-clause-fault : goal.returns-then-contains_key-clause-fault

@@ -1,6 +1,6 @@
 use Rattle.undo_stack.specs.Stacks.{history}
 use Rattle.undo_group.specs.Stacks.{group_of}
-use Rattle.undo_group.proofs.Entries.{group_of-chosen_last}
+use Rattle.undo_group.proofs.NamedStacks.{group_of-chosen_last}
 use Rattle.undo_group.proofs.group.Group.add_active.Goals as goal
 
 pub returns-clause-added : goal.returns-clause-added

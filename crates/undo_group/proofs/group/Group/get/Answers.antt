@@ -1,7 +1,7 @@
 use Rattle.std.proofs.Common.{arith}
 use Rattle.std.proofs.lemmas.Map.Entries.{All-lookup}
 use Rattle.undo_stack.specs.Stacks.{Holds}
-use Rattle.undo_group.proofs.Entries.{is_name, history_named-documents_of}
+use Rattle.undo_group.proofs.NamedStacks.{is_name, history_named-documents_of}
 use Rattle.undo_group.proofs.group.Group.get.Goals as goal
 
 pub returns-clause-named : goal.returns-clause-named

@@ -1,7 +1,7 @@
 use Rattle.std.proofs.Common.{sym, ◌∙◌, ap, map}
 use Rattle.std.specs.String.{string_bytes}
 use Rattle.undo_group.proofs.Documents.{IsGroup-at}
-use Rattle.undo_group.proofs.Entries.{AreDistinct-documents_of, names-documents_of}
+use Rattle.undo_group.proofs.NamedStacks.{AreDistinct-documents_of, names-documents_of}
 use Rattle.undo_group.proofs.group.Group.names.Goals as goal
 
 pub returns-clause-names : goal.returns-clause-names

@@ -1,8 +1,8 @@
 use Rattle.std.proofs.Common.{sym, ◌∙◌, arith}
 use Rattle.std.proofs.lemmas.Option.{slice_get-map, gets}
 use Rattle.undo_stack.specs.Stacks.{Holds}
-use Rattle.undo_group.proofs.Places.{All-at}
-use Rattle.undo_group.proofs.Entries.{history_named-documents_of, AreHeld-removed, removed-found}
+use Rattle.undo_group.proofs.Lookups.{All-at}
+use Rattle.undo_group.proofs.NamedStacks.{history_named-documents_of, AreHeld-removed, removed-found}
 use Rattle.undo_group.proofs.group.Group.remove.Goals as goal
 
 pub returns-in_default-clause-none : goal.returns-in_default-clause-none
@@ -13,7 +13,7 @@ unwrap-stack-requires g c = grind (arith, gets)
 
 pub returns-clause-sound : goal.returns-clause-sound
 returns-clause-sound g c =
-    AreHeld-removed g.C.Command.change c.args.self.now c.in-Some.at _ c.in-Some.ensures.within c.shift_remove_index.ensures.entries c.place_without-self.ensures c.requires
+    AreHeld-removed g.C.Command.change c.args.self.now c.in-Some.at _ c.in-Some.ensures.within c.shift_remove_index.ensures.entries c.number_without-self.ensures c.requires
 
 pub returns-clause-held : goal.returns-clause-held
 returns-clause-held g c =

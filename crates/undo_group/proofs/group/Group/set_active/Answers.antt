@@ -1,5 +1,5 @@
 use Rattle.std.proofs.Common.{arith}
-use Rattle.undo_group.proofs.Entries.{history_named-documents_of, name_at-found}
+use Rattle.undo_group.proofs.NamedStacks.{history_named-documents_of, name_at-found}
 use Rattle.undo_group.proofs.group.Group.set_active.Goals as goal
 
 pub returns-in_default-get_index_of-clause-none : goal.returns-in_default-get_index_of-clause-none

@@ -8,14 +8,14 @@ returns-then-is_free-clause-gone g c =
     let v = g.C.Command.change c.in-Command.command in
     rw (c.in-Command.is, entry_change-Command g.C.Command.change c.in-Command.command) (λ gone. gone_at v (sym c.is_free.ensures ∙ c.if-is_free.true) (sym c.obsolete.ensures.answer ∙ gone) c.obsolete.ensures.law)
 
-pub returns-then-is_free-clause-kept : goal.returns-then-is_free-clause-kept
-returns-then-is_free-clause-kept g c =
-    rw (c.in-Command.is, entry_change-Command g.C.Command.change c.in-Command.command) (λ kept free. sym c.obsolete.ensures.answer ∙ kept)
+pub returns-then-is_free-clause-live : goal.returns-then-is_free-clause-live
+returns-then-is_free-clause-live g c =
+    rw (c.in-Command.is, entry_change-Command g.C.Command.change c.in-Command.command) (λ live free. sym c.obsolete.ensures.answer ∙ live)
 
-pub returns-else-is_free-clause-kept : goal.returns-else-is_free-clause-kept
-returns-else-is_free-clause-kept g c =
-    rw (c.in-Command.is, entry_change-Command g.C.Command.change c.in-Command.command) (λ kept free. false-true (sym c.if-is_free.false ∙ c.is_free.ensures ∙ free))
+pub returns-else-is_free-clause-live : goal.returns-else-is_free-clause-live
+returns-else-is_free-clause-live g c =
+    rw (c.in-Command.is, entry_change-Command g.C.Command.change c.in-Command.command) (λ live free. false-true (sym c.if-is_free.false ∙ c.is_free.ensures ∙ free))
 
-pub returns-in-Macro-clause-kept : goal.returns-in-Macro-clause-kept
-returns-in-Macro-clause-kept g c =
-    rw (c.in-Macro.is, entry_change-Macro g.C.Command.change c.in-Macro.field-0) (λ kept free. false-true free)
+pub returns-in-Macro-clause-live : goal.returns-in-Macro-clause-live
+returns-in-Macro-clause-live g c =
+    rw (c.in-Macro.is, entry_change-Macro g.C.Command.change c.in-Macro.field-0) (λ live free. false-true free)

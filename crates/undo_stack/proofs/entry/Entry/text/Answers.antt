@@ -1,6 +1,6 @@
 use Rattle.std.proofs.Common.{◌∙◌, ap}
 use Rattle.undo_stack.specs.declared.entry.Entry.{Entry}
-use Rattle.undo_stack.specs.declared.entry.MacroBody.{MacroBody}
+use Rattle.undo_stack.specs.declared.entry.MacroContents.{MacroContents}
 use Rattle.undo_stack.proofs.EntryChanges.{entry_change-Command, entry_change-Macro}
 use Rattle.undo_stack.proofs.entry.Entry.text.Goals as goal
 
@@ -8,4 +8,4 @@ pub returns-in-Command : goal.returns-in-Command
 returns-in-Command g c = rw (c.in-Command.is, entry_change-Command g.C.Command.change c.in-Command.command) c.text.ensures
 
 pub returns-in-Macro : goal.returns-in-Macro
-returns-in-Macro g c = rw (c.in-Macro.is, entry_change-Macro g.C.Command.change c.in-Macro.body) (c.as_str.ensures ∙ ap (λ (b : MacroBody (Entry g.row.C.Denot)). b.text) c.deref.ensures)
+returns-in-Macro g c = rw (c.in-Macro.is, entry_change-Macro g.C.Command.change c.in-Macro.contents) (c.as_str.ensures ∙ ap (λ (b : MacroContents (Entry g.row.C.Denot)). b.text) c.deref.ensures)

@@ -52,4 +52,4 @@ pub returns-clause-calm : goal.returns-clause-calm
 returns-clause-calm g c h live =
     let s = c.args.self.now in
     let inside : c.len-last.result - 1 < length s.levels.items = omega (arith, c.requires.«open», c.len-last.ensures, s.levels.ok.0) in
-    calm_child g.C.Command.change s.has_free s.entries.items s.levels.items c.index_mut.result.now c.add.new.self c.args.entry (c.len-last.result - 1) inside c.index_mut.ensures.value (ap (λ (l : Inner g.row.C.Denot). l.row) c.add.ensures) live h
+    calm_child g.C.Command.change s.has_free s.entries.items s.levels.items c.index_mut.result.now c.add.new.self c.args.entry (c.len-last.result - 1) inside c.index_mut.ensures.value (ap (λ (l : Inner g.row.C.Denot). l.sequence) c.add.ensures) live h

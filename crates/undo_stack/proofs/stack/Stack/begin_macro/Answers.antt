@@ -3,7 +3,7 @@ use Rattle.std.proofs.lemmas.List.{length-map, map-append}
 use Rattle.std.proofs.lemmas.Bool.{lt-ltb, le-ltb}
 use Rattle.undo_stack.specs.History.{current}
 use Rattle.undo_stack.specs.Pushing.{cut}
-use Rattle.undo_stack.specs.Sound.{Inner, row_nesting}
+use Rattle.undo_stack.specs.Sound.{Inner, sequence_nesting}
 use Rattle.undo_stack.specs.Stacks.{history, inner_of, inners, LastHasRoom}
 use Rattle.undo_stack.proofs.Levels.{HaveRoom-push, level_nesting-append, WhereOpen-of}
 use Rattle.undo_stack.proofs.Macros.{begun_turnable, begun_view}
@@ -27,12 +27,12 @@ returns-in_default-clause-step g c =
       leads = refl;
     }
 
-pub returns-in_default-take_level_places-clause-step : goal.returns-in_default-take_level_places-clause-step
-returns-in_default-take_level_places-clause-step g c =
+pub returns-in_default-take_level_room-clause-step : goal.returns-in_default-take_level_room-clause-step
+returns-in_default-take_level_room-clause-step g c =
     let s = c.args.self.now in
     record {
       answered = rw (length-opens g.C.Command.change s.levels.items s.document, lt-ltb (length s.levels.items) 64 (omega (arith, c.len.ensures, s.levels.ok.0))) (inr refl);
-      leads = c.take_level_places.ensures.same;
+      leads = c.take_level_room.ensures.same;
     }
 
 pub returns-clause-sound : goal.returns-clause-sound
@@ -42,13 +42,13 @@ returns-clause-sound g c =
     let t = c.cut_outside.new.self in
     let b = c.cut_outside.ensures.sound.bounded in
     let level = c.in-Ok.level in
-    let empty : Inner g.row.C.Denot = record { text = c.args.text.now; action = c.args.action.now; row = [] } in
+    let empty : Inner g.row.C.Denot = record { text = c.args.text.now; action = c.args.action.now; sequence = [] } in
     let items = c.push_reserved.ensures.items in
     let is : map inner_of c.push_reserved.new.self.items ≡ inners t ++ empty ∷ [] =
     ap (map inner_of) items ∙ map-append inner_of t.levels.items (level ∷ []) ∙ ap (λ (l : Inner g.row.C.Denot). inners t ++ l ∷ []) c.in-Ok.ensures in
-    let same : length t.levels.items ≡ length s.levels.items = ap (λ ls. length ls.items) c.cut_outside.ensures.levels ∙ c.take_level_places.ensures.count in
-    let few : length (inners t) + row_nesting empty.row + 1 ≤ 64 = omega (arith, length-map t.levels.items inner_of, same, c.len.ensures, s.levels.ok.0) in
-    let last : LastHasRoom t.levels.items = rw c.cut_outside.ensures.levels c.in-Ok-take_level_places.ensures.level_room in
+    let same : length t.levels.items ≡ length s.levels.items = ap (λ ls. length ls.items) c.cut_outside.ensures.levels ∙ c.take_level_room.ensures.count in
+    let few : length (inners t) + sequence_nesting empty.sequence + 1 ≤ 64 = omega (arith, length-map t.levels.items inner_of, same, c.len.ensures, s.levels.ok.0) in
+    let last : LastHasRoom t.levels.items = rw c.cut_outside.ensures.levels c.in-Ok-take_level_room.ensures.level_room in
     record {
       turnable = rw is (begun_turnable f t.document t.entries.items t.index t.clean (inners t) c.args.text.now c.args.action.now c.cut_outside.ensures.sound.turnable);
       bounded = record {
@@ -56,7 +56,7 @@ returns-clause-sound g c =
         count = b.count;
         entry_nesting = b.entry_nesting;
         open_nesting = rw is (level_nesting-append (inners t) empty 64 b.open_nesting few);
-        none_above = WhereOpen-of _ _ c.cut_outside.ensures.place;
+        none_above = WhereOpen-of _ _ c.cut_outside.ensures.at_end;
         entry_room = WhereOpen-of _ _ c.cut_outside.ensures.room;
         level_room = rw items (HaveRoom-push t.levels.items level b.level_room last);
       };
@@ -66,15 +66,15 @@ pub returns-clause-step : goal.returns-clause-step
 returns-clause-step g c =
     let f = g.C.Command.change in
     let s = c.args.self.now in
-    let u = c.take_level_places.new.self in
+    let u = c.take_level_room.new.self in
     let t = c.cut_outside.new.self in
     let level = c.in-Ok.level in
-    let empty : Inner g.row.C.Denot = record { text = c.args.text.now; action = c.args.action.now; row = [] } in
+    let empty : Inner g.row.C.Denot = record { text = c.args.text.now; action = c.args.action.now; sequence = [] } in
     let is : map inner_of c.push_reserved.new.self.items ≡ inners t ++ empty ∷ [] =
     ap (map inner_of) c.push_reserved.ensures.items ∙ map-append inner_of t.levels.items (level ∷ []) ∙ ap (λ (l : Inner g.row.C.Denot). inners t ++ l ∷ []) c.in-Ok.ensures in
-    let whole = c.cut_outside.ensures.cut ∙ ap cut c.take_level_places.ensures.same in
+    let whole = c.cut_outside.ensures.cut ∙ ap cut c.take_level_room.ensures.same in
     let at : t.document ≡ current (history f s) =
-    c.cut_outside.ensures.document ∙ sym (current-view f u.document u.entries.items u.index u.clean u.limit (inners u) c.take_level_places.ensures.sound.turnable.within) ∙ ap current c.take_level_places.ensures.same in
+    c.cut_outside.ensures.document ∙ sym (current-view f u.document u.entries.items u.index u.clean u.limit (inners u) c.take_level_room.ensures.sound.turnable.within) ∙ ap current c.take_level_room.ensures.same in
     record {
       answered = rw (length-opens f s.levels.items s.document, lt-ltb (length s.levels.items) 64 (omega (arith, c.len.ensures, s.levels.ok.0))) (inl refl);
       leads = rw is (begun_view f (history f s) t.document t.entries.items t.index t.clean t.limit (inners t) c.args.text.now c.args.action.now whole at);
@@ -84,4 +84,4 @@ pub returns-clause-calm : goal.returns-clause-calm
 returns-clause-calm g c h =
     let t = c.cut_outside.new.self in
     let level = c.in-Ok.level in
-    rw c.push_reserved.ensures.items (calm_opened g.C.Command.change t.has_free t.entries.items t.levels.items level (ap (λ (l : Inner g.row.C.Denot). l.row) c.in-Ok.ensures) (c.cut_outside.ensures.calm (c.take_level_places.ensures.calm h)))
+    rw c.push_reserved.ensures.items (calm_opened g.C.Command.change t.has_free t.entries.items t.levels.items level (ap (λ (l : Inner g.row.C.Denot). l.sequence) c.in-Ok.ensures) (c.cut_outside.ensures.calm (c.take_level_room.ensures.calm h)))

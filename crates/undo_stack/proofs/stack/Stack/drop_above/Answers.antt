@@ -4,7 +4,7 @@ use Rattle.undo_stack.specs.Stacks.{inner_of}
 use Rattle.undo_stack.specs.declared.stack.Stack.{Stack}
 use Rattle.undo_stack.proofs.Gone.{IsWithout, above_sound, above_dropped, where_some}
 use Rattle.undo_stack.proofs.Views.{step_within}
-use Rattle.undo_stack.proofs.Calm.{calm_gone, calm_kept}
+use Rattle.undo_stack.proofs.Calm.{calm_gone, calm_stays}
 use Rattle.undo_stack.proofs.stack.Stack.drop_above.Goals as goal
 
 pub index-requires : goal.index-requires
@@ -53,4 +53,4 @@ returns-else-is_gone-clause-calm g c =
     let f = g.C.Command.change in
     let s = c.args.self.now in
     let at : s.index < length s.entries.items = step_within f (start_of f (map inner_of s.levels.items) s.document) s.entries.items s.index c.requires.above in
-    calm_kept f s c.index.result.now s.index at c.index.ensures (c.if-is_gone.ensures.kept refl)
+    calm_stays f s c.index.result.now s.index at c.index.ensures (c.if-is_gone.ensures.live refl)

@@ -1,7 +1,7 @@
 use Rattle.std.proofs.Common.{◌<◌, ◌-◌, arith, ap, length, refl}
 use Rattle.undo_stack.specs.declared.stack.Stack.{Stack}
 use Rattle.undo_stack.proofs.Gone.{IsWithout, below_sound, below_dropped, where_some}
-use Rattle.undo_stack.proofs.Calm.{calm_gone, calm_kept}
+use Rattle.undo_stack.proofs.Calm.{calm_gone, calm_stays}
 use Rattle.undo_stack.proofs.stack.Stack.drop_below.Goals as goal
 
 without : (g : _) (c : goal.After-lose_clean g) → IsWithout (c.args.self.now.index - 1) c.args.self.now c.lose_clean.new.self
@@ -41,4 +41,4 @@ pub returns-else-is_gone-clause-calm : goal.returns-else-is_gone-clause-calm
 returns-else-is_gone-clause-calm g c =
     let s = c.args.self.now in
     let inside : s.index - 1 < length s.entries.items = omega (arith, c.requires.below, c.requires.sound.turnable.within) in
-    calm_kept g.C.Command.change s c.index.result.now (s.index - 1) inside c.index.ensures (c.if-is_gone.ensures.kept refl)
+    calm_stays g.C.Command.change s c.index.result.now (s.index - 1) inside c.index.ensures (c.if-is_gone.ensures.live refl)

@@ -3,9 +3,9 @@ use Rattle.undo_stack.specs.Entries.{entry_change, nesting, greatest}
 use Rattle.undo_stack.specs.History.{step_named}
 use Rattle.undo_stack.specs.Merging.{stack_before}
 use Rattle.undo_stack.specs.declared.stack.Stack.{Stack}
-use Rattle.undo_stack.proofs.Rows.{map-set_same}
+use Rattle.undo_stack.proofs.Sequences.{map-set_same}
 use Rattle.undo_stack.proofs.Joins.{last_fits}
-use Rattle.undo_stack.proofs.Merges.{continues_below, merges_err, other_place, merged_row, kept_below, taken_step}
+use Rattle.undo_stack.proofs.Merges.{continues_below, merges_err, other_number, merged_sequence, unchanged_below, taken_step}
 use Rattle.undo_stack.proofs.Stacks.{inners_closed}
 use Rattle.undo_stack.proofs.Calm.{merged_names, calm_same, calm_to_last, leaves_err}
 use Rattle.undo_stack.proofs.Reports.{takes_in_err, takes_in_step}
@@ -24,9 +24,9 @@ returns-in_err-merge-clause-merged g c =
     let s = c.args.self.now in
     let v = c.index_mut.result.now in
     let w = c.merge.new.self in
-    let row = merged_row f c.args.command.now s v w c.merge.result c.requires.closed (omega arith) c.index_mut.ensures.value c.requires.sound c.merge.ensures.merged in
+    let sequence = merged_sequence f c.args.command.now s v w c.merge.result c.requires.closed (omega arith) c.index_mut.ensures.value c.requires.sound c.merge.ensures.merged in
     merges_err f c.args.command.now s _ c.from_residual.result c.from_residual.ensures.0
-    (kept_below f c.args.command.now s _ v w c.requires.closed (omega arith) c.index_mut.ensures.value refl refl c.merge.ensures.nesting (rw c.in_err-merge.was at row) c.requires.sound)
+    (unchanged_below f c.args.command.now s _ v w c.requires.closed (omega arith) c.index_mut.ensures.value refl refl c.merge.ensures.nesting (rw c.in_err-merge.was at sequence) c.requires.sound)
 
 pub returns-then-not-branch-clause-merged : goal.returns-then-not-branch-clause-merged
 returns-then-not-branch-clause-merged g c =
@@ -35,11 +35,11 @@ returns-then-not-branch-clause-merged g c =
     let x = c.args.command.now in
     let v = c.index_mut.result.now in
     let w = c.merge.new.self in
-    let row = merged_row f x s v w c.merge.result c.requires.closed (omega arith) c.index_mut.ensures.value c.requires.sound c.merge.ensures.merged in
+    let sequence = merged_sequence f x s v w c.merge.result c.requires.closed (omega arith) c.index_mut.ensures.value c.requires.sound c.merge.ensures.merged in
     let no = c.in_ok-merge.was ∙ ap (λ (b : Bool). Ok b) c.if-not-branch.true in
-    let m = rw no at row in (
+    let m = rw no at sequence in (
       (λ k. m.0 (continues_below f (stack_before f x s) (step_named (f x).names s.document) c.requires.closed c.requires.sound.turnable.within k).0),
-      kept_below f x s _ v w c.requires.closed (omega arith) c.index_mut.ensures.value refl refl c.merge.ensures.nesting m.1 c.requires.sound,
+      unchanged_below f x s _ v w c.requires.closed (omega arith) c.index_mut.ensures.value refl refl c.merge.ensures.nesting m.1 c.requires.sound,
     )
 
 pub returns-clause-merged : goal.returns-clause-merged
@@ -49,12 +49,12 @@ returns-clause-merged g c =
     let x = c.args.command.now in
     let v = c.index_mut.result.now in
     let w = c.merge.new.self in
-    let row = merged_row f x s v w c.merge.result c.requires.closed (omega arith) c.index_mut.ensures.value c.requires.sound c.merge.ensures.merged in
+    let sequence = merged_sequence f x s v w c.merge.result c.requires.closed (omega arith) c.index_mut.ensures.value c.requires.sound c.merge.ensures.merged in
     let yes = c.in_ok-merge.was ∙ ap (λ (b : Bool). Ok b) c.if-not-branch.false in
-    let m = rw yes at row in
+    let m = rw yes at sequence in
     let e = c.cut.ensures in
     let ys = set s.entries.items (s.index - 1) w in
-    taken_step f x s c.cut.new.self ys c.requires.closed e.rest e.entries e.clean (omega arith) (other_place s.clean s.index c.if-eq.ensures) (length-set s.entries.items (s.index - 1) w)
+    taken_step f x s c.cut.new.self ys c.requires.closed e.rest e.entries e.clean (omega arith) (other_number s.clean s.index c.if-eq.ensures) (length-set s.entries.items (s.index - 1) w)
     (ap greatest (map-set_same nesting s.entries.items v w (s.index - 1) c.index_mut.ensures.value c.merge.ensures.nesting)) c.requires.sound m.0 m.1
 
 pub returns-in_err-merge-clause-calm : goal.returns-in_err-merge-clause-calm

@@ -4,11 +4,11 @@ use Rattle.map_model.specs.Document.{DocumentParts}
 use Rattle.undo_stack.specs.History.{step_named, current}
 use Rattle.undo_stack.specs.Pushing.{step_of, IsPushed}
 use Rattle.undo_stack.specs.Stacks.{history, inners}
-use Rattle.undo_stack.specs.Merging.{SettlesTarget, IsPlaced, stack_before}
+use Rattle.undo_stack.specs.Merging.{SettlesTarget, IsEntered, stack_before}
 use Rattle.undo_stack.specs.declared.stack.Stack.{Stack}
-use Rattle.undo_stack.proofs.Pushes.{pushed_placed}
+use Rattle.undo_stack.proofs.Pushes.{pushed_entered}
 use Rattle.undo_stack.proofs.Targets.{pushed_merged, merged_next}
-use Rattle.undo_stack.proofs.Merges.{pushed_on, placed_kept}
+use Rattle.undo_stack.proofs.Merges.{pushed_on, entered_unchanged}
 use Rattle.undo_stack.proofs.Views.{current-view}
 use Rattle.undo_stack.specs.Reporting.{target_entry, reports, IsReported}
 use Rattle.undo_stack.specs.declared.entry.Entry.TheVariants.{Command}
@@ -45,13 +45,13 @@ returns-in-Ok-false-clause-pushed g c =
     let y = c.redo.new.self in
     let e = c.redo.new.document in
     let t = c.merge.new.self in
-    let n = history f c.place.new.self in
+    let n = history f c.enter.new.self in
     let done : Stack g.row.C.Denot = record s { document = e } in
     let m = rw (c.in-Ok-false.is ∙ ap (λ (b : Bool). Ok b) c.in-Ok-false.field-0-test) at c.merge.ensures.merged in
-    IfOk-weaker c.place.result (λ u. IsPlaced (f y).obsolete (history f (stack_before f y t)) (step_named (f y).names t.document) n) (λ u. IsPushed (history f s) (step_of (f x) (current (history f s))) n)
+    IfOk-weaker c.enter.result (λ u. IsEntered (f y).obsolete (history f (stack_before f y t)) (step_named (f y).names t.document) n) (λ u. IsPushed (history f s) (step_of (f x) (current (history f s))) n)
     (λ u p. pushed_on f x y s e n c.redo.ensures c.requires.sound.turnable.within
-    (pushed_placed (f y).obsolete (history f (stack_before f y done)) (step_named (f y).names e) n m.0 (placed_kept f (f y).obsolete y done t n m.1 p)))
-    c.place.ensures.placed
+    (pushed_entered (f y).obsolete (history f (stack_before f y done)) (step_named (f y).names e) n m.0 (entered_unchanged f (f y).obsolete y done t n m.1 p)))
+    c.enter.ensures.entered
 
 pub returns-in-Ok-true-clause-calm : goal.returns-in-Ok-true-clause-calm
 returns-in-Ok-true-clause-calm g c h =
@@ -61,7 +61,7 @@ returns-in-Ok-true-clause-calm g c h =
 pub returns-in-Ok-false-clause-calm : goal.returns-in-Ok-false-clause-calm
 returns-in-Ok-false-clause-calm g c h =
     let m = rw (c.in-Ok-false.is ∙ ap (λ (b : Bool). Ok b) c.in-Ok-false.field-0-test) at c.merge.ensures.calm in
-    c.place.ensures.calm (m h)
+    c.enter.ensures.calm (m h)
 
 pub returns-in-Err-clause-calm : goal.returns-in-Err-clause-calm
 returns-in-Err-clause-calm g c h = let m = rw c.in-Err.is at c.merge.ensures.calm in m h
@@ -91,12 +91,12 @@ returns-in-Ok-false-clause-reported g c =
     let y = c.redo.new.self in
     let e = c.redo.new.document in
     let t = c.merge.new.self in
-    let u = c.place.new.self in
+    let u = c.enter.new.self in
     let done : Stack g.row.C.Denot = record s { document = e } in
     let m = rw (c.in-Ok-false.is ∙ ap (λ (b : Bool). Ok b) c.in-Ok-false.field-0-test) at c.merge.ensures.merged in
     let told : reports f (Some (Command y)) ≡ (f y).obsolete = ap (λ (v : Change). v.obsolete) (entry_change-Command f y) in
-    both_ok (λ _. u.document ≡ t.document) (λ _. IsPlaced (f y).obsolete (history f (stack_before f y t)) (step_named (f y).names t.document) (history f u)) (λ _. IsReported f x s u) c.place.result
-    (λ _ document placed. reported_on f x y s u e false (Some (Command y)) c.redo.ensures c.requires.sound.turnable.within (document ∙ m.1.document)
+    both_ok (λ _. u.document ≡ t.document) (λ _. IsEntered (f y).obsolete (history f (stack_before f y t)) (step_named (f y).names t.document) (history f u)) (λ _. IsReported f x s u) c.enter.result
+    (λ _ document entered. reported_on f x y s u e false (Some (Command y)) c.redo.ensures c.requires.sound.turnable.within (document ∙ m.1.document)
     ((λ q. false-true q), (λ k. absurd (m.0 k))) refl
-    (rw told (placed_kept f (f y).obsolete y done t (history f u) m.1 placed).next))
-    c.place.ensures.document c.place.ensures.placed
+    (rw told (entered_unchanged f (f y).obsolete y done t (history f u) m.1 entered).next))
+    c.enter.ensures.document c.enter.ensures.entered

@@ -2,7 +2,7 @@ use Rattle.std.proofs.Common.{arith, sym, map, Ok}
 use Rattle.undo_stack.specs.Entries.{entry_change}
 use Rattle.undo_stack.specs.Sound.{start_of}
 use Rattle.undo_stack.specs.Stacks.{history, inner_of}
-use Rattle.undo_stack.proofs.Rows.{length-steps}
+use Rattle.undo_stack.proofs.Sequences.{length-steps}
 use Rattle.undo_stack.proofs.Turnings.{turned_to}
 use Rattle.undo_stack.proofs.Views.{outside-closed}
 use Rattle.undo_stack.proofs.stack.Stack.set_index.Goals as goal

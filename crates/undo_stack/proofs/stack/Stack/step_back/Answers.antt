@@ -3,7 +3,7 @@ use Rattle.undo_stack.specs.Entries.{entry_change}
 use Rattle.undo_stack.specs.History.{History}
 use Rattle.undo_stack.specs.Sound.{start_of}
 use Rattle.undo_stack.specs.Stacks.{inner_of}
-use Rattle.undo_stack.proofs.Rows.{length-steps}
+use Rattle.undo_stack.proofs.Sequences.{length-steps}
 use Rattle.undo_stack.proofs.stack.Stack.step_back.Goals as goal
 
 pub drop_above-requires-clause-above : goal.drop_above-requires-clause-above

@@ -3,7 +3,7 @@ use Rattle.undo_stack.specs.Entries.{entry_change}
 use Rattle.undo_stack.specs.Sound.{start_of}
 use Rattle.undo_stack.specs.Stacks.{history, inner_of}
 use Rattle.undo_stack.specs.Turning.{TurnsBack, TurnsOn, TurnBy}
-use Rattle.undo_stack.proofs.Rows.{length-steps}
+use Rattle.undo_stack.proofs.Sequences.{length-steps}
 use Rattle.undo_stack.proofs.Turnings.{room_back}
 use Rattle.undo_stack.proofs.stack.Stack.step_to.Goals as goal
 

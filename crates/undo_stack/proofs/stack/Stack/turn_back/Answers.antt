@@ -1,7 +1,7 @@
 use Rattle.std.proofs.Common.{◌≡◌, ◌<◌, ◌-◌, arith, length, refl, set, ap}
 use Rattle.undo_stack.specs.Entries.{entry_change, nesting, greatest}
-use Rattle.undo_stack.specs.Sound.{row_nesting}
-use Rattle.undo_stack.proofs.Rows.{map-set_same}
+use Rattle.undo_stack.specs.Sound.{sequence_nesting}
+use Rattle.undo_stack.proofs.Sequences.{map-set_same}
 use Rattle.undo_stack.proofs.Turns.{fits_below, moved_below}
 use Rattle.undo_stack.proofs.Stacks.{inners_closed}
 use Rattle.undo_stack.proofs.Views.{moved_view, moved_sound, bounded_closed}
@@ -22,7 +22,7 @@ returns-clause-sound g c =
     let b = c.requires.sound.bounded in
     let ts = set s.entries.items (s.index - 1) c.undo.new.self in
     let m = moved_below (entry_change f) s.entries.items c.index_mut.result.now c.undo.new.self s.index s.document c.undo.new.document (omega arith) t.within c.index_mut.ensures.value t.down t.up c.undo.ensures.turned in
-    let deep : row_nesting ts ≡ row_nesting s.entries.items = ap greatest (map-set_same nesting s.entries.items c.index_mut.result.now c.undo.new.self (s.index - 1) c.index_mut.ensures.value c.undo.ensures.nesting) in
+    let deep : sequence_nesting ts ≡ sequence_nesting s.entries.items = ap greatest (map-set_same nesting s.entries.items c.index_mut.result.now c.undo.new.self (s.index - 1) c.index_mut.ensures.value c.undo.ensures.nesting) in
     record {
       turnable = moved_sound f s.document c.undo.new.document s.entries.items ts s.index (s.index - 1) s.clean s.levels.items c.requires.closed c.requires.sound.turnable (omega (arith, t.within)) m;
       bounded = bounded_closed _ c.requires.closed b.limit (λ h. omega (arith, m.same_length, b.count h)) (omega (arith, deep, b.entry_nesting));

@@ -1,8 +1,8 @@
 use Rattle.std.proofs.Common.{◌≡◌, ◌<◌, ◌+◌, ◌-◌, arith, length, map, refl, set, ap}
 use Rattle.undo_stack.specs.Entries.{entry_change, nesting, greatest}
-use Rattle.undo_stack.specs.Sound.{start_of, row_nesting}
+use Rattle.undo_stack.specs.Sound.{start_of, sequence_nesting}
 use Rattle.undo_stack.specs.Stacks.{inner_of}
-use Rattle.undo_stack.proofs.Rows.{map-set_same}
+use Rattle.undo_stack.proofs.Sequences.{map-set_same}
 use Rattle.undo_stack.proofs.Turns.{fits_next, moved_on}
 use Rattle.undo_stack.proofs.Stacks.{inners_closed}
 use Rattle.undo_stack.proofs.Views.{moved_view, moved_sound, step_within, bounded_closed}
@@ -33,7 +33,7 @@ returns-clause-sound g c =
     let at : s.index < length s.entries.items = step_within f (start_of f (map inner_of s.levels.items) s.document) s.entries.items s.index c.requires.above in
     let ts = set s.entries.items s.index c.redo.new.self in
     let m = moved_on (entry_change f) s.entries.items c.index_mut.result.now c.redo.new.self s.index s.document c.redo.new.document t.down t.up at c.index_mut.ensures.value c.redo.ensures.turned in
-    let deep : row_nesting ts ≡ row_nesting s.entries.items = ap greatest (map-set_same nesting s.entries.items c.index_mut.result.now c.redo.new.self s.index c.index_mut.ensures.value c.redo.ensures.nesting) in
+    let deep : sequence_nesting ts ≡ sequence_nesting s.entries.items = ap greatest (map-set_same nesting s.entries.items c.index_mut.result.now c.redo.new.self s.index c.index_mut.ensures.value c.redo.ensures.nesting) in
     record {
       turnable = moved_sound f s.document c.redo.new.document s.entries.items ts s.index (s.index + 1) s.clean s.levels.items c.requires.closed c.requires.sound.turnable (omega arith) m;
       bounded = bounded_closed _ c.requires.closed b.limit (λ h. omega (arith, m.same_length, b.count h)) (omega (arith, deep, b.entry_nesting));
@@ -54,5 +54,5 @@ returns-clause-calm g c h =
     let f = g.C.Command.change in
     let s = c.args.self.now in
     let at : s.index < length s.entries.items = step_within f (start_of f (map inner_of s.levels.items) s.document) s.entries.items s.index c.requires.above in
-    let place : s.index + 1 - 1 ≡ s.index = omega arith in
-    rw place (calm_turned f s (record s { document = c.redo.new.document; entries = _; index = s.index + 1 }) c.index_mut.result.now c.redo.new.self s.index at c.index_mut.ensures.value c.redo.ensures.turned.names refl refl refl h)
+    let number : s.index + 1 - 1 ≡ s.index = omega arith in
+    rw number (calm_turned f s (record s { document = c.redo.new.document; entries = _; index = s.index + 1 }) c.index_mut.result.now c.redo.new.self s.index at c.index_mut.ensures.value c.redo.ensures.turned.names refl refl refl h)

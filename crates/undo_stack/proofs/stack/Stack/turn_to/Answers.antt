@@ -2,7 +2,7 @@ use Rattle.std.proofs.Common.{arith, map, ◌∙◌}
 use Rattle.undo_stack.specs.Entries.{entry_change}
 use Rattle.undo_stack.specs.Sound.{start_of}
 use Rattle.undo_stack.specs.Stacks.{history, inner_of}
-use Rattle.undo_stack.proofs.Rows.{length-steps}
+use Rattle.undo_stack.proofs.Sequences.{length-steps}
 use Rattle.undo_stack.proofs.Views.{turned_view}
 use Rattle.undo_stack.proofs.Calm.{calm_moved}
 use Rattle.undo_stack.proofs.stack.Stack.turn_to.Goals as goal

@@ -1,4 +1,4 @@
--- What is at a place of a list is what comes from it after so many calls.
+-- What is at a number of a list is what comes from it after so many calls.
 use Rattle.std.proofs.Common.{◌≡◌, ◌≤◌, ℕ, zero, suc, List, [], ◌∷◌, ◌++◌, Option, None, Some, length, refl, sym, ◌∙◌, ap, arith}
 use Rattle.std.specs.Prelude.{slice_get}
 use Rattle.std.specs.Iterator.{YieldsFirst, Yields, SkipsThenYields}
@@ -18,6 +18,6 @@ came : {A : Type 0} (s xs t : List A) → Yields (YieldsFirst (λ (l : List A). 
 came s [] t e = e
 came s (x ∷ xs) t h = h.1 ∙ ap (λ l. x ∷ l) (came h.0 xs t h.2)
 
-pub at_place : {A : Type 0} (s : List A) (n : ℕ) (r : Option A) (u : List A) → SkipsThenYields (YieldsFirst (λ (l : List A). l)) s n r u → r ≡ slice_get s n
-at_place s n None u h = rw (came s h.0 h.1.0 h.1.1, h.1.2.0) (sym (past h.0 n h.2))
-at_place s n (Some x) u h = rw (came s h.0 h.1.0 h.1.1, h.1.2) (sym (found h.0 u x n h.2))
+pub at_number : {A : Type 0} (s : List A) (n : ℕ) (r : Option A) (u : List A) → SkipsThenYields (YieldsFirst (λ (l : List A). l)) s n r u → r ≡ slice_get s n
+at_number s n None u h = rw (came s h.0 h.1.0 h.1.1, h.1.2.0) (sym (past h.0 n h.2))
+at_number s n (Some x) u h = rw (came s h.0 h.1.0 h.1.1, h.1.2) (sym (found h.0 u x n h.2))

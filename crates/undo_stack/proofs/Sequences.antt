@@ -1,10 +1,10 @@
--- Rows of changes that grow and shrink at their end.
+-- Sequences of changes that grow and shrink at their end.
 use Rattle.std.proofs.Common.{◌≡◌, ℕ, ◌+◌, ◌<◌, ◌≤◌, List, [], ◌∷◌, ◌++◌, take, drop, length, map, set, get_or, zero, suc, refl, sym, ◌∙◌, ap, arith}
 use Rattle.std.proofs.lemmas.List.{take_more, drop-set-lt, drop_more, length-append, length-take-le, take_at, take-append-drop}
 use Rattle.map_model.specs.Document.{DocumentParts}
 use Rattle.command_api.specs.Law.{Change}
 use Rattle.undo_stack.specs.History.{step_named, last_after}
-use Rattle.undo_stack.specs.Row.{before, steps_down, steps_up, steps_of, FitsDown}
+use Rattle.undo_stack.specs.Sequence.{before, steps_down, steps_up, steps_of, FitsDown}
 
 pub before-append : {B : Type 0} (f : B → Change) (xs : List B) (x : B) (d : DocumentParts) → before f (xs ++ x ∷ []) d ≡ before f xs ((f x).undone d)
 before-append f [] x d = refl
@@ -24,7 +24,7 @@ pub FitsDown-push : {B : Type 0} (f : B → Change) (xs : List B) (x : B) (d : D
 FitsDown-push f [] x d h g = (g, tt)
 FitsDown-push f (y ∷ xs) x d h g = (rw (before-append f xs x d) h.0, FitsDown-push f xs x d h.1 g)
 
--- the documents of a row lead to the document after it
+-- the documents of a sequence lead to the document after it
 pub last_after-down : {B : Type 0} (f : B → Change) (xs : List B) (d : DocumentParts) → last_after (before f xs d) (steps_down f xs d) ≡ d
 last_after-down f [] d = refl
 last_after-down f (x ∷ xs) d = last_after-down f xs d
@@ -45,7 +45,7 @@ length-steps f xs n d =
 pub take-steps : {B : Type 0} (f : B → Change) (xs : List B) (n : ℕ) (d : DocumentParts) → n ≤ length xs → take n (steps_of f xs n d) ≡ steps_down f (take n xs) d
 take-steps f xs n d h = take_at (steps_down f (take n xs) d) (steps_up f (drop n xs) d) n (length-down f (take n xs) d ∙ length-take-le n xs h)
 
--- the row up to a place, and from a place on
+-- the sequence up to a number, and from a number on
 pub take_last : {B : Type 0} (xs : List B) (v : B) (j : ℕ) → j < length xs → v ≡ get_or xs j v → take (j + 1) xs ≡ take j xs ++ v ∷ []
 take_last xs v j h k = take_more xs j v h ∙ ap (λ x. take j xs ++ x ∷ []) (sym k)
 
@@ -61,7 +61,7 @@ map-set_same k [] v w j h e = refl
 map-set_same k (x ∷ xs) v w zero h e = ap (λ a. a ∷ map k xs) (e ∙ ap k h)
 map-set_same k (x ∷ xs) v w (suc j) h e = ap (λ rest. k x ∷ rest) (map-set_same k xs v w j h e)
 
--- a row without its first changes: the document before it, its steps, and that it fits
+-- a sequence without its first changes: the document before it, its steps, and that it fits
 pub last_after-take : {B : Type 0} (f : B → Change) (k : ℕ) (xs : List B) (d : DocumentParts) → last_after (before f xs d) (take k (steps_down f xs d)) ≡ before f (drop k xs) d
 last_after-take f zero xs d = refl
 last_after-take f (suc k) [] d = refl

@@ -1,4 +1,4 @@
--- What a place among the entries, or a look-up, has.
+-- What a number among named things, or a look-up, has.
 use Rattle.std.proofs.Common.{◌≡◌, ℕ, List, slice_get, false, Option, Some, None, is_some, All, subst, arith}
 use Rattle.std.proofs.lemmas.Option.{slice_get_within, get_or_from_slice_get}
 

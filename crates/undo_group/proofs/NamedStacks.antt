@@ -1,4 +1,4 @@
--- The entries of a group's map, as documents: what a look-up, a place and each change of them say of the group.
+-- The stacks of a group by name, as documents: what a look-up, a number and each change of them say of the group.
 use Rattle.std.proofs.Common.{◌≡◌, ℕ, zero, suc, ◌++◌, List, [], ◌∷◌, map, take, drop, remove, slice_get, position, Bool, false, Option, Some, is_some, All, refl, ◌∙◌, ap, arith, ◌<◌, ◌-◌, length}
 use Rattle.std.proofs.lemmas.Bool.Decides.{nat_tests}
 use Rattle.std.proofs.lemmas.Grind.{common_steps, elements}
@@ -23,7 +23,7 @@ use Rattle.undo_stack.specs.Stacks.{history, Holds}
 use Rattle.undo_stack.specs.declared.stack.Stack.{Stack}
 use Rattle.undo_stack.specs.History.{History}
 use Rattle.undo_group.specs.Groups.{IsNew, AreDistinct, history_named, with_history, removed, GroupParts, added, chosen}
-use Rattle.undo_group.specs.Stacks.{document_of, documents_of, name_at, group_at, place_without, group_of, AreHeld}
+use Rattle.undo_group.specs.Stacks.{document_of, documents_of, name_at, group_at, number_without, group_of, AreHeld}
 use Rattle.undo_group.specs.declared.group.Group.{Group}
 use Rattle.undo_group.specs.Lending.{IsLeft}
 use Rattle.undo_group.proofs.Documents.{history_named-at, with_history-new, group_at-remove}
@@ -53,12 +53,12 @@ module _ {C : Type 0} (f : C → Change) {Y : Type 0} where
   names-documents_of [] = refl
   names-documents_of (e ∷ es) = ap (λ ns. string_bytes e.0 ∷ ns) (names-documents_of es)
 
-  -- a place that was found by a name has it
+  -- a number that was found by a name has it
   pub name_at-found : (name : List ℕ) (es : List (String Y × Stack C)) (i : ℕ) → position (is_name name) (keys_of es) ≡ Some i → name_at (documents_of f es) (Some i) ≡ Some name
   name_at-found name [] i at = absurd cc
   name_at-found name (e ∷ es) i at = grind (arith, gets, slice_get-map, bytes_eq-Decides, position-Some (is_name name) (keys_of (e ∷ es)) i e.0 at)
 
-  -- a stack that is written at a place is the history of the document there, and the stacks hold where it does
+  -- a stack that is written at a number is the history of the document there, and the stacks hold where it does
   documents_of-set_value_at : (es : List (String Y × Stack C)) (i : ℕ) (e : String Y × Stack C) (w : Stack C) → AreDistinct (documents_of f es) → slice_get es i ≡ Some e
       → documents_of f (set_value_at es i w) ≡ with_history (string_bytes e.0) (history f w) (documents_of f es)
   documents_of-set_value_at [] i e w distinct at = refl
@@ -72,16 +72,16 @@ module _ {C : Type 0} (f : C → Change) {Y : Type 0} where
   All-set_value_at (e ∷ es) (suc i) w here all =
       All-cons (λ x. Holds f x.1) e (set_value_at es i w) (All-head (λ x. Holds f x.1) e es all) (All-set_value_at es i w here (All-tail (λ x. Holds f x.1) e es all))
 
-  -- the entry that was found by a name goes
-  pub removed-found : (name : List ℕ) (es : List (String Y × Stack C)) (i : ℕ) (e : String Y × Stack C) (place : Option ℕ)
+  -- the stack that was found by a name goes
+  pub removed-found : (name : List ℕ) (es : List (String Y × Stack C)) (i : ℕ) (e : String Y × Stack C) (number : Option ℕ)
       → position (is_name name) (keys_of es) ≡ Some i → slice_get es i ≡ Some e → IsDistinct string_eq (keys_of es)
-      → group_at (documents_of f (remove es i)) (place_without i place) ≡ removed name (group_at (documents_of f es) place)
-  removed-found name es i e place found at unique =
+      → group_at (documents_of f (remove es i)) (number_without i number) ≡ removed name (group_at (documents_of f es) number)
+  removed-found name es i e number found at unique =
       let distinct = AreDistinct-documents_of es unique in
-      grind (arith, map-remove (document_of f) es i, group_at-remove (documents_of f es) i (document_of f e) place distinct, slice_get-map (document_of f) es i, name_at-found name es i found)
+      grind (arith, map-remove (document_of f) es i, group_at-remove (documents_of f es) i (document_of f e) number distinct, slice_get-map (document_of f) es i, name_at-found name es i found)
 
 module _ {C : Type 0} (f : C → Change) (g : Group C) where
-  -- the stack at the active place is written
+  -- the stack at the active number is written
   pub IsLeft-set_value_at : (i : ℕ) (w : Stack C) → IsDistinct string_eq (keys_of g.stacks.entries) → g.active ≡ Some i → AreHeld f g → Holds f w
       → IsLeft f g w (record { stacks = with_value_at g.stacks i w; active = g.active })
   IsLeft-set_value_at i w unique is held holds =
@@ -91,32 +91,32 @@ module _ {C : Type 0} (f : C → Change) (g : Group C) where
         group = grind (arith, gets, documents_of-set_value_at f es i, AreDistinct-documents_of f es unique, slice_get-map, held.within);
       }
 
-  -- an entry of a new name goes last
+  -- a stack of a new name goes last
   module _ (new : Group C) (name : List ℕ) (key : String Global) (stack : Stack C)
       (named : string_bytes key ≡ name) (absent : is_some (lookup (is_name name) g.stacks.entries) ≡ false)
-      (entries : new.stacks.entries ≡ insert_entry string_eq g.stacks.entries key stack) (active : new.active ≡ g.active) (held : AreHeld f g) where
-    entries-added : new.stacks.entries ≡ g.stacks.entries ++ (key, stack) ∷ []
-    entries-added =
+      (inserted : new.stacks.entries ≡ insert_entry string_eq g.stacks.entries key stack) (active : new.active ≡ g.active) (held : AreHeld f g) where
+    stacks-added : new.stacks.entries ≡ g.stacks.entries ++ (key, stack) ∷ []
+    stacks-added =
         let none : is_some (lookup (string_eq key) g.stacks.entries) ≡ false = ap (λ n. is_some (lookup (is_name n) g.stacks.entries)) named ∙ absent in
         grind (arith, insert_entry-new string_eq g.stacks key stack)
 
     pub AreHeld-added : Holds f stack → AreHeld f new
     AreHeld-added holds = record {
-      stacks = rw entries-added (All-push (λ e. Holds f e.1) g.stacks.entries (key, stack) held.stacks holds);
-      within = grind (arith, common_steps, entries-added, held.within);
+      stacks = rw stacks-added (All-push (λ e. Holds f e.1) g.stacks.entries (key, stack) held.stacks holds);
+      within = grind (arith, common_steps, stacks-added, held.within);
     }
 
     pub group_of-added : group_of f new ≡ added name (history f stack) (group_of f g)
-    group_of-added = grind (arith, common_steps, gets, entries-added, map-append (document_of f) g.stacks.entries, length-map, held.within)
+    group_of-added = grind (arith, common_steps, gets, stacks-added, map-append (document_of f) g.stacks.entries, length-map, held.within)
 
-  -- the entry at a place goes
-  pub AreHeld-removed : (i : ℕ) (new : Group C) → i < length g.stacks.entries → new.stacks.entries ≡ remove g.stacks.entries i → new.active ≡ place_without i g.active
+  -- the stack at a number goes
+  pub AreHeld-removed : (i : ℕ) (new : Group C) → i < length g.stacks.entries → new.stacks.entries ≡ remove g.stacks.entries i → new.active ≡ number_without i g.active
       → AreHeld f g → AreHeld f new
-  AreHeld-removed i new within entries active held =
+  AreHeld-removed i new within inserted active held =
       let es = g.stacks.entries in
       let P : String Global × Stack C → Type 0 = λ e. Holds f e.1 in
       record {
-        stacks = rw entries (All-append P (take i es) (drop (suc i) es) (All-take P i es held.stacks) (All-drop P (suc i) es held.stacks));
+        stacks = rw inserted (All-append P (take i es) (drop (suc i) es) (All-take P i es held.stacks) (All-drop P (suc i) es held.stacks));
         within = grind (arith, elements, nat_tests, held.within);
       }
 

@@ -2,14 +2,14 @@ use Rattle.std.proofs.Common.{◌≡◌, ◌∙◌, ap, map}
 use Rattle.undo_stack.specs.Stacks.{inner_of, inners}
 use Rattle.undo_stack.specs.declared.stack.Stack.{Stack}
 use Rattle.undo_stack.proofs.Stacks.{turnable_at}
-use Rattle.undo_stack.proofs.stack.Stack.take_level_places.Goals as goal
+use Rattle.undo_stack.proofs.stack.Stack.take_level_room.Goals as goal
 
 pub returns-then-is_open-clause-sound : goal.returns-then-is_open-clause-sound
 returns-then-is_open-clause-sound g c =
     let f = g.C.Command.change in
     let s = c.args.self.now in
-    let t = c.take_child_place.new.self in
-    let e = c.take_child_place.ensures in
+    let t = c.take_child_room.new.self in
+    let e = c.take_child_room.ensures in
     let b = c.requires.bounded in
     let items = c.reserve.ensures.items in
     let same : inners t ≡ inners s = e.same ∙ ap (map inner_of) items in
