@@ -33,7 +33,7 @@ OF_CRATE = re.compile(r'`((?:src|specs|proofs|must-fail)/[\w./]+)`')
 # What stands in parentheses, with code in it or not.
 ASIDE = re.compile(r'\((?:[^()`]|`[^`]*`)*\)')
 # The first words of commands that are run.
-COMMANDS = ('cc', 'cp', 'mkdir', 'rm', 'pip', 'python3', 'PYTHONPATH=python', './tile_editor', 'bin/tile_editor', './map_report', 'bin/map_report', 'examples/build.sh', './fence')
+COMMANDS = ('cc', 'cp', 'mkdir', 'rm', 'pip', 'python3', 'PYTHONPATH=python', './tile_editor', 'bin/tile_editor', './map_report', 'bin/map_report', 'examples/build.sh', '/tmp/maps/fence')
 NEW_MAP = 'new town 4 3 16 16 town.tsj'
 
 

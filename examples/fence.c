@@ -1,8 +1,8 @@
 /* Opens a map, draws a fence, takes it back, draws it again and saves the map. From the top of a clone:
  *
- *   cc -O2 -Iinclude examples/fence.c lib/libroskevad.a -o fence
- *   ./fence examples/maps/layers.tmj fenced.tmj
- *   rm fence fenced.tmj
+ *   mkdir -p /tmp/maps && cp -r examples/maps/. /tmp/maps
+ *   cc -O2 -Iinclude examples/fence.c lib/libroskevad.a -o /tmp/maps/fence
+ *   /tmp/maps/fence /tmp/maps/layers.tmj /tmp/maps/fenced.tmj
  */
 #include <stdio.h>
 #include <stdlib.h>

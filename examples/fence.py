@@ -1,6 +1,8 @@
 """Opens a map, draws a fence, takes it back, draws it again and saves the map. From the top of a clone:
 
     python3 examples/fence.py [MAP [FENCED_MAP]]
+
+Without FENCED_MAP the map is saved in a folder that is removed at the end.
 """
 import sys
 import tempfile
@@ -26,6 +28,8 @@ def main() -> None:
     with tempfile.TemporaryDirectory() as folder:
         words = [Path(word) for word in sys.argv[1:]]
         draw(words[0] if words else TOP / 'examples' / 'maps' / 'layers.tmj', words[1] if words[1:] else Path(folder) / 'fenced.tmj')
+    if not words[1:]:
+        print('not kept: name a file behind the map to keep it')
 
 
 if __name__ == '__main__':

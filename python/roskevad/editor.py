@@ -185,9 +185,11 @@ class Editor:
             try:
                 return self._open(document, _NAME, data)
             except Refused as refusal:
+                # The line of the caller names the file, and not where its bytes stand in the store.
+                line = f'open {document} {path}'
                 if fault is not None and refusal.code == 50:
-                    raise self._failed(refusal.line) from fault
-                raise
+                    raise self._failed(line) from fault
+                raise Refused(refusal.code, refusal.words, line) from None
 
     def save_file(self, path: Union[str, Path]) -> str:
         """Writes the active document's map to a file: beside it first, and then in its place; its index is the clean one

@@ -2,12 +2,12 @@
 
 #: The forms of the lines that begin with a word.
 FORMS: dict[str, tuple[str, ...]] = {
-    'new': ('new DOCUMENT WIDTH HEIGHT TILE_WIDTH TILE_HEIGHT SOURCE',),
-    'open': ('open DOCUMENT FILE',),
+    'new': ('new DOC WIDTH HEIGHT TILE_WIDTH TILE_HEIGHT SOURCE',),
+    'open': ('open DOC FILE',),
     'save': ('save FILE',),
-    'close': ('close DOCUMENT',),
-    'discard': ('discard DOCUMENT',),
-    'use': ('use DOCUMENT', 'use -'),
+    'close': ('close DOC',),
+    'discard': ('discard DOC',),
+    'use': ('use DOC', 'use -'),
     'list': ('list',),
     'stamp': ('stamp LAYER X Y WIDTH TILES', 'stamp+ LAYER X Y WIDTH TILES'),
     'erase': ('erase LAYER X Y WIDTH HEIGHT', 'erase+ LAYER X Y WIDTH HEIGHT'),
@@ -25,7 +25,7 @@ FORMS: dict[str, tuple[str, ...]] = {
     ),
     'prop': (
         'prop set OWNER KEY string|file TEXT', 'prop set OWNER KEY int NUMBER', 'prop set OWNER KEY bool true|false',
-        'prop set OWNER KEY color COLOUR', 'prop set+ OWNER KEY KIND VALUE', 'prop remove OWNER KEY',
+        'prop set OWNER KEY color COLOUR', 'prop set OWNER KEY object OBJECT', 'prop set+ OWNER KEY TYPE VALUE', 'prop remove OWNER KEY',
     ),
     'tileset': ('tileset add FIRST SOURCE', 'tileset remove FIRST'),
     'undo': ('undo',),
