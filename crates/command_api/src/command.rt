@@ -64,7 +64,7 @@ pub trait Command: Drop {
         requires { AsksMerge (change self.old) newer.now document.now }
         ensures answer { IfOk result (λ b. IsTrue b ↔ Takes (change self.old).names.tag newer.now) }
         ensures merged { result ≡ Ok true → IsMerged (change self.old) (change self.new) newer.now document.now }
-        ensures kept { (result ≡ Ok true → ⊥) → IsSame (change self.old) (change self.new) };
+        ensures unchanged { (result ≡ Ok true → ⊥) → IsSame (change self.old) (change self.new) };
 }
 
 // A box is the command in it.

@@ -1,4 +1,4 @@
--- What the calls of an edit hand on: the layer of a well-formed map, what an edit reaches of it, and its change.
+-- What the calls of an edit hand on: the layer of a well-formed map, the extent of an edit in it, and its change.
 use Rattle.std.proofs.Common.{◌≡◌, inl, inr, ℕ, ◌/◌, ◌%◌, ◌*◌, ◌<◌, List, length, Bor, Option, Some, None, false, Result, Ok, Err, IfOk, IsSomeAnd, ℤ, mul_comm, sym, ap, ◌∙◌, subst, arith}
 use Rattle.std.specs.FinSet as set
 use Rattle.region.specs.Cells.{cell_cmp}
@@ -21,7 +21,7 @@ use Rattle.edits.specs.declared.span.Span.{Span}
 use Rattle.edits.specs.Blocks.{ValueBlock, offset, is_below, stamp_over, erase_over, IsSpan}
 use Rattle.edits.specs.Covering.{covered, covered_map}
 use Rattle.map_model.specs.Difference.{difference, difference_in}
-use Rattle.edits.specs.Laying.{IsLayerOf, IsReach}
+use Rattle.edits.specs.Laying.{IsLayerOf, IsExtent}
 use Rattle.edits.specs.Painting.{IsPainted}
 use Rattle.edits.specs.Refusals.{body_tiles_or_fault, tiles_or_fault}
 use Rattle.edits.specs.Stamping.{IsBlock}
@@ -66,15 +66,15 @@ IsLayerOf-map m id tiles h =
       few = omega (arith, h.well_formed.size.cells_limit);
     }
 
--- ---- what an edit reaches
+-- ---- the extent of an edit
 -- an edit puts nothing over the columns and rows outside its spans
 module _ (m : MapParts) (id : ℕ) (tiles : Bor (List ℕ)) (selection : Bor (set.FinSet cell_cmp)) (layer : IsTheLayer m id tiles.now)
     (over : ℕ → ℕ → Option ℕ) (x y : ℤ) (width height : ℕ) (columns rows : Span)
     (past_column : (a b : ℕ) → is_below (offset x a) width ≡ false → over a b ≡ None) (past_row : (a b : ℕ) → is_below (offset y b) height ≡ false → over a b ≡ None)
     (is_columns : IsSpan x width m.width columns) (is_rows : IsSpan y height m.height rows) where
-  pub IsReach-spans : IsReach over (record { tiles = tiles; width = m.width; columns = columns; rows = rows; selection = selection })
+  pub IsExtent-spans : IsExtent over (record { tiles = tiles; width = m.width; columns = columns; rows = rows; selection = selection })
   unfolding IsLayerOf-map
-  IsReach-spans = record {
+  IsExtent-spans = record {
     layer = IsLayerOf-map m id tiles.now layer;
     columns = is_columns.ordered;
     columns_within = is_columns.within;
@@ -87,21 +87,21 @@ module _ (m : MapParts) (id : ℕ) (tiles : Bor (List ℕ)) (selection : Bor (se
 whole_rows : (n w : ℕ) → 0 < w → n % w ≡ 0 → n ≡ n / w * w
 whole_rows n w l e = omega arith
 
-pub IsReach-stamp : (m : MapParts) (id : ℕ) (tiles : Bor (List ℕ)) (selection : Bor (set.FinSet cell_cmp)) (columns rows : Span) (b : ValueBlock) → IsTheLayer m id tiles.now → IsBlock b
+pub IsExtent-stamp : (m : MapParts) (id : ℕ) (tiles : Bor (List ℕ)) (selection : Bor (set.FinSet cell_cmp)) (columns rows : Span) (b : ValueBlock) → IsTheLayer m id tiles.now → IsBlock b
     → IsSpan b.x b.width m.width columns → IsSpan b.y (length b.values / b.width) m.height rows
-    → IsReach (stamp_over b) (record { tiles = tiles; width = m.width; columns = columns; rows = rows; selection = selection })
-IsReach-stamp m id tiles selection columns rows b layer h cs rs =
-    IsReach-spans m id tiles selection layer (stamp_over b) b.x b.y b.width (length b.values / b.width) columns rows
+    → IsExtent (stamp_over b) (record { tiles = tiles; width = m.width; columns = columns; rows = rows; selection = selection })
+IsExtent-stamp m id tiles selection columns rows b layer h cs rs =
+    IsExtent-spans m id tiles selection layer (stamp_over b) b.x b.y b.width (length b.values / b.width) columns rows
     (stamp_over-column b) (λ x y. stamp_over-row b x y (length b.values / b.width) (whole_rows (length b.values) b.width (omega (arith, h.wide)) h.whole)) cs rs
 
-pub IsReach-erase : (m : MapParts) (id : ℕ) (tiles : Bor (List ℕ)) (selection : Bor (set.FinSet cell_cmp)) (columns rows : Span) (a : Area) → IsTheLayer m id tiles.now
+pub IsExtent-erase : (m : MapParts) (id : ℕ) (tiles : Bor (List ℕ)) (selection : Bor (set.FinSet cell_cmp)) (columns rows : Span) (a : Area) → IsTheLayer m id tiles.now
     → IsSpan a.x a.width m.width columns → IsSpan a.y a.height m.height rows
-    → IsReach (erase_over a) (record { tiles = tiles; width = m.width; columns = columns; rows = rows; selection = selection })
-IsReach-erase m id tiles selection columns rows a layer cs rs =
-    IsReach-spans m id tiles selection layer (erase_over a) a.x a.y a.width a.height columns rows (erase_over-column a) (erase_over-row a) cs rs
+    → IsExtent (erase_over a) (record { tiles = tiles; width = m.width; columns = columns; rows = rows; selection = selection })
+IsExtent-erase m id tiles selection columns rows a layer cs rs =
+    IsExtent-spans m id tiles selection layer (erase_over a) a.x a.y a.width a.height columns rows (erase_over-column a) (erase_over-row a) cs rs
 
 -- ---- the change
--- the changes of all places are the difference of the map and the covered one
+-- the changes of all cells are the difference of the map and the covered one
 changes-difference_in : (m : MapParts) (id : ℕ) (tiles : List ℕ) (over : ℕ → ℕ → Option ℕ) → IsTheLayer m id tiles
     → difference m.width tiles (covered m.width over tiles) (length tiles) ≡ difference_in id m (covered_map id over m)
 changes-difference_in m id tiles over h =

@@ -24,16 +24,16 @@ covered_value-cond true value old = refl
 covered_value-cond false value old = refl
 
 module _ (g : Ground) (s : Spread) (value : ℕ) where
-  -- the value of a place after the fill
+  -- the value of a cell after the fill
   get_or-filled : (k : ℕ) → 0 < g.width → k < length g.tiles.now
       → get_or (covered g.width (taken_over g s value) g.tiles.now) k 0 ≡ cond (taken_at s k) value (get_or g.tiles.now k 0)
   get_or-filled k some l =
       let old = get_or g.tiles.now k 0 in
-      get_or-each_at (λ place old. covered_value (taken_over g s value (place % g.width) (place / g.width)) old) g.tiles.now k l
+      get_or-each_at (λ number old. covered_value (taken_over g s value (number % g.width) (number / g.width)) old) g.tiles.now k l
       ∙ ap (λ b. covered_value (cond b (Some value) None) old) (is_taken-at g s (k % g.width) (k / g.width) (mod_below k g.width some) ∙ ap (taken_at s) (div-add-mod' k g.width))
       ∙ covered_value-cond (taken_at s k) value old
 
-  -- places that are not taken may be left out
+  -- cells that are not taken may be left out
   pub changes-unmarked : (p n : ℕ) → 0 < g.width → p ≤ n → n ≤ length g.tiles.now → ((k : ℕ) → p ≤ k → k < n → taken_at s k ≡ false) → changes_below g s value n ≡ changes_below g s value p
   changes-unmarked p n some l within none =
       let ys = covered g.width (taken_over g s value) g.tiles.now in

@@ -13,7 +13,7 @@ use Rattle.edits.specs.Marks.{is_between}
 use Rattle.edits.specs.Flooding.{AreNear, IsGround, IsLed, cell_of, free_at, free_in, is_taken, start_of, taken_at}
 use Rattle.edits.proofs.Joined.{AreJoined-step}
 
--- ---- places
+-- ---- numbers
 pub is_between-true : (a b k : ℕ) → is_between a b k ≡ true → (a ≤ k) × (k < b)
 is_between-true a b k h = let p = and_parts _ _ h in (leb-true a k p.0, ltb-true k b p.1)
 
@@ -28,25 +28,25 @@ in_row w y first end q l m p r =
     let same = same_from_place y right q.1 q.0 w small l at in
     (same.0, omega (arith, same.1), omega (arith, same.1))
 
--- the column and the row of a place
-pub parts_of : (w p y x : ℕ) → p ≡ y * w + x → x < w → (p % w ≡ x) × (p / w ≡ y)
-parts_of w p y x e l = (ap (λ n. n % w) e ∙ mod-mul-add y w x l, ap (λ n. n / w) e ∙ div-mul-add y w x l)
+-- the column and the row of a number
+pub column_and_row : (w p y x : ℕ) → p ≡ y * w + x → x < w → (p % w ≡ x) × (p / w ≡ y)
+column_and_row w p y x e l = (ap (λ n. n % w) e ∙ mod-mul-add y w x l, ap (λ n. n / w) e ∙ div-mul-add y w x l)
 
-pub is_value-within : (vs : List ℕ) (place value : ℕ) → is_value (slice_get vs place) value ≡ true → place < length vs
-is_value-within vs place value h = elim (cases_lt place (length vs)) [
+pub is_value-within : (vs : List ℕ) (number value : ℕ) → is_value (slice_get vs number) value ≡ true → number < length vs
+is_value-within vs number value h = elim (cases_lt number (length vs)) [
   | inl l ↦ l
-  | inr l ↦ absurd (false≢true (ap (λ o. is_value o value) (sym (slice_get_past vs place l)) ∙ h))
+  | inr l ↦ absurd (false≢true (ap (λ o. is_value o value) (sym (slice_get_past vs number l)) ∙ h))
 ]
 
--- a row begins at a place, and does not before the next
+-- a row begins at a number, and does not before the next
 pub row_start : (w p y : ℕ) → 0 < w → p ≡ y * w → nat_eq (p % w) 0 ≡ true
-row_start w p y some e = let at : p ≡ y * w + 0 = omega arith in eq-eqb (p % w) 0 (parts_of w p y 0 at some).0
+row_start w p y some e = let at : p ≡ y * w + 0 = omega arith in eq-eqb (p % w) 0 (column_and_row w p y 0 at some).0
 
 pub no_row_start : (w p y : ℕ) → y * w < p → p < y * w + w → nat_eq (p % w) 0 ≡ false
 no_row_start w p y from to =
     let right = p - y * w in
     let at : p ≡ y * w + right = omega arith in
-    let column = (parts_of w p y right at (omega arith)).0 in
+    let column = (column_and_row w p y right at (omega arith)).0 in
     let differ : nat_eq (p % w) 0 ≡ false = grind (arith, nat_tests) in
     differ
 
@@ -92,26 +92,26 @@ module _ (g : Ground) where
   pub cell_within : IsGround g → (x y : ℕ) → x < g.width → y < g.height → y * g.width + x < length g.tiles.now
   cell_within ground x y l m = omega (arith, ground.size, mul-add-lt y g.width x g.height m l, mul_comm g.width g.height)
 
-  -- ---- neighbours by their places
+  -- ---- neighbours by their numbers
   down_neighbours : 0 < g.width → (p r : ℕ) → r ≡ p + g.width → (p % g.width ≡ r % g.width) × (suc (p / g.width) ≡ r / g.width)
   down_neighbours some p r e =
       let own = div-add-mod' p g.width in
       let at : r ≡ suc (p / g.width) * g.width + p % g.width = omega (arith, own) in
-      let parts = parts_of g.width r (suc (p / g.width)) (p % g.width) at (mod_below p g.width some) in
-      (sym parts.0, sym parts.1)
+      let both = column_and_row g.width r (suc (p / g.width)) (p % g.width) at (mod_below p g.width some) in
+      (sym both.0, sym both.1)
 
   right_neighbours : 0 < g.width → (p r : ℕ) → r ≡ suc p → r % g.width ≢ 0 → (p / g.width ≡ r / g.width) × (suc (p % g.width) ≡ r % g.width)
   right_neighbours some p r e inner = elim (cases_lt (suc (p % g.width)) g.width) [
     | inl l ↦
         let own = div-add-mod' p g.width in
         let at : r ≡ p / g.width * g.width + suc (p % g.width) = omega (arith, own) in
-        let parts = parts_of g.width r (p / g.width) (suc (p % g.width)) at l in
-        (sym parts.1, sym parts.0)
+        let both = column_and_row g.width r (p / g.width) (suc (p % g.width)) at l in
+        (sym both.1, sym both.0)
     | inr l ↦
         let own = div-add-mod' p g.width in
         let last : suc (p % g.width) ≡ g.width = omega (arith, mod_below p g.width some) in
         let at : r ≡ suc (p / g.width) * g.width + 0 = omega (arith, own) in
-        absurd (inner (parts_of g.width r (suc (p / g.width)) 0 at some).0)
+        absurd (inner (column_and_row g.width r (suc (p / g.width)) 0 at some).0)
   ]
 
   pub near-neighbours : 0 < g.width → (p r : ℕ) → AreNear g p r → AreNeighbours (cell_of g p) (cell_of g r)

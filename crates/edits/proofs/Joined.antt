@@ -42,7 +42,7 @@ any_neighbour-of test r q (inr n) e =
     or_right (list_any (λ x. test (x, q.1)) (beside q.0)) (list_any (λ y. test (q.0, y)) (beside q.1))
     (beside_any (λ y. test (q.0, y)) q.1 r.1 n.1 (ap (λ x. test (x, r.1)) (sym n.0) ∙ e))
 
--- ---- how many places a test holds of
+-- ---- of how many numbers a test holds
 pub count-le : (test test' : ℕ → Bool) (n : ℕ) → ((k : ℕ) → k < n → test k ≡ true → test' k ≡ true) → count test n ≤ count test' n
 count-le test test' zero h = omega arith
 count-le test test' (suc n) h = by_test (test n) refl (count-le test test' n (λ k l e. h k (omega arith) e))
@@ -71,7 +71,7 @@ pub count-all : (test : ℕ → Bool) (n : ℕ) → count test n ≤ n
 count-all test zero = omega arith
 count-all test (suc n) = elim (test n) as (λ b. cond b 1 0 + count test n ≤ suc n) [ true ↦ omega (arith, count-all test n) | false ↦ omega (arith, count-all test n) ]
 
--- a test that one place below the end tells from another, or none does
+-- a test that one number below the end tells from another, or none does
 difference_of : (test test' : ℕ → Bool) (n : ℕ) → ((k : ℕ) → k < n → test' k ≡ true → test k ≡ true) ⊎ ((k : ℕ) × (k < n) × (test k ≡ false) × (test' k ≡ true))
 difference_of test test' zero = inl (λ k l e. absurd (omega arith))
 difference_of test test' (suc n) = elim (difference_of test test' n) [
@@ -163,12 +163,12 @@ module _ (free : ℕ × ℕ → Bool) (p : ℕ × ℕ) where
   IsWhole n = (q : ℕ × ℕ) → is_reached free p (suc n) q ≡ true → is_reached free p n q ≡ true
 
   module _ (w h : ℕ) (bounded : (q : ℕ × ℕ) → free q ≡ true → (q.0 < w) × (q.1 < h)) where
-    at_place : ℕ → ℕ → Bool
-    at_place n k = is_reached free p n (k % w, k / w)
+    at_number : ℕ → ℕ → Bool
+    at_number n k = is_reached free p n (k % w, k / w)
 
-    IsWhole-places : (n : ℕ) → ((k : ℕ) → k < h * w → at_place (suc n) k ≡ true → at_place n k ≡ true) → IsWhole n
-    unfolding IsWhole at_place
-    IsWhole-places n same q r =
+    IsWhole-numbers : (n : ℕ) → ((k : ℕ) → k < h * w → at_number (suc n) k ≡ true → at_number n k ≡ true) → IsWhole n
+    unfolding IsWhole at_number
+    IsWhole-numbers n same q r =
         let b = bounded q (reached-free (suc n) q r) in
         let inside : q.1 * w + q.0 < h * w = omega (arith, mul-add-lt q.1 w q.0 h b.1 b.0, mul_comm w h) in
         let column = mod-mul-add q.1 w q.0 b.0 in
@@ -177,22 +177,22 @@ module _ (free : ℕ × ℕ → Bool) (p : ℕ × ℕ) where
         ∙ same (q.1 * w + q.0) inside (ap (λ x. is_reached free p (suc n) (x, (q.1 * w + q.0) / w)) column ∙ ap (λ y. is_reached free p (suc n) (q.0, y)) row ∙ r)
 
     -- some number of steps below n is enough, or n cells are reached
-    whole_or_more : (n : ℕ) → ((m : ℕ) × (m < n) × IsWhole m) ⊎ (n ≤ count (at_place n) (h * w))
-    unfolding at_place
+    whole_or_more : (n : ℕ) → ((m : ℕ) × (m < n) × IsWhole m) ⊎ (n ≤ count (at_number n) (h * w))
+    unfolding at_number
     whole_or_more zero = inr (omega arith)
     whole_or_more (suc n) = elim (whole_or_more n) [
       | inl s ↦ inl (s.0, omega (arith, s.1), s.2)
-      | inr c ↦ elim (difference_of (at_place n) (at_place (suc n)) (h * w)) [
-        | inl same ↦ inl (n, omega arith, IsWhole-places n same)
-        | inr d ↦ inr (omega (arith, c, count-lt (at_place n) (at_place (suc n)) (h * w) d.0 kept d.1 d.2 d.3))
+      | inr c ↦ elim (difference_of (at_number n) (at_number (suc n)) (h * w)) [
+        | inl same ↦ inl (n, omega arith, IsWhole-numbers n same)
+        | inr d ↦ inr (omega (arith, c, count-lt (at_number n) (at_number (suc n)) (h * w) d.0 remains d.1 d.2 d.3))
       ]
     ]
       where
-        kept : (k : ℕ) → k < h * w → at_place n k ≡ true → at_place (suc n) k ≡ true
-        kept k l e = or_left (is_reached free p n (k % w, k / w)) _ e
+        remains : (k : ℕ) → k < h * w → at_number n k ≡ true → at_number (suc n) k ≡ true
+        remains k l e = or_left (is_reached free p n (k % w, k / w)) _ e
 
     whole : (m : ℕ) × (m < suc (h * w)) × IsWhole m
-    whole = elim (whole_or_more (suc (h * w))) [ inl s ↦ s | inr c ↦ absurd (omega (arith, c, count-all (at_place (suc (h * w))) (h * w))) ]
+    whole = elim (whole_or_more (suc (h * w))) [ inl s ↦ s | inr c ↦ absurd (omega (arith, c, count-all (at_number (suc (h * w))) (h * w))) ]
 
     joined-reached : (q : ℕ × ℕ) → AreJoined free p q → is_reached free p (h * w) q ≡ true
     unfolding IsWhole

@@ -22,7 +22,7 @@ free-within w h tiles selection value size q free = by_tests (nat_lt q.0 w) (nat
     by_tests : (a b : Bool) → nat_lt q.0 w ≡ a → nat_lt (q.1 * w + q.0) (length tiles) ≡ b → (a && (is_value (slice_get tiles (q.1 * w + q.0)) value && lets_change selection q)) ≡ true → (q.0 < w) × (q.1 < h)
     by_tests true true s t e =
         let column : q.0 < w = grind (arith, nat_tests) in
-        let place : q.1 * w + q.0 < length tiles = grind (arith, nat_tests) in
+        let number : q.1 * w + q.0 < length tiles = grind (arith, nat_tests) in
         (column, row_of (omega (arith, size)))
     by_tests true false s t e =
         let past : length tiles ≤ q.1 * w + q.0 = grind (arith, nat_tests) in

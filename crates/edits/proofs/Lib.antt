@@ -9,12 +9,12 @@ pub mod Laws
 pub mod Marking
 pub mod Merged
 pub mod Overs
-pub mod Reaches
+pub mod Extents
 pub mod Reaching
 pub mod Resized
 pub mod ResizedTrees
 pub mod RowOrder
-pub mod SelectedPlaces
-pub mod RowParts
+pub mod SelectedNumbers
+pub mod RowStretches
 pub mod Spreading
 pub mod Turns

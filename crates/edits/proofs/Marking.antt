@@ -39,22 +39,22 @@ bit_at-stretch first last i o l m =
     ∙ bit_at_and (2 ^ 64 - 2 ^ first) (2 ^ (last + 1) - 1) i)
     (high_bits first i m) (low_bits (last + 1) i)
 
--- ---- all places, or none
-pub has_bit-zeros : (n place : ℕ) → has_bit (replicate n 0) place ≡ false
+-- ---- all numbers, or none
+pub has_bit-zeros : (n number : ℕ) → has_bit (replicate n 0) number ≡ false
 unfolding has_bit
-has_bit-zeros n place =
-    let none : get_or {A = ℕ} (replicate n 0) (place / 64) 0 ≡ 0 = by_size (cases_lt (place / 64) n) in
-    ap (λ w. nat_eq (bit_at w (place % 64)) 1) none ∙ ap (λ b. nat_eq b 1) (bit_at-zero (place % 64))
+has_bit-zeros n number =
+    let none : get_or {A = ℕ} (replicate n 0) (number / 64) 0 ≡ 0 = by_size (cases_lt (number / 64) n) in
+    ap (λ w. nat_eq (bit_at w (number % 64)) 1) none ∙ ap (λ b. nat_eq b 1) (bit_at-zero (number % 64))
   where
-    by_size : (place / 64 < n) ⊎ (n ≤ place / 64) → get_or {A = ℕ} (replicate n 0) (place / 64) 0 ≡ 0
-    by_size (inl l) = get_or-replicate n (place / 64) 0 0 l
-    by_size (inr l) = get_or_past (replicate n 0) (place / 64) 0 (omega (arith, length-replicate {A = ℕ} n 0))
+    by_size : (number / 64 < n) ⊎ (n ≤ number / 64) → get_or {A = ℕ} (replicate n 0) (number / 64) 0 ≡ 0
+    by_size (inl l) = get_or-replicate n (number / 64) 0 0 l
+    by_size (inr l) = get_or_past (replicate n 0) (number / 64) 0 (omega (arith, length-replicate {A = ℕ} n 0))
 
-pub has_bit-ones : (n place : ℕ) → place < 64 * n → has_bit (replicate n (2 ^ 64 - 1)) place ≡ true
+pub has_bit-ones : (n number : ℕ) → number < 64 * n → has_bit (replicate n (2 ^ 64 - 1)) number ≡ true
 unfolding has_bit
-has_bit-ones n place l =
-    ap (λ w. nat_eq (bit_at w (place % 64)) 1) (get_or-replicate n (place / 64) (2 ^ 64 - 1) 0 (omega arith))
-    ∙ ap (λ b. nat_eq b 1) (bit_at_ones 64 (place % 64) (omega arith))
+has_bit-ones n number l =
+    ap (λ w. nat_eq (bit_at w (number % 64)) 1) (get_or-replicate n (number / 64) (2 ^ 64 - 1) 0 (omega arith))
+    ∙ ap (λ b. nat_eq b 1) (bit_at_ones 64 (number % 64) (omega arith))
 
 -- ---- whole words
 pub has_bit-at : (words : List ℕ) (word i : ℕ) → i < 64 → nat_eq (bit_at (get_or words word 0) i) 1 ≡ has_bit words (64 * word + i)
@@ -68,34 +68,34 @@ has_bit-at words word i l =
 max_bit : (a b : ℕ) (p q : Bool) → a < 2 → b < 2 → nat_eq a 1 ≡ p → nat_eq b 1 ≡ q → nat_eq (max a b) 1 ≡ (p || q)
 max_bit a b p q la lb e f = grind (arith, nat_tests)
 
-pub has_bit-set_other : (words : List ℕ) (at word place : ℕ) → at ≢ place / 64 → has_bit (set words at word) place ≡ has_bit words place
+pub has_bit-set_other : (words : List ℕ) (at word number : ℕ) → at ≢ number / 64 → has_bit (set words at word) number ≡ has_bit words number
 unfolding has_bit
-has_bit-set_other words at word place apart =
-    ap (λ w. nat_eq (bit_at w (place % 64)) 1) (get_or-set_other words at (place / 64) word 0 (λ e. apart (sym e)))
+has_bit-set_other words at word number apart =
+    ap (λ w. nat_eq (bit_at w (number % 64)) 1) (get_or-set_other words at (number / 64) word 0 (λ e. apart (sym e)))
 
-pub has_bit-set_word : (words : List ℕ) (at word place : ℕ) → at < length words
-    → has_bit (set words at word) place ≡ cond (nat_eq (place / 64) at) (nat_eq (bit_at word (place % 64)) 1) (has_bit words place)
+pub has_bit-set_word : (words : List ℕ) (at word number : ℕ) → at < length words
+    → has_bit (set words at word) number ≡ cond (nat_eq (number / 64) at) (nat_eq (bit_at word (number % 64)) 1) (has_bit words number)
 unfolding has_bit
-has_bit-set_word words at word place l = elim (cases_eq (place / 64) at) [
+has_bit-set_word words at word number l = elim (cases_eq (number / 64) at) [
   | inl here ↦
-      ap (λ k. nat_eq (bit_at (get_or (set words at word) k 0) (place % 64)) 1) here ∙ ap (λ w. nat_eq (bit_at w (place % 64)) 1) (get_or-set_same words at word 0 l)
-      ∙ sym (ap (λ b. cond b (nat_eq (bit_at word (place % 64)) 1) (nat_eq (bit_at (get_or words (place / 64) 0) (place % 64)) 1)) (eq-eqb (place / 64) at here))
+      ap (λ k. nat_eq (bit_at (get_or (set words at word) k 0) (number % 64)) 1) here ∙ ap (λ w. nat_eq (bit_at w (number % 64)) 1) (get_or-set_same words at word 0 l)
+      ∙ sym (ap (λ b. cond b (nat_eq (bit_at word (number % 64)) 1) (nat_eq (bit_at (get_or words (number / 64) 0) (number % 64)) 1)) (eq-eqb (number / 64) at here))
   | inr other ↦
-      let differ : nat_eq (place / 64) at ≡ false = grind (arith, nat_tests) in
-      has_bit-set_other words at word place (λ e. other (sym e))
-      ∙ sym (ap (λ b. cond b (nat_eq (bit_at word (place % 64)) 1) (nat_eq (bit_at (get_or words (place / 64) 0) (place % 64)) 1)) differ)
+      let differ : nat_eq (number / 64) at ≡ false = grind (arith, nat_tests) in
+      has_bit-set_other words at word number (λ e. other (sym e))
+      ∙ sym (ap (λ b. cond b (nat_eq (bit_at word (number % 64)) 1) (nat_eq (bit_at (get_or words (number / 64) 0) (number % 64)) 1)) differ)
 ]
 
-pub has_bit-set_or : (words : List ℕ) (at bits place : ℕ) → at < length words → at ≡ place / 64
-    → has_bit (set words at (bit_or (get_or words at 0) bits)) place ≡ (has_bit words place || nat_eq (bit_at bits (place % 64)) 1)
+pub has_bit-set_or : (words : List ℕ) (at bits number : ℕ) → at < length words → at ≡ number / 64
+    → has_bit (set words at (bit_or (get_or words at 0) bits)) number ≡ (has_bit words number || nat_eq (bit_at bits (number % 64)) 1)
 unfolding has_bit
-has_bit-set_or words at bits place l e =
+has_bit-set_or words at bits number l e =
     let word = get_or words at 0 in
-    let same : get_or (set words at (bit_or word bits)) (place / 64) 0 ≡ bit_or word bits =
+    let same : get_or (set words at (bit_or word bits)) (number / 64) 0 ≡ bit_or word bits =
     ap (λ k. get_or (set words at (bit_or word bits)) k 0) (sym e) ∙ get_or-set_same words at (bit_or word bits) 0 l in
-    ap (λ w. nat_eq (bit_at w (place % 64)) 1) same ∙ ap (λ b. nat_eq b 1) (bit_at_or word bits (place % 64))
-    ∙ max_bit (bit_at word (place % 64)) (bit_at bits (place % 64)) (nat_eq (bit_at (get_or words (place / 64) 0) (place % 64)) 1) (nat_eq (bit_at bits (place % 64)) 1)
-    (bit_at-lt word (place % 64)) (bit_at-lt bits (place % 64)) (ap (λ k. nat_eq (bit_at (get_or words k 0) (place % 64)) 1) e) refl
+    ap (λ w. nat_eq (bit_at w (number % 64)) 1) same ∙ ap (λ b. nat_eq b 1) (bit_at_or word bits (number % 64))
+    ∙ max_bit (bit_at word (number % 64)) (bit_at bits (number % 64)) (nat_eq (bit_at (get_or words (number / 64) 0) (number % 64)) 1) (nat_eq (bit_at bits (number % 64)) 1)
+    (bit_at-lt word (number % 64)) (bit_at-lt bits (number % 64)) (ap (λ k. nat_eq (bit_at (get_or words k 0) (number % 64)) 1) e) refl
 
 between_same : (a b i c d k : ℕ) → (a ≤ i → c ≤ k) → (c ≤ k → a ≤ i) → (i < b → k < d) → (k < d → i < b) → is_between a b i ≡ is_between c d k
 between_same a b i c d k p q r s = grind (arith, nat_tests)
@@ -122,32 +122,32 @@ between-word first end at low high k some from to lows highs here = between_same
     stop' (inl p) l = omega arith
     stop' (inr p) l = omega arith
 
--- one place is marked
-pub has_bit-set_one : (words : List ℕ) (place k : ℕ) → place / 64 < length words
-    → has_bit (set words (place / 64) (bit_or (get_or words (place / 64) 0) (1 * 2 ^ (place % 64) % 2 ^ 64))) k ≡ (has_bit words k || is_between place (place + 1) k)
-has_bit-set_one words place k l = elim (cases_eq (place / 64) (k / 64)) [
-  | inl here ↦ has_bit-set_or words (place / 64) (1 * 2 ^ (place % 64) % 2 ^ 64) k l here ∙ ap (λ b. has_bit words k || b) (one_bit place k here)
-  | inr other ↦ has_bit-set_other words (place / 64) _ k other ∙ no_bit (has_bit words k) (is_between place (place + 1) k) (apart place k other)
+-- one number is marked
+pub has_bit-set_one : (words : List ℕ) (number k : ℕ) → number / 64 < length words
+    → has_bit (set words (number / 64) (bit_or (get_or words (number / 64) 0) (1 * 2 ^ (number % 64) % 2 ^ 64))) k ≡ (has_bit words k || is_between number (number + 1) k)
+has_bit-set_one words number k l = elim (cases_eq (number / 64) (k / 64)) [
+  | inl here ↦ has_bit-set_or words (number / 64) (1 * 2 ^ (number % 64) % 2 ^ 64) k l here ∙ ap (λ b. has_bit words k || b) (one_bit number k here)
+  | inr other ↦ has_bit-set_other words (number / 64) _ k other ∙ no_bit (has_bit words k) (is_between number (number + 1) k) (apart number k other)
 ]
   where
     no_bit : (a b : Bool) → b ≡ false → a ≡ (a || b)
     no_bit true b e = refl
     no_bit false b e = sym e
 
-    apart : (place k : ℕ) → place / 64 ≢ k / 64 → is_between place (place + 1) k ≡ false
-    apart place k other = let differ : place ≢ k = λ e. other (ap (λ n. n / 64) e) in grind (arith, nat_tests)
+    apart : (number k : ℕ) → number / 64 ≢ k / 64 → is_between number (number + 1) k ≡ false
+    apart number k other = let differ : number ≢ k = λ e. other (ap (λ n. n / 64) e) in grind (arith, nat_tests)
 
-    bit_value : (b i j place k : ℕ) → i ≡ place % 64 → j ≡ k % 64 → place / 64 ≡ k / 64 → ((i ≡ j) × (b ≡ 1)) ⊎ ((i ≢ j) × (b ≡ 0)) → nat_eq b 1 ≡ is_between place (place + 1) k
-    bit_value b i j place k e f g (inl h) = let same : place ≡ k = omega arith in grind (arith, nat_tests)
-    bit_value b i j place k e f g (inr h) = let differ : place ≢ k = λ p. h.0 (e ∙ ap (λ n. n % 64) p ∙ sym f) in grind (arith, nat_tests)
+    bit_value : (b i j number k : ℕ) → i ≡ number % 64 → j ≡ k % 64 → number / 64 ≡ k / 64 → ((i ≡ j) × (b ≡ 1)) ⊎ ((i ≢ j) × (b ≡ 0)) → nat_eq b 1 ≡ is_between number (number + 1) k
+    bit_value b i j number k e f g (inl h) = let same : number ≡ k = omega arith in grind (arith, nat_tests)
+    bit_value b i j number k e f g (inr h) = let differ : number ≢ k = λ p. h.0 (e ∙ ap (λ n. n % 64) p ∙ sym f) in grind (arith, nat_tests)
 
-    one_bit : (place k : ℕ) → place / 64 ≡ k / 64 → nat_eq (bit_at (1 * 2 ^ (place % 64) % 2 ^ 64) (k % 64)) 1 ≡ is_between place (place + 1) k
-    one_bit place k here =
-        let within : place % 64 < 64 = omega arith in
-        ap (λ n. nat_eq (bit_at n (k % 64)) 1) (one_shl (place % 64) 64 within)
-        ∙ bit_value (bit_at (2 ^ (place % 64)) (k % 64)) (place % 64) (k % 64) place k refl refl here (elim (cases_eq (place % 64) (k % 64)) [
-          | inl e ↦ inl (e, ap (bit_at (2 ^ (place % 64))) (sym e) ∙ bit_at-pow_same (place % 64))
-          | inr e ↦ inr (e, bit_at-pow_other (place % 64) (k % 64) (λ f. e (sym f)))
+    one_bit : (number k : ℕ) → number / 64 ≡ k / 64 → nat_eq (bit_at (1 * 2 ^ (number % 64) % 2 ^ 64) (k % 64)) 1 ≡ is_between number (number + 1) k
+    one_bit number k here =
+        let within : number % 64 < 64 = omega arith in
+        ap (λ n. nat_eq (bit_at n (k % 64)) 1) (one_shl (number % 64) 64 within)
+        ∙ bit_value (bit_at (2 ^ (number % 64)) (k % 64)) (number % 64) (k % 64) number k refl refl here (elim (cases_eq (number % 64) (k % 64)) [
+          | inl e ↦ inl (e, ap (bit_at (2 ^ (number % 64))) (sym e) ∙ bit_at-pow_same (number % 64))
+          | inr e ↦ inr (e, bit_at-pow_other (number % 64) (k % 64) (λ f. e (sym f)))
         ])
 
 -- ---- one bit fewer
@@ -234,8 +234,8 @@ module _ (bits inner mask i : ℕ) (l : i < 64) where
       ∙ ap (λ n. max n (bit_at (bit_and bits inner / 2 ^ 1) i)) (bit_at_and (bits * 2 ^ 1 % 2 ^ 64) inner i)
       ∙ ap (max (min (bit_at (bits * 2 ^ 1 % 2 ^ 64) i) (bit_at inner i))) (shr_bit (bit_and bits inner) 1 i ∙ bit_at_and bits inner (1 + i))))
 
-  pub stepped-kept : bit_at bits i ≡ 1 → bit_at (stepped bits inner mask) i ≡ 1
-  stepped-kept e = omega (arith, stepped-at, bit_at-lt (stepped bits inner mask) i)
+  pub stepped-keeps : bit_at bits i ≡ 1 → bit_at (stepped bits inner mask) i ≡ 1
+  stepped-keeps e = omega (arith, stepped-at, bit_at-lt (stepped bits inner mask) i)
 
   pub stepped-right : (k : ℕ) → i ≡ suc k → bit_at bits k ≡ 1 → bit_at inner i ≡ 1 → bit_at mask i ≡ 1 → bit_at (stepped bits inner mask) i ≡ 1
   stepped-right k at e f g =

@@ -13,7 +13,7 @@ use Rattle.map_model.specs.CellEdits.{AreInRowOrder, cell}
 use Rattle.map_model.specs.Lists.{Each}
 use Rattle.map_model.specs.Lookups.{tiles_in}
 use Rattle.map_model.specs.Difference.{edit_at, change_at, difference, difference_in}
-use Rattle.edits.specs.Merging.{joined_cell, joined, IsPlaceOf}
+use Rattle.edits.specs.Merging.{joined_cell, joined, IsNumberOf}
 use Rattle.edits.proofs.Differences.{change_at-same}
 use Rattle.edits.proofs.RowOrder.{ComesBefore, Each-ComesBefore, above}
 
@@ -91,7 +91,7 @@ pub joined-none : (es : List CellEdit) → joined es [] ≡ es
 joined-none [] = refl
 joined-none (e ∷ es) = ap (λ fs. e ∷ fs) (joined-none es)
 
--- ---- places in a list in row order
+-- ---- numbers in a list in row order
 pub AreInRowOrder-drop : (k : ℕ) (es : List CellEdit) → AreInRowOrder es → AreInRowOrder (drop k es)
 AreInRowOrder-drop zero es h = h
 AreInRowOrder-drop (suc k) [] h = tt
@@ -108,15 +108,15 @@ module _ (d : CellEdit) where
   in_order-get (e ∷ (f ∷ es)) h (suc i) (suc j) l m = in_order-get (f ∷ es) h.1 i j (omega arith) (omega arith)
 
 -- where the last of some cells comes before the newer one, all of them do
-pub front-ComesBefore : (es : List CellEdit) (n : CellEdit) (end : ℕ) → AreInRowOrder es → end ≤ length es → (0 < end → ComesBefore (get_or es (end - 1) n) n)
+pub prefix-ComesBefore : (es : List CellEdit) (n : CellEdit) (end : ℕ) → AreInRowOrder es → end ≤ length es → (0 < end → ComesBefore (get_or es (end - 1) n) n)
     → (k : ℕ) → k < end → ComesBefore (get_or es k n) n
-front-ComesBefore es n end h l last k below = elim (cases_lt (suc k) end) [
+prefix-ComesBefore es n end h l last k below = elim (cases_lt (suc k) end) [
   | inl more ↦ cell_cmp_total.trans (cell (get_or es k n)) (cell (get_or es (end - 1) n)) (cell n)
       (in_order-get n es h k (end - 1) (omega arith) (omega arith)) (last (omega arith))
   | inr all ↦ let same : end - 1 ≡ k = omega arith in rw same at last (omega arith)
 ]
 
--- ---- a newer cell, and its place in the older ones
+-- ---- a newer cell, and its number in the older ones
 is_eq-Equal : (o : Ordering) → is_eq o ≡ true → o ≡ Equal
 is_eq-Equal Less e = cc
 is_eq-Equal Equal e = refl
@@ -128,29 +128,29 @@ is_eq-Greater Equal e h = cc
 is_eq-Greater Greater e h = refl
 
 -- no first older cell comes before the newer one
-abbrev pub IsReached : List CellEdit → CellEdit → Type 0
-IsReached es n = 0 < length es → cell_cmp (cell (get_or es 0 n)) (cell n) ≡ Less → ⊥
+abbrev pub HasNoneBefore : List CellEdit → CellEdit → Type 0
+HasNoneBefore es n = 0 < length es → cell_cmp (cell (get_or es 0 n)) (cell n) ≡ Less → ⊥
 
-pub first-IsReached : (es : List CellEdit) (n e : CellEdit) → e ≡ get_or es 0 e → is_lt (cell_cmp (cell e) (cell n)) ≡ false → IsReached es n
-first-IsReached [] n e is h = λ l. absurd (omega arith)
-first-IsReached (f ∷ es) n e is h = λ l less. let test : is_lt (cell_cmp (cell e) (cell n)) ≡ true = ap (λ g. is_lt (cell_cmp (cell g) (cell n))) is ∙ ap is_lt less in cc
+pub first-HasNoneBefore : (es : List CellEdit) (n e : CellEdit) → e ≡ get_or es 0 e → is_lt (cell_cmp (cell e) (cell n)) ≡ false → HasNoneBefore es n
+first-HasNoneBefore [] n e is h = λ l. absurd (omega arith)
+first-HasNoneBefore (f ∷ es) n e is h = λ l less. let test : is_lt (cell_cmp (cell e) (cell n)) ≡ true = ap (λ g. is_lt (cell_cmp (cell g) (cell n))) is ∙ ap is_lt less in cc
 
 module _ (n : CellEdit) where
-  IsPlaceOf-rest : (e : CellEdit) (es : List CellEdit) (place : ℕ) → IsPlaceOf (e ∷ es) n (suc place) → IsPlaceOf es n place
-  IsPlaceOf-rest e es place h = record { within = omega (arith, h.within); front = λ k l. h.front (suc k) (omega arith); back = λ l. h.back (omega arith) }
+  IsNumberOf-rest : (e : CellEdit) (es : List CellEdit) (number : ℕ) → IsNumberOf (e ∷ es) n (suc number) → IsNumberOf es n number
+  IsNumberOf-rest e es number h = record { within = omega (arith, h.within); prefix = λ k l. h.prefix (suc k) (omega arith); back = λ l. h.back (omega arith) }
 
-  pub drop-IsReached : (place : ℕ) (es : List CellEdit) → IsPlaceOf es n place → IsReached (drop place es) n
-  drop-IsReached zero es h = h.back
-  drop-IsReached (suc place) [] h = absurd (omega (arith, h.within))
-  drop-IsReached (suc place) (e ∷ es) h = drop-IsReached place es (IsPlaceOf-rest e es place h)
+  pub drop-HasNoneBefore : (number : ℕ) (es : List CellEdit) → IsNumberOf es n number → HasNoneBefore (drop number es) n
+  drop-HasNoneBefore zero es h = h.back
+  drop-HasNoneBefore (suc number) [] h = absurd (omega (arith, h.within))
+  drop-HasNoneBefore (suc number) (e ∷ es) h = drop-HasNoneBefore number es (IsNumberOf-rest e es number h)
 
   module _ (ns : List CellEdit) where
-    -- the cells up to its place come first
-    pub joined-front : (place : ℕ) (es : List CellEdit) → IsPlaceOf es n place → joined es (n ∷ ns) ≡ take place es ++ joined (drop place es) (n ∷ ns)
-    joined-front zero es h = refl
-    joined-front (suc place) [] h = absurd (omega (arith, h.within))
-    joined-front (suc place) (e ∷ es) h =
-        joined-less e es n ns (h.front 0 (omega arith)) ∙ ap (λ fs. e ∷ fs) (joined-front place es (IsPlaceOf-rest e es place h))
+    -- the cells up to its number come first
+    pub joined-prefix : (number : ℕ) (es : List CellEdit) → IsNumberOf es n number → joined es (n ∷ ns) ≡ take number es ++ joined (drop number es) (n ∷ ns)
+    joined-prefix zero es h = refl
+    joined-prefix (suc number) [] h = absurd (omega (arith, h.within))
+    joined-prefix (suc number) (e ∷ es) h =
+        joined-less e es n ns (h.prefix 0 (omega arith)) ∙ ap (λ fs. e ∷ fs) (joined-prefix number es (IsNumberOf-rest e es number h))
 
     -- the older change has the cell
     pub joined-met : (es : List CellEdit) (e f : CellEdit) → 0 < length es → e ≡ get_or es 0 e → f ≡ get_or es 0 f → is_eq (cell_cmp (cell f) (cell n)) ≡ true
@@ -160,7 +160,7 @@ module _ (n : CellEdit) where
         joined-equal g es n ns (ap (λ m. cell_cmp (cell m) (cell n)) (sym tested) ∙ is_eq-Equal (cell_cmp (cell f) (cell n)) h) ∙ ap (λ m. joined_cell m n ++ joined es ns) (sym read)
 
     -- it has not
-    pub joined-unmet : (es : List CellEdit) → IsReached es n → (0 < length es → (f : CellEdit) × (f ≡ get_or es 0 f) × (is_eq (cell_cmp (cell f) (cell n)) ≡ false))
+    pub joined-unmet : (es : List CellEdit) → HasNoneBefore es n → (0 < length es → (f : CellEdit) × (f ≡ get_or es 0 f) × (is_eq (cell_cmp (cell f) (cell n)) ≡ false))
         → joined es (n ∷ ns) ≡ n ∷ joined es ns
     joined-unmet [] h other = refl
     joined-unmet (g ∷ es) h other =
@@ -171,24 +171,24 @@ module _ (n : CellEdit) where
 pub done_more : (a t rest x whole one : List CellEdit) → one ≡ a ++ t → a ++ x ≡ whole → x ≡ t ++ rest → one ++ rest ≡ whole
 done_more a t rest x whole one e f g = ap (λ z. z ++ rest) e ∙ append_assoc a t rest ∙ ap (λ z. a ++ z) (sym g) ∙ f
 
--- ---- one place
-joined-change_at : (width place a b c : ℕ) → joined (change_at width place a b) (change_at width place b c) ≡ change_at width place a c
-joined-change_at width place a b c = by_tests (nat_eq a b) (nat_eq b c) refl refl
+-- ---- one number
+joined-change_at : (width number a b c : ℕ) → joined (change_at width number a b) (change_at width number b c) ≡ change_at width number a c
+joined-change_at width number a b c = by_tests (nat_eq a b) (nat_eq b c) refl refl
   where
     here : ℕ → ℕ → CellEdit
-    here v w = edit_at width place v w
+    here v w = edit_at width number v w
 
-    kept : (v w : ℕ) → nat_eq v w ≡ false → edit_at width place v w ∷ [] ≡ change_at width place v w
-    kept v w e = rw e refl
+    differs : (v w : ℕ) → nat_eq v w ≡ false → edit_at width number v w ∷ [] ≡ change_at width number v w
+    differs v w e = rw e refl
 
     by_tests : (s t : Bool) → nat_eq a b ≡ s → nat_eq b c ≡ t
-        → joined (cond s [] (edit_at width place a b ∷ [])) (cond t [] (edit_at width place b c ∷ [])) ≡ change_at width place a c
-    by_tests true true e f = sym (change_at-same width place a c (grind (arith, nat_tests)))
-    by_tests true false e f = let same : b ≡ a = grind (arith, nat_tests) in kept b c f ∙ ap (λ v. change_at width place v c) same
-    by_tests false true e f = let same : b ≡ c = grind (arith, nat_tests) in kept a b e ∙ ap (λ v. change_at width place a v) same
+        → joined (cond s [] (edit_at width number a b ∷ [])) (cond t [] (edit_at width number b c ∷ [])) ≡ change_at width number a c
+    by_tests true true e f = sym (change_at-same width number a c (grind (arith, nat_tests)))
+    by_tests true false e f = let same : b ≡ a = grind (arith, nat_tests) in differs b c f ∙ ap (λ v. change_at width number v c) same
+    by_tests false true e f = let same : b ≡ c = grind (arith, nat_tests) in differs a b e ∙ ap (λ v. change_at width number a v) same
     by_tests false false e f =
-        joined-equal (edit_at width place a b) [] (edit_at width place b c) [] (tied_itself cell_cmp_total (cell (edit_at width place a b)))
-        ∙ append-nil (change_at width place a c)
+        joined-equal (edit_at width number a b) [] (edit_at width number b c) [] (tied_itself cell_cmp_total (cell (edit_at width number a b)))
+        ∙ append-nil (change_at width number a c)
 
 -- ---- differences
 AllBefore-change_at : (width : ℕ) (xs ys : List ℕ) (k a b : ℕ) → 0 < width → AllBefore (difference width xs ys k) (change_at width k a b)

@@ -1,4 +1,4 @@
--- What lies over cells that an edit does not reach.
+-- What lies over cells outside the extent of an edit.
 use Rattle.std.proofs.Common.{◌≡◌, ℕ, ◌+◌, ◌*◌, ◌<◌, ◌≤◌, ◌&&◌, length, List, Bool, true, false, cond, nat_lt, get_or, Bor, is_some, Option, Some, None, IfSome, option_and_then, refl, sym, ap, ◌∙◌, arith}
 use Rattle.std.specs.List.{slice_get}
 use Rattle.std.specs.Option.{option_copied}
@@ -27,7 +27,7 @@ past : (o : Option ℕ) (size : ℕ) → is_below o size ≡ false → IfSome o 
 past None size p = tt
 past (Some far) size p = grind (arith, nat_tests)
 
--- no value lies over a cell in a column that the block does not reach
+-- no value lies over a cell in a column that the block does not have
 past_column : (b : ValueBlock) (x y : ℕ) → is_below (offset b.x x) b.width ≡ false → value_over b x y ≡ None
 past_column b x y p = by_column (offset b.x x) (past (offset b.x x) b.width p)
   where

@@ -43,7 +43,7 @@ down_from bits by i fits e =
       | inr past ↦ absurd (omega (arith, set, bit_at_above bits 64 (by + i) fits past))
     ]
 
--- a place that was reached
+-- a number that was reached
 pub reached_at : (g : Ground) (s : Spread) (r p : ℕ) → r ≡ p → (free_at g r ≡ true → taken_at s r ≡ true) → free_at g p ≡ true → taken_at s p ≡ true
 reached_at g s r p e h free = subst (λ n. taken_at s n ≡ true) e (h (subst (λ n. free_at g n ≡ true) (sym e) free))
 
@@ -77,8 +77,8 @@ taken-first s same p = ap (λ (ws : List ℕ). has_bit ws p && not (is_marked s.
     no_both true = refl
     no_both false = refl
 
-pub places-first : (g : Ground) (s : Spread) → 0 < g.width → s.taken.words.items ≡ s.open.words.items → AreAllowed g s.open → (p : ℕ) → Means g p (is_marked s.open p) (is_marked s.taken p)
-places-first g s some same allowed p =
+pub numbers-first : (g : Ground) (s : Spread) → 0 < g.width → s.taken.words.items ≡ s.open.words.items → AreAllowed g s.open → (p : ℕ) → Means g p (is_marked s.open p) (is_marked s.taken p)
+numbers-first g s some same allowed p =
     let twice : is_marked s.taken p ≡ is_marked s.open p = ap (λ (ws : List ℕ). has_bit ws p) same in
     rw twice (first_means g p (is_marked s.open p) (free_at-read g some p ∙ by_place (cases_lt p (length g.tiles.now))))
   where
@@ -97,7 +97,7 @@ IsSound-first g s ground rooms same allowed none first end =
       large = omega (arith, rooms);
       same_room = ap (λ (ws : List ℕ). 64 * length ws) same;
       small = omega (arith, rooms, few, ground.size);
-      places = places-first g s (omega (arith, ground.column)) same allowed;
+      numbers = numbers-first g s (omega (arith, ground.column)) same allowed;
       led = λ p e. absurd (no p e);
       inner = λ p r e at side free. absurd (no p e);
       pending = subst (λ (bs : List Batch). Each (IsBatch s) bs) (sym none) tt;
@@ -108,8 +108,8 @@ IsSound-first g s ground rooms same allowed none first end =
     }
 
 -- ---- nothing waits
-pub is_taken-kept : (g : Ground) (s t : Spread) → ((p : ℕ) → taken_at s p ≡ true → taken_at t p ≡ true) → (q : ℕ × ℕ) → is_taken g s q ≡ true → is_taken g t q ≡ true
-is_taken-kept g s t keeps q h =
+pub is_taken-keeps : (g : Ground) (s t : Spread) → ((p : ℕ) → taken_at s p ≡ true → taken_at t p ≡ true) → (q : ℕ × ℕ) → is_taken g s q ≡ true → is_taken g t q ≡ true
+is_taken-keeps g s t keeps q h =
     let column = is_taken-column g s q h in
     is_taken-at g t q.0 q.1 column ∙ keeps (q.1 * g.width + q.0) (sym (is_taken-at g s q.0 q.1 column) ∙ h)
 

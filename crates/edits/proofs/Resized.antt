@@ -172,8 +172,8 @@ module _ (d : DocumentParts) (width height : ℕ) (dx dy : ℤ) (lists : List (L
   selection-is : s ≡ resized_selection width height dx dy d.selection
   selection-is = set.same_set cell_cmp_total cell_cmp-same s (resized_selection width height dx dy d.selection) (λ q.
       let old = λ (p : ℕ × ℕ). has_at d.selection (pos p.0 -ℤ dx) (pos p.1 -ℤ dy) in
-      let kept = set.contains-retain (rectangle 0 0 width height) old q (λ p e. ap old (sym (cell_cmp-same q p e))) in
-      cells q ∙ ap (λ b. b && old q) (within-map width height q ∙ sym (contains-rectangle 0 0 width height q)) ∙ sym kept)
+      let retained = set.contains-retain (rectangle 0 0 width height) old q (λ p e. ap old (sym (cell_cmp-same q p e))) in
+      cells q ∙ ap (λ b. b && old q) (within-map width height q ∙ sym (contains-rectangle 0 0 width height q)) ∙ sym retained)
 
   pub canvas-resized : with_canvas (record { width = width; height = height; layers = lists; selection = s; right = right; down = down }) d ≡ resized d width height dx dy
   canvas-resized =

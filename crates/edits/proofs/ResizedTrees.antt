@@ -17,7 +17,7 @@ use Rattle.map_model.specs.Lists.{Each, or_empty}
 use Rattle.map_model.specs.Objects.{objects_in, objects_of, body_with_objects}
 use Rattle.map_model.proofs.CanvasTrees.{lists_under-is, lists_under-list, one_on-is}
 use Rattle.map_model.proofs.GroupBodies.{body_with_layers-along}
-use Rattle.map_model.proofs.Listings.{Each-front, Each-rest}
+use Rattle.map_model.proofs.Listings.{Each-prefix, Each-rest}
 use Rattle.map_model.proofs.Trees.{tree-is}
 use Rattle.edits.specs.Resizing.{all_stay, drawn_stays, each_under}
 
@@ -95,8 +95,8 @@ under-group (suc room) l ks z g =
 
 module _ (P : List ℕ → Type 0) where
   pub own-each : (room : ℕ) (l : Layer) → Each P (lists_under room l) → Each P (lists_in l.body)
-  own-each zero l h = Each-front P (lists_in l.body) [] (rw (lists_under-is zero l) at h)
-  own-each (suc room) l h = Each-front P (lists_in l.body) (flat_map lists_of (drawn room layer_level (inside l))) (rw (lists_under-is (suc room) l) at h)
+  own-each zero l h = Each-prefix P (lists_in l.body) [] (rw (lists_under-is zero l) at h)
+  own-each (suc room) l h = Each-prefix P (lists_in l.body) (flat_map lists_of (drawn room layer_level (inside l))) (rw (lists_under-is (suc room) l) at h)
 
   pub group-each : (room : ℕ) (l : Layer) (ks : List Layer) → room ≢ 0 → group_of l ≡ Some ks → Each P (lists_under room l)
       → Each P (flat_map lists_of (drawn (room - 1) layer_level ks))
@@ -106,7 +106,7 @@ module _ (P : List ℕ → Type 0) where
       → Each P (lists_under room l) × Each P (flat_map lists_of (drawn room layer_level ls))
   list-each room l ls h =
       let both = rw (lists_under-list room l ls) at h in
-      (Each-front P (lists_under room l) (flat_map lists_of (drawn room layer_level ls)) both, Each-rest P (lists_under room l) (flat_map lists_of (drawn room layer_level ls)) both)
+      (Each-prefix P (lists_under room l) (flat_map lists_of (drawn room layer_level ls)) both, Each-rest P (lists_under room l) (flat_map lists_of (drawn room layer_level ls)) both)
 
 -- ---- cells that are pushed
 pub on_then : {A E P Q : Type 0} (r : Result A E) → OnOk r P → (P → Q) → OnOk r Q
@@ -122,12 +122,12 @@ module _ {X Y : Type 0} (f : X → Y) where
   pushed-first old new end a b all first was is = pushed-two old new (new ++ map f b) a b all first refl is ∙ was
 
 -- ---- layers on the canvas
-body-with : (c : Canvas) (f : List ℕ → List ℕ) (place : ℕ) (b : Body) → ((e : List ℕ) → lists_in b ≡ e ∷ [] → get_or c.layers place e ≡ f e)
-    → body_on c place b ≡ body_with_objects (map (object_moved c.right c.down)) (body_with_tiles f b)
-body-with c f place (Tiles e own) h = ap (Tiles e) (h own refl)
-body-with c f place (Objects os) h = refl
-body-with c f place Other h = refl
-body-with c f place (Group' s r) h = refl
+body-with : (c : Canvas) (f : List ℕ → List ℕ) (number : ℕ) (b : Body) → ((e : List ℕ) → lists_in b ≡ e ∷ [] → get_or c.layers number e ≡ f e)
+    → body_on c number b ≡ body_with_objects (map (object_moved c.right c.down)) (body_with_tiles f b)
+body-with c f number (Tiles e own) h = ap (Tiles e) (h own refl)
+body-with c f number (Objects os) h = refl
+body-with c f number Other h = refl
+body-with c f number (Group' s r) h = refl
 
 -- a layer with f of its values, or with its objects moved
 abbrev pub layer-with : (List ℕ → List ℕ) → ℤ → ℤ → Layer → Layer
@@ -152,50 +152,50 @@ module _ (c : Canvas) (f : List ℕ → List ℕ) where
   abbrev changed : Layer → Layer
   changed = layer-with f c.right c.down
 
-  own-with : (front rest : List (List ℕ)) (place : ℕ) (l : Layer) → c.layers ≡ front ++ (map f (lists_in l.body) ++ rest) → place ≡ length front → layer_on c place l ≡ changed l
-  own-with front rest place l held is =
+  own-with : (prefix rest : List (List ℕ)) (number : ℕ) (l : Layer) → c.layers ≡ prefix ++ (map f (lists_in l.body) ++ rest) → number ≡ length prefix → layer_on c number l ≡ changed l
+  own-with prefix rest number l held is =
       let own = λ (cells : List ℕ) (only : lists_in l.body ≡ cells ∷ []).
-      let at : c.layers ≡ front ++ (f cells ∷ rest) = held ∙ ap (λ xs. front ++ (map f xs ++ rest)) only in
-      ap (λ xs. get_or xs place cells) at ∙ ap (λ k. get_or (front ++ (f cells ∷ rest)) k cells) is ∙ get_or-append_seam front (f cells) rest cells in
-      ap (λ b. record l { body = b }) (body-with c f place l.body own)
+      let at : c.layers ≡ prefix ++ (f cells ∷ rest) = held ∙ ap (λ xs. prefix ++ (map f xs ++ rest)) only in
+      ap (λ xs. get_or xs number cells) at ∙ ap (λ k. get_or (prefix ++ (f cells ∷ rest)) k cells) is ∙ get_or-append_seam prefix (f cells) rest cells in
+      ap (λ b. record l { body = b }) (body-with c f number l.body own)
 
   -- lists of cells that stand behind others, as two lists
-  cut : (front A B rest : List (List ℕ)) → c.layers ≡ front ++ (map f (A ++ B) ++ rest) → c.layers ≡ front ++ (map f A ++ (map f B ++ rest))
-  cut front A B rest held = held ∙ ap (λ xs. front ++ xs) (ap (λ xs. xs ++ rest) (map-append f A B) ∙ append_assoc (map f A) (map f B) rest)
+  cut : (prefix A B rest : List (List ℕ)) → c.layers ≡ prefix ++ (map f (A ++ B) ++ rest) → c.layers ≡ prefix ++ (map f A ++ (map f B ++ rest))
+  cut prefix A B rest held = held ∙ ap (λ xs. prefix ++ xs) (ap (λ xs. xs ++ rest) (map-append f A B) ∙ append_assoc (map f A) (map f B) rest)
 
-  next : (front A : List (List ℕ)) (place : ℕ) → place ≡ length front → place + length A ≡ length (front ++ map f A)
-  next front A place is = omega (arith, length-append front (map f A), length-map A f, is)
+  next : (prefix A : List (List ℕ)) (number : ℕ) → number ≡ length prefix → number + length A ≡ length (prefix ++ map f A)
+  next prefix A number is = omega (arith, length-append prefix (map f A), length-map A f, is)
 
-  list-with : (room : ℕ) → ((front rest : List (List ℕ)) (place : ℕ) (l : Layer) → c.layers ≡ front ++ (map f (lists_under room l) ++ rest) → place ≡ length front → one_on room c place l ≡ each_under room changed l)
-      → (front rest : List (List ℕ)) (place : ℕ) (ls : List Layer) → c.layers ≡ front ++ (map f (flat_map lists_of (drawn room layer_level ls)) ++ rest) → place ≡ length front
-      → layers_on room c place ls ≡ map (each_under room changed) ls
-  list-with room each front rest place [] held is = refl
-  list-with room each front rest place (l ∷ ls) held is =
+  list-with : (room : ℕ) → ((prefix rest : List (List ℕ)) (number : ℕ) (l : Layer) → c.layers ≡ prefix ++ (map f (lists_under room l) ++ rest) → number ≡ length prefix → one_on room c number l ≡ each_under room changed l)
+      → (prefix rest : List (List ℕ)) (number : ℕ) (ls : List Layer) → c.layers ≡ prefix ++ (map f (flat_map lists_of (drawn room layer_level ls)) ++ rest) → number ≡ length prefix
+      → layers_on room c number ls ≡ map (each_under room changed) ls
+  list-with room each prefix rest number [] held is = refl
+  list-with room each prefix rest number (l ∷ ls) held is =
       let A = lists_under room l in
       let B = flat_map lists_of (drawn room layer_level ls) in
-      let two = cut front A B rest (held ∙ ap (λ xs. front ++ (map f xs ++ rest)) (lists_under-list room l ls)) in
-      let first = each front (map f B ++ rest) place l two is in
-      let later = list-with room each (front ++ map f A) rest (place + length A) ls (two ∙ sym (append_assoc front (map f A) (map f B ++ rest))) (next front A place is) in
+      let two = cut prefix A B rest (held ∙ ap (λ xs. prefix ++ (map f xs ++ rest)) (lists_under-list room l ls)) in
+      let first = each prefix (map f B ++ rest) number l two is in
+      let later = list-with room each (prefix ++ map f A) rest (number + length A) ls (two ∙ sym (append_assoc prefix (map f A) (map f B ++ rest))) (next prefix A number is) in
       λ i. first i ∷ later i
 
-  under-with : (room : ℕ) (front rest : List (List ℕ)) (place : ℕ) (l : Layer) → c.layers ≡ front ++ (map f (lists_under room l) ++ rest) → place ≡ length front
-      → one_on room c place l ≡ each_under room changed l
-  under-with zero front rest place l held is =
-      let own = held ∙ ap (λ xs. front ++ (map f xs ++ rest)) (under-no_room zero l refl) in
-      one_on-is zero c place l ∙ own-with front rest place l own is ∙ sym (each_under-is zero changed l)
-  under-with (suc room) front rest place l held is =
+  under-with : (room : ℕ) (prefix rest : List (List ℕ)) (number : ℕ) (l : Layer) → c.layers ≡ prefix ++ (map f (lists_under room l) ++ rest) → number ≡ length prefix
+      → one_on room c number l ≡ each_under room changed l
+  under-with zero prefix rest number l held is =
+      let own = held ∙ ap (λ xs. prefix ++ (map f xs ++ rest)) (under-no_room zero l refl) in
+      one_on-is zero c number l ∙ own-with prefix rest number l own is ∙ sym (each_under-is zero changed l)
+  under-with (suc room) prefix rest number l held is =
       let A = lists_in l.body in
       let B = flat_map lists_of (drawn room layer_level (inside l)) in
-      let two = cut front A B rest (held ∙ ap (λ xs. front ++ (map f xs ++ rest)) (lists_under-is (suc room) l)) in
-      let own = own-with front (map f B ++ rest) place l two is in
-      let later : c.layers ≡ (front ++ map f A) ++ (map f B ++ rest) = two ∙ sym (append_assoc front (map f A) (map f B ++ rest)) in
+      let two = cut prefix A B rest (held ∙ ap (λ xs. prefix ++ (map f xs ++ rest)) (lists_under-is (suc room) l)) in
+      let own = own-with prefix (map f B ++ rest) number l two is in
+      let later : c.layers ≡ (prefix ++ map f A) ++ (map f B ++ rest) = two ∙ sym (append_assoc prefix (map f A) (map f B ++ rest)) in
       let inner = λ (ks : List Layer) (e : group_in (changed l).body ≡ Some ks).
       let have : inside l ≡ ks = ap or_empty (sym (group_in-with f c.right c.down l.body) ∙ e) in
-      list-with room (under-with room) (front ++ map f A) rest (place + length A) ks
-      (later ∙ ap (λ js. (front ++ map f A) ++ (map f (flat_map lists_of (drawn room layer_level js)) ++ rest)) have) (next front A place is) in
-      one_on-is (suc room) c place l
-      ∙ ap (λ k. layer_with_layers (layers_on room c (place + length A)) k) own
-      ∙ ap (λ b. record l { body = b }) (body_with_layers-along (layers_on room c (place + length A)) (map (each_under room changed)) (changed l).body inner)
+      list-with room (under-with room) (prefix ++ map f A) rest (number + length A) ks
+      (later ∙ ap (λ js. (prefix ++ map f A) ++ (map f (flat_map lists_of (drawn room layer_level js)) ++ rest)) have) (next prefix A number is) in
+      one_on-is (suc room) c number l
+      ∙ ap (λ k. layer_with_layers (layers_on room c (number + length A)) k) own
+      ∙ ap (λ b. record l { body = b }) (body_with_layers-along (layers_on room c (number + length A)) (map (each_under room changed)) (changed l).body inner)
       ∙ sym (each_under-is (suc room) changed l)
 
   pub layers-with : (room : ℕ) (ls : List Layer) → c.layers ≡ map f (flat_map lists_of (drawn room layer_level ls)) → layers_on room c 0 ls ≡ map (each_under room changed) ls

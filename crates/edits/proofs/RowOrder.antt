@@ -21,19 +21,19 @@ AreInRowOrder-append [] c h k = (tt, tt)
 AreInRowOrder-append (e ∷ []) c h k = (k.0, (tt, tt))
 AreInRowOrder-append (e ∷ (f ∷ es)) c h k = (h.0, AreInRowOrder-append (f ∷ es) c h.1 k.1)
 
--- ---- cells by their place
--- the cell stands at a place below this one
-pub record IsAbove (width place : ℕ) (e : CellEdit) : Type 0 where
+-- ---- cells by their number
+-- the cell has a number below this one
+pub record IsAbove (width number : ℕ) (e : CellEdit) : Type 0 where
   pub at : ℕ
-  pub above : at < place
+  pub above : at < number
   pub column : e.x ≡ at % width
   pub row : e.y ≡ at / width
 
-IsAbove-suc : (width place : ℕ) (es : List CellEdit) → Each (IsAbove width place) es → Each (IsAbove width (suc place)) es
-IsAbove-suc width place [] h = tt
-IsAbove-suc width place (e ∷ es) h = (record { at = h.0.at; above = omega (arith, h.0.above); column = h.0.column; row = h.0.row }, IsAbove-suc width place es h.1)
+IsAbove-suc : (width number : ℕ) (es : List CellEdit) → Each (IsAbove width number) es → Each (IsAbove width (suc number)) es
+IsAbove-suc width number [] h = tt
+IsAbove-suc width number (e ∷ es) h = (record { at = h.0.at; above = omega (arith, h.0.above); column = h.0.column; row = h.0.row }, IsAbove-suc width number es h.1)
 
--- two places in one row are as far apart as their columns
+-- two numbers in one row are as far apart as their columns
 same_row : (width p q : ℕ) → 0 < width → p < q → p / width ≡ q / width → p % width < q % width
 same_row width p q some l e =
     let rows : p / width * width ≡ q / width * width = ap (λ n. n * width) e in
@@ -48,14 +48,14 @@ by_place width p q some l =
     by_test true e d = let same : p / width ≡ q / width = grind (arith, nat_tests) in inr (same, same_row width p q some l same)
     by_test false e d = inl (grind (arith, nat_tests))
 
-ComesBefore-above : (width place before after : ℕ) (e : CellEdit) → 0 < width → IsAbove width place e → ComesBefore e (edit_at width place before after)
-ComesBefore-above width place before after e some h =
-    let apart : (h.at / width < place / width) ⊎ ((h.at / width ≡ place / width) × (h.at % width < place % width)) = by_place width h.at place some h.above in
-    comes_before (cell e) (cell (edit_at width place before after)) (rw (h.column, h.row) apart)
+ComesBefore-above : (width number before after : ℕ) (e : CellEdit) → 0 < width → IsAbove width number e → ComesBefore e (edit_at width number before after)
+ComesBefore-above width number before after e some h =
+    let apart : (h.at / width < number / width) ⊎ ((h.at / width ≡ number / width) × (h.at % width < number % width)) = by_place width h.at number some h.above in
+    comes_before (cell e) (cell (edit_at width number before after)) (rw (h.column, h.row) apart)
 
-pub Each-ComesBefore : (width place before after : ℕ) (es : List CellEdit) → 0 < width → Each (IsAbove width place) es → Each (λ e. ComesBefore e (edit_at width place before after)) es
-Each-ComesBefore width place before after [] some h = tt
-Each-ComesBefore width place before after (e ∷ es) some h = (ComesBefore-above width place before after e some h.0, Each-ComesBefore width place before after es some h.1)
+pub Each-ComesBefore : (width number before after : ℕ) (es : List CellEdit) → 0 < width → Each (IsAbove width number) es → Each (λ e. ComesBefore e (edit_at width number before after)) es
+Each-ComesBefore width number before after [] some h = tt
+Each-ComesBefore width number before after (e ∷ es) some h = (ComesBefore-above width number before after e some h.0, Each-ComesBefore width number before after es some h.1)
 
 -- ---- differences
 module _ (width : ℕ) (xs ys : List ℕ) (some : 0 < width) where

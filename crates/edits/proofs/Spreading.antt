@@ -55,19 +55,19 @@ module _ (g : Ground) where
     work = omega (arith, a.work, b.work);
   }
 
-pub IsBatch-kept : (s t : Spread) (b : Batch) → room t.open ≡ room s.open → ((p : ℕ) → taken_at s p ≡ true → taken_at t p ≡ true) → IsBatch s b → IsBatch t b
-IsBatch-kept s t b rooms keeps h = record { within = omega (arith, rooms, h.within); taken = λ p i. keeps p (h.taken p i) }
+pub IsBatch-keeps : (s t : Spread) (b : Batch) → room t.open ≡ room s.open → ((p : ℕ) → taken_at s p ≡ true → taken_at t p ≡ true) → IsBatch s b → IsBatch t b
+IsBatch-keeps s t b rooms keeps h = record { within = omega (arith, rooms, h.within); taken = λ p i. keeps p (h.taken p i) }
 
-Each-kept : (s t : Spread) (bs : List Batch) → room t.open ≡ room s.open → ((p : ℕ) → taken_at s p ≡ true → taken_at t p ≡ true) → Each (IsBatch s) bs → Each (IsBatch t) bs
-Each-kept s t [] rooms keeps h = tt
-Each-kept s t (b ∷ bs) rooms keeps h = (IsBatch-kept s t b rooms keeps h.0, Each-kept s t bs rooms keeps h.1)
+Each-keeps : (s t : Spread) (bs : List Batch) → room t.open ≡ room s.open → ((p : ℕ) → taken_at s p ≡ true → taken_at t p ≡ true) → Each (IsBatch s) bs → Each (IsBatch t) bs
+Each-keeps s t [] rooms keeps h = tt
+Each-keeps s t (b ∷ bs) rooms keeps h = (IsBatch-keeps s t b rooms keeps h.0, Each-keeps s t bs rooms keeps h.1)
 
 -- ---- what the marks mean
 pub taken-two : (s : Spread) (p : ℕ) (o k : Bool) → is_marked s.open p ≡ o → is_marked s.taken p ≡ k → taken_at s p ≡ (k && not o)
 unfolding taken_at
 taken-two s p o k e f = ap (λ x. x && not (is_marked s.open p)) f ∙ ap (λ x. k && not x) e
 
--- a free place that is not open is taken
+-- a free number that is not open is taken
 pub taken-unless_open : (g : Ground) (s : Spread) (p : ℕ) → Means g p (is_marked s.open p) (is_marked s.taken p) → is_marked s.open p ≡ false → free_at g p ≡ true → taken_at s p ≡ true
 taken-unless_open g s p means closed free = by_marks (is_marked s.open p) refl (is_marked s.taken p) refl means
   where
@@ -76,7 +76,7 @@ taken-unless_open g s p means closed free = by_marks (is_marked s.open p) refl (
     by_marks false e true f m = taken-two s p false true e f
     by_marks false e false f m = absurd (false≢true (sym m ∙ free))
 
--- a place that is open, and not also taken, is free
+-- a number that is open, and not also taken, is free
 pub free-opened : (g : Ground) (s : Spread) (p : ℕ) → Means g p (is_marked s.open p) (is_marked s.taken p) → (is_marked s.open p && is_marked s.taken p) ≡ false → is_marked s.open p ≡ true → free_at g p ≡ true
 free-opened g s p means seen opened = by_marks (is_marked s.open p) refl (is_marked s.taken p) refl means
   where
@@ -144,12 +144,12 @@ module _ (g : Ground) (s t : Spread) (word opened taken equal : ℕ) (fits : ope
       let i = p % 64 in
       let o = bits_here s.open word opened p opens at in
       let k = bits_here s.taken word taken p takens at in
-      let place = in_word p word at in
+      let number = in_word p word at in
       let e = nat_eq (bit_at equal i) 1 in
       let small : bit_and opened taken < 2 ^ 64 = omega (arith, and_le_l opened taken) in
-      let unseen = has_not (bit_and opened taken) i small place.0 ∙ ap not (has_and opened taken i ∙ ap (λ b. b && nat_eq (bit_at taken i) 1) o ∙ ap (λ b. is_marked s.open p && b) k) in (
+      let unseen = has_not (bit_and opened taken) i small number.0 ∙ ap not (has_and opened taken i ∙ ap (λ b. b && nat_eq (bit_at taken i) 1) o ∙ ap (λ b. is_marked s.open p && b) k) in (
         e,
-        equals i place.0 ∙ ap (λ n. is_value (slice_get g.tiles.now n) g.value) place.1,
+        equals i number.0 ∙ ap (λ n. is_value (slice_get g.tiles.now n) g.value) number.1,
         set_here s.open t.open word _ open_set p at ∙ has_and opened (bit_or (unseen_of opened taken) equal) i ∙ ap (λ b. b && nat_eq (bit_at (bit_or (unseen_of opened taken) equal) i) 1) o
             ∙ ap (λ b. is_marked s.open p && b) (has_or (unseen_of opened taken) equal i ∙ ap (λ b. b || e) unseen),
         set_here s.taken t.taken word _ taken_set p at ∙ has_and taken (unseen_of opened taken) i ∙ ap (λ b. b && nat_eq (bit_at (unseen_of opened taken) i) 1) k
@@ -164,10 +164,10 @@ module _ (g : Ground) (s t : Spread) (word opened taken equal : ℕ) (fits : ope
         ∙ sym (taken-two s p (is_marked s.open p) (is_marked s.taken p) refl refl)
   ]
 
-  seen-places : (p : ℕ) → Means g p (is_marked t.open p) (is_marked t.taken p)
-  seen-places p = elim (cases_eq (p / 64) word) [
-    | inl at ↦ let here = seen-here p at in rw (here.2, here.3) (Means-seen g p (is_marked s.open p) (is_marked s.taken p) here.0 here.1 (h.places p))
-    | inr other ↦ rw (set_there s.open t.open word _ open_set p other, set_there s.taken t.taken word _ taken_set p other) (h.places p)
+  seen-numbers : (p : ℕ) → Means g p (is_marked t.open p) (is_marked t.taken p)
+  seen-numbers p = elim (cases_eq (p / 64) word) [
+    | inl at ↦ let here = seen-here p at in rw (here.2, here.3) (Means-seen g p (is_marked s.open p) (is_marked s.taken p) here.0 here.1 (h.numbers p))
+    | inr other ↦ rw (set_there s.open t.open word _ open_set p other, set_there s.taken t.taken word _ taken_set p other) (h.numbers p)
   ]
 
   pub seen-not_both : (i : ℕ) → i < 64 → (is_marked t.open (64 * word + i) && is_marked t.taken (64 * word + i)) ≡ false
@@ -182,10 +182,10 @@ module _ (g : Ground) (s t : Spread) (word opened taken equal : ℕ) (fits : ope
     large = omega (arith, h.large, open_room);
     same_room = omega (arith, h.same_room, open_room, taken_room);
     small = omega (arith, h.small, open_room);
-    places = seen-places;
+    numbers = seen-numbers;
     led = λ p e. h.led p (sym (seen-taken p) ∙ e);
     inner = λ p r e at side free. seen-taken r ∙ h.inner p r (sym (seen-taken p) ∙ e) at side free;
-    pending = subst (λ (bs : List Batch). Each (IsBatch t) bs) (sym pending) (Each-kept s t s.pending.items open_room (λ p e. seen-taken p ∙ e) h.pending);
+    pending = subst (λ (bs : List Batch). Each (IsBatch t) bs) (sym pending) (Each-keeps s t s.pending.items open_room (λ p e. seen-taken p ∙ e) h.pending);
     from = λ p e. omega (arith, first, h.from p (sym (seen-taken p) ∙ e));
     to = λ p e. omega (arith, end, h.to p (sym (seen-taken p) ∙ e));
     first = omega (arith, first, h.first, open_room);
@@ -231,13 +231,13 @@ module _ (g : Ground) (s t : Spread) (word opened taken bits : ℕ) (fits : bits
     (open_room : room t.open ≡ room s.open) (taken_room : room t.taken ≡ room s.taken)
     (pending : t.pending.items ≡ s.pending.items ++ record { word = word; bits = bits } ∷ []) (first : t.first ≡ min s.first word) (end : t.end ≡ max s.end (word + 1))
     (within : 64 * word < room s.open) (h : IsSound g s) where
-  -- whether a place is one of the new ones
+  -- whether a number is one of the new ones
   is_new : ℕ → Bool
   is_new p = nat_eq (p / 64) word && nat_eq (bit_at bits (p % 64)) 1
 
   new-in : (p : ℕ) → is_new p ≡ true → InBatch (record { word = word; bits = bits }) p
   unfolding is_new
-  new-in p e = let parts = and_parts (nat_eq (p / 64) word) (nat_eq (bit_at bits (p % 64)) 1) e in (eqb-true (p / 64) word parts.0, eqb-true (bit_at bits (p % 64)) 1 parts.1)
+  new-in p e = let both = and_parts (nat_eq (p / 64) word) (nat_eq (bit_at bits (p % 64)) 1) e in (eqb-true (p / 64) word both.0, eqb-true (bit_at bits (p % 64)) 1 both.1)
 
   in-new : (p : ℕ) → InBatch (record { word = word; bits = bits }) p → is_new p ≡ true
   unfolding is_new
@@ -253,19 +253,19 @@ module _ (g : Ground) (s t : Spread) (word opened taken bits : ℕ) (fits : bits
   new-open : (p : ℕ) → is_new p ≡ true → (is_marked s.open p ≡ true) × IsLed g p
   new-open p e =
       let b = new-in p e in
-      let place = in_word p word b.0 in
-      let inside = led (p % 64) place.0 b.1 in
-      (sym (bits_here s.open word opened p opens b.0) ∙ eq-eqb (bit_at opened (p % 64)) 1 inside.0, subst (IsLed g) place.1 inside.1)
+      let number = in_word p word b.0 in
+      let inside = led (p % 64) number.0 b.1 in
+      (sym (bits_here s.open word opened p opens b.0) ∙ eq-eqb (bit_at opened (p % 64)) 1 inside.0, subst (IsLed g) number.1 inside.1)
 
-  new-places : (p : ℕ) → (is_marked t.open p ≡ (is_marked s.open p && not (is_new p))) × (is_marked t.taken p ≡ (is_marked s.taken p || is_new p))
+  new-numbers : (p : ℕ) → (is_marked t.open p ≡ (is_marked s.open p && not (is_new p))) × (is_marked t.taken p ≡ (is_marked s.taken p || is_new p))
   unfolding is_new
-  new-places p = elim (cases_eq (p / 64) word) [
+  new-numbers p = elim (cases_eq (p / 64) word) [
     | inl at ↦
         let i = p % 64 in
-        let place = in_word p word at in
+        let number = in_word p word at in
         let here : nat_eq (bit_at bits i) 1 ≡ is_new p = sym (ap (λ b. b && nat_eq (bit_at bits i) 1) (eq-eqb (p / 64) word at)) in (
           set_here s.open t.open word _ open_set p at ∙ has_and opened (bit_not w64 bits) i ∙ ap (λ b. b && nat_eq (bit_at (bit_not w64 bits) i) 1) (bits_here s.open word opened p opens at)
-              ∙ ap (λ b. is_marked s.open p && b) (has_not bits i fits place.0 ∙ ap not here),
+              ∙ ap (λ b. is_marked s.open p && b) (has_not bits i fits number.0 ∙ ap not here),
           set_here s.taken t.taken word _ taken_set p at ∙ has_or taken bits i ∙ ap (λ b. b || nat_eq (bit_at bits i) 1) (bits_here s.taken word taken p takens at)
               ∙ ap (λ b. is_marked s.taken p || b) here,
         )
@@ -287,28 +287,28 @@ module _ (g : Ground) (s t : Spread) (word opened taken bits : ℕ) (fits : bits
 
   taken-now : (p : ℕ) → taken_at t p ≡ (taken_at s p || is_new p)
   taken-now p =
-      let new = new-places p in
+      let new = new-numbers p in
       taken-two t p _ _ new.0 new.1 ∙ taken-more (is_marked s.open p) (is_marked s.taken p) (is_new p)
       ∙ ap (λ b. b || is_new p) (sym (taken-two s p (is_marked s.open p) (is_marked s.taken p) refl refl))
 
   taken-cases : (p : ℕ) → taken_at t p ≡ true → (taken_at s p ≡ true) ⊎ (is_new p ≡ true)
   taken-cases p e = or_cases (taken_at s p) (is_new p) (sym (taken-now p) ∙ e)
 
-  taken-kept : (p : ℕ) → taken_at s p ≡ true → taken_at t p ≡ true
-  taken-kept p e = taken-now p ∙ or_left (taken_at s p) (is_new p) e
+  taken-keeps : (p : ℕ) → taken_at s p ≡ true → taken_at t p ≡ true
+  taken-keeps p e = taken-now p ∙ or_left (taken_at s p) (is_new p) e
 
   taken-new : (p : ℕ) → is_new p ≡ true → taken_at t p ≡ true
   taken-new p e = taken-now p ∙ or_right (taken_at s p) (is_new p) e
 
   not_both-at : (p : ℕ) → p / 64 ≡ word → (is_marked s.open p && is_marked s.taken p) ≡ false
-  not_both-at p at = let place = in_word p word at in subst (λ n. (is_marked s.open n && is_marked s.taken n) ≡ false) place.1 (not_both (p % 64) place.0)
+  not_both-at p at = let number = in_word p word at in subst (λ n. (is_marked s.open n && is_marked s.taken n) ≡ false) number.1 (not_both (p % 64) number.0)
 
-  taken-places : (p : ℕ) → Means g p (is_marked t.open p) (is_marked t.taken p)
-  taken-places p =
-      let new = new-places p in
+  taken-numbers : (p : ℕ) → Means g p (is_marked t.open p) (is_marked t.taken p)
+  taken-numbers p =
+      let new = new-numbers p in
       rw (new.0, new.1) (elim (cases_Bool (is_new p)) [
-        | inl e ↦ Means-taken g p (is_marked s.open p) (is_marked s.taken p) (is_new p) (not_both-at p (new-in p e).0) (λ f. (new-open p f).0) (h.places p)
-        | inr e ↦ same p (is_marked s.open p) (is_marked s.taken p) (is_new p) e (h.places p)
+        | inl e ↦ Means-taken g p (is_marked s.open p) (is_marked s.taken p) (is_new p) (not_both-at p (new-in p e).0) (λ f. (new-open p f).0) (h.numbers p)
+        | inr e ↦ same p (is_marked s.open p) (is_marked s.taken p) (is_new p) e (h.numbers p)
       ])
     where
       same : (p : ℕ) (o k b : Bool) → b ≡ false → Means g p o k → Means g p (o && not b) (k || b)
@@ -326,7 +326,7 @@ module _ (g : Ground) (s t : Spread) (word opened taken bits : ℕ) (fits : bits
       let from = in_word p word b.0 in
       let to = in_word r word here in
       elim (cases_Bool (is_marked s.open r)) [
-        | inr shut ↦ taken-kept r (taken-unless_open g s r (h.places r) shut free)
+        | inr shut ↦ taken-keeps r (taken-unless_open g s r (h.numbers r) shut free)
         | inl is_open ↦
             let on : bit_at opened (r % 64) ≡ 1 = eqb-true (bit_at opened (r % 64)) 1 (bits_here s.open word opened r opens here ∙ is_open) in
             let beside : AreSideBySide g (64 * word + p % 64) (64 * word + r % 64) = subst (λ n. AreSideBySide g n (64 * word + r % 64)) (sym from.1) (subst (AreSideBySide g p) (sym to.1) side) in
@@ -341,10 +341,10 @@ module _ (g : Ground) (s t : Spread) (word opened taken bits : ℕ) (fits : bits
     large = omega (arith, h.large, open_room);
     same_room = omega (arith, h.same_room, open_room, taken_room);
     small = omega (arith, h.small, open_room);
-    places = taken-places;
+    numbers = taken-numbers;
     led = λ p e. elim (taken-cases p e) [ inl f ↦ h.led p f | inr f ↦ (new-open p f).1 ];
-    inner = λ p r e at side free. elim (taken-cases p e) [ inl f ↦ taken-kept r (h.inner p r f at side free) | inr f ↦ taken-beside p r f at side free ];
-    pending = subst (λ (bs : List Batch). Each (IsBatch t) bs) (sym pending) (Each-append (IsBatch t) s.pending.items (record { word = word; bits = bits } ∷ []) (Each-kept s t s.pending.items open_room taken-kept h.pending) (
+    inner = λ p r e at side free. elim (taken-cases p e) [ inl f ↦ taken-keeps r (h.inner p r f at side free) | inr f ↦ taken-beside p r f at side free ];
+    pending = subst (λ (bs : List Batch). Each (IsBatch t) bs) (sym pending) (Each-append (IsBatch t) s.pending.items (record { word = word; bits = bits } ∷ []) (Each-keeps s t s.pending.items open_room taken-keeps h.pending) (
       record {
         within = omega (arith, within, open_room);
         taken = λ p b. taken-new p (in-new p b);
@@ -364,7 +364,7 @@ module _ (g : Ground) (s t : Spread) (word opened taken bits : ℕ) (fits : bits
       let p = 64 * word + i in
       let new = new-at i lowest.0 lowest.1 in
       let is_open = new-open p new in
-      let free = free-opened g s p (h.places p) (not_both i lowest.0) is_open.0 in
+      let free = free-opened g s p (h.numbers p) (not_both i lowest.0) is_open.0 in
       let before : taken_at s p ≡ false =
       taken-two s p _ _ is_open.0 refl ∙ and_false (is_marked s.taken p) in
       let fewer = count-lt (λ k. not (taken_at t k)) (λ k. not (taken_at s k)) (length g.tiles.now) p (λ k l e. not_before (taken_at s k) (is_new k) (ap not (sym (taken-now k)) ∙ e))
@@ -378,7 +378,7 @@ module _ (g : Ground) (s t : Spread) (word opened taken bits : ℕ) (fits : bits
 
   pub Spreads-taken : Spreads g s t
   Spreads-taken = record {
-    keeps = taken-kept;
+    keeps = taken-keeps;
     waits = λ p w. subst (λ (bs : List Batch). Waits bs p) (sym pending) (Waits-more s.pending.items (record { word = word; bits = bits } ∷ []) p w);
     fresh = λ p e. elim (taken-cases p e) [
       | inl f ↦ inl f
@@ -393,17 +393,17 @@ module _ (g : Ground) (s t : Spread) (word opened taken bits : ℕ) (fits : bits
     | inl on ↦ taken-new (64 * word + i) (new-at i l (all i l (omega (arith, bit_at_and seeds opened i, e, on))))
     | inr off ↦
         let shut : nat_eq (bit_at opened i) 1 ≡ false = grind (arith, nat_tests) in
-        taken-kept (64 * word + i) (taken-unless_open g s (64 * word + i) (h.places (64 * word + i)) (sym (opens i l) ∙ shut) free)
+        taken-keeps (64 * word + i) (taken-unless_open g s (64 * word + i) (h.numbers (64 * word + i)) (sym (opens i l) ∙ shut) free)
   ]
 
 -- where none of the seeds is open, whatever is free of them was taken
 pub covers-closed : (g : Ground) (s : Spread) (word opened seeds : ℕ) → AreBits s.open word opened → ((p : ℕ) → Means g p (is_marked s.open p) (is_marked s.taken p))
     → ((i : ℕ) → i < 64 → bit_at (bit_and seeds opened) i ≡ 1 → ⊥) → (i : ℕ) → i < 64 → bit_at seeds i ≡ 1 → free_at g (64 * word + i) ≡ true → taken_at s (64 * word + i) ≡ true
-covers-closed g s word opened seeds opens places none i l e free = elim (cases_eq (bit_at opened i) 1) [
+covers-closed g s word opened seeds opens numbers none i l e free = elim (cases_eq (bit_at opened i) 1) [
   | inl on ↦ absurd (none i l (omega (arith, bit_at_and seeds opened i, e, on)))
   | inr off ↦
       let shut : nat_eq (bit_at opened i) 1 ≡ false = grind (arith, nat_tests) in
-      taken-unless_open g s (64 * word + i) (places (64 * word + i)) (sym (opens i l) ∙ shut) free
+      taken-unless_open g s (64 * word + i) (numbers (64 * word + i)) (sym (opens i l) ∙ shut) free
 ]
 
 -- ---- a batch is taken off the list
@@ -417,10 +417,10 @@ module _ (g : Ground) (s t : Spread) (opens : t.open ≡ s.open) (takens : t.tak
     large = omega (arith, h.large, rooms);
     same_room = ap room takens ∙ h.same_room ∙ sym rooms;
     small = omega (arith, h.small, rooms);
-    places = λ p. subst (λ (m : Marks). Means g p (is_marked m p) (is_marked t.taken p)) (sym opens) (subst (λ (m : Marks). Means g p (is_marked s.open p) (is_marked m p)) (sym takens) (h.places p));
+    numbers = λ p. subst (λ (m : Marks). Means g p (is_marked m p) (is_marked t.taken p)) (sym opens) (subst (λ (m : Marks). Means g p (is_marked s.open p) (is_marked m p)) (sym takens) (h.numbers p));
     led = λ p e. h.led p (sym (taken-off p) ∙ e);
     inner = λ p r e at side free. taken-off r ∙ h.inner p r (sym (taken-off p) ∙ e) at side free;
-    pending = Each-kept s t t.pending.items rooms (λ p e. taken-off p ∙ e) left;
+    pending = Each-keeps s t t.pending.items rooms (λ p e. taken-off p ∙ e) left;
     from = λ p e. omega (arith, first, h.from p (sym (taken-off p) ∙ e));
     to = λ p e. omega (arith, end, h.to p (sym (taken-off p) ∙ e));
     first = omega (arith, first, h.first, rooms);
@@ -435,7 +435,7 @@ module _ (g : Ground) (s t : Spread) (opens : t.open ≡ s.open) (takens : t.tak
     pending-off h = Each-turned s t.pending.items b (subst (λ (bs : List Batch). Each (IsBatch s) bs) items h.pending)
 
     pub IsBatch-off : IsSound g s → IsBatch t b
-    IsBatch-off h = IsBatch-kept s t b (ap room opens) (λ p e. taken-off p ∙ e) (pending-off h).0
+    IsBatch-off h = IsBatch-keeps s t b (ap room opens) (λ p e. taken-off p ∙ e) (pending-off h).0
 
     pub work-off : work_left g t < work_left g s
     work-off =

@@ -8,7 +8,7 @@ use Rattle.map_model.specs.declared.edit.CellEdit.{CellEdit}
 use Rattle.map_model.specs.declared.edit.Side.{Side}
 use Rattle.map_model.specs.declared.edit.Side.TheVariants.{Before, After}
 use Rattle.map_model.specs.declared.parts.MapParts.{MapParts}
-use Rattle.map_model.specs.CellEdits.{side_value, cell_place, put_values}
+use Rattle.map_model.specs.CellEdits.{side_value, cell_number, put_values}
 use Rattle.map_model.specs.Lists.{Each}
 use Rattle.map_model.specs.Lookups.{HasTiles, tiles_in, with_tiles, with_edits, IsWithin}
 use Rattle.map_model.specs.WellFormed.{IsSize, IsWellFormed}
@@ -18,7 +18,7 @@ use Rattle.map_model.proofs.Turns.{with_tiles-with_tiles, with_tiles-along, with
 use Rattle.map_model.specs.Difference.{edit_at, change_at, difference, difference_in}
 use Rattle.edits.proofs.Differences.{difference-skip}
 
--- the first places from one list, the others from another
+-- the first values from one list, the others from another
 mixed : ℕ → List ℕ → List ℕ → List ℕ
 mixed zero xs ys = ys
 mixed (suc k) [] ys = ys
@@ -50,8 +50,8 @@ mixed-zero : (xs ys : List ℕ) → mixed 0 xs ys ≡ ys
 unfolding mixed
 mixed-zero xs ys = refl
 
-place-edit_at : (w place a b : ℕ) → 0 < w → cell_place w (edit_at w place a b) ≡ place
-place-edit_at w place a b l = omega arith
+number-edit_at : (w number a b : ℕ) → 0 < w → cell_number w (edit_at w number a b) ≡ number
+number-edit_at w number a b l = omega arith
 
 -- The difference of xs and ys, put over one of the two, gives the other one: `from` and `to` are the two in either order.
 module _ (w : ℕ) (some : 0 < w) (side : Side) (xs ys from to : List ℕ) (sizes : length to ≡ length from)
@@ -64,13 +64,13 @@ module _ (w : ℕ) (some : 0 < w) (side : Side) (xs ys from to : List ℕ) (size
           → put_values w side (cond b [] (edit_at w k (get_or xs k 0) (get_or ys k 0) ∷ [])) (mixed k to from) ≡ mixed (suc k) to from
       by_test true e = mixed-same k to from sizes l (same k (grind (arith, nat_tests)))
       by_test false e =
-          ap (λ p. slice_set (mixed k to from) p (side_value side (edit_at w k (get_or xs k 0) (get_or ys k 0)))) (place-edit_at w k (get_or xs k 0) (get_or ys k 0) some)
+          ap (λ p. slice_set (mixed k to from) p (side_value side (edit_at w k (get_or xs k 0) (get_or ys k 0)))) (number-edit_at w k (get_or xs k 0) (get_or ys k 0) some)
           ∙ ap (slice_set (mixed k to from) k) (value k) ∙ mixed-set k to from sizes l
 
   put-first : (k : ℕ) → k ≤ length to → put_values w side (difference w xs ys k) from ≡ mixed k to from
   put-first zero l = sym (mixed-zero to from)
   put-first (suc k) l =
-      fold-append (λ vs e. slice_set vs (cell_place w e) (side_value side e)) from (difference w xs ys k) (change_at w k (get_or xs k 0) (get_or ys k 0))
+      fold-append (λ vs e. slice_set vs (cell_number w e) (side_value side e)) from (difference w xs ys k) (change_at w k (get_or xs k 0) (get_or ys k 0))
       ∙ ap (put_values w side (change_at w k (get_or xs k 0) (get_or ys k 0))) (put-first k (omega arith)) ∙ put-change_at k (omega arith)
 
   put-all : put_values w side (difference w xs ys (length to)) from ≡ to

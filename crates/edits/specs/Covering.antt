@@ -10,14 +10,14 @@ abbrev pub covered_value : Option ℕ → ℕ → ℕ
 covered_value None old = old
 covered_value (Some value) old = value
 
--- f of each value and its place, the first of which is this one
+-- f of each value and its number, the first of which is this one
 abbrev pub each_at : (ℕ → ℕ → ℕ) → ℕ → List ℕ → List ℕ
-each_at f place [] = []
-each_at f place (value ∷ values) = f place value ∷ each_at f (suc place) values
+each_at f number [] = []
+each_at f number (value ∷ values) = f number value ∷ each_at f (suc number) values
 
 -- the values of a layer of this width, each of which takes what lies over its column and row
 abbrev pub covered : ℕ → (ℕ → ℕ → Option ℕ) → List ℕ → List ℕ
-covered width over values = each_at (λ place old. covered_value (over (place % width) (place / width)) old) 0 values
+covered width over values = each_at (λ number old. covered_value (over (number % width) (number / width)) old) 0 values
 
 -- the map whose tile layer with the id takes what lies over it
 abbrev pub covered_map : ℕ → (ℕ → ℕ → Option ℕ) → MapParts → MapParts

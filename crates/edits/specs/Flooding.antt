@@ -1,6 +1,6 @@
 -- How a fill finds the cells that are joined to its start.
 --
--- Cells are seen by their places, row by row, 64 to a word. What is taken in a word waits, as a batch, until the cells beside it have been
+-- Cells are seen by their numbers, row by row, 64 to a word. What is taken in a word waits, as a batch, until the cells beside it have been
 -- looked at.
 use Rattle.std.specs.Prelude.{◌≡◌, ◌≢◌, ◌⊎◌, ℕ, ◌+◌, ◌*◌, ◌/◌, ◌%◌, ◌<◌, ◌≤◌, ◌^◌, List, [], ◌∷◌, zero, suc, Bool, true, false, not, ◌&&◌, nat_lt, length, slice_get, slice_index, Option, Some, None, if◌then◌else◌}
 use Rattle.std.specs.Int.{bit_at}
@@ -29,13 +29,13 @@ count test (suc n) = (if test n then 1 else 0) + count test n
 abbrev pub free_in : Ground → ℕ × ℕ → Bool
 free_in ground = is_free ground.width ground.tiles.now ground.selection.now ground.value
 
--- the cell at a place
+-- the cell with a number
 abbrev pub cell_of : Ground → ℕ → ℕ × ℕ
-cell_of ground place = (place % ground.width, place / ground.width)
+cell_of ground number = (number % ground.width, number / ground.width)
 
--- the same of the cell at a place
+-- the same of the cell with a number
 unfoldable pub free_at : Ground → ℕ → Bool
-free_at ground place = free_in ground (cell_of ground place)
+free_at ground number = free_in ground (cell_of ground number)
 
 abbrev pub start_of : Ground → ℕ × ℕ
 start_of ground = (ground.start.0, ground.start.1)
@@ -48,42 +48,42 @@ pub record IsGround (ground : Ground) : Type 0 where
   pub column : ground.start.0 < ground.width
   pub row : ground.start.1 < ground.height
 
--- the cell at a place is joined to the start
+-- the cell with a number is joined to the start
 unfoldable pub IsLed : Ground → ℕ → Type 0
-IsLed ground place = AreJoined (free_in ground) (start_of ground) (cell_of ground place)
+IsLed ground number = AreJoined (free_in ground) (start_of ground) (cell_of ground number)
 
--- two places side by side in a row
+-- the numbers of two cells side by side in a row
 abbrev pub AreSideBySide : Ground → ℕ → ℕ → Type 0
 AreSideBySide ground p r = ((r ≡ suc p) × (r % ground.width ≢ 0)) ⊎ ((p ≡ suc r) × (p % ground.width ≢ 0))
 
--- two places side by side, in one row or in one column
+-- the numbers of two cells side by side, in one row or in one column
 abbrev pub AreNear : Ground → ℕ → ℕ → Type 0
 AreNear ground p r = (r ≡ p + ground.width) ⊎ ((p ≡ r + ground.width) ⊎ AreSideBySide ground p r)
 
 -- ---- taken cells
--- whether a place is taken
+-- whether a number is taken
 unfoldable pub taken_at : Spread → ℕ → Bool
-taken_at s place = is_marked s.taken place && not (is_marked s.open place)
+taken_at s number = is_marked s.taken number && not (is_marked s.open number)
 
 -- whether a cell of the layer is taken
 unfoldable pub is_taken : Ground → Spread → ℕ × ℕ → Bool
 is_taken ground s q = nat_lt q.0 ground.width && taken_at s (q.1 * ground.width + q.0)
 
--- the place is that of a cell of the batch
+-- the number is that of a cell of the batch
 abbrev pub InBatch : Batch → ℕ → Type 0
-InBatch b place = (place / 64 ≡ b.word) × (bit_at b.bits (place % 64) ≡ 1)
+InBatch b number = (number / 64 ≡ b.word) × (bit_at b.bits (number % 64) ≡ 1)
 
--- the place is that of a cell of one of the batches
+-- the number is that of a cell of one of the batches
 abbrev pub Waits : List Batch → ℕ → Type 0
-Waits [] place = ⊥
-Waits (b ∷ bs) place = InBatch b place ⊎ Waits bs place
+Waits [] number = ⊥
+Waits (b ∷ bs) number = InBatch b number ⊎ Waits bs number
 
 -- a batch of taken cells of a word that there is
 pub record IsBatch (s : Spread) (b : Batch) : Type 0 where
   pub within : 64 * b.word < room s.open
   pub taken : (p : ℕ) → InBatch b p → taken_at s p ≡ true
 
--- what is known of a place, by whether it is open and whether it is taken: where it is both, only that it may be changed
+-- what is known of a number, by whether it is open and whether it is taken: where it is both, only that it may be changed
 abbrev pub Means : Ground → ℕ → Bool → Bool → Type 0
 Means ground p true true = free_at ground p ≡ is_value (slice_get ground.tiles.now p) ground.value
 Means ground p true false = free_at ground p ≡ true
@@ -96,7 +96,7 @@ pub record IsSound (ground : Ground) (s : Spread) : Type 0 where
   pub large : length ground.tiles.now < room s.open
   pub same_room : room s.taken ≡ room s.open
   pub small : room s.open < 2 ^ 32
-  pub places : (p : ℕ) → Means ground p (is_marked s.open p) (is_marked s.taken p)
+  pub numbers : (p : ℕ) → Means ground p (is_marked s.open p) (is_marked s.taken p)
   pub led : (p : ℕ) → taken_at s p ≡ true → IsLed ground p
   pub inner : (p r : ℕ) → taken_at s p ≡ true → p / 64 ≡ r / 64 → AreSideBySide ground p r → free_at ground r ≡ true → taken_at s r ≡ true
   pub pending : Each (IsBatch s) s.pending.items
@@ -109,7 +109,7 @@ pub record IsSound (ground : Ground) (s : Spread) : Type 0 where
 abbrev pub IsClosed : Ground → Spread → List Batch → Type 0
 IsClosed ground s waiting = (p r : ℕ) → taken_at s p ≡ true → AreNear ground p r → free_at ground r ≡ true → (taken_at s r ≡ true) ⊎ Waits waiting p
 
--- how much may be left to do: the places that are not taken, and the batches that wait
+-- how much may be left to do: the numbers that are not taken, and the batches that wait
 abbrev pub work_left : Ground → Spread → ℕ
 work_left ground s = count (λ k. not (taken_at s k)) (length ground.tiles.now) + length s.pending.items
 
@@ -134,13 +134,13 @@ pub record HasCell (width : ℕ) (tiles : List ℕ) (x y : ℕ) : Type 0 where
 abbrev pub taken_over : Ground → Spread → ℕ → ℕ → ℕ → Option ℕ
 taken_over ground s value x y = if is_taken ground s (x, y) then Some value else None
 
--- the changes of the taken cells in so many places of the layer, from the first
+-- the changes of the taken among so many cells of the layer, from the first
 abbrev pub changes_below : Ground → Spread → ℕ → ℕ → List CellEdit
 changes_below ground s value = difference ground.width ground.tiles.now (covered ground.width (taken_over ground s value) ground.tiles.now)
 
 -- the marks are those of the cells of the layer that the selection has
 abbrev pub AreSelected : ℕ → ℕ → set.FinSet cell_cmp → Marks → Type 0
-AreSelected width places selection marks = (x y : ℕ) → x < width → y * width + x < places → is_marked marks (y * width + x) ≡ set.contains selection (x, y)
+AreSelected width numbers selection marks = (x y : ℕ) → x < width → y * width + x < numbers → is_marked marks (y * width + x) ≡ set.contains selection (x, y)
 
 -- the marks are those of the cells of the layer that may be changed
 abbrev pub AreAllowed : Ground → Marks → Type 0

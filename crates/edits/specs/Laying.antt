@@ -1,10 +1,10 @@
--- The part of a tile layer that an edit reaches.
+-- The extent of an edit in a tile layer.
 use Rattle.std.specs.Prelude.{◌≡◌, ◌⊎◌, ℕ, ◌*◌, ◌<◌, ◌≤◌, List, [], ◌∷◌, nat_eq, Option, None, true, false, length, if◌then◌else◌}
 use Rattle.std.specs.FinSet as set
 use Rattle.region.specs.Cells.{cell_cmp}
 use Rattle.map_model.specs.declared.edit.CellEdit.{CellEdit}
 use Rattle.map_model.specs.declared.limits.TheConstants.{MAX_SIDE, MAX_CELLS}
-use Rattle.edits.specs.declared.reach.Reach.{Reach}
+use Rattle.edits.specs.declared.extent.Extent.{Extent}
 use Rattle.edits.specs.declared.span.Span.{Span}
 use Rattle.edits.specs.Covering.{covered, covered_value, lets_change, where_selected}
 use Rattle.map_model.specs.Difference.{difference}
@@ -19,7 +19,7 @@ pub record IsLayerOf (width : ℕ) (tiles : List ℕ) : Type 0 where
   pub few : length tiles ≤ MAX_CELLS
 
 -- the columns and rows are those of the layer that an edit may put something over
-pub record IsReach (over : ℕ → ℕ → Option ℕ) (r : Reach) : Type 0 where
+pub record IsExtent (over : ℕ → ℕ → Option ℕ) (r : Extent) : Type 0 where
   pub layer : IsLayerOf r.width r.tiles.now
   pub columns : r.columns.first ≤ r.columns.end
   pub columns_within : r.columns.end ≤ r.width
@@ -36,9 +36,9 @@ pub record AreNextColumns (selection : set.FinSet cell_cmp) (y from end : ℕ) (
   pub before : (x : ℕ) → from ≤ x → x < s.first → lets_change selection (x, y) ≡ false
   pub columns : (x : ℕ) → s.first ≤ x → x < s.end → lets_change selection (x, y) ≡ true
 
--- the changes in so many places of the layer, from the first
-abbrev pub changes_below : (ℕ → ℕ → Option ℕ) → Reach → ℕ → List CellEdit
-changes_below over r place = difference r.width r.tiles.now (covered r.width (where_selected r.selection.now over) r.tiles.now) place
+-- the changes in so many cells of the layer, from the first
+abbrev pub changes_below : (ℕ → ℕ → Option ℕ) → Extent → ℕ → List CellEdit
+changes_below over r number = difference r.width r.tiles.now (covered r.width (where_selected r.selection.now over) r.tiles.now) number
 
 -- the change of a cell that something, or nothing, lies over
 abbrev pub changed_to : ℕ → ℕ → ℕ → Option ℕ → List CellEdit

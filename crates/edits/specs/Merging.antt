@@ -29,16 +29,16 @@ JoinedIsDifference =
     (id : ℕ) (l m n : MapParts) → 0 < l.width → m.width ≡ l.width → m.height ≡ l.height
     → joined (difference_in id l m) (difference_in id m n) ≡ difference_in id l n
 
--- ---- places
--- the cell in front of the low place comes before the newer one, and the cell at the high place does not
-pub record ArePlacesAround (es : List CellEdit) (n : CellEdit) (low high : ℕ) : Type 0 where
+-- ---- numbers
+-- the cell in front of the low number comes before the newer one, and the cell at the high number does not
+pub record AreNumbersAround (es : List CellEdit) (n : CellEdit) (low high : ℕ) : Type 0 where
   pub order : low ≤ high
   pub within : high ≤ length es
-  pub front : 0 < low → cell_cmp (cell (slice_index_or es (low - 1) n)) (cell n) ≡ Less
+  pub prefix : 0 < low → cell_cmp (cell (slice_index_or es (low - 1) n)) (cell n) ≡ Less
   pub back : high < length es → cell_cmp (cell (slice_index_or es high n)) (cell n) ≡ Less → ⊥
 
--- the first place of which the cell does not come before the newer one
-pub record IsPlaceOf (es : List CellEdit) (n : CellEdit) (place : ℕ) : Type 0 where
-  pub within : place ≤ length es
-  pub front : (k : ℕ) → k < place → cell_cmp (cell (slice_index_or es k n)) (cell n) ≡ Less
-  pub back : place < length es → cell_cmp (cell (slice_index_or es place n)) (cell n) ≡ Less → ⊥
+-- the first number of which the cell does not come before the newer one
+pub record IsNumberOf (es : List CellEdit) (n : CellEdit) (number : ℕ) : Type 0 where
+  pub within : number ≤ length es
+  pub prefix : (k : ℕ) → k < number → cell_cmp (cell (slice_index_or es k n)) (cell n) ≡ Less
+  pub back : number < length es → cell_cmp (cell (slice_index_or es number n)) (cell n) ≡ Less → ⊥

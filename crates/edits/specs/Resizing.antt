@@ -105,7 +105,7 @@ after_resize d width height dx dy = do
 
 -- ---- a row of a block
 -- the values are those of the block in a row of the map, from a column on; before and behind them the block has 0 or does not lie
-pub record IsRowPart (block : ValueBlock) (width y first : ℕ) (values : List ℕ) : Type 0 where
+pub record IsRowStretch (block : ValueBlock) (width y first : ℕ) (values : List ℕ) : Type 0 where
   pub within : first + length values ≤ width
   pub before : (x : ℕ) → x < first → value_at block x y ≡ 0
   pub under : (k : ℕ) → k < length values → value_at block (first + k) y ≡ slice_index_or values k 0

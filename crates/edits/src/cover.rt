@@ -41,8 +41,8 @@ impl Block<'_> {
         if right >= self.width {
             return None;
         }
-        let place = down as usize * self.width as usize + right as usize;
-        self.values.get(place).copied()
+        let number = down as usize * self.width as usize + right as usize;
+        self.values.get(number).copied()
     }
 }
 

@@ -5,8 +5,8 @@ ghost use Rattle.edits.specs.Stamping.{after_erase};
 
 use crate::area::Area;
 use crate::change::CellChange;
+use crate::extent::Extent;
 use crate::layer::tiles_of_layer;
-use crate::reach::Reach;
 use crate::span::Span;
 use command_api::EditFault;
 use map_model::Document;
@@ -29,12 +29,12 @@ pub fn erase_change(
     let map = document.map();
     let tiles = tiles_of_layer(map, layer)?;
     let parts = map.parts();
-    let reach = Reach {
+    let extent = Extent {
         tiles,
         width: parts.width,
         columns: Span::new(area.x, area.width, parts.width),
         rows: Span::new(area.y, area.height, parts.height),
         selection: document.selection(),
     };
-    reach.change(alloc, layer, area)
+    extent.change(alloc, layer, area)
 }

@@ -9,14 +9,14 @@ use crate::ground::Ground;
 use crate::marks::Marks;
 use std::alloc::{AllocError, Global};
 
-/// Cells of a word: bit i stands for its place i.
+/// Cells of a word: bit i stands for its number i.
 #[derive(Clone, Copy)]
 pub(crate) struct Batch {
     pub word: usize,
     pub bits: u64,
 }
 
-/// How far a fill is, with two bits for each place: one that is open is free and not taken yet, and one that is taken is no longer open. One
+/// How far a fill is, with two bits for each cell: one that is open is free and not taken yet, and one that is taken is no longer open. One
 /// with both bits may be changed, and its value was not looked at.
 ///
 /// The taken cells are so many, modulo 2^64, and lie in the words from the first to before the end. The neighbours of those in the pending
@@ -194,8 +194,8 @@ impl Spread {
         ensures start { OnOk result (free_in ground.now (start_of ground.now) ≡ true → is_taken ground.now self.new (start_of ground.now) ≡ true) }
     {
         let (x, y) = ground.start;
-        let place = y as usize * ground.width as usize + x as usize;
-        self.reach(ground, place / 64, 1 << (place % 64))?;
+        let number = y as usize * ground.width as usize + x as usize;
+        self.reach(ground, number / 64, 1 << (number % 64))?;
         Ok(())
     }
 
@@ -220,7 +220,7 @@ impl Spread {
         ensures sound { IfOk result (IsSound ground.now) }
         ensures cells { IfOk result (λ spread. (q : ℕ × ℕ) → (is_taken ground.now spread q ≡ true) ↔ AreJoined (free_in ground.now) (start_of ground.now) q) }
     {
-        let open = ground.allowed_places(alloc)?;
+        let open = ground.allowed_numbers(alloc)?;
         let mut spread = Spread {
             taken: open.copied(alloc)?,
             count: 0,
@@ -234,15 +234,15 @@ impl Spread {
         Ok(spread)
     }
 
-    /// The taken places from one on and before a stop, in one word: bit i stands for the place i further on.
-    pub(crate) fn taken_bits(&self, place: usize, stop: usize) -> u64
-        requires some { place < stop }
-        requires word { (stop - 1) / 64 ≡ place / 64 }
+    /// The taken numbers from one on and before a stop, in one word: bit i stands for the number i further on.
+    pub(crate) fn taken_bits(&self, number: usize, stop: usize) -> u64
+        requires some { number < stop }
+        requires word { (stop - 1) / 64 ≡ number / 64 }
         requires open { stop ≤ room self.now.open }
         requires taken { stop ≤ room self.now.taken }
-        ensures { (i : ℕ) → i < 64 → nat_eq (bit_at result i) 1 ≡ (nat_lt (place + i) stop && taken_at self.now (place + i)) }
+        ensures { (i : ℕ) → i < 64 → nat_eq (bit_at result i) 1 ≡ (nat_lt (number + i) stop && taken_at self.now (number + i)) }
     {
-        let word = self.taken.word(place / 64) & !self.open.word(place / 64);
-        (word >> (place % 64)) & (u64::MAX >> (64 - (stop - place)))
+        let word = self.taken.word(number / 64) & !self.open.word(number / 64);
+        (word >> (number % 64)) & (u64::MAX >> (64 - (stop - number)))
     }
 }

@@ -23,8 +23,8 @@ pub(crate) struct Ground<'a> {
     pub selection: &'a Region,
 }
 
-// Marks of the places of the cells that are selected.
-fn selected_places(
+// Marks of the numbers of the cells that are selected.
+fn selected_numbers(
     alloc: Global,
     selection: &Region,
     width: u32,
@@ -81,8 +81,8 @@ impl<'a> Ground<'a> {
 }
 
 impl Ground<'_> {
-    /// Marks of the places that may be changed.
-    pub(crate) fn allowed_places(&self, alloc: Global) -> Result<Marks, AllocError>
+    /// Marks of the numbers that may be changed.
+    pub(crate) fn allowed_numbers(&self, alloc: Global) -> Result<Marks, AllocError>
         requires { IsGround self.now }
         ensures room { IfOk result (λ marks. room marks ≡ 64 * (length self.now.tiles.now / 64 + 1)) }
         ensures cells { IfOk result (AreAllowed self.now) }
@@ -90,11 +90,11 @@ impl Ground<'_> {
         if self.selection.is_empty() {
             Marks::all(alloc, self.tiles.len())
         } else {
-            selected_places(alloc, self.selection, self.width, self.height)
+            selected_numbers(alloc, self.selection, self.width, self.height)
         }
     }
 
-    // Which of the 64 places from one on have the fill's value: bit i stands for the place i further on. The layer has them all.
+    // Which of the 64 numbers from one on have the fill's value: bit i stands for the number i further on. The layer has them all.
     fn equal_in_whole(&self, first: usize) -> u64
         requires { first + 64 ≤ length self.now.tiles.now }
         ensures { (i : ℕ) → i < 64 → nat_eq (bit_at result i) 1 ≡ is_value (slice_get self.now.tiles.now (first + i)) self.now.value }
@@ -120,7 +120,7 @@ impl Ground<'_> {
         bits
     }
 
-    /// The places of a word whose values are the fill's: bit i stands for its place i.
+    /// The numbers of a word whose values are the fill's: bit i stands for its number i.
     #[inline(never)]
     pub(crate) fn equal_bits(&self, word: usize) -> u64
         requires { word < 2 ^ 32 }
@@ -134,7 +134,7 @@ impl Ground<'_> {
         }
     }
 
-    // The places of a word in which a row begins.
+    // The numbers of a word in which a row begins.
     fn row_starts(&self, word: usize) -> u64
         requires ground { IsGround self.now }
         requires within { word < 2 ^ 32 }
@@ -142,11 +142,11 @@ impl Ground<'_> {
     {
         let width = self.width as usize;
         let past = word * 64 % width;
-        let mut place = if past == 0 { 0 } else { width - past };
+        let mut number = if past == 0 { 0 } else { width - past };
         let mut starts = 0;
-        while place < 64 {
-            starts |= 1u64 << place;
-            place += width;
+        while number < 64 {
+            starts |= 1u64 << number;
+            number += width;
         }
         starts
     }

@@ -2,7 +2,7 @@
 ghost use Rattle.std.specs.Prelude.{◌≡◌, ◌*◌, ◌++◌, ◌<◌, ◌≤◌, IfOk, OnOk, length};
 ghost use Rattle.map_model.specs.declared.limits.TheConstants.{MAX_SIDE};
 ghost use Rattle.edits.specs.Blocks.{block_of, IsSpan};
-ghost use Rattle.edits.specs.Resizing.{row, table, value_at, IsRowPart};
+ghost use Rattle.edits.specs.Resizing.{row, table, value_at, IsRowStretch};
 
 use crate::block::Block;
 use crate::cover::offset;
@@ -12,12 +12,12 @@ use std::alloc::{AllocError, Global};
 use tile_id::Gid;
 
 // The values of a block of so many rows in a row of the map, in the columns under it.
-fn row_part<'a>(block: &Block<'a>, rows: u32, columns: Span, width: u32, y: u32) -> &'a [Gid]
+fn row_stretch<'a>(block: &Block<'a>, rows: u32, columns: Span, width: u32, y: u32) -> &'a [Gid]
     requires columns { IsSpan block.now.x block.now.width width columns }
     requires whole { length block.now.values.now ≡ rows * block.now.width }
     requires width { width ≤ MAX_SIDE }
     requires row { y < MAX_SIDE }
-    ensures { IsRowPart (block_of block.now) width y columns.first result.now }
+    ensures { IsRowStretch (block_of block.now) width y columns.first result.now }
 {
     let none = &block.values[..0];
     if columns.first >= columns.end {
@@ -53,7 +53,7 @@ fn push_row(
 {
     let start = cells.len();
     cells.resize(start + columns.first as usize, Gid(0))?;
-    cells.extend_from_slice(row_part(block, rows, columns, width, y))?;
+    cells.extend_from_slice(row_stretch(block, rows, columns, width, y))?;
     cells.resize(start + width as usize, Gid(0))
 }
 

@@ -1,4 +1,4 @@
-// Marks on the places of a layer, a bit each.
+// Marks on the cells of a layer by their numbers, a bit each.
 ghost use Rattle.std.specs.Prelude.{◌≡◌, ℕ, ◌+◌, ◌*◌, ◌/◌, ◌%◌, ◌<◌, ◌≤◌, ◌^◌, ◌||◌, IfOk, true, false, nat_eq, if◌then◌else◌};
 ghost use Rattle.std.specs.Int.{bit_at};
 ghost use Rattle.edits.specs.Marks.{is_marked, room, is_between};
@@ -21,25 +21,25 @@ fn bits_between(first: u32, last: u32) -> u64
 }
 
 impl Marks {
-    /// So many places or more, none of which is marked.
-    pub(crate) fn new(alloc: Global, places: usize) -> Result<Marks, AllocError>
-        requires { places < 2 ^ 32 }
-        ensures room { IfOk result (λ marks. room marks ≡ 64 * (places / 64 + 1)) }
+    /// Room for so many numbers or more, none of which is marked.
+    pub(crate) fn new(alloc: Global, numbers: usize) -> Result<Marks, AllocError>
+        requires { numbers < 2 ^ 32 }
+        ensures room { IfOk result (λ marks. room marks ≡ 64 * (numbers / 64 + 1)) }
         ensures none { IfOk result (λ marks. (k : ℕ) → is_marked marks k ≡ false) }
     {
         let mut words = Vec::new(alloc);
-        words.resize(places / 64 + 1, 0)?;
+        words.resize(numbers / 64 + 1, 0)?;
         Ok(Marks { words })
     }
 
-    /// So many places or more, all of which are marked.
-    pub(crate) fn all(alloc: Global, places: usize) -> Result<Marks, AllocError>
-        requires { places < 2 ^ 32 }
-        ensures room { IfOk result (λ marks. room marks ≡ 64 * (places / 64 + 1)) }
+    /// Room for so many numbers or more, all of which are marked.
+    pub(crate) fn all(alloc: Global, numbers: usize) -> Result<Marks, AllocError>
+        requires { numbers < 2 ^ 32 }
+        ensures room { IfOk result (λ marks. room marks ≡ 64 * (numbers / 64 + 1)) }
         ensures all { IfOk result (λ marks. (k : ℕ) → k < room marks → is_marked marks k ≡ true) }
     {
         let mut words = Vec::new(alloc);
-        words.resize(places / 64 + 1, u64::MAX)?;
+        words.resize(numbers / 64 + 1, u64::MAX)?;
         Ok(Marks { words })
     }
 
@@ -52,14 +52,14 @@ impl Marks {
         Ok(Marks { words })
     }
 
-    /// How many words there are, each with the marks of 64 places.
+    /// How many words there are, each with the marks of 64 numbers.
     pub(crate) fn words(&self) -> usize
         ensures { 64 * result ≡ room self.now }
     {
         self.words.len()
     }
 
-    /// The marks of a word: bit i stands for its place i.
+    /// The marks of a word: bit i stands for its number i.
     pub(crate) fn word(&self, word: usize) -> u64
         requires { 64 * word < room self.now }
         ensures { (i : ℕ) → i < 64 → nat_eq (bit_at result i) 1 ≡ is_marked self.now (64 * word + i) }
@@ -76,16 +76,16 @@ impl Marks {
         self.words[word] = bits;
     }
 
-    /// Marks a place.
-    pub(crate) fn mark_one(&mut self, place: usize)
-        requires { place < room self.old }
-        ensures marks { (k : ℕ) → is_marked self.new k ≡ (is_marked self.old k || is_between place (place + 1) k) }
+    /// Marks a number.
+    pub(crate) fn mark_one(&mut self, number: usize)
+        requires { number < room self.old }
+        ensures marks { (k : ℕ) → is_marked self.new k ≡ (is_marked self.old k || is_between number (number + 1) k) }
         ensures room { room self.new ≡ room self.old }
     {
-        self.words[place / 64] |= 1u64 << (place % 64);
+        self.words[number / 64] |= 1u64 << (number % 64);
     }
 
-    /// Marks the places from the first to before the end.
+    /// Marks the numbers from the first to before the end.
     pub(crate) fn mark(&mut self, first: usize, end: usize)
         requires some { first < end }
         requires within { end ≤ room self.old }

@@ -4,7 +4,7 @@ ghost use Rattle.std.specs.Ordering.{is_eq, is_lt};
 ghost use Rattle.std.specs.Vec.{vec_capacity, vec_len};
 ghost use Rattle.region.specs.Cells.{cell_cmp};
 ghost use Rattle.map_model.specs.CellEdits.{AreInRowOrder, cell};
-ghost use Rattle.edits.specs.Merging.{ArePlacesAround, IsPlaceOf, JoinedIsDifference, joined, joined_cell};
+ghost use Rattle.edits.specs.Merging.{AreNumbersAround, IsNumberOf, JoinedIsDifference, joined, joined_cell};
 
 use map_model::CellEdit;
 use std::alloc::{AllocError, Global};
@@ -23,11 +23,11 @@ fn is_same_cell(a: &CellEdit, b: &CellEdit) -> bool
     a.y == b.y && a.x == b.x
 }
 
-// Two places around the first one of which the cell does not come before the newer one. The search goes first as far as
+// Two numbers around the first one of which the cell does not come before the newer one. The search goes first as far as
 // the last jump went, since rows repeat, and from there on by steps that double.
 #[inline(always)]
-fn places_around(older: &[CellEdit], jump: usize, newer: &CellEdit) -> (usize, usize)
-    ensures { ArePlacesAround older.now newer.now result.0 result.1 }
+fn numbers_around(older: &[CellEdit], jump: usize, newer: &CellEdit) -> (usize, usize)
+    ensures { AreNumbersAround older.now newer.now result.0 result.1 }
 {
     let mut low = 0;
     let mut step = jump.max(1);
@@ -40,13 +40,13 @@ fn places_around(older: &[CellEdit], jump: usize, newer: &CellEdit) -> (usize, u
     (low, low + (step - 1).min(older.len() - low))
 }
 
-// The first place of which the cell does not come before the newer one. The search goes by halves, between two places
+// The first number of which the cell does not come before the newer one. The search goes by halves, between two numbers
 // around it.
 #[inline(always)]
-fn place_between(older: &[CellEdit], mut low: usize, mut high: usize, newer: &CellEdit) -> usize
+fn number_between(older: &[CellEdit], mut low: usize, mut high: usize, newer: &CellEdit) -> usize
     requires ordered { AreInRowOrder older.now }
-    requires around { ArePlacesAround older.now newer.now low high }
-    ensures { IsPlaceOf older.now newer.now result }
+    requires around { AreNumbersAround older.now newer.now low high }
+    ensures { IsNumberOf older.now newer.now result }
 {
     while low < high {
         let middle = low + (high - low) / 2;
@@ -59,14 +59,14 @@ fn place_between(older: &[CellEdit], mut low: usize, mut high: usize, newer: &Ce
     low
 }
 
-// The first place of which the cell does not come before the newer one.
+// The first number of which the cell does not come before the newer one.
 #[inline(never)]
-fn place_of(older: &[CellEdit], jump: usize, newer: &CellEdit) -> usize
+fn number_of(older: &[CellEdit], jump: usize, newer: &CellEdit) -> usize
     requires { AreInRowOrder older.now }
-    ensures { IsPlaceOf older.now newer.now result }
+    ensures { IsNumberOf older.now newer.now result }
 {
-    let (low, high) = places_around(older, jump, newer);
-    place_between(older, low, high, newer)
+    let (low, high) = numbers_around(older, jump, newer);
+    number_between(older, low, high, newer)
 }
 
 // Adds a stretch of cells. It stands apart, as the search does, so that the loop around them stays small.
@@ -111,9 +111,9 @@ pub fn joined_cells(
     let mut jump = older.len();
     for cell in newer {
         if !rest.is_empty() && comes_before(&rest[0], cell) {
-            let (front, behind) = rest.split_at(place_of(rest, jump, cell));
-            push_stretch(&mut cells, front)?;
-            jump = front.len();
+            let (prefix, behind) = rest.split_at(number_of(rest, jump, cell));
+            push_stretch(&mut cells, prefix)?;
+            jump = prefix.len();
             rest = behind;
         }
         if !rest.is_empty() && is_same_cell(&rest[0], cell) {

@@ -6,8 +6,8 @@ ghost use Rattle.edits.specs.Stamping.{IsBlock, after_stamp};
 
 use crate::block::Block;
 use crate::change::CellChange;
+use crate::extent::Extent;
 use crate::layer::{are_known_values, tiles_of_layer};
-use crate::reach::Reach;
 use crate::span::Span;
 use command_api::EditFault;
 use map_model::Document;
@@ -35,12 +35,12 @@ pub fn stamp_change(
     }
     let parts = map.parts();
     let height = (block.values.len() / block.width as usize) as u32;
-    let reach = Reach {
+    let extent = Extent {
         tiles,
         width: parts.width,
         columns: Span::new(block.x, block.width, parts.width),
         rows: Span::new(block.y, height, parts.height),
         selection: document.selection(),
     };
-    reach.change(alloc, layer, block)
+    extent.change(alloc, layer, block)
 }

@@ -11,10 +11,10 @@ came_given old more None after n h l e = tt
 came_given old more (Some xs) None n h l e = e
 came_given old more (Some xs) (Some ys) n h l e = (old, more, h, l, ap (λ zs. old ++ zs) e)
 
-pub came_kept : (old : List ℕ) (before after : Option (List ℕ)) → HasNoNewline old → Keeps before after → CameWithLast (prepend_known old before) after 0
-came_kept old None after h e = tt
-came_kept old (Some xs) None h e = e
-came_kept old (Some xs) (Some ys) h e = (old, [], h, refl, ap (λ zs. old ++ zs) (sym e))
+pub came_keeps : (old : List ℕ) (before after : Option (List ℕ)) → HasNoNewline old → Keeps before after → CameWithLast (prepend_known old before) after 0
+came_keeps old None after h e = tt
+came_keeps old (Some xs) None h e = e
+came_keeps old (Some xs) (Some ys) h e = (old, [], h, refl, ap (λ zs. old ++ zs) (sym e))
 
 came_behind : (before mid after : Option (List ℕ)) (n : ℕ) → StopsInLine before mid → CameWithLast mid after n → CameWithLast before after n
 came_behind None mid after n s c = tt

@@ -36,10 +36,10 @@ cut_all (line ∷ lines) last h k =
 pub lines_are_cut : LinesAreCut
 lines_are_cut lines last h k = cut_all lines last (recursion_from_All HasNoNewline lines h) k
 
-reaches : (p first ys zs : List ℕ) → AllByRecursion IsOther p → p ++ ys ≡ first ++ 10 ∷ zs → length p ≤ length first
-reaches [] first ys zs h e = omega arith
-reaches (b ∷ p) [] ys zs h e = absurd (h.0 cc)
-reaches (b ∷ p) (c ∷ first) ys zs h e = let tail : p ++ ys ≡ first ++ 10 ∷ zs = cc in let r = reaches p first ys zs h.1 tail in omega arith
+ends_within : (p first ys zs : List ℕ) → AllByRecursion IsOther p → p ++ ys ≡ first ++ 10 ∷ zs → length p ≤ length first
+ends_within [] first ys zs h e = omega arith
+ends_within (b ∷ p) [] ys zs h e = absurd (h.0 cc)
+ends_within (b ∷ p) (c ∷ first) ys zs h e = let tail : p ++ ys ≡ first ++ 10 ∷ zs = cc in let r = ends_within p first ys zs h.1 tail in omega arith
 
 -- a fact that holds anyway holds at an error
 pub on_err : {T E P : Type 0} (r : Result T E) → P → OnErr r P
@@ -65,8 +65,8 @@ pub finds_short : (before k : Option (List ℕ)) (p line q : List ℕ) → SameI
 finds_short None k p line q h e n l = tt
 finds_short (Some xs) None p line q h e n l = h
 finds_short (Some xs) (Some ys) p line q h e n l =
-    let parts : xs ≡ line ++ 10 ∷ (q ++ ys) = h ∙ ap (λ (zs : List ℕ). zs ++ ys) e ∙ append_assoc line (10 ∷ q) ys in
-    (ap lines_of parts ∙ starts line (q ++ ys) (recursion_from_All IsOther line n), l)
+    let split_is : xs ≡ line ++ 10 ∷ (q ++ ys) = h ∙ ap (λ (zs : List ℕ). zs ++ ys) e ∙ append_assoc line (10 ∷ q) ys in
+    (ap lines_of split_is ∙ starts line (q ++ ys) (recursion_from_All IsOther line n), l)
 
 pub finds_long : (before k after : Option (List ℕ)) (p line : List ℕ) → SameInput before (prepend_known p k) → HasNoNewline p → length p ≡ 2 ^ 16 → SkipsLine (prepend_known p k) after → FindsLine before after (Some TooLong) line
 finds_long None k after p line h n l s = tt
@@ -78,7 +78,7 @@ finds_long (Some xs) (Some ys) (Some zs) p line h n l s =
       | inl w ↦
           let size : 2 ^ 16 ≤ length s.0 = omega (arith, l, length-append p ys, ap length w.0) in
           (ap lines_of (h ∙ w.0) ∙ ends s.0 none (omega arith) ∙ ap (λ (ws : List ℕ). s.0 ∷ lines_of ws) (sym w.1), size)
-      | inr e ↦ (ap lines_of (h ∙ e) ∙ starts s.0 zs none, omega (arith, l, reaches p s.0 ys zs (recursion_from_All IsOther p n) e))
+      | inr e ↦ (ap lines_of (h ∙ e) ∙ starts s.0 zs none, omega (arith, l, ends_within p s.0 ys zs (recursion_from_All IsOther p n) e))
     ] in
     (s.0, found.0, found.1)
 

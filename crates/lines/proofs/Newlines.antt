@@ -1,4 +1,4 @@
--- The place of the first newline.
+-- The offset of the first newline.
 use Rattle.std.proofs.Common.{◌≡◌, ℕ, ◌+◌, ◌<◌, ◌≤◌, eqb, cond, not, List, ◌∷◌, ◌++◌, length, take, drop, get_or, sym, ap, ◌∙◌, arith}
 use Rattle.std.specs.List.{before_first, after_first}
 use Rattle.std.proofs.lemmas.Bool.{ne_eqb, eq-eqb, eqb-true, eqb-false, false_from_ne_true}
@@ -34,10 +34,10 @@ first_is bs n h = let low = h.0.high in sym (position_or_len_is (λ b. eqb b 10)
 pub first_is_none : (bs : List ℕ) → Nowhere (Passes (is_byte 10) bs) 0 (length bs) → length bs ≡ first_newline bs
 first_is_none bs h = sym (position_or_len_is (λ b. eqb b 10) bs (length bs) 0 (omega arith) (λ k l. false_from_ne_true _ (h k (omega arith) l)) (λ l. absurd (omega (arith, l))))
 
--- the newline's place in a part that begins at s: behind it, where it has none
-pub first_moved : (part old : List ℕ) (s i : ℕ) → part ≡ old → HasNoNewline old → length old ≡ i → s + i ≡ s + first_newline part
-first_moved part old s i e h l = omega (arith, ap first_newline e, first_of_none old h, l)
+-- the newline's offset in a range that begins at s: behind it, where it has none
+pub first_moved : (range old : List ℕ) (s i : ℕ) → range ≡ old → HasNoNewline old → length old ≡ i → s + i ≡ s + first_newline range
+first_moved range old s i e h l = omega (arith, ap first_newline e, first_of_none old h, l)
 
 -- and among the bytes that came behind it
-pub first_filled : (part old more : List ℕ) (s i n : ℕ) → part ≡ old ++ more → HasNoNewline old → length old ≡ i → n ≡ first_newline more → s + i + n ≡ s + first_newline part
-first_filled part old more s i n e h l k = omega (arith, ap first_newline e, first-append old more h, l, k)
+pub first_filled : (range old more : List ℕ) (s i n : ℕ) → range ≡ old ++ more → HasNoNewline old → length old ≡ i → n ≡ first_newline more → s + i + n ≡ s + first_newline range
+first_filled range old more s i n e h l k = omega (arith, ap first_newline e, first-append old more h, l, k)

@@ -19,7 +19,7 @@ lines_of (b ∷ bytes) = cond (b == 10) ([] ∷ lines_of bytes) (onto_first b (l
 abbrev pub HasNoNewline : List ℕ → Type 0
 HasNoNewline bytes = All (λ b. b ≢ 10) bytes
 
--- the place of the first newline, or the length where there is none
+-- the offset of the first newline, or the length where there is none
 abbrev pub first_newline : List ℕ → ℕ
 first_newline bytes = position_or_len (λ b. b == 10) bytes
 
@@ -86,7 +86,7 @@ SkipsLine (Some xs) None = ⊥
 SkipsLine (Some xs) (Some ys) =
     (first : List ℕ) × HasNoNewline first × ((xs ≡ first) × (ys ≡ []) ⊎ (xs ≡ first ++ 10 ∷ ys))
 
--- what is left is the input but for a first part of its first line, which is gone
+-- what is left is the input but for a beginning of its first line, which is gone
 abbrev pub StopsInLine : Option (List ℕ) → Option (List ℕ) → Type 0
 StopsInLine None left = ⊤
 StopsInLine (Some xs) None = ⊥

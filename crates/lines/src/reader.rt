@@ -35,7 +35,7 @@ pub struct LineReader {
     end: usize,
     line_start: usize,
     line_end: usize,
-    // The place of the first newline that is pending, or the end.
+    // The offset of the first newline that is pending, or the end.
     newline: usize,
     calls: u64,
     // What the last call of `read` gave: so many bytes, or none where it failed.
@@ -59,9 +59,9 @@ impl Model for LineReader {
         × (r.newline ≡ r.start + first_newline (slice_range r.buffer.items r.start r.end)) };
 }
 
-/// The place of the first newline, or the length where there is none.
+/// The offset of the first newline, or the length where there is none.
 fn newline_at(bytes: &[u8]) -> usize
-    ensures place { result ≡ first_newline bytes.now }
+    ensures offset { result ≡ first_newline bytes.now }
     ensures within { result ≤ length bytes.now }
 {
     match memchr(b'\n', bytes) {
@@ -70,7 +70,7 @@ fn newline_at(bytes: &[u8]) -> usize
     }
 }
 
-/// Makes room behind a part: moves it to the front where it is empty, or ends where the bytes end. Gives its place.
+/// Makes room behind a range: moves it to the start where it is empty, or ends where the bytes end. Gives its offset.
 fn make_room(bytes: &mut [u8], start: usize, end: usize) -> usize
     requires order { start ≤ end }
     requires within { end ≤ length bytes.old }
@@ -85,23 +85,23 @@ fn make_room(bytes: &mut [u8], start: usize, end: usize) -> usize
     0
 }
 
-/// Calls `read` once, for what lies behind a place.
-fn read_behind<R: Read>(reader: &mut R, bytes: &mut [u8], place: usize) -> Result<usize, ReadFault>
-    requires { place < length bytes.old }
-    ensures within { IfOk result (λ n. place + n ≤ length bytes.old) }
-    ensures front { take place bytes.new ≡ take place bytes.old }
+/// Calls `read` once, for what lies behind an offset.
+fn read_behind<R: Read>(reader: &mut R, bytes: &mut [u8], offset: usize) -> Result<usize, ReadFault>
+    requires { offset < length bytes.old }
+    ensures within { IfOk result (λ n. offset + n ≤ length bytes.old) }
+    ensures prefix { take offset bytes.new ≡ take offset bytes.old }
     ensures ok { IfOk result (λ n. Consumes (R.remaining reader.old) (R.remaining reader.new)
-        (slice_range bytes.new place (place + n))) }
+        (slice_range bytes.new offset (offset + n))) }
     ensures ended { IfOk result (λ n. n ≡ 0 → IsAtEnd (R.remaining reader.new)) }
     ensures err { OnErr result (Keeps (R.remaining reader.old) (R.remaining reader.new)) }
 {
-    match reader.read(&mut bytes[place..]) {
+    match reader.read(&mut bytes[offset..]) {
         Ok(n) => Ok(n),
         Err(_) => Err(ReadFault),
     }
 }
 
-/// Makes room behind a part, and calls `read` once for what lies there. Gives the part's place, too.
+/// Makes room behind a range, and calls `read` once for what lies there. Gives the range's offset, too.
 fn refill<R: Read>(
     reader: &mut R,
     bytes: &mut [u8],
@@ -119,9 +119,9 @@ fn refill<R: Read>(
     ensures ended { IfOk result.1 (λ n. n ≡ 0 → IsAtEnd (R.remaining reader.new)) }
     ensures err { OnErr result.1 (Keeps (R.remaining reader.old) (R.remaining reader.new)) }
 {
-    let place = make_room(bytes, start, end);
-    let read = read_behind(reader, bytes, place + (end - start));
-    (place, read)
+    let offset = make_room(bytes, start, end);
+    let read = read_behind(reader, bytes, offset + (end - start));
+    (offset, read)
 }
 
 impl LineReader {
@@ -180,8 +180,8 @@ impl LineReader {
         // A fault comes only where a call of `read` failed, or at the bound.
         ensures fault { OnErr result (self.new.calls < 2 ^ 32 → HasFailed self.old self.new) }
 
-        // It comes within a line: no whole line is kept, and at most a first part of the line is gone.
-        ensures kept { OnErr result (HasNoNewline self.new.pending) }
+        // It comes within a line: no whole line is held, and at most a beginning of the line is gone.
+        ensures within_line { OnErr result (HasNoNewline self.new.pending) }
         ensures unfinished { OnErr result (StopsInLine (input_left self.old (R.remaining reader.old))
             (input_left self.new (R.remaining reader.new))) }
     {
@@ -256,7 +256,7 @@ impl LineReader {
         ensures err { OnErr result (self.new.ended ≡ self.old.ended) }
         ensures asks { AsksInNeed self.old (R.remaining reader.old) self.new (R.remaining reader.new) }
         ensures untouched { self.new.calls ≡ self.old.calls → reader.new ≡ reader.old }
-        ensures kept { OnErr result (HasNoNewline self.new.pending) }
+        ensures within_line { OnErr result (HasNoNewline self.new.pending) }
         ensures fault { OnErr result (self.new.calls < 2 ^ 32 → HasFailed self.old self.new) }
     {
         if self.calls >= MAX_CALLS {
@@ -312,7 +312,7 @@ impl LineReader {
         ensures asks { AsksInNeed self.old (R.remaining reader.old) self.new (R.remaining reader.new) }
         ensures untouched { self.new.calls ≡ self.old.calls → reader.new ≡ reader.old }
         ensures fault { OnErr result (self.new.calls < 2 ^ 32 → HasFailed self.old self.new) }
-        ensures kept { OnErr result (HasNoNewline self.new.pending) }
+        ensures within_line { OnErr result (HasNoNewline self.new.pending) }
         ensures unfinished { OnErr result (StopsInLine (input_left self.old (R.remaining reader.old))
             (input_left self.new (R.remaining reader.new))) }
     {
@@ -338,7 +338,7 @@ impl LineReader {
         ensures asks { AsksInNeed self.old (R.remaining reader.old) self.new (R.remaining reader.new) }
         ensures untouched { self.new.calls ≡ self.old.calls → reader.new ≡ reader.old }
         ensures fault { OnErr result (self.new.calls < 2 ^ 32 → HasFailed self.old self.new) }
-        ensures kept { OnErr result (HasNoNewline self.new.pending) }
+        ensures within_line { OnErr result (HasNoNewline self.new.pending) }
         ensures unfinished { OnErr result (StopsInLine (input_left self.old (R.remaining reader.old))
             (input_left self.new (R.remaining reader.new))) }
     {

@@ -8,7 +8,7 @@ use Rattle.serde_json.specs.Data.{Data, array}
 use Rattle.serde_json.specs.Events.{items_len}
 use Rattle.map_json.specs.declared.fault.MapRefusal.{MapRefusal}
 use Rattle.map_json.specs.Scalars.{whole_at}
-use Rattle.map_json.specs.Entries.{each, entries_at}
+use Rattle.map_json.specs.Elements.{each, elements_at}
 use Rattle.map_json.specs.Cells.{cell_of, cells_of, words_of}
 use Rattle.map_json.specs.Trees.{items_by, whole_tree, bytes_of}
 
@@ -25,8 +25,8 @@ module _ {A : Type 0} (tree : A → Data) (read : Data → Result A MapRefusal) 
   each_again [] h = refl
   each_again (x ∷ xs) h = rw (h.0, each_again xs h.1) refl
 
-  pub entries_again : (most : ℕ) (xs : List A) → length xs ≤ most → Each (λ x. read (tree x) ≡ Ok x) xs → entries_at most read (array (items_by tree xs)) ≡ Ok xs
-  entries_again most xs few h =
+  pub elements_again : (most : ℕ) (xs : List A) → length xs ≤ most → Each (λ x. read (tree x) ≡ Ok x) xs → elements_at most read (array (items_by tree xs)) ≡ Ok xs
+  elements_again most xs few h =
       let fits : nat_le (items_len (items_by tree xs)) most ≡ true = rw (items_len-items_by tree xs) (le-leb (length xs) most few) in
       rw fits (each_again xs h)
 

@@ -8,8 +8,8 @@ use Rattle.base64.proofs.EngineFacts.{decode_of-encode_of}
 use Rattle.map_json.specs.Cells.{is_blank, packed}
 use Rattle.map_json.specs.Trees.{bytes_of}
 
-abbrev is_kept : ℕ → Bool
-is_kept b = not (is_blank b)
+abbrev is_no_blank : ℕ → Bool
+is_no_blank b = not (is_blank b)
 
 both : (a b : Bool) → a && b ≡ true → (a ≡ true) × (b ≡ true)
 both true b e = (refl, e)
@@ -18,36 +18,36 @@ both false b e = absurd cc
 and_true : (a b : Bool) → a ≡ true → b ≡ true → a && b ≡ true
 and_true a b e f = rw (e, f) refl
 
-filter_all : (xs : List ℕ) → list_all is_kept xs ≡ true → filter is_kept xs ≡ xs
+filter_all : (xs : List ℕ) → list_all is_no_blank xs ≡ true → filter is_no_blank xs ≡ xs
 filter_all [] e = refl
-filter_all (x ∷ xs) e = let h = both (is_kept x) (list_all is_kept xs) e in rw h.0 (ap (λ (ys : List ℕ). x ∷ ys) (filter_all xs h.1))
+filter_all (x ∷ xs) e = let h = both (is_no_blank x) (list_all is_no_blank xs) e in rw h.0 (ap (λ (ys : List ℕ). x ∷ ys) (filter_all xs h.1))
 
-list_all-append : (xs ys : List ℕ) → list_all is_kept xs ≡ true → list_all is_kept ys ≡ true → list_all is_kept (xs ++ ys) ≡ true
+list_all-append : (xs ys : List ℕ) → list_all is_no_blank xs ≡ true → list_all is_no_blank ys ≡ true → list_all is_no_blank (xs ++ ys) ≡ true
 list_all-append [] ys a b = b
-list_all-append (x ∷ xs) ys a b = let h = both (is_kept x) (list_all is_kept xs) a in and_true (is_kept x) (list_all is_kept (xs ++ ys)) h.0 (list_all-append xs ys h.1 b)
+list_all-append (x ∷ xs) ys a b = let h = both (is_no_blank x) (list_all is_no_blank xs) a in and_true (is_no_blank x) (list_all is_no_blank (xs ++ ys)) h.0 (list_all-append xs ys h.1 b)
 
-list_all-replicate : (n : ℕ) → list_all is_kept (replicate n 61) ≡ true
+list_all-replicate : (n : ℕ) → list_all is_no_blank (replicate n 61) ≡ true
 list_all-replicate zero = refl
 list_all-replicate (suc n) = list_all-replicate n
 
 -- no element of such a table is blank, nor what is past its end
-at_kept : (t : List ℕ) → list_all is_kept t ≡ true → (i : ℕ) → is_kept (get_or t i 0) ≡ true
-at_kept [] e i = refl
-at_kept (x ∷ t) e zero = (both (is_kept x) (list_all is_kept t) e).0
-at_kept (x ∷ t) e (suc i) = at_kept t (both (is_kept x) (list_all is_kept t) e).1 i
+at_no_blank : (t : List ℕ) → list_all is_no_blank t ≡ true → (i : ℕ) → is_no_blank (get_or t i 0) ≡ true
+at_no_blank [] e i = refl
+at_no_blank (x ∷ t) e zero = (both (is_no_blank x) (list_all is_no_blank t) e).0
+at_no_blank (x ∷ t) e (suc i) = at_no_blank t (both (is_no_blank x) (list_all is_no_blank t) e).1 i
 
-module _ (t : List ℕ) (table : (i : ℕ) → is_kept (get_or t i 0) ≡ true) where
-  symbols_kept : (m : List ℕ) → list_all is_kept (encode_symbols t m) ≡ true
+module _ (t : List ℕ) (table : (i : ℕ) → is_no_blank (get_or t i 0) ≡ true) where
+  symbols_no_blank : (m : List ℕ) → list_all is_no_blank (encode_symbols t m) ≡ true
   unfolding encode_symbols
-  symbols_kept [] = refl
-  symbols_kept (a ∷ []) = rw (table, table) refl
-  symbols_kept (a ∷ b ∷ []) = rw (table, table, table) refl
-  symbols_kept (a ∷ b ∷ c ∷ rest) = rw (table, table, table, table) (symbols_kept rest)
+  symbols_no_blank [] = refl
+  symbols_no_blank (a ∷ []) = rw (table, table) refl
+  symbols_no_blank (a ∷ b ∷ []) = rw (table, table, table) refl
+  symbols_no_blank (a ∷ b ∷ c ∷ rest) = rw (table, table, table, table) (symbols_no_blank rest)
 
 packed-encode_of : (m : List ℕ) → packed (encode_of standard m) ≡ encode_of standard m
 packed-encode_of m =
-    let table = at_kept standard.encode_table refl in
-    filter_all (encode_of standard m) (list_all-append (encode_symbols standard.encode_table m) (replicate (padding_len (length m)) 61) (symbols_kept standard.encode_table table m) (list_all-replicate (padding_len (length m))))
+    let table = at_no_blank standard.encode_table refl in
+    filter_all (encode_of standard m) (list_all-append (encode_symbols standard.encode_table m) (replicate (padding_len (length m)) 61) (symbols_no_blank standard.encode_table table m) (list_all-replicate (padding_len (length m))))
 
 -- a text that is decoded as it stands has no blanks
 pub decoded_solid : (text bytes : List ℕ) → text ≡ encode_of standard bytes → decode_of standard text ≡ Ok bytes → decode_of standard (packed text) ≡ Ok bytes

@@ -10,7 +10,7 @@ use Rattle.map_model.specs.declared.parts.Layer.{Layer}
 use Rattle.map_json.specs.declared.body.LayerType.{LayerType}
 use Rattle.map_json.specs.declared.body.LayerType.TheVariants.{TileLayer, ObjectGroup, ImageLayer, GroupLayer}
 use Rattle.map_json.specs.Members.{without, without_all}
-use Rattle.map_json.specs.Entries.{Counting}
+use Rattle.map_json.specs.Elements.{Counting}
 use Rattle.map_json.specs.Reading.{tiles_of, objects_of, body_by}
 use Rattle.map_json.proofs.MembersLemmas.{get_member-without}
 

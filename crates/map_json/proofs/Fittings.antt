@@ -26,7 +26,7 @@ use Rattle.map_json.specs.Members.{without, without_all}
 use Rattle.map_json.specs.declared.fault.MapRefusal.TheVariants.{Fraction, Infinite, IdUsedTwice, OverLimit, NotAMap}
 use Rattle.map_json.specs.Steps.{required, absent_means}
 use Rattle.map_json.specs.Scalars.{whole_at, truth_at}
-use Rattle.map_json.specs.Entries.{entries_at}
+use Rattle.map_json.specs.Elements.{elements_at}
 use Rattle.map_json.specs.Reading.{property_at, properties_of, tileset_at, map_layers_at}
 use Rattle.map_json.specs.Distinctness.{are_distinct, lists_in, lists_of_drawn, lists_of_layer, property_lists, are_named_apart, has_no_double, are_below_next}
 use Rattle.map_json.specs.Maps.{version_has_fraction, has_fraction, is_map_type, parts_of, consistent, map_of}
@@ -34,7 +34,7 @@ use Rattle.map_json.proofs.Fine.{AreFineMembers, IsReadTree}
 use Rattle.map_json.proofs.FineLemmas.{IsFine-get_member, members_have_float-fine, members_depth-fine, AreFineMembers-read, AreReadMembers-without, members_depth-without}
 use Rattle.map_json.proofs.MembersLemmas.{get_member-without, LacksAll-without_all, without-absent}
 use Rattle.map_json.proofs.Words.{both}
-use Rattle.map_json.proofs.Sound.{by_bind, by_check, ok_is, ok_or_ok, required_ok, required_whole_sound, entries_sound, WereRead, properties_sound}
+use Rattle.map_json.proofs.Sound.{by_bind, by_check, ok_is, ok_or_ok, required_ok, required_whole_sound, elements_sound, WereRead, properties_sound}
 use Rattle.map_json.proofs.Owners.{WasReadObject, tileset_sound}
 use Rattle.map_json.proofs.Layers.{WasReadBody, WasReadDrawn, WasReadLayer, map_layers_sound}
 use Rattle.map_json.proofs.Apart.{either_false, Distinct-numbers, Distinct-texts, Each-flat_map, AreIds-read}
@@ -85,17 +85,17 @@ without_other Less n l d rest new h g = (h.0, g)
 without_other Equal n l d rest new h g = g
 without_other Greater n l d rest new h g = (h.0, g)
 
-without_kept : (o : Ordering) (n : ℕ) (v l : List ℕ) (d : Data) (rest : Members) → AreFineMembers n (without v rest) → AreFineMembers n (without v (member l d rest))
+without_stays : (o : Ordering) (n : ℕ) (v l : List ℕ) (d : Data) (rest : Members) → AreFineMembers n (without v rest) → AreFineMembers n (without v (member l d rest))
     → AreFineMembers n (without v (match_ordering o (member l d rest) rest (member l d rest)))
-without_kept Less n v l d rest h g = g
-without_kept Equal n v l d rest h g = h
-without_kept Greater n v l d rest h g = g
+without_stays Less n v l d rest h g = g
+without_stays Equal n v l d rest h g = h
+without_stays Greater n v l d rest h g = g
 
 fine_without : (n : ℕ) (v k : List ℕ) (ms : Members) → AreFineMembers n (without v ms) → AreFineMembers n (without v (without k ms))
 fine_without n v k no_members h = tt
 fine_without n v k (member l d ms) h =
     let more = fine_without n v k ms (without_less (slice_cmp nat_cmp v l) n l d (without v ms) h) in
-    without_kept (slice_cmp nat_cmp k l) n v l d (without k ms) more (without_other (slice_cmp nat_cmp v l) n l d (without v ms) (without v (without k ms)) h more)
+    without_stays (slice_cmp nat_cmp k l) n v l d (without k ms) more (without_other (slice_cmp nat_cmp v l) n l d (without v ms) (without v (without k ms)) h more)
 
 fine_without_all : (n : ℕ) (v : List ℕ) (ks : List (List ℕ)) (ms : Members) → AreFineMembers n (without v ms) → AreFineMembers n (without v (without_all ks ms))
 fine_without_all n v [] ms h = h
@@ -138,7 +138,7 @@ parts_sound ms m fine e =
     by_bind (required (whole_at 1 MAX_NEXT_ID) (get_member NEXT_LAYER_ID.now ms)) _ m e7 (λ next_layer_id next_layer_is e8.
     by_bind (required (whole_at 1 MAX_NEXT_ID) (get_member NEXT_OBJECT_ID.now ms)) _ m e8 (λ next_object_id next_object_is e9.
     by_bind (required (map_layers_at width height) (get_member LAYERS.now ms)) _ m e9 (λ layers layers_is e10.
-    by_bind (required (entries_at MAX_TILESETS tileset_at) (get_member TILESETS.now ms)) _ m e10 (λ tilesets tilesets_is e11.
+    by_bind (required (elements_at MAX_TILESETS tileset_at) (get_member TILESETS.now ms)) _ m e10 (λ tilesets tilesets_is e11.
     by_bind (properties_of ms) _ m e11 (λ properties properties_is e12.
     let w = required_whole_sound 1 MAX_SIDE (get_member WIDTH.now ms) width width_is in
     let h = required_whole_sound 1 MAX_SIDE (get_member HEIGHT.now ms) height height_is in
@@ -149,10 +149,10 @@ parts_sound ms m fine e =
     let layers_in = required_ok (map_layers_at width height) (get_member LAYERS.now ms) layers layers_is in
     let layers_fine = IsFine-get_member 126 LAYERS.now others layers_in.0 fine (get_member-without LAYERS.now VERSION.now ms refl ∙ layers_in.1) in
     let layers_read = map_layers_sound width height layers_in.0 layers layers_fine layers_in.2 in
-    let tilesets_in = required_ok (entries_at MAX_TILESETS tileset_at) (get_member TILESETS.now ms) tilesets tilesets_is in
+    let tilesets_in = required_ok (elements_at MAX_TILESETS tileset_at) (get_member TILESETS.now ms) tilesets tilesets_is in
     let tilesets_fine = IsFine-get_member 126 TILESETS.now others tilesets_in.0 fine (get_member-without TILESETS.now VERSION.now ms refl ∙ tilesets_in.1) in
-    let tilesets_read = entries_sound IsTileset tileset_at 125 (tileset_sound 124 (omega arith)) MAX_TILESETS tilesets_in.0 tilesets tilesets_fine tilesets_in.2 in
-    let properties_in : properties_of others ≡ Ok properties = ap (absent_means [] (entries_at MAX_PROPERTIES property_at)) (get_member-without PROPERTIES.now VERSION.now ms refl) ∙ properties_is in
+    let tilesets_read = elements_sound IsTileset tileset_at 125 (tileset_sound 124 (omega arith)) MAX_TILESETS tilesets_in.0 tilesets tilesets_fine tilesets_in.2 in
+    let properties_in : properties_of others ≡ Ok properties = ap (absent_means [] (elements_at MAX_PROPERTIES property_at)) (get_member-without PROPERTIES.now VERSION.now ms refl) ∙ properties_is in
     let kept = without_all map_names ms in
     let made : WasReadMap (record { width = width; height = height; tile_width = tile_width; tile_height = tile_height; layers = layers; tilesets = tilesets; properties = properties; next_layer_id = next_layer_id; next_object_id = next_object_id; kept = kept }) = record {
       size = record { wide = w.0; high = h.0; width_limit = w.1; height_limit = h.1; cells_limit = leb-true (width * height) MAX_CELLS cells_fit };

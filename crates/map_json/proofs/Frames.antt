@@ -16,20 +16,20 @@ use Rattle.map_model.specs.declared.parts.MapParts.{MapParts}
 use Rattle.map_model.specs.Groups.{group_in, inside}
 use Rattle.map_model.specs.Keeping.{layer_names}
 use Rattle.map_model.specs.Lists.{Each, or_empty}
-use Rattle.map_json.specs.Appending.{frame_of, in_place, layer_frame, replaced}
+use Rattle.map_json.specs.Appending.{frame_of, instead, layer_frame, replaced}
 use Rattle.map_json.specs.Members.{Own, put_some, with_own}
 use Rattle.map_json.specs.Trees.{array_by, layer_own, layer_tree, layers_tree, own_around, plain_own, properties_member, tileset_tree, whole_tree}
 use Rattle.map_json.proofs.MembersLemmas.{same_name}
 
 -- ---- members that are put
-replaced-put_at : (o : Ordering) (k l m : List ℕ) (d e f : Data) (ms : Members) → slice_cmp nat_cmp l m ≡ o → replaced k d (put l e ms) ≡ put l (in_place k d l e) (replaced k d ms)
+replaced-put_at : (o : Ordering) (k l m : List ℕ) (d e f : Data) (ms : Members) → slice_cmp nat_cmp l m ≡ o → replaced k d (put l e ms) ≡ put l (instead k d l e) (replaced k d ms)
     → replaced k d (match_ordering o (member l e (member m f ms)) (member m e ms) (member m f (put l e ms)))
-    ≡ match_ordering o (member l (in_place k d l e) (member m (in_place k d m f) (replaced k d ms))) (member m (in_place k d l e) (replaced k d ms)) (member m (in_place k d m f) (put l (in_place k d l e) (replaced k d ms)))
+    ≡ match_ordering o (member l (instead k d l e) (member m (instead k d m f) (replaced k d ms))) (member m (instead k d l e) (replaced k d ms)) (member m (instead k d m f) (put l (instead k d l e) (replaced k d ms)))
 replaced-put_at Less k l m d e f ms is later = refl
-replaced-put_at Equal k l m d e f ms is later = ap (λ n. member m (in_place k d n e) (replaced k d ms)) (sym (same_name l m is))
-replaced-put_at Greater k l m d e f ms is later = ap (member m (in_place k d m f)) later
+replaced-put_at Equal k l m d e f ms is later = ap (λ n. member m (instead k d n e) (replaced k d ms)) (sym (same_name l m is))
+replaced-put_at Greater k l m d e f ms is later = ap (member m (instead k d m f)) later
 
-pub replaced-put : (k l : List ℕ) (d e : Data) (ms : Members) → replaced k d (put l e ms) ≡ put l (in_place k d l e) (replaced k d ms)
+pub replaced-put : (k l : List ℕ) (d e : Data) (ms : Members) → replaced k d (put l e ms) ≡ put l (instead k d l e) (replaced k d ms)
 replaced-put k l d e no_members = refl
 replaced-put k l d e (member m f ms) = replaced-put_at (slice_cmp nat_cmp l m) k l m d e f ms refl (replaced-put k l d e ms)
 
@@ -51,28 +51,28 @@ replaced-absent k d no_members absent = refl
 replaced-absent k d (member l e ms) absent = replaced-absent_at (slice_cmp nat_cmp k l) k l d e ms refl absent (replaced-absent k d ms)
 
 -- ---- own members
-own_in_place : List ℕ → Data → Own → Own
-own_in_place k d [] = []
-own_in_place k d (p ∷ ps) = (p.0, option_map (in_place k d p.0) p.1) ∷ own_in_place k d ps
+own_instead : List ℕ → Data → Own → Own
+own_instead k d [] = []
+own_instead k d (p ∷ ps) = (p.0, option_map (instead k d p.0) p.1) ∷ own_instead k d ps
 
-replaced-put_some : (k l : List ℕ) (d : Data) (o : Option Data) (ms : Members) → replaced k d (put_some l o ms) ≡ put_some l (option_map (in_place k d l) o) (replaced k d ms)
+replaced-put_some : (k l : List ℕ) (d : Data) (o : Option Data) (ms : Members) → replaced k d (put_some l o ms) ≡ put_some l (option_map (instead k d l) o) (replaced k d ms)
 replaced-put_some k l d None ms = refl
 replaced-put_some k l d (Some e) ms = replaced-put k l d e ms
 
-replaced-with_own : (k : List ℕ) (d : Data) (own : Own) (kept : Members) → replaced k d (with_own own kept) ≡ with_own (own_in_place k d own) (replaced k d kept)
-unfolding own_in_place
+replaced-with_own : (k : List ℕ) (d : Data) (own : Own) (kept : Members) → replaced k d (with_own own kept) ≡ with_own (own_instead k d own) (replaced k d kept)
+unfolding own_instead
 replaced-with_own k d [] kept = refl
 replaced-with_own k d (p ∷ ps) kept =
-    replaced-put_some k p.0 d p.1 (with_own ps kept) ∙ ap (put_some p.0 (option_map (in_place k d p.0) p.1)) (replaced-with_own k d ps kept)
+    replaced-put_some k p.0 d p.1 (with_own ps kept) ∙ ap (put_some p.0 (option_map (instead k d p.0) p.1)) (replaced-with_own k d ps kept)
 
 -- ---- the map's own
-optional_stays : (d : Data) (o : Option Data) → option_map (in_place LAYERS.now d PROPERTIES.now) o ≡ o
+optional_stays : (d : Data) (o : Option Data) → option_map (instead LAYERS.now d PROPERTIES.now) o ≡ o
 optional_stays d None = refl
 optional_stays d (Some e) = refl
 
-own_in_place-own_around : (d : Data) (m : MapParts) → own_in_place LAYERS.now d (own_around (array no_items) m) ≡ own_around d m
-unfolding own_in_place
-own_in_place-own_around d m =
+own_instead-own_around : (d : Data) (m : MapParts) → own_instead LAYERS.now d (own_around (array no_items) m) ≡ own_around d m
+unfolding own_instead
+own_instead-own_around d m =
     ap (λ o. plain_own m
     ++ (LAYERS.now, Some d) ∷ (TILESETS.now, Some (array_by tileset_tree m.tilesets)) ∷ (PROPERTIES.now, o) ∷ (TYPE.now, Some (string (codes "map"))) ∷ (VERSION.now, Some (string (codes "1.10"))) ∷ [])
     (optional_stays d (properties_member m.properties))
@@ -81,16 +81,16 @@ own_in_place-own_around d m =
 pub replaced-frame_of : (d : Data) (m : MapParts) → get_member LAYERS.now m.kept ≡ None → replaced LAYERS.now d (frame_of m) ≡ with_own (own_around d m) m.kept
 replaced-frame_of d m absent =
     replaced-with_own LAYERS.now d (own_around (array no_items) m) m.kept
-    ∙ rw (replaced-absent LAYERS.now d m.kept absent) (ap (λ own. with_own own m.kept) (own_in_place-own_around d m))
+    ∙ rw (replaced-absent LAYERS.now d m.kept absent) (ap (λ own. with_own own m.kept) (own_instead-own_around d m))
 
 -- ---- a group's own
-own_in_place-layer_own : (width height : ℕ) (d : Data) (l : Layer) (b : Body) (ls : List Layer) → group_in b ≡ Some ls
-    → own_in_place LAYERS.now d (layer_own width height (array no_items) (record l { body = b })) ≡ layer_own width height d (record l { body = b })
-unfolding own_in_place
-own_in_place-layer_own width height d l (Tiles e cells) ls g = cc
-own_in_place-layer_own width height d l (Objects os) ls g = cc
-own_in_place-layer_own width height d l Other ls g = cc
-own_in_place-layer_own width height d l (Group' s r) ls g =
+own_instead-layer_own : (width height : ℕ) (d : Data) (l : Layer) (b : Body) (ls : List Layer) → group_in b ≡ Some ls
+    → own_instead LAYERS.now d (layer_own width height (array no_items) (record l { body = b })) ≡ layer_own width height d (record l { body = b })
+unfolding own_instead
+own_instead-layer_own width height d l (Tiles e cells) ls g = cc
+own_instead-layer_own width height d l (Objects os) ls g = cc
+own_instead-layer_own width height d l Other ls g = cc
+own_instead-layer_own width height d l (Group' s r) ls g =
     ap (λ o. (TYPE.now, Some (string (codes "group"))) ∷ (ID.now, Some (whole_tree l.id)) ∷ (NAME.now, Some (string l.name)) ∷ (VISIBLE.now, Some (boolean l.visible))
     ∷ (PROPERTIES.now, o) ∷ (LAYERS.now, Some d) ∷ [])
     (optional_stays d (properties_member l.properties))
@@ -106,7 +106,7 @@ pub replaced-layer_frame : (width height : ℕ) (d : Data) (l : Layer) (ls : Lis
     → replaced LAYERS.now d (layer_frame width height l) ≡ with_own (layer_own width height d l) l.kept
 replaced-layer_frame width height d l ls g h =
     replaced-with_own LAYERS.now d (layer_own width height (array no_items) l) l.kept
-    ∙ rw (replaced-absent LAYERS.now d l.kept (layers_absent l.body ls l.kept g h)) (ap (λ own. with_own own l.kept) (own_in_place-layer_own width height d l l.body ls g))
+    ∙ rw (replaced-absent LAYERS.now d l.kept (layers_absent l.body ls l.kept g h)) (ap (λ own. with_own own l.kept) (own_instead-layer_own width height d l l.body ls g))
 
 -- a layer's own members, where it is no group
 layer_own-other : (width height : ℕ) (d e : Data) (l : Layer) (b : Body) → group_in b ≡ None → layer_own width height d (record l { body = b }) ≡ layer_own width height e (record l { body = b })

@@ -23,12 +23,12 @@ use Rattle.map_json.specs.Members.{without_all, with_own}
 use Rattle.map_json.specs.declared.fault.MapRefusal.{MapRefusal}
 use Rattle.map_json.specs.Steps.{optional, absent_means}
 use Rattle.map_json.specs.Scalars.{whole_at, signed_at, text_at, truth_at}
-use Rattle.map_json.specs.Entries.{entries_at}
+use Rattle.map_json.specs.Elements.{elements_at}
 use Rattle.map_json.specs.Reading.{value_of, property_at, id_at, pixels_at, placing_of, object_at, tileset_at, encoding_at, same_at, cells_at}
 use Rattle.map_json.specs.Cells.{array_cells_at, base64_cells_at}
 use Rattle.map_json.specs.Trees.{whole_tree, value_tree, property_own, property_tree, properties_member, object_own, object_tree, tileset_own, tileset_tree, bytes_of, cells_tree, encoding_member}
 use Rattle.map_json.proofs.Own.{get_member-with_own, without_all-with_own, or_else}
-use Rattle.map_json.proofs.Again.{whole_again, entries_again, all_weaker, cells_again, length-bytes_of, words_again}
+use Rattle.map_json.proofs.Again.{whole_again, elements_again, all_weaker, cells_again, length-bytes_of, words_again}
 use Rattle.map_json.proofs.Words.{is_byte-from_IsBytes}
 use Rattle.map_json.proofs.Base64.{decoded_again, IsBytes-bytes_of}
 
@@ -100,10 +100,10 @@ property_again level p h =
     property_read p (with_own own p.kept) (get_member-with_own NAME.now own p.kept) (get_member-with_own TYPE.now own p.kept) (get_member-with_own VALUE.now own p.kept)
     (value_again level p.value h.value) (without_all-with_own own p.kept refl h.kept.unread)
 
-pub properties_again : (level : ℕ) (ps : List Property) → AreProperties level ps → absent_means [] (entries_at MAX_PROPERTIES property_at) (properties_member ps) ≡ Ok ps
+pub properties_again : (level : ℕ) (ps : List Property) → AreProperties level ps → absent_means [] (elements_at MAX_PROPERTIES property_at) (properties_member ps) ≡ Ok ps
 properties_again level [] h = refl
 properties_again level (p ∷ ps) h =
-    entries_again property_tree property_at MAX_PROPERTIES (p ∷ ps) h.few
+    elements_again property_tree property_at MAX_PROPERTIES (p ∷ ps) h.few
     (all_weaker (IsProperty (property_level level)) (λ q. property_at (property_tree q) ≡ Ok q) (property_again (property_level level)) (p ∷ ps) h.each)
 
 -- ---- tilesets
@@ -134,7 +134,7 @@ placing_read p ms x y width height h =
 object_read : (o : Object) (ms : Members) → get_member ID.now ms ≡ Some (whole_tree o.id) → placing_of ms ≡ Ok o.placing → get_member NAME.now ms ≡ option_map string o.name
     → get_member VISIBLE.now ms ≡ option_map boolean o.visible → get_member GID.now ms ≡ option_map whole_tree o.gid → get_member PROPERTIES.now ms ≡ properties_member o.properties
     → id_at (whole_tree o.id) ≡ Ok o.id → optional (whole_at 0 4294967295) (option_map whole_tree o.gid) ≡ Ok o.gid
-    → absent_means [] (entries_at MAX_PROPERTIES property_at) (properties_member o.properties) ≡ Ok o.properties → without_all object_names ms ≡ o.kept → object_at (object ms) ≡ Ok o
+    → absent_means [] (elements_at MAX_PROPERTIES property_at) (properties_member o.properties) ≡ Ok o.properties → without_all object_names ms ≡ o.kept → object_at (object ms) ≡ Ok o
 unfolding object_at
 object_read o ms id placing name visible gid properties id_ok gid_ok properties_ok kept =
     rw (id, id_ok, placing, name, text_again o.name, visible, truth_again o.visible, gid, gid_ok, properties, properties_ok, kept) refl

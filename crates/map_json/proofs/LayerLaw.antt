@@ -24,16 +24,16 @@ use Rattle.map_json.specs.declared.body.LayerType.{LayerType}
 use Rattle.map_json.specs.declared.body.LayerType.TheVariants.{TileLayer, ObjectGroup, ImageLayer, GroupLayer}
 use Rattle.map_json.specs.Steps.{absent_means}
 use Rattle.map_json.specs.Scalars.{text_at, truth_at}
-use Rattle.map_json.specs.Entries.{Counting, each_counted, entries_at}
+use Rattle.map_json.specs.Elements.{Counting, each_counted, elements_at}
 use Rattle.map_json.specs.Reading.{property_at, id_at, object_at, type_at, cells_at, tiles_of, objects_of, body_by, layer_by, layers_at, map_layers_at}
 use Rattle.map_json.specs.Trees.{array_by, items_by, whole_tree, properties_member, object_tree, cells_tree, encoding_member, body_own, type_word, layer_own, layer_tree, layers_tree}
-use Rattle.map_json.proofs.Again.{entries_again, items_len-items_by}
+use Rattle.map_json.proofs.Again.{elements_again, items_len-items_by}
 use Rattle.map_json.proofs.DrawnLayers.{Each-left, Each-right, Group-inside, drawn_in, drawn_in-none, length-drawn, tree-Each}
 use Rattle.map_json.proofs.Law.{or_none, id_again, properties_again, object_again, encoding_again, cells_tree_again, same_again}
 use Rattle.map_json.proofs.MembersLemmas.{LacksAll}
 use Rattle.map_json.proofs.Own.{get_member-with_own, find_own, without_all-with_own}
 
--- ---- ids of entries
+-- ---- ids of elements
 objects_again : (level next : ℕ) → next ≤ MAX_NEXT_ID → (os : List Object) → Each (IsObject level) os → Each (IsId next) (flat_map ids_of_object os) → Each (λ o. object_at (object_tree o) ≡ Ok o) os
 objects_again level next few [] h g = tt
 objects_again level next few (o ∷ os) h g = (object_again level o (id_again next o.id few g.0) h.0, objects_again level next few os h.1 g.1)
@@ -65,7 +65,7 @@ unfolding tiles_of
 tiles_read width height e cells ms encoding compression wide high data_is cells_ok =
     rw (encoding, encoding_again e, compression, wide, same_again width, high, same_again height, data_is, cells_ok) refl
 
-objects_read : (os : List Object) (ms : Members) → get_member OBJECTS.now ms ≡ Some (array_by object_tree os) → entries_at MAX_OBJECTS object_at (array_by object_tree os) ≡ Ok os → objects_of ms ≡ Ok (Objects os)
+objects_read : (os : List Object) (ms : Members) → get_member OBJECTS.now ms ≡ Some (array_by object_tree os) → elements_at MAX_OBJECTS object_at (array_by object_tree os) ≡ Ok os → objects_of ms ≡ Ok (Objects os)
 unfolding objects_of
 objects_read os ms is ok = rw (is, ok) refl
 
@@ -98,7 +98,7 @@ body_again room level next width height count few inner d l (Tiles e cells) kept
 body_again room level next width height count few inner d l (Objects os) kept reads lacks h ids =
     let own = layer_own width height d (with_body l (Objects os)) in
     let read = objects_read os (with_own own kept) (get_member-with_own OBJECTS.now own kept)
-    (entries_again object_tree object_at MAX_OBJECTS os h.0 (objects_again (object_level level) next few os h.1 ids)) in
+    (elements_again object_tree object_at MAX_OBJECTS os h.0 (objects_again (object_level level) next few os h.1 ids)) in
     rw read (ap (λ n. Ok (n, Objects os)) (sym (counted-none room level count (Objects os) refl)))
 body_again room level next width height count few inner d l Other kept reads lacks h ids =
     ap (λ n. Ok (n, Other)) (sym (counted-none room level count Other refl))
@@ -115,7 +115,7 @@ kept_again width height d l (Group' s r) kept lacks = without_all-with_own (laye
 
 layer_read : (inner : Counting (List Layer)) (width height count behind : ℕ) (l : Layer) (ms : Members) → get_member TYPE.now ms ≡ Some (string (type_word l.body)) → get_member ID.now ms ≡ Some (whole_tree l.id)
     → get_member NAME.now ms ≡ Some (string l.name) → get_member VISIBLE.now ms ≡ Some (boolean l.visible) → get_member PROPERTIES.now ms ≡ properties_member l.properties
-    → id_at (whole_tree l.id) ≡ Ok l.id → absent_means [] (entries_at MAX_PROPERTIES property_at) (properties_member l.properties) ≡ Ok l.properties
+    → id_at (whole_tree l.id) ≡ Ok l.id → absent_means [] (elements_at MAX_PROPERTIES property_at) (properties_member l.properties) ≡ Ok l.properties
     → body_by inner (kind_of l.body) width height count ms ≡ Ok (behind, l.body) → without_all (layer_names l.body) ms ≡ l.kept → layer_by inner width height count (object ms) ≡ Ok (behind, l)
 unfolding layer_by text_at truth_at
 layer_read inner width height count behind l ms type id name visible properties id_ok properties_ok body_ok kept =
@@ -123,10 +123,10 @@ layer_read inner width height count behind l ms type id name visible properties 
 
 -- a layer as deep as may be is no group
 no_group : (level size : ℕ) (b : Body) (ls : List Layer) → group_in b ≡ Some ls → IsBody level size b → level ≡ deepest_level → ⊥
-no_group level size (Tiles e cells) ls g h place = cc
-no_group level size (Objects os) ls g h place = cc
-no_group level size Other ls g h place = cc
-no_group level size (Group' s r) ls g h place = omega (arith, h, place)
+no_group level size (Tiles e cells) ls g h balance = cc
+no_group level size (Objects os) ls g h balance = cc
+no_group level size Other ls g h balance = cc
+no_group level size (Group' s r) ls g h balance = omega (arith, h, balance)
 
 -- a layer that fits a map of so many cells, with these next ids
 abbrev Fits : ℕ → ℕ → ℕ → ℕ × Layer → Type 0
@@ -193,15 +193,15 @@ layer_again : (room level next next_object width height count : ℕ) → level +
     → Each (Fits (width * height) next next_object) (tree room level l) → count + length (below room level l) ≤ MAX_LAYERS
     → layer_by (layers_at room width height) width height count (layer_tree room width height l) ≡ Ok (count + length (below room level l), l)
 unfolding layer_tree
-layer_again zero level next next_object width height count place few few_objects l h fits =
+layer_again zero level next next_object width height count balance few few_objects l h fits =
     let own = tree-Each (Fits (width * height) next next_object) 0 level l h in
     one_again 0 level next next_object width height count few few_objects (layers_at 0 width height) (array no_items) l
-    (λ ls g. absurd (no_group level (width * height) l.body ls g (IsLayer-without (λ ks. []) level (width * height) l own.0.0).body (omega (arith, place)))) own.0
-layer_again (suc room) level next next_object width height count place few few_objects l h fits =
+    (λ ls g. absurd (no_group level (width * height) l.body ls g (IsLayer-without (λ ks. []) level (width * height) l own.0.0).body (omega (arith, balance)))) own.0
+layer_again (suc room) level next next_object width height count balance few few_objects l h fits =
     let P = Fits (width * height) next next_object in
     let own = tree-Each P (suc room) level l h in
     let one = λ (k : ℕ) (x : Layer) (f : Each P (tree room (inner_level level) x)) (g : k + length (below room (inner_level level) x) ≤ MAX_LAYERS).
-    layer_again room (inner_level level) next next_object width height k (omega (arith, place)) few few_objects x f g in
+    layer_again room (inner_level level) next next_object width height k (omega (arith, balance)) few few_objects x f g in
     let all = array_again room (inner_level level) width height P one count (inside l) own.1 fits in
     one_again (suc room) level next next_object width height count few few_objects (layers_at (suc room) width height) (layers_tree room width height (inside l)) l
     (λ ls g. all ∙ ap (λ o. Ok (count + length (drawn room (inner_level level) (inside l)), or_empty o)) g) own.0

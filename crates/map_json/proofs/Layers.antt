@@ -24,12 +24,12 @@ use Rattle.map_json.specs.declared.body.LayerType.TheVariants.{TileLayer, Object
 use Rattle.map_json.specs.declared.fault.MapRefusal.TheVariants.{MemberOfAnotherKind, OverLimit}
 use Rattle.map_json.specs.Steps.{required, absent_means}
 use Rattle.map_json.specs.Scalars.{text_at, truth_at}
-use Rattle.map_json.specs.Entries.{Counting, each_counted, entries_at}
+use Rattle.map_json.specs.Elements.{Counting, each_counted, elements_at}
 use Rattle.map_json.specs.Reading.{id_at, properties_of, object_at, type_at, encoding_at, compression_at, same_at, cells_at, tiles_of, objects_of, body_by, layer_by, layers_at, map_layers_at}
 use Rattle.map_json.proofs.DrawnLayers.{Each-both, Each-tree, length-drawn, drawn_in, below-drawn_in, drawn_in-none, drawn_in-Group}
 use Rattle.map_json.proofs.Fine.{IsFine, AreFineItems, AreFineMembers}
 use Rattle.map_json.proofs.FineLemmas.{IsFine-get_member}
-use Rattle.map_json.proofs.Sound.{by_bind, by_check, by_step, ok_is, ok_or_ok, required_ok, array_fine, object_fine, kept_sound, required_whole_sound, entries_sound, cells_tree_sound, WereRead, properties_sound}
+use Rattle.map_json.proofs.Sound.{by_bind, by_check, by_step, ok_is, ok_or_ok, required_ok, array_fine, object_fine, kept_sound, required_whole_sound, elements_sound, cells_tree_sound, WereRead, properties_sound}
 use Rattle.map_json.proofs.Owners.{WasReadObject, object_sound}
 
 -- what a layer at this level holds itself, on a map of so many cells; whether names of properties differ is told apart
@@ -146,11 +146,11 @@ body_sound room level n deep inner TileLayer width height count ms r sound h e =
     subst (BodyRead room level (width * height) count) (ap (λ c. (count, c)) (ok_is (Tiles encoding cells) b e5) ∙ ok_is (count, b) r last) made))))))
 body_sound room level n deep inner ObjectGroup width height count ms r sound h e =
     by_bind (objects_of ms) _ r e (λ b b_is last.
-    by_bind (required (entries_at MAX_OBJECTS object_at) (get_member OBJECTS.now ms)) _ b b_is (λ objects objects_is e1.
-    let found = required_ok (entries_at MAX_OBJECTS object_at) (get_member OBJECTS.now ms) objects objects_is in
+    by_bind (required (elements_at MAX_OBJECTS object_at) (get_member OBJECTS.now ms)) _ b b_is (λ objects objects_is e1.
+    let found = required_ok (elements_at MAX_OBJECTS object_at) (get_member OBJECTS.now ms) objects objects_is in
     let fine = IsFine-get_member (suc (suc (suc (suc n)))) OBJECTS.now ms found.0 h found.1 in
     let made = alone room level (width * height) count (Objects objects) refl
-    (entries_sound (WasReadObject (object_level level)) object_at (suc (suc (suc n))) (object_sound (object_level level) n deep) MAX_OBJECTS found.0 objects fine found.2) in
+    (elements_sound (WasReadObject (object_level level)) object_at (suc (suc (suc n))) (object_sound (object_level level) n deep) MAX_OBJECTS found.0 objects fine found.2) in
     subst (BodyRead room level (width * height) count) (ap (λ c. (count, c)) (ok_is (Objects objects) b e1) ∙ ok_is (count, b) r last) made))
 body_sound room level n deep inner ImageLayer width height count ms r sound h e =
     subst (BodyRead room level (width * height) count) (ok_is (count, Other) r e) (alone room level (width * height) count Other refl tt)
@@ -188,9 +188,9 @@ inner_sound : (room level n width height : ℕ) → level + 2 * suc room ≡ dee
     → ((count : ℕ) (d : Data) (r : ℕ × Layer) → IsFine n d → layer_by (layers_at room width height) width height count d ≡ Ok r → LayerRead room (inner_level level) (width * height) count r)
     → IsInner (suc room) level (suc n) (width * height) (layers_at (suc room) width height)
 unfolding layers_at
-inner_sound room level n width height place one d count ls fine e =
+inner_sound room level n width height balance one d count ls fine e =
     let all = array_sound room (inner_level level) n (width * height) (layer_by (layers_at room width height) width height) one d count ls fine e in
-    (omega (arith, place), subst (WereCounted (width * height) count ls.0) (sym (drawn_in-Group room level ls.1)) all)
+    (omega (arith, balance), subst (WereCounted (width * height) count ls.0) (sym (drawn_in-Group room level ls.1)) all)
 
 no_room_sound : (level n width height : ℕ) → IsInner 0 level n (width * height) (layers_at 0 width height)
 unfolding layers_at
@@ -199,14 +199,14 @@ no_room_sound level n width height d count ls fine e =
 
 layer_sound : (room level n width height : ℕ) → level + 2 * room ≡ deepest_level → property_level (object_level level) + n ≡ MAX_DEPTH → (count : ℕ) (d : Data) (r : ℕ × Layer)
     → IsFine (suc (suc (suc (suc (suc n))))) d → layer_by (layers_at room width height) width height count d ≡ Ok r → LayerRead room level (width * height) count r
-layer_sound zero level n width height place deep count d r fine e =
+layer_sound zero level n width height balance deep count d r fine e =
     one_sound 0 level n (omega (arith, deep)) (layers_at 0 width height) width height count d r (no_room_sound level (suc (suc (suc (suc n)))) width height) fine e
-layer_sound (suc room) level n width height place deep count d r fine e =
+layer_sound (suc room) level n width height balance deep count d r fine e =
     let m = n - 2 in
-    let long : suc (suc (suc n)) ≡ suc (suc (suc (suc (suc m)))) = omega (arith, place, deep) in
+    let long : suc (suc (suc n)) ≡ suc (suc (suc (suc (suc m)))) = omega (arith, balance, deep) in
     let one = λ (k : ℕ) (x : Data) (y : ℕ × Layer) (f : IsFine (suc (suc (suc n))) x) (g : layer_by (layers_at room width height) width height k x ≡ Ok y).
-    layer_sound room (inner_level level) m width height (omega (arith, place)) (omega (arith, place, deep)) k x y (subst (λ i. IsFine i x) long f) g in
-    one_sound (suc room) level n (omega (arith, deep)) (layers_at (suc room) width height) width height count d r (inner_sound room level (suc (suc (suc n))) width height place one) fine e
+    layer_sound room (inner_level level) m width height (omega (arith, balance)) (omega (arith, balance, deep)) k x y (subst (λ i. IsFine i x) long f) g in
+    one_sound (suc room) level n (omega (arith, deep)) (layers_at (suc room) width height) width height count d r (inner_sound room level (suc (suc (suc n))) width height balance one) fine e
 
 -- the layers of a map
 pub map_layers_sound : (width height : ℕ) (d : Data) (ls : List Layer) → IsFine 126 d → map_layers_at width height d ≡ Ok ls

@@ -24,13 +24,13 @@ use Rattle.map_model.specs.WellFormed.{IsObject, IsBody, IsDrawn, IsTileset, Are
 use Rattle.map_json.specs.Members.{without, without_all, with_own}
 use Rattle.map_json.specs.Steps.{absent_means}
 use Rattle.map_json.specs.Scalars.{whole_at, truth_at}
-use Rattle.map_json.specs.Entries.{entries_at}
+use Rattle.map_json.specs.Elements.{elements_at}
 use Rattle.map_json.specs.Reading.{property_at, tileset_at, map_layers_at}
 use Rattle.map_json.specs.Distinctness.{lists_in, lists_of_drawn, property_lists, are_named_apart}
 use Rattle.map_json.specs.Maps.{parts_of, consistent, map_of}
 use Rattle.map_json.specs.Trees.{array_by, whole_tree, properties_member, tileset_tree, layers_tree, map_own, tree_of}
 use Rattle.map_json.proofs.Own.{get_member-with_own, without_all-with_own}
-use Rattle.map_json.proofs.Again.{whole_again, entries_again, all_weaker}
+use Rattle.map_json.proofs.Again.{whole_again, elements_again, all_weaker}
 use Rattle.map_json.proofs.Apart.{either_false, numbers-Distinct, texts-Distinct, below-IsId}
 use Rattle.map_json.proofs.Plain.{tree_plain}
 use Rattle.map_json.proofs.Law.{or_none, properties_again, tileset_again}
@@ -84,8 +84,8 @@ parts_read : (m : MapParts) (ms : Members) → get_member WIDTH.now ms ≡ Some 
     → whole_at 1 MAX_SIDE (whole_tree m.width) ≡ Ok m.width → whole_at 1 MAX_SIDE (whole_tree m.height) ≡ Ok m.height → nat_le (m.width * m.height) MAX_CELLS ≡ true
     → whole_at 1 MAX_TILE_SIDE (whole_tree m.tile_width) ≡ Ok m.tile_width → whole_at 1 MAX_TILE_SIDE (whole_tree m.tile_height) ≡ Ok m.tile_height
     → whole_at 1 MAX_NEXT_ID (whole_tree m.next_layer_id) ≡ Ok m.next_layer_id → whole_at 1 MAX_NEXT_ID (whole_tree m.next_object_id) ≡ Ok m.next_object_id
-    → map_layers_at m.width m.height (layers_tree MAX_GROUPS m.width m.height m.layers) ≡ Ok m.layers → entries_at MAX_TILESETS tileset_at (array_by tileset_tree m.tilesets) ≡ Ok m.tilesets
-    → absent_means [] (entries_at MAX_PROPERTIES property_at) (properties_member m.properties) ≡ Ok m.properties → without_all map_names ms ≡ m.kept → parts_of ms ≡ Ok m
+    → map_layers_at m.width m.height (layers_tree MAX_GROUPS m.width m.height m.layers) ≡ Ok m.layers → elements_at MAX_TILESETS tileset_at (array_by tileset_tree m.tilesets) ≡ Ok m.tilesets
+    → absent_means [] (elements_at MAX_PROPERTIES property_at) (properties_member m.properties) ≡ Ok m.properties → without_all map_names ms ≡ m.kept → parts_of ms ≡ Ok m
 unfolding parts_of truth_at
 parts_read m ms width height tile_width tile_height infinite next_layer next_object layers tilesets properties width_ok height_ok cells_ok tile_width_ok tile_height_ok next_layer_ok next_object_ok layers_ok tilesets_ok properties_ok kept =
     rw (width, width_ok, height, height_ok, cells_ok, tile_width, tile_width_ok, tile_height, tile_height_ok, infinite, next_layer, next_layer_ok, next_object, next_object_ok, layers, layers_ok, tilesets, tilesets_ok, properties, properties_ok, kept) refl
@@ -105,7 +105,7 @@ parts_again m h =
     (whole_again 1 MAX_TILE_SIDE m.tile_width h.tile_size.wide h.tile_size.width_limit) (whole_again 1 MAX_TILE_SIDE m.tile_height h.tile_size.high h.tile_size.height_limit)
     (whole_again 1 MAX_NEXT_ID m.next_layer_id layer.next_low layer.next_high) (whole_again 1 MAX_NEXT_ID m.next_object_id object.next_low object.next_high)
     (map_layers_again m.next_layer_id m.next_object_id m.width m.height layer.next_high object.next_high m.layers h.layers.few h.layers.each layer.each object.each)
-    (entries_again tileset_tree tileset_at MAX_TILESETS m.tilesets h.tilesets.few (all_weaker IsTileset (λ t. tileset_at (tileset_tree t) ≡ Ok t) tileset_again m.tilesets h.tilesets.each))
+    (elements_again tileset_tree tileset_at MAX_TILESETS m.tilesets h.tilesets.few (all_weaker IsTileset (λ t. tileset_at (tileset_tree t) ≡ Ok t) tileset_again m.tilesets h.tilesets.each))
     (properties_again map_level m.properties h.properties) (without_all-with_own own kept refl lacks)
 
 -- ---- fractions

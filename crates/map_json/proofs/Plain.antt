@@ -195,12 +195,12 @@ own_IsLayer room level size l h = IsLayer-without (λ ls. []) level size l (tree
 layer_plain : (room level n width height : ℕ) → level + 2 * room ≡ deepest_level → property_level (object_level level) + n ≡ MAX_DEPTH → (l : Layer) → Each (IsDrawn (width * height)) (tree room level l)
     → IsPlain (suc (suc (suc (suc (suc n))))) (layer_tree room width height l)
 unfolding layer_tree
-layer_plain zero level n width height place deep l h = own_plain level n (width * height) width height deep (array no_items) (refl, omega arith) l (own_IsLayer 0 level (width * height) l h)
-layer_plain (suc room) level n width height place deep l h =
+layer_plain zero level n width height balance deep l h = own_plain level n (width * height) width height deep (array no_items) (refl, omega arith) l (own_IsLayer 0 level (width * height) l h)
+layer_plain (suc room) level n width height balance deep l h =
     let m = n - 2 in
-    let long : suc (suc (suc (suc (suc m)))) ≡ suc (suc (suc n)) = omega (arith, place, deep) in
+    let long : suc (suc (suc (suc (suc m)))) ≡ suc (suc (suc n)) = omega (arith, balance, deep) in
     let one = λ (k : Layer) (g : Each (IsDrawn (width * height)) (tree room (inner_level level) k)).
-    subst (λ i. IsPlain i (layer_tree room width height k)) long (layer_plain room (inner_level level) m width height (omega (arith, place)) (omega (arith, place, deep)) k g) in
+    subst (λ i. IsPlain i (layer_tree room width height k)) long (layer_plain room (inner_level level) m width height (omega (arith, balance)) (omega (arith, balance, deep)) k g) in
     let items = layers_plain room (inner_level level) (suc (suc (suc n))) width height one (inside l) (tree-Each (IsDrawn (width * height)) (suc room) level l h).1 in
     let below = items.1 in
     own_plain level n (width * height) width height deep (layers_tree room width height (inside l)) (items.0, omega (arith, below)) l (own_IsLayer (suc room) level (width * height) l h)
@@ -209,22 +209,22 @@ layer_plain (suc room) level n width height place deep l h =
 AreWritten-plain : (room width height : ℕ) (ls : List Layer) → AreWritten room (width * height) ls → IsPlain 126 (layers_tree room width height ls)
 AreWritten-plain room width height ls h =
     let n = 123 - h.level in
-    let items = layers_plain room h.level (suc (suc (suc (suc (suc n))))) width height (layer_plain room h.level n width height h.place (omega (arith, h.place))) ls h.each in
+    let items = layers_plain room h.level (suc (suc (suc (suc (suc n))))) width height (layer_plain room h.level n width height h.balance (omega (arith, h.balance))) ls h.each in
     let deep = items.1 in
-    (items.0, omega (arith, h.place, h.high, deep))
+    (items.0, omega (arith, h.balance, h.high, deep))
 
 -- the frame of one of them
 pub layer_frame_plain : (room width height : ℕ) (l : Layer) → AreWritten room (width * height) (l ∷ []) → IsPlain 127 (object (layer_frame width height l))
 layer_frame_plain room width height l h =
     let n = 123 - h.level in
     let own = own_IsLayer room h.level (width * height) l (Each-left (IsDrawn (width * height)) (tree room h.level l) [] h.each) in
-    let frame = own_plain h.level n (width * height) width height (omega (arith, h.place)) (array no_items) (refl, omega arith) l own in
+    let frame = own_plain h.level n (width * height) width height (omega (arith, h.balance)) (array no_items) (refl, omega arith) l own in
     let deep = frame.1 in
-    (frame.0, omega (arith, h.place, h.high, deep))
+    (frame.0, omega (arith, h.balance, h.high, deep))
 
 -- the layers of a well-formed map
 pub layers_AreWritten : (m : MapParts) → IsWellFormed m → AreWritten MAX_GROUPS (m.width * m.height) m.layers
-layers_AreWritten m h = record { level = layer_level; high = omega arith; place = refl; each = h.layers.each }
+layers_AreWritten m h = record { level = layer_level; high = omega arith; balance = refl; each = h.layers.each }
 
 map_layers_plain : (m : MapParts) → IsWellFormed m → IsPlain 126 (layers_tree MAX_GROUPS m.width m.height m.layers)
 map_layers_plain m h = AreWritten-plain MAX_GROUPS m.width m.height m.layers (layers_AreWritten m h)

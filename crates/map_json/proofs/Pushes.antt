@@ -21,7 +21,7 @@ unfolding snoc
 items_by-push f [] x = refl
 items_by-push f (y ∷ xs) x = ap (item (f y)) (items_by-push f xs x)
 
--- one more entry, which is x
+-- one more element, which is x
 pub one_more_tree : {A : Type 0} (f : A → Data) (vs : List Value) (v : Value) (xs : List A) (i : ℕ) (x d : A) → i < length xs → x ≡ get_or xs i d
     → items_view vs ≡ items_by f (take i xs) → view v ≡ f x → items_view (vs ++ v ∷ []) ≡ items_by f (take (i + 1) xs)
 one_more_tree f vs v xs i x d lt is so_far e =
@@ -34,7 +34,7 @@ bytes_of-push (m ∷ ns) n = ap (λ (t : List ℕ). to_le_bytes w32 m ++ t) (byt
 pub one_more_bytes : (ns : List ℕ) (i n d : ℕ) → i < length ns → n ≡ get_or ns i d → bytes_of (take (i + 1) ns) ≡ bytes_of (take i ns) ++ to_le_bytes w32 n
 one_more_bytes ns i n d lt is = ap bytes_of (take_more ns i d lt ∙ ap (λ y. take i ns ++ y ∷ []) (sym is)) ∙ bytes_of-push (take i ns) n
 
--- ---- entries in front of others
+-- ---- elements in front of others
 abbrev pub joined : Items → Items → Items
 joined no_items es = es
 joined (item d ds) es = item d (joined ds es)

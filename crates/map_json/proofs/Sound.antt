@@ -1,4 +1,4 @@
--- What was read is well formed, as far as one owner tells: values, properties, entries, numbers and cells.
+-- What was read is well formed, as far as one owner tells: values, properties, elements, numbers and cells.
 use Rattle.std.proofs.Common.{◌≡◌, ℕ, suc, ◌+◌, ◌-◌, ◌*◌, ◌^◌, ◌<◌, ◌≤◌, ℤ, pos, negsuc, eqb, Bool, true, false, cond, ◌&&◌, List, [], ◌∷◌, length, Option, Some, None, Result, Ok, Err, refl, sym, ap, subst, arith}
 use Rattle.std.specs.Prelude.{codes, nat_le, nat_lt, option_and_then, option_map, if◌then◌else◌}
 use Rattle.std.specs.List.{list_all}
@@ -26,7 +26,7 @@ use Rattle.map_json.specs.declared.fault.MapRefusal.{MapRefusal}
 use Rattle.map_json.specs.declared.fault.MapRefusal.TheVariants.{MemberOfAnotherKind, OverLimit, BadData}
 use Rattle.map_json.specs.Steps.{required, absent_means}
 use Rattle.map_json.specs.Scalars.{whole_at, text_at}
-use Rattle.map_json.specs.Entries.{each, entries_at}
+use Rattle.map_json.specs.Elements.{each, elements_at}
 use Rattle.map_json.specs.Cells.{cell_of, cells_of, packed, words_of, is_byte, array_cells_at, base64_cells_at}
 use Rattle.map_json.specs.Reading.{value_of, value_at, property_at, properties_of, cells_at}
 use Rattle.map_json.proofs.Fine.{IsFineNum, IsFine, AreFineItems, AreFineMembers}
@@ -150,8 +150,8 @@ module _ {A : Type 0} (P : A → Type 0) (read : Data → Result A MapRefusal) (
       let more = each_sound ds ys h.1 ys_is in
       subst (λ (zs : List A). (length zs ≡ suc (items_len ds)) × Each P zs) (ok_is (x ∷ ys) xs e2) (ap suc more.0, (sound d x h.0 x_is, more.1))))
 
-  pub entries_sound : (most : ℕ) (d : Data) (xs : List A) → IsFine (suc n) d → entries_at most read d ≡ Ok xs → (length xs ≤ most) × Each P xs
-  entries_sound most d xs h e =
+  pub elements_sound : (most : ℕ) (d : Data) (xs : List A) → IsFine (suc n) d → elements_at most read d ≡ Ok xs → (length xs ≤ most) × Each P xs
+  elements_sound most d xs h e =
       by_bind (ok_or (as_array d) MemberOfAnotherKind) _ xs e (λ ds ds_is e1.
       let fits = chosen (nat_le (items_len ds) most) (each read ds) OverLimit xs e1 in
       let all = each_sound ds xs (array_fine n d ds h (ok_or_ok (as_array d) MemberOfAnotherKind ds ds_is)) fits.1 in
@@ -164,10 +164,10 @@ pub record WereRead (level : ℕ) (ps : List Property) : Type 0 where
 
 pub properties_sound : (level n : ℕ) → property_level level + n ≤ MAX_DEPTH → (ms : Members) (ps : List Property) → AreFineMembers (suc (suc n)) ms → properties_of ms ≡ Ok ps → WereRead level ps
 properties_sound level n room ms ps h e = at_member (get_member PROPERTIES.now ms) refl e where
-  at_member : (o : Option Data) → get_member PROPERTIES.now ms ≡ o → absent_means [] (entries_at MAX_PROPERTIES property_at) o ≡ Ok ps → WereRead level ps
+  at_member : (o : Option Data) → get_member PROPERTIES.now ms ≡ o → absent_means [] (elements_at MAX_PROPERTIES property_at) o ≡ Ok ps → WereRead level ps
   at_member None is f = subst (WereRead level) (ok_is [] ps f) (record { few = omega arith; each = tt })
   at_member (Some d) is f =
-      let s = entries_sound (IsProperty (property_level level)) property_at (suc n) (property_sound (property_level level) n room) MAX_PROPERTIES d ps (IsFine-get_member (suc (suc n)) PROPERTIES.now ms d h is) f in
+      let s = elements_sound (IsProperty (property_level level)) property_at (suc n) (property_sound (property_level level) n room) MAX_PROPERTIES d ps (IsFine-get_member (suc (suc n)) PROPERTIES.now ms d h is) f in
       record { few = s.0; each = s.1 }
 
 -- ---- scalars and cells

@@ -15,8 +15,8 @@ use Rattle.map_json.specs.Members.{without}
 
 module _ {A B : Type 0} (f : A → List B) where
   -- one more element is behind what was gathered
-  pub gathered_more : (front : List B) (x : A) (xs : List A) → (front ++ f x) ++ flat_map f xs ≡ front ++ flat_map f (x ∷ xs)
-  gathered_more front x xs = append_assoc front (f x) (flat_map f xs)
+  pub gathered_more : (prefix : List B) (x : A) (xs : List A) → (prefix ++ f x) ++ flat_map f xs ≡ prefix ++ flat_map f (x ∷ xs)
+  gathered_more prefix x xs = append_assoc prefix (f x) (flat_map f xs)
 
 module _ {B : Type 0} (p : B → Bool) where
   pub all_pass : (xs ys : List B) → list_all p xs ≡ true → list_all p (xs ++ ys) ≡ list_all p ys

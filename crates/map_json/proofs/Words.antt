@@ -24,16 +24,16 @@ words_of-drop s i h =
     let d = drop_one s (i + 3) (i + 4) (omega arith) (omega arith) in
     rw (a, b, c, d) refl
 
-pub one_more_word : (front s : List ℕ) (i : ℕ) (word : ℕ) → 4 * i + 4 ≤ length s
+pub one_more_word : (prefix s : List ℕ) (i : ℕ) (word : ℕ) → 4 * i + 4 ≤ length s
     → word ≡ from_le_bytes w32 (get_or s (4 * i) 0 ∷ get_or s (4 * i + 1) 0 ∷ get_or s (4 * i + 2) 0 ∷ get_or s (4 * i + 3) 0 ∷ [])
-    → (front ++ word ∷ []) ++ words_of (drop (4 * (i + 1)) s) ≡ front ++ words_of (drop (4 * i) s)
-one_more_word front s i word h is =
+    → (prefix ++ word ∷ []) ++ words_of (drop (4 * (i + 1)) s) ≡ prefix ++ words_of (drop (4 * i) s)
+one_more_word prefix s i word h is =
     let next : 4 * (i + 1) ≡ 4 * i + 4 = omega arith in
-    append_assoc front (word ∷ []) (words_of (drop (4 * (i + 1)) s)) ∙ ap (λ (t : List ℕ). front ++ t) (rw (next, is) (sym (words_of-drop s (4 * i) h)))
+    append_assoc prefix (word ∷ []) (words_of (drop (4 * (i + 1)) s)) ∙ ap (λ (t : List ℕ). prefix ++ t) (rw (next, is) (sym (words_of-drop s (4 * i) h)))
 
-pub all_words : (front s : List ℕ) (i : ℕ) → length s ≤ 4 * i → front ++ words_of (drop (4 * i) s) ≡ front
+pub all_words : (prefix s : List ℕ) (i : ℕ) → length s ≤ 4 * i → prefix ++ words_of (drop (4 * i) s) ≡ prefix
 unfolding words_of
-all_words front s i h = rw (drop_all (4 * i) s h) (append-nil front)
+all_words prefix s i h = rw (drop_all (4 * i) s h) (append-nil prefix)
 
 -- ---- bytes
 

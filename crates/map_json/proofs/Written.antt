@@ -14,7 +14,7 @@ pub AreWritten-first : (room size : ℕ) (l : Layer) (ls : List Layer) → AreWr
 AreWritten-first room size l ls h = record {
   level = h.level;
   high = h.high;
-  place = h.place;
+  balance = h.balance;
   each = Each-both (IsDrawn size) (tree room h.level l) [] (Each-left (IsDrawn size) (tree room h.level l) (drawn room h.level ls) h.each) tt;
 }
 
@@ -22,7 +22,7 @@ pub AreWritten-rest : (room size : ℕ) (l : Layer) (ls : List Layer) → AreWri
 AreWritten-rest room size l ls h = record {
   level = h.level;
   high = h.high;
-  place = h.place;
+  balance = h.balance;
   each = Each-right (IsDrawn size) (tree room h.level l) (drawn room h.level ls) h.each;
 }
 
@@ -30,7 +30,7 @@ pub AreWritten-inside : (room less size : ℕ) (l : Layer) (ks : List Layer) →
 AreWritten-inside room less size l ks more are h =
     let all : AreWritten (suc less) size (l ∷ []) = subst (λ n. AreWritten n size (l ∷ [])) more h in
     let own = tree-Each (IsDrawn size) (suc less) all.level l (Each-left (IsDrawn size) (tree (suc less) all.level l) [] all.each) in
-    subst (AreWritten less size) are (record { level = inner_level all.level; high = omega (arith, all.high); place = omega (arith, all.place); each = own.1 })
+    subst (AreWritten less size) are (record { level = inner_level all.level; high = omega (arith, all.high); balance = omega (arith, all.balance); each = own.1 })
 
 -- a layer keeps no member of its own names
 pub AreWritten-lacks : (room size : ℕ) (l : Layer) → AreWritten room size (l ∷ []) → Each (λ name. get_member name l.kept ≡ None) (layer_names l.body)

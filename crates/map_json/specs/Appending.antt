@@ -25,19 +25,19 @@ abbrev pub Appends : Data → List ℕ → List ℕ → Type 0
 Appends d old new = (new ≡ old ++ compact_text d) × Returns d
 
 -- the value, and this one in place of that with the name
-abbrev pub in_place : List ℕ → Data → List ℕ → Data → Data
-in_place k d l e = if bytes_eq l k then d else e
+abbrev pub instead : List ℕ → Data → List ℕ → Data → Data
+instead k d l e = if bytes_eq l k then d else e
 
 -- the members, with this value wherever the name is k
 abbrev pub replaced : List ℕ → Data → Members → Members
 replaced k d no_members = no_members
-replaced k d (member l e ms) = member l (in_place k d l e) (replaced k d ms)
+replaced k d (member l e ms) = member l (instead k d l e) (replaced k d ms)
 
 -- layers as a map of so many cells has them, where so many groups may still stand in one another
 pub record AreWritten (room size : ℕ) (ls : List Layer) : Type 0 where
   pub level : ℕ
   pub high : layer_level ≤ level
-  pub place : level + 2 * room ≡ deepest_level
+  pub balance : level + 2 * room ≡ deepest_level
   pub each : Each (IsDrawn size) (drawn room level ls)
 
 -- the members of a layer, with an empty array for the layers of a group

@@ -1,6 +1,6 @@
 pub mod Steps
 pub mod Scalars
-pub mod Entries
+pub mod Elements
 pub mod Members
 pub mod Cells
 pub mod Reading

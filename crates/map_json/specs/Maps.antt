@@ -17,7 +17,7 @@ use Rattle.map_json.specs.declared.fault.MapFault.{MapFault}
 use Rattle.map_json.specs.declared.fault.MapFault.TheVariants.{Memory, Refused}
 use Rattle.map_json.specs.Steps.{required, absent_means}
 use Rattle.map_json.specs.Scalars.{whole_at, truth_at}
-use Rattle.map_json.specs.Entries.{entries_at}
+use Rattle.map_json.specs.Elements.{elements_at}
 use Rattle.map_json.specs.Members.{without, without_all}
 use Rattle.map_json.specs.Reading.{properties_of, tileset_at, map_layers_at}
 use Rattle.map_json.specs.Distinctness.{has_no_double, are_below_next}
@@ -65,7 +65,7 @@ parts_of ms = do
   next_layer_id ← required (whole_at 1 MAX_NEXT_ID) (get_member NEXT_LAYER_ID.now ms)
   next_object_id ← required (whole_at 1 MAX_NEXT_ID) (get_member NEXT_OBJECT_ID.now ms)
   layers ← required (map_layers_at width height) (get_member LAYERS.now ms)
-  tilesets ← required (entries_at MAX_TILESETS tileset_at) (get_member TILESETS.now ms)
+  tilesets ← required (elements_at MAX_TILESETS tileset_at) (get_member TILESETS.now ms)
   properties ← properties_of ms
   Ok (record {
     width = width;

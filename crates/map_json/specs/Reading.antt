@@ -26,7 +26,7 @@ use Rattle.map_json.specs.declared.fault.MapRefusal.{MapRefusal}
 use Rattle.map_json.specs.declared.fault.MapRefusal.TheVariants.{MemberOfAnotherKind, Compressed, BadData, OverLimit}
 use Rattle.map_json.specs.Steps.{required, absent_means, optional}
 use Rattle.map_json.specs.Scalars.{whole_at, signed_at, text_at, truth_at}
-use Rattle.map_json.specs.Entries.{Counting, each_counted, entries_at}
+use Rattle.map_json.specs.Elements.{Counting, each_counted, elements_at}
 use Rattle.map_json.specs.Members.{without_all}
 use Rattle.map_json.specs.Cells.{array_cells_at, base64_cells_at}
 
@@ -57,7 +57,7 @@ property_at d = do
 
 -- the properties of an owner; none where the member is absent
 abbrev pub properties_of : Members → Result (List Property) MapRefusal
-properties_of ms = absent_means [] (entries_at MAX_PROPERTIES property_at) (get_member PROPERTIES.now ms)
+properties_of ms = absent_means [] (elements_at MAX_PROPERTIES property_at) (get_member PROPERTIES.now ms)
 
 -- ---- objects
 abbrev pub id_at : Data → Result ℕ MapRefusal
@@ -136,7 +136,7 @@ tiles_of width height ms = do
 
 unfoldable pub objects_of : Members → Result Body MapRefusal
 objects_of ms = do
-  objects ← required (entries_at MAX_OBJECTS object_at) (get_member OBJECTS.now ms)
+  objects ← required (elements_at MAX_OBJECTS object_at) (get_member OBJECTS.now ms)
   Ok (Objects objects)
 
 -- what a layer of this type holds, on a map of this size; where it is a group, inner reads its layers

@@ -9,7 +9,7 @@ ghost use Rattle.map_json.specs.Steps.{Gives, required, absent_means};
 ghost use Rattle.map_json.specs.Reading.{type_at, encoding_at, compression_at, same_at, cells_at, tiles_of, objects_of};
 
 use crate::cells::{array_cells, base64_cells};
-use crate::entries::required_entries;
+use crate::elements::required_elements;
 use crate::fault::{MapFault, MapRefusal};
 use crate::json_object::JsonObject;
 use crate::size::Size;
@@ -153,6 +153,6 @@ pub fn objects(alloc: Global, size: Size, members: &mut JsonObject) -> Result<Bo
     ensures kept { IfOk result (λ body. members.new ≡ without_all (body_names body) members.old) }
 {
     let objects = members.take(names::OBJECTS);
-    let objects = required_entries(alloc, size, MAX_OBJECTS, objects)?;
+    let objects = required_elements(alloc, size, MAX_OBJECTS, objects)?;
     Ok(Body::Objects(objects))
 }

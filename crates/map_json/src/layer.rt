@@ -7,11 +7,11 @@ ghost use Rattle.map_model.specs.Keeping.{body_names, common_names};
 ghost use Rattle.map_model.specs.declared.limits.TheConstants.{MAX_CELLS, MAX_LAYERS};
 ghost use Rattle.map_json.specs.Members.{without_all};
 ghost use Rattle.map_json.specs.Steps.{Fails, Gives, GivesBy, required};
-ghost use Rattle.map_json.specs.Entries.{each_counted};
+ghost use Rattle.map_json.specs.Elements.{each_counted};
 ghost use Rattle.map_json.specs.Reading.{body_by, layer_by, layers_at, map_layers_at};
 
 use crate::body::{LayerType, layer_type, objects, tiles};
-use crate::entries::array_of;
+use crate::elements::array_of;
 use crate::fault::{MapFault, MapRefusal};
 use crate::json_object::JsonObject;
 use crate::property::properties_or_none;

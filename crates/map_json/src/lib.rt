@@ -4,7 +4,7 @@
 mod body;
 mod cells;
 mod doubles;
-mod entries;
+mod elements;
 mod fault;
 mod fractions;
 mod json_object;

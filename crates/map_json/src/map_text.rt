@@ -7,7 +7,7 @@ ghost use Rattle.serde_json.specs.Read.{max_depth};
 ghost use Rattle.serde_json.specs.View.{view as data_of};
 ghost use Rattle.serde_json.specs.Written.{comma_if, has_float, members_have_float};
 ghost use Rattle.map_model.specs.declared.names.TheConstants.{LAYERS};
-ghost use Rattle.map_json.specs.Appending.{Appends, AreWritten, in_place, replaced};
+ghost use Rattle.map_json.specs.Appending.{Appends, AreWritten, instead, replaced};
 ghost use Rattle.map_json.specs.Maps.{IsTreeOf, map_of};
 ghost use Rattle.map_json.specs.RoundTrip.{WrittenIsRead};
 ghost use Rattle.map_json.specs.Trees.{layer_tree, layers_tree, text_of, tree_of};
@@ -110,7 +110,7 @@ fn push_member(
     requires layers { AreWritten room (size.width * size.height) layers.now }
     requires whole { has_float (data_of value.now) ≡ false }
     requires shallow { depth (data_of value.now) ≤ max_depth }
-    ensures { OnOk result (Appends (in_place LAYERS.now (layers_tree room size.width size.height layers.now) name.now (data_of value.now))
+    ensures { OnOk result (Appends (instead LAYERS.now (layers_tree room size.width size.height layers.now) name.now (data_of value.now))
         text.old.items text.new.items) }
 {
     if name == names::LAYERS {

@@ -9,7 +9,7 @@ ghost use Rattle.map_json.specs.Steps.{optional};
 ghost use Rattle.map_json.specs.Scalars.{whole_at};
 ghost use Rattle.map_json.specs.Reading.{object_at, placing_of};
 
-use crate::entries::Entry;
+use crate::elements::Element;
 use crate::fault::{MapFault, MapRefusal};
 use crate::json_object::JsonObject;
 use crate::property::properties_or_none;
@@ -74,7 +74,7 @@ fn optional_gid(member: Option<&Value>) -> Result<Option<Gid>, MapRefusal>
     }
 }
 
-impl Entry for Object {
+impl Element for Object {
     ghost reads = { λ _. object_at };
 
     #[tactic(auto, unfolding(crate::specs::Reading::object_at))]

@@ -7,10 +7,10 @@ ghost use Rattle.map_model.specs.Keeping.{property_names};
 ghost use Rattle.map_model.specs.declared.limits.TheConstants.{MAX_CELLS, MAX_PROPERTIES};
 ghost use Rattle.map_json.specs.Members.{without_all};
 ghost use Rattle.map_json.specs.Steps.{Gives, absent_means};
-ghost use Rattle.map_json.specs.Entries.{entries_at};
+ghost use Rattle.map_json.specs.Elements.{elements_at};
 ghost use Rattle.map_json.specs.Reading.{value_of, property_at};
 
-use crate::entries::{Entry, entries_or_none};
+use crate::elements::{Element, elements_or_none};
 use crate::fault::{MapFault, MapRefusal};
 use crate::json_object::JsonObject;
 use crate::scalar::{required_text, text_or};
@@ -62,7 +62,7 @@ fn property_members(mut members: JsonObject) -> PropertyMembers
     }
 }
 
-impl Entry for Property {
+impl Element for Property {
     ghost reads = { λ _. property_at };
 
     #[tactic(auto, unfolding(crate::specs::Reading::property_at))]
@@ -94,7 +94,7 @@ pub fn properties_or_none(
 ) -> Result<Chain<Property>, MapFault>
     requires { size.width * size.height ≤ MAX_CELLS }
     ensures { Gives result
-        (absent_means [] (entries_at MAX_PROPERTIES property_at) (option_map data_of member)) }
+        (absent_means [] (elements_at MAX_PROPERTIES property_at) (option_map data_of member)) }
 {
-    entries_or_none(alloc, size, MAX_PROPERTIES, member)
+    elements_or_none(alloc, size, MAX_PROPERTIES, member)
 }

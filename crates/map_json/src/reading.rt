@@ -9,7 +9,7 @@ ghost use Rattle.map_json.specs.Steps.{Gives};
 ghost use Rattle.map_json.specs.Maps.{is_map_type, parts_of, consistent, map_of, Says};
 
 use crate::doubles::{are_below_next, has_no_double, ids_of_map};
-use crate::entries::required_entries;
+use crate::elements::required_elements;
 use crate::fault::{MapFault, MapRefusal};
 use crate::fractions::has_fraction;
 use crate::json_object::JsonObject;
@@ -78,7 +78,7 @@ fn parts_of(alloc: Global, members: JsonObject) -> Result<MapParts, MapFault>
     let next_object_id = required_whole(members.get(names::NEXT_OBJECT_ID), 1, MAX_NEXT_ID)?;
     let members = map_members(members);
     let layers = map_layers(alloc, size, members.layers)?;
-    let tilesets = required_entries(alloc, size, MAX_TILESETS, members.tilesets)?;
+    let tilesets = required_elements(alloc, size, MAX_TILESETS, members.tilesets)?;
     let properties = properties_or_none(alloc, size, members.properties)?;
     Ok(MapParts {
         width,

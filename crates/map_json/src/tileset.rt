@@ -1,7 +1,7 @@
 // Tilesets.
 ghost use Rattle.map_json.specs.Reading.{tileset_at};
 
-use crate::entries::Entry;
+use crate::elements::Element;
 use crate::fault::{MapFault, MapRefusal};
 use crate::json_object::JsonObject;
 use crate::scalar::{optional_text, required_whole};
@@ -11,7 +11,7 @@ use map_model::{Tileset, names};
 use serde_json::Value;
 use std::alloc::Global;
 
-impl Entry for Tileset {
+impl Element for Tileset {
     ghost reads = { λ _. tileset_at };
 
     #[tactic(auto, using(crate::proofs::MembersLemmas::takes), unfolding(crate::specs::Reading::tileset_at))]

@@ -21,7 +21,7 @@ use serde_json::Value;
 use std::alloc::{AllocError, Global};
 use tile_id::Gid;
 
-/// What an array of a file has as its entries.
+/// What an array of a file has as its elements.
 pub trait Tree {
     ghost use Rattle.map_json.specs.declared.size.Size.{Size};
 
@@ -34,13 +34,13 @@ pub trait Tree {
 fn array_by<T: Tree + Drop>(
     alloc: Global,
     size: Size,
-    entries: &Chain<T>,
+    elements: &Chain<T>,
 ) -> Result<Value, AllocError>
-    ensures { IfOk result (λ value. data_of value ≡ array_by (T.tree size) entries.now) }
+    ensures { IfOk result (λ value. data_of value ≡ array_by (T.tree size) elements.now) }
 {
-    let mut values = Vec::with_capacity(alloc, entries.len())?;
-    for entry in entries.iter() {
-        values.push(entry.tree(alloc, size)?)?;
+    let mut values = Vec::with_capacity(alloc, elements.len())?;
+    for element in elements.iter() {
+        values.push(element.tree(alloc, size)?)?;
     }
     Ok(Value::from(values))
 }

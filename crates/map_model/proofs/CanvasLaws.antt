@@ -20,7 +20,7 @@ use Rattle.map_model.specs.Groups.{all_drawn}
 use Rattle.map_model.specs.Keeping.{body_names, layer_level, object_level}
 use Rattle.map_model.specs.Lists.{Each}
 use Rattle.map_model.proofs.CanvasTrees.{Turns, back_layers, drawn_on, drawn-layers_on}
-use Rattle.map_model.proofs.Listings.{Each-append, Each-front, Each-rest}
+use Rattle.map_model.proofs.Listings.{Each-append, Each-prefix, Each-rest}
 use Rattle.map_model.specs.WellFormed.{IsBody, IsDrawn, IsObject, ids_of, ids_of_object, object_ids_in, object_ids_of}
 
 -- ---- undone
@@ -39,11 +39,11 @@ held c d lists = record (canvas_back c d) { layers = lists }
 
 -- a body that was put on the canvas is put back
 body-back : (c : Canvas) (d : DocumentParts) → Turns (held c d) c
-body-back c d front rest place (Tiles e own) is =
-    ap (Tiles e) (ap (λ k. get_or (front ++ own ∷ rest) k (get_or c.layers place own)) is ∙ get_or-append_seam front own rest (get_or c.layers place own))
-body-back c d front rest place (Objects os) is = ap Objects (objects-back c.right c.down os)
-body-back c d front rest place Other is = refl
-body-back c d front rest place (Group' s r) is = refl
+body-back c d prefix rest number (Tiles e own) is =
+    ap (Tiles e) (ap (λ k. get_or (prefix ++ own ∷ rest) k (get_or c.layers number own)) is ∙ get_or-append_seam prefix own rest (get_or c.layers number own))
+body-back c d prefix rest number (Objects os) is = ap Objects (objects-back c.right c.down os)
+body-back c d prefix rest number Other is = refl
+body-back c d prefix rest number (Group' s r) is = refl
 
 layers-back : (c : Canvas) (d : DocumentParts) (ls : List Layer) → layers_on MAX_GROUPS (held c d (flat_map lists_of (all_drawn ls))) 0 (layers_on MAX_GROUPS c 0 ls) ≡ ls
 layers-back c d ls =
@@ -54,25 +54,25 @@ pub canvas-turned : (c : Canvas) (d : DocumentParts) → with_canvas (canvas_bac
 canvas-turned c d = ap (λ ls. record d { map = record d.map { layers = ls } }) (layers-back c d d.map.layers)
 
 -- ---- the cells of the canvas are those of the tile layers
-lists-laid : (c : Canvas) (front rest : List (List ℕ)) (place : ℕ) (ls : List (ℕ × Layer)) → c.layers ≡ front ++ rest → place ≡ length front
-    → length rest ≡ length (flat_map lists_of ls) → flat_map lists_of (drawn_on c place ls) ≡ rest
-lists-laid c front [] place [] held is count = refl
-lists-laid c front (cells ∷ rest) place [] held is count = absurd (omega arith)
-lists-laid c front rest place (l ∷ ls) held is count = by_body l.1.body rest held count (λ next more. lists-laid c next more (place + length (lists_of l)) ls)
+lists-laid : (c : Canvas) (prefix rest : List (List ℕ)) (number : ℕ) (ls : List (ℕ × Layer)) → c.layers ≡ prefix ++ rest → number ≡ length prefix
+    → length rest ≡ length (flat_map lists_of ls) → flat_map lists_of (drawn_on c number ls) ≡ rest
+lists-laid c prefix [] number [] held is count = refl
+lists-laid c prefix (cells ∷ rest) number [] held is count = absurd (omega arith)
+lists-laid c prefix rest number (l ∷ ls) held is count = by_body l.1.body rest held count (λ next more. lists-laid c next more (number + length (lists_of l)) ls)
   where
-    by_body : (b : Body) (rest : List (List ℕ)) → c.layers ≡ front ++ rest → length rest ≡ length (lists_in b ++ flat_map lists_of ls)
-        → ((next more : List (List ℕ)) → c.layers ≡ next ++ more → place + length (lists_in b) ≡ length next → length more ≡ length (flat_map lists_of ls)
-        → flat_map lists_of (drawn_on c (place + length (lists_in b)) ls) ≡ more)
-        → lists_in (body_on c place b) ++ flat_map lists_of (drawn_on c (place + length (lists_in b)) ls) ≡ rest
+    by_body : (b : Body) (rest : List (List ℕ)) → c.layers ≡ prefix ++ rest → length rest ≡ length (lists_in b ++ flat_map lists_of ls)
+        → ((next more : List (List ℕ)) → c.layers ≡ next ++ more → number + length (lists_in b) ≡ length next → length more ≡ length (flat_map lists_of ls)
+        → flat_map lists_of (drawn_on c (number + length (lists_in b)) ls) ≡ more)
+        → lists_in (body_on c number b) ++ flat_map lists_of (drawn_on c (number + length (lists_in b)) ls) ≡ rest
     by_body (Tiles e own) [] at many later = absurd (omega arith)
     by_body (Tiles e own) (cells ∷ more) at many later =
-        let first : get_or c.layers place own ≡ cells =
-        ap (λ xs. get_or xs place own) at ∙ ap (λ k. get_or (front ++ cells ∷ more) k own) is ∙ get_or-append_seam front cells more own in
-        let next : place + 1 ≡ length (front ++ cells ∷ []) = omega (arith, length-append front (cells ∷ [])) in
-        λ i. first i ∷ later (front ++ cells ∷ []) more (at ∙ sym (append_assoc front (cells ∷ []) more)) next (omega arith) i
-    by_body (Objects os) more at many later = later front more at (omega arith) many
-    by_body Other more at many later = later front more at (omega arith) many
-    by_body (Group' s r) more at many later = later front more at (omega arith) many
+        let first : get_or c.layers number own ≡ cells =
+        ap (λ xs. get_or xs number own) at ∙ ap (λ k. get_or (prefix ++ cells ∷ more) k own) is ∙ get_or-append_seam prefix cells more own in
+        let next : number + 1 ≡ length (prefix ++ cells ∷ []) = omega (arith, length-append prefix (cells ∷ [])) in
+        λ i. first i ∷ later (prefix ++ cells ∷ []) more (at ∙ sym (append_assoc prefix (cells ∷ []) more)) next (omega arith) i
+    by_body (Objects os) more at many later = later prefix more at (omega arith) many
+    by_body Other more at many later = later prefix more at (omega arith) many
+    by_body (Group' s r) more at many later = later prefix more at (omega arith) many
 
 pub tile_layers-on : (c : Canvas) (m : MapParts) → length c.layers ≡ length (tile_layers m) → tile_layers (map_on c m) ≡ c.layers
 tile_layers-on c m count = ap (flat_map lists_of) (drawn-layers_on MAX_GROUPS c layer_level 0 m.layers) ∙ lists-laid c [] c.layers 0 (all_drawn m.layers) refl refl count
@@ -82,22 +82,22 @@ object_ids-moved : (right down : ℤ) (os : List Object) → flat_map ids_of_obj
 object_ids-moved right down [] = refl
 object_ids-moved right down (o ∷ os) = ap (λ ids. o.id ∷ ids) (object_ids-moved right down os)
 
-object_ids-on : (c : Canvas) (place : ℕ) (b : Body) → object_ids_in (body_on c place b) ≡ object_ids_in b
-object_ids-on c place (Tiles e own) = refl
-object_ids-on c place (Objects os) = object_ids-moved c.right c.down os
-object_ids-on c place Other = refl
-object_ids-on c place (Group' s r) = refl
+object_ids-on : (c : Canvas) (number : ℕ) (b : Body) → object_ids_in (body_on c number b) ≡ object_ids_in b
+object_ids-on c number (Tiles e own) = refl
+object_ids-on c number (Objects os) = object_ids-moved c.right c.down os
+object_ids-on c number Other = refl
+object_ids-on c number (Group' s r) = refl
 
-body_names-on : (c : Canvas) (place : ℕ) (b : Body) → body_names (body_on c place b) ≡ body_names b
-body_names-on c place (Tiles e own) = refl
-body_names-on c place (Objects os) = refl
-body_names-on c place Other = refl
-body_names-on c place (Group' s r) = refl
+body_names-on : (c : Canvas) (number : ℕ) (b : Body) → body_names (body_on c number b) ≡ body_names b
+body_names-on c number (Tiles e own) = refl
+body_names-on c number (Objects os) = refl
+body_names-on c number Other = refl
+body_names-on c number (Group' s r) = refl
 
-flat-on : (c : Canvas) (g : ℕ × Layer → List ℕ) → ((place : ℕ) (d : ℕ × Layer) → g (d.0, layer_on c place d.1) ≡ g d) → (place : ℕ) (ls : List (ℕ × Layer))
-    → flat_map g (drawn_on c place ls) ≡ flat_map g ls
-flat-on c g same place [] = refl
-flat-on c g same place (l ∷ ls) = λ i. same place l i ++ flat-on c g same (place + length (lists_of l)) ls i
+flat-on : (c : Canvas) (g : ℕ × Layer → List ℕ) → ((number : ℕ) (d : ℕ × Layer) → g (d.0, layer_on c number d.1) ≡ g d) → (number : ℕ) (ls : List (ℕ × Layer))
+    → flat_map g (drawn_on c number ls) ≡ flat_map g ls
+flat-on c g same number [] = refl
+flat-on c g same number (l ∷ ls) = λ i. same number l i ++ flat-on c g same (number + length (lists_of l)) ls i
 
 -- ---- well formed on the canvas
 objects-on : (right down : ℤ) (level : ℕ) (os : List Object) → Each (IsObject level) os → Each (MayBeMoved right down) os
@@ -106,28 +106,28 @@ objects-on right down level [] h may = tt
 objects-on right down level (o ∷ os) h may =
     (record { placing = may.0; gid = h.0.gid; properties = h.0.properties; kept = h.0.kept }, objects-on right down level os h.1 may.1)
 
-IsBody-on : (c : Canvas) (place level old size : ℕ) (b : Body) → IsBody level old b → BodyMayBeMoved c.right c.down b → Each (AreCells size) (lists_in (body_on c place b))
-    → IsBody level size (body_on c place b)
-IsBody-on c place level old size (Tiles e own) h may cells = cells.0
-IsBody-on c place level old size (Objects os) h may cells =
+IsBody-on : (c : Canvas) (number level old size : ℕ) (b : Body) → IsBody level old b → BodyMayBeMoved c.right c.down b → Each (AreCells size) (lists_in (body_on c number b))
+    → IsBody level size (body_on c number b)
+IsBody-on c number level old size (Tiles e own) h may cells = cells.0
+IsBody-on c number level old size (Objects os) h may cells =
     (rw (length-map os (object_moved c.right c.down)) h.0, objects-on c.right c.down (object_level level) os h.1 may)
-IsBody-on c place level old size Other h may cells = tt
-IsBody-on c place level old size (Group' s r) h may cells = h
+IsBody-on c number level old size Other h may cells = tt
+IsBody-on c number level old size (Group' s r) h may cells = h
 
-layers-on : (c : Canvas) (place old size : ℕ) (ds : List (ℕ × Layer)) → Each (IsDrawn old) ds → Each (MayBeDrawn c.right c.down) ds
-    → Each (AreCells size) (flat_map lists_of (drawn_on c place ds)) → Each (IsDrawn size) (drawn_on c place ds)
-layers-on c place old size [] h may cells = tt
-layers-on c place old size (d ∷ ds) h may cells =
+layers-on : (c : Canvas) (number old size : ℕ) (ds : List (ℕ × Layer)) → Each (IsDrawn old) ds → Each (MayBeDrawn c.right c.down) ds
+    → Each (AreCells size) (flat_map lists_of (drawn_on c number ds)) → Each (IsDrawn size) (drawn_on c number ds)
+layers-on c number old size [] h may cells = tt
+layers-on c number old size (d ∷ ds) h may cells =
     let l = d.1 in
-    let own = Each-front (AreCells size) (lists_in (body_on c place l.body)) (flat_map lists_of (drawn_on c (place + length (lists_of d)) ds)) cells in
-    let rest = Each-rest (AreCells size) (lists_in (body_on c place l.body)) (flat_map lists_of (drawn_on c (place + length (lists_of d)) ds)) cells in (
-      record { properties = h.0.properties; kept = rw (body_names-on c place l.body) h.0.kept; body = IsBody-on c place d.0 old size l.body h.0.body may.0 own },
-      layers-on c (place + length (lists_of d)) old size ds h.1 may.1 rest,
+    let own = Each-prefix (AreCells size) (lists_in (body_on c number l.body)) (flat_map lists_of (drawn_on c (number + length (lists_of d)) ds)) cells in
+    let rest = Each-rest (AreCells size) (lists_in (body_on c number l.body)) (flat_map lists_of (drawn_on c (number + length (lists_of d)) ds)) cells in (
+      record { properties = h.0.properties; kept = rw (body_names-on c number l.body) h.0.kept; body = IsBody-on c number d.0 old size l.body h.0.body may.0 own },
+      layers-on c (number + length (lists_of d)) old size ds h.1 may.1 rest,
     )
 
-length-drawn_on : (c : Canvas) (place : ℕ) (ds : List (ℕ × Layer)) → length (drawn_on c place ds) ≡ length ds
-length-drawn_on c place [] = refl
-length-drawn_on c place (d ∷ ds) = ap suc (length-drawn_on c (place + length (lists_of d)) ds)
+length-drawn_on : (c : Canvas) (number : ℕ) (ds : List (ℕ × Layer)) → length (drawn_on c number ds) ≡ length ds
+length-drawn_on c number [] = refl
+length-drawn_on c number (d ∷ ds) = ap suc (length-drawn_on c (number + length (lists_of d)) ds)
 
 pub on-IsDocument : (c : Canvas) (d : DocumentParts) → IsCanvasOf d c → IsDocument d → IsDocument (with_canvas c d)
 on-IsDocument c d fits h =
@@ -143,8 +143,8 @@ on-IsDocument c d fits h =
         layers = rw on (record {
           few = rw (length-drawn_on c 0 ds) h.map.layers.few;
           each = layers-on c 0 (m.width * m.height) size ds h.map.layers.each fits.objects cells;
-          layer_ids = rw (flat-on c ids_of (λ place l. refl) 0 ds) h.map.layers.layer_ids;
-          object_ids = rw (flat-on c object_ids_of (λ place l. object_ids-on c place l.1.body) 0 ds) h.map.layers.object_ids;
+          layer_ids = rw (flat-on c ids_of (λ number l. refl) 0 ds) h.map.layers.layer_ids;
+          object_ids = rw (flat-on c object_ids_of (λ number l. object_ids-on c number l.1.body) 0 ds) h.map.layers.object_ids;
         });
         tilesets = h.map.tilesets;
         properties = h.map.properties;
@@ -161,15 +161,15 @@ objects-may : (right down : ℤ) (level : ℕ) (os : List Object) → Each (IsOb
 objects-may right down level [] h = tt
 objects-may right down level (o ∷ os) h = (rw (number-back o.placing.x right, number-back o.placing.y down) h.0.placing, objects-may right down level os h.1)
 
-body-may : (c : Canvas) (place level size : ℕ) (b : Body) → IsBody level size b → BodyMayBeMoved (neg_ℤ c.right) (neg_ℤ c.down) (body_on c place b)
-body-may c place level size (Tiles e own) h = tt
-body-may c place level size (Objects os) h = objects-may c.right c.down (object_level level) os h.1
-body-may c place level size Other h = tt
-body-may c place level size (Group' s r) h = tt
+body-may : (c : Canvas) (number level size : ℕ) (b : Body) → IsBody level size b → BodyMayBeMoved (neg_ℤ c.right) (neg_ℤ c.down) (body_on c number b)
+body-may c number level size (Tiles e own) h = tt
+body-may c number level size (Objects os) h = objects-may c.right c.down (object_level level) os h.1
+body-may c number level size Other h = tt
+body-may c number level size (Group' s r) h = tt
 
-layers-may : (c : Canvas) (place size : ℕ) (ds : List (ℕ × Layer)) → Each (IsDrawn size) ds → Each (MayBeDrawn (neg_ℤ c.right) (neg_ℤ c.down)) (drawn_on c place ds)
-layers-may c place size [] h = tt
-layers-may c place size (d ∷ ds) h = (body-may c place d.0 size d.1.body h.0.body, layers-may c (place + length (lists_of d)) size ds h.1)
+layers-may : (c : Canvas) (number size : ℕ) (ds : List (ℕ × Layer)) → Each (IsDrawn size) ds → Each (MayBeDrawn (neg_ℤ c.right) (neg_ℤ c.down)) (drawn_on c number ds)
+layers-may c number size [] h = tt
+layers-may c number size (d ∷ ds) h = (body-may c number d.0 size d.1.body h.0.body, layers-may c (number + length (lists_of d)) size ds h.1)
 
 body-cells : (level size : ℕ) (b : Body) → IsBody level size b → Each (AreCells size) (lists_in b)
 body-cells level size (Tiles e own) h = (h, tt)

@@ -15,7 +15,7 @@ use Rattle.map_model.specs.Keeping.{inner_level, layer_level}
 use Rattle.map_model.specs.Lists.{Each, or_empty}
 use Rattle.map_model.proofs.CanvasTrees.{cells_below, counted, group_in-on, lists_under-is, lists_under-list, one_on-is}
 use Rattle.map_model.proofs.GroupBodies.{objects_in-with}
-use Rattle.map_model.proofs.Listings.{Each-append, Each-front, Each-rest}
+use Rattle.map_model.proofs.Listings.{Each-append, Each-prefix, Each-rest}
 use Rattle.map_model.proofs.Trees.{tree-is}
 
 -- ---- a list of which the first elements are changed
@@ -42,31 +42,31 @@ objects-more right down os now k o p is e moved =
 
 -- ---- layers of which the first are on a canvas
 module _ (g : ℕ → Layer → Layer) (n : Layer → ℕ) where
-  laid-at : (place : ℕ) (ls : List Layer) (k : ℕ) → slice_get (each_on g n place (take k ls) ++ drop k ls) k ≡ slice_get ls k
-  laid-at place [] zero = refl
-  laid-at place [] (suc k) = refl
-  laid-at place (l ∷ ls) zero = refl
-  laid-at place (l ∷ ls) (suc k) = laid-at (place + n l) ls k
+  laid-at : (number : ℕ) (ls : List Layer) (k : ℕ) → slice_get (each_on g n number (take k ls) ++ drop k ls) k ≡ slice_get ls k
+  laid-at number [] zero = refl
+  laid-at number [] (suc k) = refl
+  laid-at number (l ∷ ls) zero = refl
+  laid-at number (l ∷ ls) (suc k) = laid-at (number + n l) ls k
 
   abbrev total : List Layer → ℕ
   total [] = 0
   total (l ∷ ls) = n l + total ls
 
-  laid-more : (place at : ℕ) (ls : List Layer) (k : ℕ) (l : Layer) → at ≡ place + total (take k ls) → slice_get ls k ≡ Some l
-      → slice_set (each_on g n place (take k ls) ++ drop k ls) k (g at l) ≡ each_on g n place (take (suc k) ls) ++ drop (suc k) ls
-  laid-more place at [] zero l is e = cc
-  laid-more place at [] (suc k) l is e = cc
-  laid-more place at (m ∷ ls) zero l is e =
+  laid-more : (number at : ℕ) (ls : List Layer) (k : ℕ) (l : Layer) → at ≡ number + total (take k ls) → slice_get ls k ≡ Some l
+      → slice_set (each_on g n number (take k ls) ++ drop k ls) k (g at l) ≡ each_on g n number (take (suc k) ls) ++ drop (suc k) ls
+  laid-more number at [] zero l is e = cc
+  laid-more number at [] (suc k) l is e = cc
+  laid-more number at (m ∷ ls) zero l is e =
       let same : l ≡ m = cc in
-      let here : at ≡ place = omega (arith, is) in
+      let here : at ≡ number = omega (arith, is) in
       rw (same, here) refl
-  laid-more place at (m ∷ ls) (suc k) l is e =
-      let rest : at ≡ place + n m + total (take k ls) = omega (arith, is) in
-      ap (λ ms. g place m ∷ ms) (laid-more (place + n m) at ls k l rest e)
+  laid-more number at (m ∷ ls) (suc k) l is e =
+      let rest : at ≡ number + n m + total (take k ls) = omega (arith, is) in
+      ap (λ ms. g number m ∷ ms) (laid-more (number + n m) at ls k l rest e)
 
-  length-each_on : (place : ℕ) (ls : List Layer) → length (each_on g n place ls) ≡ length ls
-  length-each_on place [] = refl
-  length-each_on place (l ∷ ls) = ap suc (length-each_on (place + n l) ls)
+  length-each_on : (number : ℕ) (ls : List Layer) → length (each_on g n number ls) ≡ length ls
+  length-each_on number [] = refl
+  length-each_on number (l ∷ ls) = ap suc (length-each_on (number + n l) ls)
 
 -- the cells of layers, and of those that stand in them
 abbrev pub cells : ℕ → List Layer → List (List ℕ)
@@ -97,113 +97,113 @@ cells-room room (m ∷ ls) zero l e =
 cells-room room (m ∷ ls) (suc k) l e =
     let later = cells-room room ls k l e in
     let own = ap length (lists_under-list room m ls) in
-    let front = ap length (lists_under-list room m (take k ls)) in
-    omega (arith, later, own, front, length-append (lists_under room m) (cells room ls), length-append (lists_under room m) (cells room (take k ls)))
+    let prefix = ap length (lists_under-list room m (take k ls)) in
+    omega (arith, later, own, prefix, length-append (lists_under room m) (cells room ls), length-append (lists_under room m) (cells room (take k ls)))
 
 -- ---- lists of cells of which some were exchanged
--- a list is what stands before a place, so many elements from there on, and the rest
-split : {X : Type 0} (xs : List X) (place n : ℕ) → xs ≡ take place xs ++ (take n (drop place xs) ++ drop n (drop place xs))
-split xs place n = sym (take-append-drop place xs) ∙ ap (λ ys. take place xs ++ ys) (sym (take-append-drop n (drop place xs)))
+-- a list is what stands before a number, so many elements from there on, and the rest
+split : {X : Type 0} (xs : List X) (number n : ℕ) → xs ≡ take number xs ++ (take n (drop number xs) ++ drop n (drop number xs))
+split xs number n = sym (take-append-drop number xs) ∙ ap (λ ys. take number xs ++ ys) (sym (take-append-drop n (drop number xs)))
 
-left-split : (front piece own rest : List (List ℕ)) (place : ℕ) → place ≡ length front → length own ≡ length piece → lists_left place own (front ++ (piece ++ rest)) ≡ front ++ (own ++ rest)
-left-split front piece own rest place is long =
-    ap (λ k. lists_left k own (front ++ (piece ++ rest))) is
-    ∙ (λ i. take-append_seam front (piece ++ rest) i ++ (own ++ (drop-append-add front (piece ++ rest) (length own) ∙ ap (λ k. drop k (piece ++ rest)) long ∙ drop-append_seam piece rest) i))
+left-split : (prefix piece own rest : List (List ℕ)) (number : ℕ) → number ≡ length prefix → length own ≡ length piece → lists_left number own (prefix ++ (piece ++ rest)) ≡ prefix ++ (own ++ rest)
+left-split prefix piece own rest number is long =
+    ap (λ k. lists_left k own (prefix ++ (piece ++ rest))) is
+    ∙ (λ i. take-append_seam prefix (piece ++ rest) i ++ (own ++ (drop-append-add prefix (piece ++ rest) (length own) ∙ ap (λ k. drop k (piece ++ rest)) long ∙ drop-append_seam piece rest) i))
 
-module _ (place : ℕ) (own more lists : List (List ℕ)) (fits : place + length own + length more ≤ length lists) where
-  abbrev front : List (List ℕ)
-  front = take place lists
+module _ (number : ℕ) (own more lists : List (List ℕ)) (fits : number + length own + length more ≤ length lists) where
+  abbrev prefix : List (List ℕ)
+  prefix = take number lists
 
   abbrev piece : List (List ℕ)
-  piece = take (length own) (drop place lists)
+  piece = take (length own) (drop number lists)
 
   abbrev next : List (List ℕ)
-  next = take (length more) (drop (length own) (drop place lists))
+  next = take (length more) (drop (length own) (drop number lists))
 
   abbrev rest : List (List ℕ)
-  rest = drop (length more) (drop (length own) (drop place lists))
+  rest = drop (length more) (drop (length own) (drop number lists))
 
-  are : lists ≡ front ++ (piece ++ (next ++ rest))
-  are = split lists place (length own) ∙ ap (λ xs. front ++ (piece ++ xs)) (sym (take-append-drop (length more) (drop (length own) (drop place lists))))
+  are : lists ≡ prefix ++ (piece ++ (next ++ rest))
+  are = split lists number (length own) ∙ ap (λ xs. prefix ++ (piece ++ xs)) (sym (take-append-drop (length more) (drop (length own) (drop number lists))))
 
-  front-long : place ≡ length front
-  front-long = sym (length-take-le place lists (omega (arith, fits)))
+  prefix-long : number ≡ length prefix
+  prefix-long = sym (length-take-le number lists (omega (arith, fits)))
 
   piece-long : length own ≡ length piece
-  piece-long = sym (length-take-le (length own) (drop place lists) (omega (arith, fits, length-drop place lists)))
+  piece-long = sym (length-take-le (length own) (drop number lists) (omega (arith, fits, length-drop number lists)))
 
   next-long : length more ≡ length next
-  next-long = sym (length-take-le (length more) (drop (length own) (drop place lists)) (omega (arith, fits, length-drop (length own) (drop place lists), length-drop place lists)))
+  next-long = sym (length-take-le (length more) (drop (length own) (drop number lists)) (omega (arith, fits, length-drop (length own) (drop number lists), length-drop number lists)))
 
-  left-is : lists_left place own lists ≡ front ++ (own ++ (next ++ rest))
-  left-is = ap (lists_left place own) are ∙ left-split front piece own (next ++ rest) place front-long piece-long
+  left-is : lists_left number own lists ≡ prefix ++ (own ++ (next ++ rest))
+  left-is = ap (lists_left number own) are ∙ left-split prefix piece own (next ++ rest) number prefix-long piece-long
 
   -- one piece exchanged behind another
-  pub left-left : lists_left (place + length own) more (lists_left place own lists) ≡ lists_left place (own ++ more) lists
+  pub left-left : lists_left (number + length own) more (lists_left number own lists) ≡ lists_left number (own ++ more) lists
   left-left =
-      let seam : front ++ (own ++ (next ++ rest)) ≡ (front ++ own) ++ (next ++ rest) = sym (append_assoc front own (next ++ rest)) in
-      let there : place + length own ≡ length (front ++ own) = omega (arith, front-long, length-append front own) in
+      let seam : prefix ++ (own ++ (next ++ rest)) ≡ (prefix ++ own) ++ (next ++ rest) = sym (append_assoc prefix own (next ++ rest)) in
+      let there : number + length own ≡ length (prefix ++ own) = omega (arith, prefix-long, length-append prefix own) in
       let both : length (own ++ more) ≡ length (piece ++ next) = omega (arith, piece-long, next-long, length-append own more, length-append piece next) in
-      ap (lists_left (place + length own) more) (left-is ∙ seam) ∙ left-split (front ++ own) next more rest (place + length own) there next-long
-      ∙ append_assoc front own (more ++ rest) ∙ ap (λ xs. front ++ xs) (sym (append_assoc own more rest))
-      ∙ sym (ap (lists_left place (own ++ more)) (are ∙ ap (λ xs. front ++ xs) (sym (append_assoc piece next rest))) ∙ left-split front (piece ++ next) (own ++ more) rest place front-long both)
+      ap (lists_left (number + length own) more) (left-is ∙ seam) ∙ left-split (prefix ++ own) next more rest (number + length own) there next-long
+      ∙ append_assoc prefix own (more ++ rest) ∙ ap (λ xs. prefix ++ xs) (sym (append_assoc own more rest))
+      ∙ sym (ap (lists_left number (own ++ more)) (are ∙ ap (λ xs. prefix ++ xs) (sym (append_assoc piece next rest))) ∙ left-split prefix (piece ++ next) (own ++ more) rest number prefix-long both)
 
-  pub length-left : length (lists_left place own lists) ≡ length lists
+  pub length-left : length (lists_left number own lists) ≡ length lists
   length-left =
-      ap length left-is ∙ (let a = length-append front (own ++ (next ++ rest)) in let b = length-append own (next ++ rest) in let c = length-append front (piece ++ (next ++ rest)) in let d = length-append piece (next ++ rest) in
-      let same : length (front ++ (own ++ (next ++ rest))) ≡ length (front ++ (piece ++ (next ++ rest))) = omega (arith, a, b, c, d, piece-long) in same) ∙ sym (ap length are)
+      ap length left-is ∙ (let a = length-append prefix (own ++ (next ++ rest)) in let b = length-append own (next ++ rest) in let c = length-append prefix (piece ++ (next ++ rest)) in let d = length-append piece (next ++ rest) in
+      let same : length (prefix ++ (own ++ (next ++ rest))) ≡ length (prefix ++ (piece ++ (next ++ rest))) = omega (arith, a, b, c, d, piece-long) in same) ∙ sym (ap length are)
 
 -- the cells behind the piece are as they were
-left-agree : (place : ℕ) (own lists : List (List ℕ)) → place + length own ≤ length lists → (j : ℕ) (d : List ℕ) → place + length own ≤ j → get_or (lists_left place own lists) j d ≡ get_or lists j d
-left-agree place own lists fits j d behind =
-    let f = take place lists in
-    let p = take (length own) (drop place lists) in
-    let r = drop (length own) (drop place lists) in
-    let is = split lists place (length own) in
-    let f-long : place ≡ length f = sym (length-take-le place lists (omega (arith, fits))) in
-    let p-long : length own ≡ length p = sym (length-take-le (length own) (drop place lists) (omega (arith, fits, length-drop place lists))) in
-    let left : lists_left place own lists ≡ (f ++ own) ++ r = ap (lists_left place own) is ∙ left-split f p own r place f-long p-long ∙ sym (append_assoc f own r) in
+left-agree : (number : ℕ) (own lists : List (List ℕ)) → number + length own ≤ length lists → (j : ℕ) (d : List ℕ) → number + length own ≤ j → get_or (lists_left number own lists) j d ≡ get_or lists j d
+left-agree number own lists fits j d behind =
+    let f = take number lists in
+    let p = take (length own) (drop number lists) in
+    let r = drop (length own) (drop number lists) in
+    let is = split lists number (length own) in
+    let f-long : number ≡ length f = sym (length-take-le number lists (omega (arith, fits))) in
+    let p-long : length own ≡ length p = sym (length-take-le (length own) (drop number lists) (omega (arith, fits, length-drop number lists))) in
+    let left : lists_left number own lists ≡ (f ++ own) ++ r = ap (lists_left number own) is ∙ left-split f p own r number f-long p-long ∙ sym (append_assoc f own r) in
     let was : lists ≡ (f ++ p) ++ r = is ∙ sym (append_assoc f p r) in
     let a = length-append f own in
     let b = length-append f p in
-    ap (λ xs. get_or xs j d) left ∙ get_or-append_right (f ++ own) r (place + length own) j d (omega (arith, a, f-long)) behind
-    ∙ sym (ap (λ xs. get_or xs j d) was ∙ get_or-append_right (f ++ p) r (place + length own) j d (omega (arith, b, f-long, p-long)) behind)
+    ap (λ xs. get_or xs j d) left ∙ get_or-append_right (f ++ own) r (number + length own) j d (omega (arith, a, f-long)) behind
+    ∙ sym (ap (λ xs. get_or xs j d) was ∙ get_or-append_right (f ++ p) r (number + length own) j d (omega (arith, b, f-long, p-long)) behind)
 
--- ---- a canvas whose cells from a place on are those of another
--- the cells of two canvases from a place on are the same
+-- ---- a canvas whose cells from a number on are those of another
+-- the cells of two canvases from a number on are the same
 abbrev pub Agree : ℕ → List (List ℕ) → List (List ℕ) → Type 0
-Agree place xs ys = (j : ℕ) (d : List ℕ) → place ≤ j → get_or xs j d ≡ get_or ys j d
+Agree number xs ys = (j : ℕ) (d : List ℕ) → number ≤ j → get_or xs j d ≡ get_or ys j d
 
 module _ (c : Canvas) (lists : List (List ℕ)) (from : ℕ) (agree : Agree from lists c.layers) where
-  body-same : (place : ℕ) (b : Body) → from ≤ place → body_on (with_lists lists c) place b ≡ body_on c place b
-  body-same place (Tiles e own) low = ap (Tiles e) (agree place own low)
-  body-same place (Objects os) low = refl
-  body-same place Other low = refl
-  body-same place (Group' s r) low = refl
+  body-same : (number : ℕ) (b : Body) → from ≤ number → body_on (with_lists lists c) number b ≡ body_on c number b
+  body-same number (Tiles e own) low = ap (Tiles e) (agree number own low)
+  body-same number (Objects os) low = refl
+  body-same number Other low = refl
+  body-same number (Group' s r) low = refl
 
-  list-same : (room : ℕ) → ((place : ℕ) (l : Layer) → from ≤ place → one_on room (with_lists lists c) place l ≡ one_on room c place l)
-      → (place : ℕ) (ls : List Layer) → from ≤ place → layers_on room (with_lists lists c) place ls ≡ layers_on room c place ls
-  list-same room each place [] low = refl
-  list-same room each place (l ∷ ls) low = λ i. each place l low i ∷ list-same room each (place + counted room l) ls (omega (arith, low)) i
+  list-same : (room : ℕ) → ((number : ℕ) (l : Layer) → from ≤ number → one_on room (with_lists lists c) number l ≡ one_on room c number l)
+      → (number : ℕ) (ls : List Layer) → from ≤ number → layers_on room (with_lists lists c) number ls ≡ layers_on room c number ls
+  list-same room each number [] low = refl
+  list-same room each number (l ∷ ls) low = λ i. each number l low i ∷ list-same room each (number + counted room l) ls (omega (arith, low)) i
 
-  pub one-same : (room place : ℕ) (l : Layer) → from ≤ place → one_on room (with_lists lists c) place l ≡ one_on room c place l
-  one-same zero place l low = one_on-is zero (with_lists lists c) place l ∙ (λ i. record l { body = body-same place l.body low i }) ∙ sym (one_on-is zero c place l)
-  one-same (suc room) place l low =
-      let behind = place + length (lists_in l.body) in
+  pub one-same : (room number : ℕ) (l : Layer) → from ≤ number → one_on room (with_lists lists c) number l ≡ one_on room c number l
+  one-same zero number l low = one_on-is zero (with_lists lists c) number l ∙ (λ i. record l { body = body-same number l.body low i }) ∙ sym (one_on-is zero c number l)
+  one-same (suc room) number l low =
+      let behind = number + length (lists_in l.body) in
       let far : from ≤ behind = omega (arith, low) in
-      one_on-is (suc room) (with_lists lists c) place l
-      ∙ (λ i. layer_with_layers (λ ls. list-same room (one-same room) behind ls far i) (record l { body = body-same place l.body low i }))
-      ∙ sym (one_on-is (suc room) c place l)
+      one_on-is (suc room) (with_lists lists c) number l
+      ∙ (λ i. layer_with_layers (λ ls. list-same room (one-same room) behind ls far i) (record l { body = body-same number l.body low i }))
+      ∙ sym (one_on-is (suc room) c number l)
 
-  pub layers-same : (room place : ℕ) (ls : List Layer) → from ≤ place → layers_on room (with_lists lists c) place ls ≡ layers_on room c place ls
-  layers-same room place ls low = list-same room (one-same room) place ls low
+  pub layers-same : (room number : ℕ) (ls : List Layer) → from ≤ number → layers_on room (with_lists lists c) number ls ≡ layers_on room c number ls
+  layers-same room number ls low = list-same room (one-same room) number ls low
 
 -- ---- the layers one after another
 -- the first k of the layers are on the canvas, behind which so many tile layers stand
-pub record AreLaid (room : ℕ) (c : Canvas) (start : ℕ) (ls now : List Layer) (back : Canvas) (k place : ℕ) : Type 0 where
+pub record AreLaid (room : ℕ) (c : Canvas) (start : ℕ) (ls now : List Layer) (back : Canvas) (k number : ℕ) : Type 0 where
   pub layers : now ≡ layers_on room c start (take k ls) ++ drop k ls
   pub canvas : back ≡ with_lists (lists_left start (cells room (take k ls)) c.layers) c
-  pub placed : place ≡ start + length (cells room (take k ls))
+  pub placed : number ≡ start + length (cells room (take k ls))
 
 lists_left-none : (start : ℕ) (lists : List (List ℕ)) → lists_left start [] lists ≡ lists
 lists_left-none start lists = let here : start + 0 ≡ start = omega arith in ap (λ k. take start lists ++ drop k lists) here ∙ take-append-drop start lists
@@ -211,12 +211,12 @@ lists_left-none start lists = let here : start + 0 ≡ start = omega arith in ap
 pub none-AreLaid : (room : ℕ) (c : Canvas) (start : ℕ) (ls : List Layer) → AreLaid room c start ls ls c 0 start
 none-AreLaid room c start ls = record { layers = refl; canvas = ap (λ xs. with_lists xs c) (sym (lists_left-none start c.layers)); placed = omega arith }
 
-pub length-laid : (room : ℕ) (c : Canvas) (start : ℕ) (ls now : List Layer) (back : Canvas) (k place : ℕ) → AreLaid room c start ls now back k place → length now ≡ length ls
-length-laid room c start ls now back k place laid =
+pub length-laid : (room : ℕ) (c : Canvas) (start : ℕ) (ls now : List Layer) (back : Canvas) (k number : ℕ) → AreLaid room c start ls now back k number → length now ≡ length ls
+length-laid room c start ls now back k number laid =
     ap length laid.layers ∙ length-append (layers_on room c start (take k ls)) (drop k ls)
     ∙ ap (λ n. n + length (drop k ls)) (length-each_on (one_on room c) (counted room) start (take k ls)) ∙ sym (length-append (take k ls) (drop k ls)) ∙ ap length (take-append-drop k ls)
 
-module _ (room : ℕ) (c : Canvas) (start : ℕ) (ls now : List Layer) (back : Canvas) (k place : ℕ) (l : Layer) (laid : AreLaid room c start ls now back k place) (e : slice_get now k ≡ Some l)
+module _ (room : ℕ) (c : Canvas) (start : ℕ) (ls now : List Layer) (back : Canvas) (k number : ℕ) (l : Layer) (laid : AreLaid room c start ls now back k number) (e : slice_get now k ≡ Some l)
     (count : start + length (cells room ls) ≤ length c.layers) where
   pub laid-layer : slice_get ls k ≡ Some l
   laid-layer = sym (laid-at (one_on room c) (counted room) start ls k) ∙ (rw (← laid.layers) e)
@@ -224,24 +224,24 @@ module _ (room : ℕ) (c : Canvas) (start : ℕ) (ls now : List Layer) (back : C
   laid-fits : start + length (cells room (take k ls)) + length (lists_under room l) ≤ length c.layers
   laid-fits = omega (arith, cells-room room ls k l laid-layer, count)
 
-  pub laid-room : place + length (lists_under room l) ≤ length back.layers
+  pub laid-room : number + length (lists_under room l) ≤ length back.layers
   laid-room =
       let long = length-left start (cells room (take k ls)) [] c.layers (omega (arith, laid-fits)) in
       rw (laid.canvas, long) (omega (arith, laid-fits, laid.placed))
 
-  pub laid-next : (new : Layer) (after : Canvas) (next : ℕ) → new ≡ one_on room back place l → after ≡ with_lists (lists_left place (lists_under room l) back.layers) back
-      → next ≡ place + length (lists_under room l) → AreLaid room c start ls (slice_set now k new) after (k + 1) next
+  pub laid-next : (new : Layer) (after : Canvas) (next : ℕ) → new ≡ one_on room back number l → after ≡ with_lists (lists_left number (lists_under room l) back.layers) back
+      → next ≡ number + length (lists_under room l) → AreLaid room c start ls (slice_set now k new) after (k + 1) next
   laid-next new after next is left placed =
       let own = cells room (take k ls) in
       let more = cells-more room ls k l laid-layer in
       let agree = left-agree start own c.layers (omega (arith, laid-fits)) in
-      let on : new ≡ one_on room c place l =
-      is ∙ ap (λ b. one_on room b place l) laid.canvas
-      ∙ one-same c (lists_left start own c.layers) place (λ j d low. agree j d (omega (arith, low, laid.placed))) room place l (omega arith) in
+      let on : new ≡ one_on room c number l =
+      is ∙ ap (λ b. one_on room b number l) laid.canvas
+      ∙ one-same c (lists_left start own c.layers) number (λ j d low. agree j d (omega (arith, low, laid.placed))) room number l (omega arith) in
       let sum = total-cells room (one_on room c) (take k ls) in
       record {
-        layers = rw (on, laid.layers, add-one) (laid-more (one_on room c) (counted room) start place ls k l (omega (arith, laid.placed, sum)) laid-layer);
-        canvas = left ∙ ap (λ b. with_lists (lists_left place (lists_under room l) b.layers) b) laid.canvas
+        layers = rw (on, laid.layers, add-one) (laid-more (one_on room c) (counted room) start number ls k l (omega (arith, laid.placed, sum)) laid-layer);
+        canvas = left ∙ ap (λ b. with_lists (lists_left number (lists_under room l) b.layers) b) laid.canvas
             ∙ ap (λ n. with_lists (lists_left n (lists_under room l) (lists_left start own c.layers)) c) laid.placed
             ∙ ap (λ xs. with_lists xs c) (left-left start own (lists_under room l) c.layers laid-fits)
             ∙ ap (λ xs. with_lists (lists_left start xs c.layers) c) (rw add-one (sym more));
@@ -251,9 +251,9 @@ module _ (room : ℕ) (c : Canvas) (start : ℕ) (ls now : List Layer) (back : C
 drop-all : {X : Type 0} (xs : List X) (k : ℕ) → k ≡ length xs → drop k xs ≡ []
 drop-all xs k e = ap (λ n. drop n xs) e ∙ drop-length xs
 
-pub all-AreLaid : (room : ℕ) (c : Canvas) (start : ℕ) (ls now : List Layer) (back : Canvas) (k place : ℕ) → AreLaid room c start ls now back k place → k ≡ length ls
-    → (now ≡ layers_on room c start ls) × ((back ≡ with_lists (lists_left start (cells room ls) c.layers) c) × (place ≡ start + length (cells room ls)))
-all-AreLaid room c start ls now back k place laid end =
+pub all-AreLaid : (room : ℕ) (c : Canvas) (start : ℕ) (ls now : List Layer) (back : Canvas) (k number : ℕ) → AreLaid room c start ls now back k number → k ≡ length ls
+    → (now ≡ layers_on room c start ls) × ((back ≡ with_lists (lists_left start (cells room ls) c.layers) c) × (number ≡ start + length (cells room ls)))
+all-AreLaid room c start ls now back k number laid end =
     let taken : take k ls ≡ ls = ap (λ n. take n ls) end ∙ take-length ls in
     let gone : drop k ls ≡ [] = drop-all ls k end in (
       laid.layers ∙ ap (λ ms. layers_on room c start ms ++ drop k ls) taken ∙ ap (λ ms. layers_on room c start ls ++ ms) gone ∙ append-nil (layers_on room c start ls),
@@ -264,40 +264,40 @@ all-AreLaid room c start ls now back k place laid end =
     )
 
 -- ---- one layer, and those that stand in it
-after-left : (place : ℕ) (b : Body) (lists : List (List ℕ)) → place + length (lists_in b) ≤ length lists → lists_after place b lists ≡ lists_left place (lists_in b) lists
-after-left place (Tiles e own) lists fits =
-    let is = split lists place 1 in
-    let f-long : place ≡ length (take place lists) = sym (length-take-le place lists (omega (arith, fits))) in
-    let p-long : length (take 1 (drop place lists)) ≡ 1 = length-take-le 1 (drop place lists) (omega (arith, fits, length-drop place lists)) in
-    by_piece (take 1 (drop place lists)) p-long is f-long
+after-left : (number : ℕ) (b : Body) (lists : List (List ℕ)) → number + length (lists_in b) ≤ length lists → lists_after number b lists ≡ lists_left number (lists_in b) lists
+after-left number (Tiles e own) lists fits =
+    let is = split lists number 1 in
+    let f-long : number ≡ length (take number lists) = sym (length-take-le number lists (omega (arith, fits))) in
+    let p-long : length (take 1 (drop number lists)) ≡ 1 = length-take-le 1 (drop number lists) (omega (arith, fits, length-drop number lists)) in
+    by_piece (take 1 (drop number lists)) p-long is f-long
   where
-    by_piece : (piece : List (List ℕ)) → length piece ≡ 1 → lists ≡ take place lists ++ (piece ++ drop 1 (drop place lists)) → place ≡ length (take place lists) → slice_set lists place own ≡ lists_left place (own ∷ []) lists
-    by_piece [] long is front = absurd (omega (arith, long))
-    by_piece (x ∷ y ∷ zs) long is front = absurd (omega (arith, long))
-    by_piece (x ∷ []) long is front =
-        (λ i. slice_set (is i) (front i) own) ∙ set-append_seam (take place lists) x (drop 1 (drop place lists)) own
-        ∙ sym (ap (lists_left place (own ∷ [])) is ∙ left-split (take place lists) (x ∷ []) (own ∷ []) (drop 1 (drop place lists)) place front refl)
-after-left place (Objects os) lists fits = sym (lists_left-none place lists)
-after-left place Other lists fits = sym (lists_left-none place lists)
-after-left place (Group' s r) lists fits = sym (lists_left-none place lists)
+    by_piece : (piece : List (List ℕ)) → length piece ≡ 1 → lists ≡ take number lists ++ (piece ++ drop 1 (drop number lists)) → number ≡ length (take number lists) → slice_set lists number own ≡ lists_left number (own ∷ []) lists
+    by_piece [] long is prefix = absurd (omega (arith, long))
+    by_piece (x ∷ y ∷ zs) long is prefix = absurd (omega (arith, long))
+    by_piece (x ∷ []) long is prefix =
+        (λ i. slice_set (is i) (prefix i) own) ∙ set-append_seam (take number lists) x (drop 1 (drop number lists)) own
+        ∙ sym (ap (lists_left number (own ∷ [])) is ∙ left-split (take number lists) (x ∷ []) (own ∷ []) (drop 1 (drop number lists)) number prefix refl)
+after-left number (Objects os) lists fits = sym (lists_left-none number lists)
+after-left number Other lists fits = sym (lists_left-none number lists)
+after-left number (Group' s r) lists fits = sym (lists_left-none number lists)
 
 may-list : (right down : ℤ) (room : ℕ) → ((a b : ℕ) (l : Layer) → Each (MayBeDrawn right down) (tree room a l) → Each (MayBeDrawn right down) (tree room b l))
     → (a b : ℕ) (ls : List Layer) → Each (MayBeDrawn right down) (drawn room a ls) → Each (MayBeDrawn right down) (drawn room b ls)
 may-list right down room each a b [] h = tt
 may-list right down room each a b (l ∷ ls) h =
     let P : ℕ × Layer → Type 0 = MayBeDrawn right down in
-    Each-append P (tree room b l) (drawn room b ls) (each a b l (Each-front P (tree room a l) (drawn room a ls) h)) (may-list right down room each a b ls (Each-rest P (tree room a l) (drawn room a ls) h))
+    Each-append P (tree room b l) (drawn room b ls) (each a b l (Each-prefix P (tree room a l) (drawn room a ls) h)) (may-list right down room each a b ls (Each-rest P (tree room a l) (drawn room a ls) h))
 
 may-tree : (right down : ℤ) (room a b : ℕ) (l : Layer) → Each (MayBeDrawn right down) (tree room a l) → Each (MayBeDrawn right down) (tree room b l)
 may-tree right down zero a b l h = rw (tree-is zero b l) (let own = rw (tree-is zero a l) at h in (own.0, tt))
 may-tree right down (suc room) a b l h =
     rw (tree-is (suc room) b l) (let own = rw (tree-is (suc room) a l) at h in (own.0, may-list right down room (may-tree right down room) (inner_level a) (inner_level b) (inside l) own.1))
 
-module _ (room : ℕ) (c : Canvas) (place : ℕ) (l : Layer) (count : place + length (lists_under room l) ≤ length c.layers) where
-  own-fits : place + length (lists_in l.body) ≤ length c.layers
+module _ (room : ℕ) (c : Canvas) (number : ℕ) (l : Layer) (count : number + length (lists_under room l) ≤ length c.layers) where
+  own-fits : number + length (lists_in l.body) ≤ length c.layers
   own-fits = let all = ap length (lists_under-is room l) in omega (arith, count, all, length-append (lists_in l.body) (cells_below room l))
 
-  pub own-room : place + length (lists_in l.body) ≤ length c.layers
+  pub own-room : number + length (lists_in l.body) ≤ length c.layers
   own-room = own-fits
 
   pub own-may : Each (MayBeDrawn c.right c.down) (tree room layer_level l) → BodyMayBeMoved c.right c.down l.body
@@ -308,23 +308,23 @@ module _ (room : ℕ) (c : Canvas) (place : ℕ) (l : Layer) (count : place + le
     alone : lists_under room l ≡ lists_in l.body
     alone = lists_under-is room l ∙ ap (λ n. lists_in l.body ++ cells_below n l) none ∙ append-nil (lists_in l.body)
 
-    pub alone-layer : (body : Body) → body ≡ body_on c place l.body → record l { body = body } ≡ one_on room c place l
-    alone-layer body is = (λ i. record l { body = is i }) ∙ sym (ap (λ n. one_on n c place l) none ∙ one_on-is zero c place l)
+    pub alone-layer : (body : Body) → body ≡ body_on c number l.body → record l { body = body } ≡ one_on room c number l
+    alone-layer body is = (λ i. record l { body = is i }) ∙ sym (ap (λ n. one_on n c number l) none ∙ one_on-is zero c number l)
 
-    pub alone-canvas : (after : Canvas) → after ≡ with_lists (lists_after place l.body c.layers) c → after ≡ with_lists (lists_left place (lists_under room l) c.layers) c
-    alone-canvas after is = is ∙ ap (λ xs. with_lists xs c) (after-left place l.body c.layers own-fits ∙ ap (λ xs. lists_left place xs c.layers) (sym alone))
+    pub alone-canvas : (after : Canvas) → after ≡ with_lists (lists_after number l.body c.layers) c → after ≡ with_lists (lists_left number (lists_under room l) c.layers) c
+    alone-canvas after is = is ∙ ap (λ xs. with_lists xs c) (after-left number l.body c.layers own-fits ∙ ap (λ xs. lists_left number xs c.layers) (sym alone))
 
-    pub alone-next : (end : ℕ) → end ≡ place + length (lists_in l.body) → end ≡ place + length (lists_under room l)
-    alone-next end is = is ∙ ap (λ xs. place + length xs) (sym alone)
+    pub alone-next : (end : ℕ) → end ≡ number + length (lists_in l.body) → end ≡ number + length (lists_under room l)
+    alone-next end is = is ∙ ap (λ xs. number + length xs) (sym alone)
 
   -- a layer with room in it, whose body is on the canvas
-  module _ (some : 1 ≤ room) (body : Body) (after : Canvas) (behind : ℕ) (laid : body ≡ body_on c place l.body) (left : after ≡ with_lists (lists_after place l.body c.layers) c)
-      (next : behind ≡ place + length (lists_in l.body)) where
+  module _ (some : 1 ≤ room) (body : Body) (after : Canvas) (behind : ℕ) (laid : body ≡ body_on c number l.body) (left : after ≡ with_lists (lists_after number l.body c.layers) c)
+      (next : behind ≡ number + length (lists_in l.body)) where
     within : List (List ℕ)
     within = cells (room - 1) (or_empty (group_in body))
 
     inner : or_empty (group_in body) ≡ inside l
-    inner = ap (λ b. or_empty (group_in b)) laid ∙ ap or_empty (group_in-on c place l.body)
+    inner = ap (λ b. or_empty (group_in b)) laid ∙ ap or_empty (group_in-on c number l.body)
 
     all : lists_under room l ≡ lists_in l.body ++ cells (room - 1) (inside l)
     all = by_room room some
@@ -333,15 +333,15 @@ module _ (room : ℕ) (c : Canvas) (place : ℕ) (l : Layer) (count : place + le
         by_room zero low = absurd (omega (arith, low))
         by_room (suc n) low = let same : n ≡ suc n - 1 = omega arith in lists_under-is (suc n) l ∙ ap (λ k. lists_in l.body ++ cells k (inside l)) same
 
-    after-is : after ≡ with_lists (lists_left place (lists_in l.body) c.layers) c
-    after-is = left ∙ ap (λ xs. with_lists xs c) (after-left place l.body c.layers own-fits)
+    after-is : after ≡ with_lists (lists_left number (lists_in l.body) c.layers) c
+    after-is = left ∙ ap (λ xs. with_lists xs c) (after-left number l.body c.layers own-fits)
 
-    fits : place + length (lists_in l.body) + length (cells (room - 1) (inside l)) ≤ length c.layers
+    fits : number + length (lists_in l.body) + length (cells (room - 1) (inside l)) ≤ length c.layers
     fits = let sum = ap length all in omega (arith, count, sum, length-append (lists_in l.body) (cells (room - 1) (inside l)))
 
     pub inside-room : behind + length (cells (room - 1) (or_empty (group_in body))) ≤ length after.layers
     inside-room =
-        let long = length-left place (lists_in l.body) [] c.layers (omega (arith, fits)) in
+        let long = length-left number (lists_in l.body) [] c.layers (omega (arith, fits)) in
         rw (after-is, long, inner) (omega (arith, fits, next))
 
     pub inside-may : Each (MayBeDrawn c.right c.down) (tree room layer_level l) → Each (MayBeDrawn after.right after.down) (drawn (room - 1) layer_level (or_empty (group_in body)))
@@ -354,28 +354,28 @@ module _ (room : ℕ) (c : Canvas) (place : ℕ) (l : Layer) (count : place + le
             let own = rw (tree-is (suc n) layer_level l) at k in
             subst (λ j. Each (MayBeDrawn c.right c.down) (drawn j layer_level (inside l))) same (may-list c.right c.down n (may-tree c.right c.down n) (inner_level layer_level) layer_level (inside l) own.1)
 
-    pub inside-layer : (new : Body) → new ≡ body_with_layers (layers_on (room - 1) after behind) body → record l { body = new } ≡ one_on room c place l
+    pub inside-layer : (new : Body) → new ≡ body_with_layers (layers_on (room - 1) after behind) body → record l { body = new } ≡ one_on room c number l
     inside-layer new is =
-        let agree = left-agree place (lists_in l.body) c.layers own-fits in
+        let agree = left-agree number (lists_in l.body) c.layers own-fits in
         let same : (ls : List Layer) → layers_on (room - 1) after behind ls ≡ layers_on (room - 1) c behind ls = λ ls.
         ap (λ b. layers_on (room - 1) b behind ls) after-is
-        ∙ layers-same c (lists_left place (lists_in l.body) c.layers) behind (λ j d low. agree j d (omega (arith, low, next))) (room - 1) behind ls (omega arith) in
+        ∙ layers-same c (lists_left number (lists_in l.body) c.layers) behind (λ j d low. agree j d (omega (arith, low, next))) (room - 1) behind ls (omega arith) in
         (λ i. record l { body = (is ∙ (λ j. body_with_layers (λ ls. same ls j) (laid j))) i }) ∙ by_room room some
       where
-        by_room : (n : ℕ) → 1 ≤ n → record l { body = body_with_layers (layers_on (n - 1) c behind) (body_on c place l.body) } ≡ one_on n c place l
+        by_room : (n : ℕ) → 1 ≤ n → record l { body = body_with_layers (layers_on (n - 1) c behind) (body_on c number l.body) } ≡ one_on n c number l
         by_room zero low = absurd (omega (arith, low))
         by_room (suc n) low =
             let n-is : suc n - 1 ≡ n = omega arith in
-            (λ i. record l { body = body_with_layers (layers_on (n-is i) c (next i)) (body_on c place l.body) }) ∙ sym (one_on-is (suc n) c place l)
+            (λ i. record l { body = body_with_layers (layers_on (n-is i) c (next i)) (body_on c number l.body) }) ∙ sym (one_on-is (suc n) c number l)
 
-    pub inside-canvas : (end : Canvas) → end ≡ with_lists (lists_left behind (cells (room - 1) (or_empty (group_in body))) after.layers) after → end ≡ with_lists (lists_left place (lists_under room l) c.layers) c
+    pub inside-canvas : (end : Canvas) → end ≡ with_lists (lists_left behind (cells (room - 1) (or_empty (group_in body))) after.layers) after → end ≡ with_lists (lists_left number (lists_under room l) c.layers) c
     inside-canvas end is =
         is ∙ ap (λ b. with_lists (lists_left behind (cells (room - 1) (or_empty (group_in body))) b.layers) b) after-is
-        ∙ (λ i. with_lists (lists_left (next i) (cells (room - 1) (inner i)) (lists_left place (lists_in l.body) c.layers)) c)
-        ∙ ap (λ xs. with_lists xs c) (left-left place (lists_in l.body) (cells (room - 1) (inside l)) c.layers fits)
-        ∙ ap (λ xs. with_lists (lists_left place xs c.layers) c) (sym all)
+        ∙ (λ i. with_lists (lists_left (next i) (cells (room - 1) (inner i)) (lists_left number (lists_in l.body) c.layers)) c)
+        ∙ ap (λ xs. with_lists xs c) (left-left number (lists_in l.body) (cells (room - 1) (inside l)) c.layers fits)
+        ∙ ap (λ xs. with_lists (lists_left number xs c.layers) c) (sym all)
 
-    pub inside-next : (end : ℕ) → end ≡ behind + length (cells (room - 1) (or_empty (group_in body))) → end ≡ place + length (lists_under room l)
+    pub inside-next : (end : ℕ) → end ≡ behind + length (cells (room - 1) (or_empty (group_in body))) → end ≡ number + length (lists_under room l)
     inside-next end is =
         let sum = ap length all in
         let same = ap (λ ls. length (cells (room - 1) ls)) inner in
@@ -385,7 +385,7 @@ module _ (room : ℕ) (c : Canvas) (place : ℕ) (l : Layer) (count : place + le
 pub Each-tree_at : (P : ℕ × Layer → Type 0) (room : ℕ) (ls : List Layer) (k : ℕ) (l : Layer) → slice_get ls k ≡ Some l → Each P (drawn room layer_level ls) → Each P (tree room layer_level l)
 Each-tree_at P room [] zero l e h = cc
 Each-tree_at P room [] (suc k) l e h = cc
-Each-tree_at P room (x ∷ xs) zero l e h = let same : x ≡ l = cc in subst (λ y. Each P (tree room layer_level y)) same (Each-front P (tree room layer_level x) (drawn room layer_level xs) h)
+Each-tree_at P room (x ∷ xs) zero l e h = let same : x ≡ l = cc in subst (λ y. Each P (tree room layer_level y)) same (Each-prefix P (tree room layer_level x) (drawn room layer_level xs) h)
 Each-tree_at P room (x ∷ xs) (suc k) l e h = Each-tree_at P room xs k l e (Each-rest P (tree room layer_level x) (drawn room layer_level xs) h)
 
 -- all lists exchanged

@@ -31,7 +31,7 @@ module _ {A K V : Type 0} (place : A → Option K) (p : K → Lens A V) (keeps :
   pub found-laws : ((k : K) → IsLawfulLens (p k)) → IsLawfulLens (found place p)
   found-laws laws = record {
     get-update = λ f v a e. got f v a (place a) refl e;
-    update-same = λ f v a e same. kept f v a same (place a) e;
+    update-same = λ f v a e same. unchanged f v a same (place a) e;
     update-update = λ f g a. twice f g a (place a) refl;
   }
     where
@@ -40,9 +40,9 @@ module _ {A K V : Type 0} (place : A → Option K) (p : K → Lens A V) (keeps :
       got f v a None e g = cc
       got f v a (Some k) e g = rw (keeps k f a e) ((laws k).get-update f v a g)
 
-      kept : (f : V → V) (v : V) (a : A) → f v ≡ v → (o : Option K) → option_and_then (λ k. (p k).get a) o ≡ Some v → update_found p f a o ≡ a
-      kept f v a same None g = refl
-      kept f v a same (Some k) g = (laws k).update-same f v a g same
+      unchanged : (f : V → V) (v : V) (a : A) → f v ≡ v → (o : Option K) → option_and_then (λ k. (p k).get a) o ≡ Some v → update_found p f a o ≡ a
+      unchanged f v a same None g = refl
+      unchanged f v a same (Some k) g = (laws k).update-same f v a g same
 
       twice : (f g : V → V) (a : A) (o : Option K) → place a ≡ o → update_found p f (update_found p g a o) (place (update_found p g a o)) ≡ update_found p (λ v. f (g v)) a o
       twice f g a None e = rw e refl

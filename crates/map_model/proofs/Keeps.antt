@@ -23,7 +23,7 @@ use Rattle.map_model.specs.Lookups.{layer_of, HasTiles, tiles_of_layer, tiles_in
 use Rattle.map_model.specs.Properties.{level_by, level_of}
 use Rattle.map_model.specs.WellFormed.{IsId, AreIds, IsTileValue, IsBody, IsDrawn, IsLayer, AreDrawn, AreLayers, IsWellFormed, ids_of, object_ids_in, object_ids_of, object_ids}
 use Rattle.map_model.proofs.GroupBodies.{IsLayer-with, IsLayer-without, bare-with, group_of-with, object_ids-with}
-use Rattle.map_model.proofs.Listings.{Each-append, Each-front, Each-rest, IsReplaced, flat-IsReplaced, insert-IsReplaced, remove-IsReplaced, take-one, AreNewIds, AreNewIds-none, AreIds-replaced, AreNewIds-piece}
+use Rattle.map_model.proofs.Listings.{Each-append, Each-prefix, Each-rest, IsReplaced, flat-IsReplaced, insert-IsReplaced, remove-IsReplaced, take-one, AreNewIds, AreNewIds-none, AreIds-replaced, AreNewIds-piece}
 use Rattle.map_model.proofs.Trees.{Stands, below, change_among-none, stands, tree-is}
 
 -- ---- other layers in the place of a map's
@@ -38,43 +38,43 @@ layers-IsWellFormed m ls are h = record {
 }
 
 -- ---- lists in drawing order, with a piece replaced
-length-pieces : {X : Type 0} {front piece new rest xs ys : List X} → IsReplaced front piece new rest xs ys → length ys + length piece ≡ length xs + length new
-length-pieces {front = front} {piece = piece} {new = new} {rest = rest} r =
-    let was = ap length r.was ∙ length-append front (piece ++ rest) in
-    let now = ap length r.now ∙ length-append front (new ++ rest) in
+length-pieces : {X : Type 0} {prefix piece new rest xs ys : List X} → IsReplaced prefix piece new rest xs ys → length ys + length piece ≡ length xs + length new
+length-pieces {prefix = prefix} {piece = piece} {new = new} {rest = rest} r =
+    let was = ap length r.was ∙ length-append prefix (piece ++ rest) in
+    let now = ap length r.now ∙ length-append prefix (new ++ rest) in
     omega (arith, was, now, length-append piece rest, length-append new rest)
 
 -- a piece within a longer list
-pub IsReplaced-within : {X : Type 0} {front piece new rest xs ys : List X} (before behind : List X) → IsReplaced front piece new rest xs ys
-    → IsReplaced (before ++ front) piece new (rest ++ behind) (before ++ (xs ++ behind)) (before ++ (ys ++ behind))
-IsReplaced-within {X = X} {front = front} {piece = piece} {new = new} {rest = rest} before behind r = record {
-  was = ap (λ zs. before ++ (zs ++ behind)) r.was ∙ ap (λ zs. before ++ zs) (longer piece) ∙ sym (append_assoc before front (piece ++ (rest ++ behind)));
-  now = ap (λ zs. before ++ (zs ++ behind)) r.now ∙ ap (λ zs. before ++ zs) (longer new) ∙ sym (append_assoc before front (new ++ (rest ++ behind)));
+pub IsReplaced-within : {X : Type 0} {prefix piece new rest xs ys : List X} (before behind : List X) → IsReplaced prefix piece new rest xs ys
+    → IsReplaced (before ++ prefix) piece new (rest ++ behind) (before ++ (xs ++ behind)) (before ++ (ys ++ behind))
+IsReplaced-within {X = X} {prefix = prefix} {piece = piece} {new = new} {rest = rest} before behind r = record {
+  was = ap (λ zs. before ++ (zs ++ behind)) r.was ∙ ap (λ zs. before ++ zs) (longer piece) ∙ sym (append_assoc before prefix (piece ++ (rest ++ behind)));
+  now = ap (λ zs. before ++ (zs ++ behind)) r.now ∙ ap (λ zs. before ++ zs) (longer new) ∙ sym (append_assoc before prefix (new ++ (rest ++ behind)));
 }
   where
-    longer : (p : List X) → (front ++ (p ++ rest)) ++ behind ≡ front ++ (p ++ (rest ++ behind))
-    longer p = append_assoc front (p ++ rest) behind ∙ ap (λ zs. front ++ zs) (append_assoc p rest behind)
+    longer : (p : List X) → (prefix ++ (p ++ rest)) ++ behind ≡ prefix ++ (p ++ (rest ++ behind))
+    longer p = append_assoc prefix (p ++ rest) behind ∙ ap (λ zs. prefix ++ zs) (append_assoc p rest behind)
 
-IsReplaced-as : {X : Type 0} {front piece new rest xs ys vs ws : List X} → vs ≡ xs → ws ≡ ys → IsReplaced front piece new rest xs ys → IsReplaced front piece new rest vs ws
+IsReplaced-as : {X : Type 0} {prefix piece new rest xs ys vs ws : List X} → vs ≡ xs → ws ≡ ys → IsReplaced prefix piece new rest xs ys → IsReplaced prefix piece new rest vs ws
 IsReplaced-as e f r = record { was = e ∙ r.was; now = f ∙ r.now }
 
 -- what is the same of the old piece and the new one is the same of both lists
-flat-same : {X A : Type 0} (g : X → List A) {front piece new rest xs ys : List X} → IsReplaced front piece new rest xs ys → flat_map g new ≡ flat_map g piece → flat_map g ys ≡ flat_map g xs
-flat-same g {front = front} {rest = rest} r same =
+flat-same : {X A : Type 0} (g : X → List A) {prefix piece new rest xs ys : List X} → IsReplaced prefix piece new rest xs ys → flat_map g new ≡ flat_map g piece → flat_map g ys ≡ flat_map g xs
+flat-same g {prefix = prefix} {rest = rest} r same =
     let f = flat-IsReplaced g r in
-    f.now ∙ ap (λ p. flat_map g front ++ (p ++ flat_map g rest)) same ∙ sym f.was
+    f.now ∙ ap (λ p. flat_map g prefix ++ (p ++ flat_map g rest)) same ∙ sym f.was
 
-module _ {size next next_object : ℕ} {front piece new rest xs ys : List (ℕ × Layer)} (r : IsReplaced front piece new rest xs ys) (h : AreDrawn size next next_object xs) where
-  was-each : Each (IsDrawn size) (front ++ (piece ++ rest))
+module _ {size next next_object : ℕ} {prefix piece new rest xs ys : List (ℕ × Layer)} (r : IsReplaced prefix piece new rest xs ys) (h : AreDrawn size next next_object xs) where
+  was-each : Each (IsDrawn size) (prefix ++ (piece ++ rest))
   was-each = rw (← r.was) h.each
 
   pub piece-IsDrawn : Each (IsDrawn size) piece
-  piece-IsDrawn = Each-front (IsDrawn size) piece rest (Each-rest (IsDrawn size) front (piece ++ rest) was-each)
+  piece-IsDrawn = Each-prefix (IsDrawn size) piece rest (Each-rest (IsDrawn size) prefix (piece ++ rest) was-each)
 
   now-each : Each (IsDrawn size) new → Each (IsDrawn size) ys
   now-each k =
-      rw r.now (Each-append (IsDrawn size) front (new ++ rest) (Each-front (IsDrawn size) front (piece ++ rest) was-each)
-      (Each-append (IsDrawn size) new rest k (Each-rest (IsDrawn size) piece rest (Each-rest (IsDrawn size) front (piece ++ rest) was-each))))
+      rw r.now (Each-append (IsDrawn size) prefix (new ++ rest) (Each-prefix (IsDrawn size) prefix (piece ++ rest) was-each)
+      (Each-append (IsDrawn size) new rest k (Each-rest (IsDrawn size) piece rest (Each-rest (IsDrawn size) prefix (piece ++ rest) was-each))))
 
   -- another piece, as long, with the same ids of layers
   pub AreDrawn-changed : length new ≡ length piece → Each (IsDrawn size) new → flat_map ids_of new ≡ flat_map ids_of piece → AreIds next_object (flat_map object_ids_of ys) → AreDrawn size next next_object ys
@@ -86,8 +86,8 @@ module _ {size next next_object : ℕ} {front piece new rest xs ys : List (ℕ �
   }
 
   -- another piece with new ids
-  pub AreDrawn-replaced : length xs + length new ≤ MAX_LAYERS → Each (IsDrawn size) new → AreNewIds next (flat_map ids_of new) (flat_map ids_of front ++ flat_map ids_of rest)
-      → AreNewIds next_object (flat_map object_ids_of new) (flat_map object_ids_of front ++ flat_map object_ids_of rest) → AreDrawn size next next_object ys
+  pub AreDrawn-replaced : length xs + length new ≤ MAX_LAYERS → Each (IsDrawn size) new → AreNewIds next (flat_map ids_of new) (flat_map ids_of prefix ++ flat_map ids_of rest)
+      → AreNewIds next_object (flat_map object_ids_of new) (flat_map object_ids_of prefix ++ flat_map object_ids_of rest) → AreDrawn size next next_object ys
   AreDrawn-replaced few k ids objects = record {
     few = let lengths = length-pieces r in omega (arith, lengths, few);
     each = now-each k;
@@ -96,18 +96,18 @@ module _ {size next next_object : ℕ} {front piece new rest xs ys : List (ℕ �
   }
 
 -- without the piece
-pub AreDrawn-taken : {size next next_object : ℕ} {front piece rest xs ys : List (ℕ × Layer)} → IsReplaced front piece [] rest xs ys → AreDrawn size next next_object xs → AreDrawn size next next_object ys
-AreDrawn-taken {next = next} {next_object = next_object} {front = front} {rest = rest} r h =
-    AreDrawn-replaced r h (omega (arith, h.few)) tt (AreNewIds-none next (flat_map ids_of front ++ flat_map ids_of rest)) (AreNewIds-none next_object (flat_map object_ids_of front ++ flat_map object_ids_of rest))
+pub AreDrawn-taken : {size next next_object : ℕ} {prefix piece rest xs ys : List (ℕ × Layer)} → IsReplaced prefix piece [] rest xs ys → AreDrawn size next next_object xs → AreDrawn size next next_object ys
+AreDrawn-taken {next = next} {next_object = next_object} {prefix = prefix} {rest = rest} r h =
+    AreDrawn-replaced r h (omega (arith, h.few)) tt (AreNewIds-none next (flat_map ids_of prefix ++ flat_map ids_of rest)) (AreNewIds-none next_object (flat_map object_ids_of prefix ++ flat_map object_ids_of rest))
 
 -- with the piece at another place
-pub AreDrawn-moved : {size next next_object : ℕ} {front piece rest before behind xs ys zs : List (ℕ × Layer)} → IsReplaced front piece [] rest xs ys → IsReplaced before [] piece behind ys zs
+pub AreDrawn-moved : {size next next_object : ℕ} {prefix piece rest before behind xs ys zs : List (ℕ × Layer)} → IsReplaced prefix piece [] rest xs ys → IsReplaced before [] piece behind ys zs
     → AreDrawn size next next_object xs → AreDrawn size next next_object zs
-AreDrawn-moved {next = next} {next_object = next_object} {front = front} {piece = piece} {rest = rest} {before = before} {behind = behind} r q h =
-    let between : front ++ rest ≡ before ++ behind = sym r.now ∙ q.was in
+AreDrawn-moved {next = next} {next_object = next_object} {prefix = prefix} {piece = piece} {rest = rest} {before = before} {behind = behind} r q h =
+    let between : prefix ++ rest ≡ before ++ behind = sym r.now ∙ q.was in
     AreDrawn-replaced q (AreDrawn-taken r h) (let lengths = length-pieces r in omega (arith, lengths, h.few)) (piece-IsDrawn r h)
-    (rw (← flat_map-append ids_of before behind, ← between, flat_map-append ids_of front rest) (AreNewIds-piece (flat-IsReplaced ids_of r) h.layer_ids))
-    (rw (← flat_map-append object_ids_of before behind, ← between, flat_map-append object_ids_of front rest) (AreNewIds-piece (flat-IsReplaced object_ids_of r) h.object_ids))
+    (rw (← flat_map-append ids_of before behind, ← between, flat_map-append ids_of prefix rest) (AreNewIds-piece (flat-IsReplaced ids_of r) h.layer_ids))
+    (rw (← flat_map-append object_ids_of before behind, ← between, flat_map-append object_ids_of prefix rest) (AreNewIds-piece (flat-IsReplaced object_ids_of r) h.object_ids))
 
 -- ---- the layer with an id
 -- what is drawn behind a layer, where the same layers stand in it
@@ -118,10 +118,10 @@ below-same (suc room) level l k same = ap (drawn room (inner_level level)) same
 module _ {id room level : ℕ} {l : Layer} {xs : List (ℕ × Layer)} {ys : (Layer → Layer) → List (ℕ × Layer)} (s : Stands id room level l xs ys) where
   -- the layer alone is replaced, where the same layers stand in it
   pub own-IsReplaced : (f : Layer → Layer) → inside (f l) ≡ inside l
-      → IsReplaced s.front ((s.own_level, bare l) ∷ []) ((s.own_level, bare (f l)) ∷ []) (below s.own_room s.own_level l ++ s.rest) xs (ys f)
+      → IsReplaced s.prefix ((s.own_level, bare l) ∷ []) ((s.own_level, bare (f l)) ∷ []) (below s.own_room s.own_level l ++ s.rest) xs (ys f)
   own-IsReplaced f same = record {
-    was = s.was ∙ ap (λ t. s.front ++ (t ++ s.rest)) (tree-is s.own_room s.own_level l);
-    now = s.now f ∙ ap (λ t. s.front ++ (t ++ s.rest)) (tree-is s.own_room s.own_level (f l) ∙ ap (λ t. (s.own_level, bare (f l)) ∷ t) (below-same s.own_room s.own_level l (f l) same));
+    was = s.was ∙ ap (λ t. s.prefix ++ (t ++ s.rest)) (tree-is s.own_room s.own_level l);
+    now = s.now f ∙ ap (λ t. s.prefix ++ (t ++ s.rest)) (tree-is s.own_room s.own_level (f l) ∙ ap (λ t. (s.own_level, bare (f l)) ∷ t) (below-same s.own_room s.own_level l (f l) same));
   }
 
 -- where the layer with an id stands in a map
@@ -149,13 +149,13 @@ changed-keeps id f l m e same own_id is ids h =
 
 -- its objects' ids replaced in those of all
 pub object_ids-IsReplaced : (id : ℕ) (f : Layer → Layer) (l : Layer) (m : MapParts) (e : layer_of m id ≡ Some l) → inside (f l) ≡ inside l
-    → (front : List ℕ) × ((rest : List ℕ) × IsReplaced front (object_ids_in l.body) (object_ids_in (f l).body) rest (object_ids m.layers) (object_ids (change_among id MAX_GROUPS f m.layers)))
+    → (prefix : List ℕ) × ((rest : List ℕ) × IsReplaced prefix (object_ids_in l.body) (object_ids_in (f l).body) rest (object_ids m.layers) (object_ids (change_among id MAX_GROUPS f m.layers)))
 object_ids-IsReplaced id f l m e same =
     let r = flat-IsReplaced object_ids_of (own-IsReplaced (layer-Stands m id l e) f same) in
     let was = append-nil (object_ids_in (bare l).body) ∙ object_ids-with (λ ls. []) l.body in
     let now = append-nil (object_ids_in (bare (f l)).body) ∙ object_ids-with (λ ls. []) (f l).body in
     let s = layer-Stands m id l e in
-    (flat_map object_ids_of s.front, (flat_map object_ids_of (below s.own_room s.own_level l ++ s.rest), rw (was, now) at r))
+    (flat_map object_ids_of s.prefix, (flat_map object_ids_of (below s.own_room s.own_level l ++ s.rest), rw (was, now) at r))
 
 -- a change of a layer that keeps its ids and what stands in it, and keeps it one of the map's layers
 pub record KeepsLayers (f : Layer → Layer) : Type 0 where
@@ -259,25 +259,25 @@ length-tiles_in m id t h = by_layer (layer_of m id) refl t
     by_layer None e q = absurd q
     by_layer (Some l) e q = length-tiles_of (level_of m id) (m.width * m.height) l.body q (layer_of-IsLayer m id l e h).body
 
-pub place-within : (m : MapParts) (id x y place : ℕ) → place ≡ y * m.width + x → x < m.width → y < m.height → HasTiles m id → IsWellFormed m → place < length (tiles_in m id)
-place-within m id x y place is column row t h =
+pub number-within : (m : MapParts) (id x y number : ℕ) → number ≡ y * m.width + x → x < m.width → y < m.height → HasTiles m id → IsWellFormed m → number < length (tiles_in m id)
+number-within m id x y number is column row t h =
     let size = length-tiles_in m id t h in
     let inside = mul-add-lt y m.width x m.height row column in
     omega arith
 
-pub places-within : (m : MapParts) (id : ℕ) (es : List CellEdit) → Each (IsWithin m) es → HasTiles m id → IsWellFormed m → Each (IsBelow m.width (length (tiles_in m id))) es
-places-within m id [] h t w = tt
-places-within m id (e ∷ es) h t w = (place-within m id e.x e.y (e.y * m.width + e.x) refl h.0.0 h.0.1 t w, places-within m id es h.1 t w)
+pub numbers-within : (m : MapParts) (id : ℕ) (es : List CellEdit) → Each (IsWithin m) es → HasTiles m id → IsWellFormed m → Each (IsBelow m.width (length (tiles_in m id))) es
+numbers-within m id [] h t w = tt
+numbers-within m id (e ∷ es) h t w = (number-within m id e.x e.y (e.y * m.width + e.x) refl h.0.0 h.0.1 t w, numbers-within m id es h.1 t w)
 
 -- ---- layers that come and go
 -- the layers ls of a parent stand within all layers in drawing order, with these before and behind them
 pub record StandAmong (m : MapParts) (parent : Option ℕ) (ls : List Layer) : Type 0 where
   pub room : ℕ
   pub level : ℕ
-  pub front : List (ℕ × Layer)
+  pub prefix : List (ℕ × Layer)
   pub rest : List (ℕ × Layer)
-  pub was : all_drawn m.layers ≡ front ++ (drawn room level ls ++ rest)
-  pub now : (f : List Layer → List Layer) → all_drawn (with_siblings parent f m).layers ≡ front ++ (drawn room level (f ls) ++ rest)
+  pub was : all_drawn m.layers ≡ prefix ++ (drawn room level ls ++ rest)
+  pub now : (f : List Layer → List Layer) → all_drawn (with_siblings parent f m).layers ≡ prefix ++ (drawn room level (f ls) ++ rest)
 
 -- a group has room for layers in it
 has_room : (room level deep : ℕ) (size : ℕ) (b : Body) (ls : List Layer) → group_in b ≡ Some ls → IsBody level size b → level + 2 * room ≡ deepest_level → (r : ℕ) × (room ≡ suc r)
@@ -293,29 +293,29 @@ siblings-StandAmong m None ls e h =
     record {
       room = MAX_GROUPS;
       level = layer_level;
-      front = [];
+      prefix = [];
       rest = [];
       was = ap all_drawn is ∙ sym (append-nil (drawn MAX_GROUPS layer_level ls));
       now = λ f. ap (λ ks. all_drawn (f ks)) is ∙ sym (append-nil (drawn MAX_GROUPS layer_level (f ls)));
     }
 siblings-StandAmong m (Some id) ls e h = by_layer (layer_of m id) refl e
   where
-    by_room : (l : Layer) (found : layer_of m id ≡ Some l) → group_of l ≡ Some ls → (room level : ℕ) (front rest : List (ℕ × Layer)) → all_drawn m.layers ≡ front ++ (tree room level l ++ rest)
-        → ((f : Layer → Layer) → all_drawn (change_among id MAX_GROUPS f m.layers) ≡ front ++ (tree room level (f l) ++ rest)) → (r : ℕ) × (room ≡ suc r) → StandAmong m (Some id) ls
-    by_room l found g room level front rest was now more = record {
+    by_room : (l : Layer) (found : layer_of m id ≡ Some l) → group_of l ≡ Some ls → (room level : ℕ) (prefix rest : List (ℕ × Layer)) → all_drawn m.layers ≡ prefix ++ (tree room level l ++ rest)
+        → ((f : Layer → Layer) → all_drawn (change_among id MAX_GROUPS f m.layers) ≡ prefix ++ (tree room level (f l) ++ rest)) → (r : ℕ) × (room ≡ suc r) → StandAmong m (Some id) ls
+    by_room l found g room level prefix rest was now more = record {
       room = more.0;
       level = inner_level level;
-      front = front ++ ((level, bare l) ∷ []);
+      prefix = prefix ++ ((level, bare l) ∷ []);
       rest = rest;
       was = was ∙ pieces l (ap or_empty g) refl;
       now = λ f. now (layer_with_layers f) ∙ pieces (layer_with_layers f l) (ap or_empty (group_of-with f l ls g)) (bare-with f l);
     }
       where
-        pieces : (k : Layer) {ks : List Layer} → inside k ≡ ks → bare k ≡ bare l → front ++ (tree room level k ++ rest) ≡ (front ++ ((level, bare l) ∷ [])) ++ (drawn more.0 (inner_level level) ks ++ rest)
+        pieces : (k : Layer) {ks : List Layer} → inside k ≡ ks → bare k ≡ bare l → prefix ++ (tree room level k ++ rest) ≡ (prefix ++ ((level, bare l) ∷ [])) ++ (drawn more.0 (inner_level level) ks ++ rest)
         pieces k are same =
-            ap (λ n. front ++ (tree n level k ++ rest)) more.1 ∙ ap (λ t. front ++ (t ++ rest)) (tree-is (suc more.0) level k)
-            ∙ (λ i. front ++ (((level, same i) ∷ drawn more.0 (inner_level level) (are i)) ++ rest))
-            ∙ sym (append_assoc front ((level, bare l) ∷ []) _)
+            ap (λ n. prefix ++ (tree n level k ++ rest)) more.1 ∙ ap (λ t. prefix ++ (t ++ rest)) (tree-is (suc more.0) level k)
+            ∙ (λ i. prefix ++ (((level, same i) ∷ drawn more.0 (inner_level level) (are i)) ++ rest))
+            ∙ sym (append_assoc prefix ((level, bare l) ∷ []) _)
 
     by_layer : (o : Option Layer) → layer_of m id ≡ o → option_and_then group_of o ≡ Some ls → StandAmong m (Some id) ls
     by_layer None found g = cc
@@ -323,7 +323,7 @@ siblings-StandAmong m (Some id) ls e h = by_layer (layer_of m id) refl e
         let s = layer-Stands m id l found in
         let body = (layer_of-IsLayer m id l found h).body in
         let here : IsBody s.own_level (m.width * m.height) l.body = rw (← level_of-found m id l found) body in
-        by_room l found g s.own_room s.own_level s.front s.rest s.was s.now (has_room s.own_room s.own_level 0 (m.width * m.height) l.body ls g here (s.deep))
+        by_room l found g s.own_room s.own_level s.prefix s.rest s.was s.now (has_room s.own_room s.own_level 0 (m.width * m.height) l.body ls g here (s.deep))
 
 module _ (m : MapParts) (parent : Option ℕ) (ls : List Layer) (e : siblings_of m parent ≡ Some ls) (h : IsWellFormed m) where
   siblings-IsWellFormed : (f : List Layer → List Layer) → AreLayers (m.width * m.height) m.next_layer_id m.next_object_id (with_siblings parent f m).layers → IsWellFormed (with_siblings parent f m)
@@ -338,14 +338,14 @@ module _ (m : MapParts) (parent : Option ℕ) (ls : List Layer) (e : siblings_of
   removed-keeps k =
       let s = siblings-StandAmong m parent ls e h in
       siblings-IsWellFormed (λ ks. remove ks k)
-      (AreDrawn-taken (IsReplaced-as s.was (s.now (λ ks. remove ks k)) (IsReplaced-within s.front s.rest (flat-IsReplaced (tree s.room s.level) (remove-IsReplaced ls k)))) h.layers)
+      (AreDrawn-taken (IsReplaced-as s.was (s.now (λ ks. remove ks k)) (IsReplaced-within s.prefix s.rest (flat-IsReplaced (tree s.room s.level) (remove-IsReplaced ls k)))) h.layers)
 
   -- the map with one of the layers of a parent at another place among them
   pub moved-keeps : (from to : ℕ) (l : Layer) → slice_get ls from ≡ Some l → IsWellFormed (with_siblings parent (λ ks. insert (remove ks from) to l) m)
   moved-keeps from to l there =
       let s = siblings-StandAmong m parent ls e h in
-      let gone = IsReplaced-as s.was (s.now (λ ks. remove ks from)) (IsReplaced-within s.front s.rest (flat-IsReplaced (tree s.room s.level) (rw (take-one ls from l there) at (remove-IsReplaced ls from)))) in
-      let back = IsReplaced-as (s.now (λ ks. remove ks from)) (s.now (λ ks. insert (remove ks from) to l)) (IsReplaced-within s.front s.rest (flat-IsReplaced (tree s.room s.level) (insert-IsReplaced (remove ls from) to l))) in
+      let gone = IsReplaced-as s.was (s.now (λ ks. remove ks from)) (IsReplaced-within s.prefix s.rest (flat-IsReplaced (tree s.room s.level) (rw (take-one ls from l there) at (remove-IsReplaced ls from)))) in
+      let back = IsReplaced-as (s.now (λ ks. remove ks from)) (s.now (λ ks. insert (remove ks from) to l)) (IsReplaced-within s.prefix s.rest (flat-IsReplaced (tree s.room s.level) (insert-IsReplaced (remove ls from) to l))) in
       siblings-IsWellFormed (λ ks. insert (remove ks from) to l) (AreDrawn-moved gone back h.layers)
 
 pub remove-keeps : (m : MapParts) (place : LayerPlace) → IsSome (layer_at m place) → IsWellFormed m → IsWellFormed (without_layer_at place m)
@@ -427,7 +427,7 @@ siblings_of-few m parent ls e h =
     let s = siblings-StandAmong m parent ls e h in
     let long = ap length s.was in
     let own = length-drawn_le s.room s.level ls in
-    omega (arith, h.layers.few, long, own, length-append s.front (drawn s.room s.level ls ++ s.rest), length-append (drawn s.room s.level ls) s.rest)
+    omega (arith, h.layers.few, long, own, length-append s.prefix (drawn s.room s.level ls ++ s.rest), length-append (drawn s.room s.level ls) s.rest)
 
 pub siblings_of-room : (m : MapParts) (place : LayerPlace) → IsSomeAnd (siblings_of m place.parent) (λ ls. place.at ≤ length ls) → IsWellFormed m → IsSomeAnd (siblings_of m place.parent) (λ ls. length ls + 1 < 2 ^ 63)
 siblings_of-room m place there h = by_siblings (siblings_of m place.parent) refl there

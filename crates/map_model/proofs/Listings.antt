@@ -11,9 +11,9 @@ pub Each-append : {X : Type 0} (P : X → Type 0) (xs ys : List X) → Each P xs
 Each-append P [] ys h k = k
 Each-append P (x ∷ xs) ys h k = (h.0, Each-append P xs ys h.1 k)
 
-pub Each-front : {X : Type 0} (P : X → Type 0) (xs ys : List X) → Each P (xs ++ ys) → Each P xs
-Each-front P [] ys h = tt
-Each-front P (x ∷ xs) ys h = (h.0, Each-front P xs ys h.1)
+pub Each-prefix : {X : Type 0} (P : X → Type 0) (xs ys : List X) → Each P (xs ++ ys) → Each P xs
+Each-prefix P [] ys h = tt
+Each-prefix P (x ∷ xs) ys h = (h.0, Each-prefix P xs ys h.1)
 
 pub Each-rest : {X : Type 0} (P : X → Type 0) (xs ys : List X) → Each P (xs ++ ys) → Each P ys
 Each-rest P [] ys h = h
@@ -27,9 +27,9 @@ Distinct-append : {X : Type 0} (xs ys : List X) → Apart xs ys → Distinct xs 
 Distinct-append [] ys a h k = k
 Distinct-append (x ∷ xs) ys a h k = (Each-append (λ y. x ≢ y) xs ys h.0 a.0, Distinct-append xs ys a.1 h.1 k)
 
-pub Distinct-front : {X : Type 0} (xs ys : List X) → Distinct (xs ++ ys) → Distinct xs
-Distinct-front [] ys h = tt
-Distinct-front (x ∷ xs) ys h = (Each-front (λ y. x ≢ y) xs ys h.0, Distinct-front xs ys h.1)
+pub Distinct-prefix : {X : Type 0} (xs ys : List X) → Distinct (xs ++ ys) → Distinct xs
+Distinct-prefix [] ys h = tt
+Distinct-prefix (x ∷ xs) ys h = (Each-prefix (λ y. x ≢ y) xs ys h.0, Distinct-prefix xs ys h.1)
 
 pub Distinct-rest : {X : Type 0} (xs ys : List X) → Distinct (xs ++ ys) → Distinct ys
 Distinct-rest [] ys h = h
@@ -43,9 +43,9 @@ Apart-append : {X : Type 0} (zs xs ys : List X) → Apart zs xs → Apart zs ys 
 Apart-append [] xs ys a b = tt
 Apart-append (z ∷ zs) xs ys a b = (Each-append (λ y. z ≢ y) xs ys a.0 b.0, Apart-append zs xs ys a.1 b.1)
 
-Apart-front : {X : Type 0} (zs xs ys : List X) → Apart zs (xs ++ ys) → Apart zs xs
-Apart-front [] xs ys a = tt
-Apart-front (z ∷ zs) xs ys a = (Each-front (λ y. z ≢ y) xs ys a.0, Apart-front zs xs ys a.1)
+Apart-prefix : {X : Type 0} (zs xs ys : List X) → Apart zs (xs ++ ys) → Apart zs xs
+Apart-prefix [] xs ys a = tt
+Apart-prefix (z ∷ zs) xs ys a = (Each-prefix (λ y. z ≢ y) xs ys a.0, Apart-prefix zs xs ys a.1)
 
 Apart-rest : {X : Type 0} (zs xs ys : List X) → Apart zs (xs ++ ys) → Apart zs ys
 Apart-rest [] xs ys a = tt
@@ -65,9 +65,9 @@ Apart-turned (x ∷ xs) ys a = Apart-more ys x xs a.0 (Apart-turned xs ys a.1)
 
 -- ---- a piece of a list replaced
 -- ys is xs with a new piece in the place of another, which has these lists before and behind it
-pub record IsReplaced {X : Type 0} (front piece new rest xs ys : List X) : Type 0 where
-  pub was : xs ≡ front ++ (piece ++ rest)
-  pub now : ys ≡ front ++ (new ++ rest)
+pub record IsReplaced {X : Type 0} (prefix piece new rest xs ys : List X) : Type 0 where
+  pub was : xs ≡ prefix ++ (piece ++ rest)
+  pub now : ys ≡ prefix ++ (new ++ rest)
 
 pub insert-IsReplaced : {X : Type 0} (xs : List X) (k : ℕ) (x : X) → IsReplaced (take k xs) [] (x ∷ []) (drop k xs) xs (insert xs k x)
 insert-IsReplaced xs k x = record { was = sym (take-append-drop k xs); now = refl }
@@ -88,15 +88,15 @@ take-one (y ∷ ys) zero x e = let same : y ≡ x = cc in ap (λ z. z ∷ []) sa
 take-one (y ∷ ys) (suc k) x e = take-one ys k x e
 
 module _ {X A : Type 0} (g : X → List A) where
-  flat-pieces : (front piece rest : List X) → flat_map g (front ++ (piece ++ rest)) ≡ flat_map g front ++ (flat_map g piece ++ flat_map g rest)
-  flat-pieces front piece rest = flat_map-append g front (piece ++ rest) ∙ ap (λ qs. flat_map g front ++ qs) (flat_map-append g piece rest)
+  flat-pieces : (prefix piece rest : List X) → flat_map g (prefix ++ (piece ++ rest)) ≡ flat_map g prefix ++ (flat_map g piece ++ flat_map g rest)
+  flat-pieces prefix piece rest = flat_map-append g prefix (piece ++ rest) ∙ ap (λ qs. flat_map g prefix ++ qs) (flat_map-append g piece rest)
 
   -- what is read off the list is replaced with it
-  pub flat-IsReplaced : {front piece new rest xs ys : List X} → IsReplaced front piece new rest xs ys
-      → IsReplaced (flat_map g front) (flat_map g piece) (flat_map g new) (flat_map g rest) (flat_map g xs) (flat_map g ys)
-  flat-IsReplaced {front = front} {piece = piece} {new = new} {rest = rest} r = record {
-    was = ap (flat_map g) r.was ∙ flat-pieces front piece rest;
-    now = ap (flat_map g) r.now ∙ flat-pieces front new rest;
+  pub flat-IsReplaced : {prefix piece new rest xs ys : List X} → IsReplaced prefix piece new rest xs ys
+      → IsReplaced (flat_map g prefix) (flat_map g piece) (flat_map g new) (flat_map g rest) (flat_map g xs) (flat_map g ys)
+  flat-IsReplaced {prefix = prefix} {piece = piece} {new = new} {rest = rest} r = record {
+    was = ap (flat_map g) r.was ∙ flat-pieces prefix piece rest;
+    now = ap (flat_map g) r.now ∙ flat-pieces prefix new rest;
   }
 
   pub flat-one : (x : X) → flat_map g (x ∷ []) ≡ g x
@@ -109,14 +109,14 @@ module _ {X A : Type 0} (g : X → List A) where
       [ true ↦ ap (λ ys. ys ++ flat_map g xs) (same x) | false ↦ ap (λ ys. g x ++ ys) (flat-change_first p f same xs) ]
 
 -- a list stays distinct with a new piece that stands in none of the others
-pub Distinct-replaced : {X : Type 0} {front piece new rest xs ys : List X} → IsReplaced front piece new rest xs ys → Distinct xs → Distinct new → Apart new (front ++ rest) → Distinct ys
-Distinct-replaced {front = front} {piece = piece} {new = new} {rest = rest} r h n apart =
-    let distinct : Distinct (front ++ (piece ++ rest)) = rw (← r.was) h in
-    let behind = Distinct-rest front (piece ++ rest) distinct in
-    rw r.now (Distinct-append front (new ++ rest)
-    (Apart-append front new rest (Apart-turned new front (Apart-front new front rest apart)) (Apart-rest front piece rest (Apart-pieces front (piece ++ rest) distinct)))
-    (Distinct-front front (piece ++ rest) distinct)
-    (Distinct-append new rest (Apart-rest new front rest apart) n (Distinct-rest piece rest behind)))
+pub Distinct-replaced : {X : Type 0} {prefix piece new rest xs ys : List X} → IsReplaced prefix piece new rest xs ys → Distinct xs → Distinct new → Apart new (prefix ++ rest) → Distinct ys
+Distinct-replaced {prefix = prefix} {piece = piece} {new = new} {rest = rest} r h n apart =
+    let distinct : Distinct (prefix ++ (piece ++ rest)) = rw (← r.was) h in
+    let behind = Distinct-rest prefix (piece ++ rest) distinct in
+    rw r.now (Distinct-append prefix (new ++ rest)
+    (Apart-append prefix new rest (Apart-turned new prefix (Apart-prefix new prefix rest apart)) (Apart-rest prefix piece rest (Apart-pieces prefix (piece ++ rest) distinct)))
+    (Distinct-prefix prefix (piece ++ rest) distinct)
+    (Distinct-append new rest (Apart-rest new prefix rest apart) n (Distinct-rest piece rest behind)))
 
 module _ {X A : Type 0} (g : X → List A) where
   pub Distinct-insert : (xs : List X) (k : ℕ) (x : X) → Distinct (g x) → Apart (g x) (flat_map g xs) → Distinct (flat_map g xs) → Distinct (flat_map g (insert xs k x))
@@ -137,30 +137,30 @@ pub record AreNewIds (next : ℕ) (new ids : List ℕ) : Type 0 where
 pub AreNewIds-none : (next : ℕ) (ids : List ℕ) → AreNewIds next [] ids
 AreNewIds-none next ids = record { each = tt; distinct = tt; apart = tt }
 
-module _ {next : ℕ} {front piece new rest xs ys : List ℕ} (r : IsReplaced front piece new rest xs ys) (h : AreIds next xs) where
+module _ {next : ℕ} {prefix piece new rest xs ys : List ℕ} (r : IsReplaced prefix piece new rest xs ys) (h : AreIds next xs) where
   -- the ids are those of both other pieces and of the new one
-  pub AreIds-replaced : AreNewIds next new (front ++ rest) → AreIds next ys
+  pub AreIds-replaced : AreNewIds next new (prefix ++ rest) → AreIds next ys
   AreIds-replaced n =
-      let each : Each (IsId next) (front ++ (piece ++ rest)) = rw (← r.was) h.each in
+      let each : Each (IsId next) (prefix ++ (piece ++ rest)) = rw (← r.was) h.each in
       let all = Distinct-replaced r h.distinct n.distinct n.apart in
       rw r.now (record {
         next_low = h.next_low;
         next_high = h.next_high;
-        each = Each-append (IsId next) front (new ++ rest) (Each-front (IsId next) front (piece ++ rest) each)
-            (Each-append (IsId next) new rest n.each (Each-rest (IsId next) piece rest (Each-rest (IsId next) front (piece ++ rest) each)));
+        each = Each-append (IsId next) prefix (new ++ rest) (Each-prefix (IsId next) prefix (piece ++ rest) each)
+            (Each-append (IsId next) new rest n.each (Each-rest (IsId next) piece rest (Each-rest (IsId next) prefix (piece ++ rest) each)));
         distinct = rw r.now at all;
       })
 
   -- the ids of the piece that is taken out are new beside the others
-  pub AreNewIds-piece : AreNewIds next piece (front ++ rest)
+  pub AreNewIds-piece : AreNewIds next piece (prefix ++ rest)
   AreNewIds-piece =
-      let each : Each (IsId next) (front ++ (piece ++ rest)) = rw (← r.was) h.each in
-      let distinct : Distinct (front ++ (piece ++ rest)) = rw (← r.was) h.distinct in
-      let behind = Distinct-rest front (piece ++ rest) distinct in
+      let each : Each (IsId next) (prefix ++ (piece ++ rest)) = rw (← r.was) h.each in
+      let distinct : Distinct (prefix ++ (piece ++ rest)) = rw (← r.was) h.distinct in
+      let behind = Distinct-rest prefix (piece ++ rest) distinct in
       record {
-        each = Each-front (IsId next) piece rest (Each-rest (IsId next) front (piece ++ rest) each);
-        distinct = Distinct-front piece rest behind;
-        apart = Apart-append piece front rest (Apart-turned front piece (Apart-front front piece rest (Apart-pieces front (piece ++ rest) distinct))) (Apart-pieces piece rest behind);
+        each = Each-prefix (IsId next) piece rest (Each-rest (IsId next) prefix (piece ++ rest) each);
+        distinct = Distinct-prefix piece rest behind;
+        apart = Apart-append piece prefix rest (Apart-turned prefix piece (Apart-prefix prefix piece rest (Apart-pieces prefix (piece ++ rest) distinct))) (Apart-pieces piece rest behind);
       }
 
 module _ {X : Type 0} (g : X → List ℕ) (next : ℕ) where

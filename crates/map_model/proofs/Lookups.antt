@@ -21,11 +21,11 @@ first_some-append {Y = Y} h (x ∷ xs) ys = ap (or_else (h x)) (first_some-appen
     turned None b c = refl
     turned (Some y) b c = refl
 
-first_some-replaced : {X Y : Type 0} (h : X → Option Y) {front rest xs ys : List X} {x y : X} → IsReplaced front (x ∷ []) (y ∷ []) rest xs ys → h y ≡ h x → first_some h ys ≡ first_some h xs
-first_some-replaced h {front = front} {rest = rest} {x = x} {y = y} r same =
-    ap (first_some h) r.now ∙ first_some-append h front (y ∷ rest)
-    ∙ ap (λ o. or_else (first_some h front) (or_else o (first_some h rest))) same
-    ∙ sym (first_some-append h front (x ∷ rest)) ∙ ap (first_some h) (sym r.was)
+first_some-replaced : {X Y : Type 0} (h : X → Option Y) {prefix rest xs ys : List X} {x y : X} → IsReplaced prefix (x ∷ []) (y ∷ []) rest xs ys → h y ≡ h x → first_some h ys ≡ first_some h xs
+first_some-replaced h {prefix = prefix} {rest = rest} {x = x} {y = y} r same =
+    ap (first_some h) r.now ∙ first_some-append h prefix (y ∷ rest)
+    ∙ ap (λ o. or_else (first_some h prefix) (or_else o (first_some h rest))) same
+    ∙ sym (first_some-append h prefix (x ∷ rest)) ∙ ap (first_some h) (sym r.was)
 
 -- a look-up that sees the change of no layer
 pub first_some-with_layer : {Y : Type 0} (id : ℕ) (f : Layer → Layer) (h : ℕ × Layer → Option Y) → ((l : Layer) → inside (f l) ≡ inside l) → ((level : ℕ) (l : Layer) → h (level, bare (f l)) ≡ h (level, bare l)) → (m : MapParts)

@@ -125,10 +125,10 @@ with_objects-keeps layer g os m e few each ids h =
 -- ---- the ids of all objects
 -- for some lists before and behind it, a piece of the list xs is replaced, which gives ys
 abbrev HasReplaced : List ℕ → List ℕ → List ℕ → List ℕ → Type 0
-HasReplaced piece new xs ys = (front : List ℕ) × ((rest : List ℕ) × IsReplaced front piece new rest xs ys)
+HasReplaced piece new xs ys = (prefix : List ℕ) × ((rest : List ℕ) × IsReplaced prefix piece new rest xs ys)
 
-longer : (front piece rest more : List ℕ) → (front ++ (piece ++ rest)) ++ more ≡ front ++ (piece ++ (rest ++ more))
-longer front piece rest more = append_assoc front (piece ++ rest) more ∙ ap (λ zs. front ++ zs) (append_assoc piece rest more)
+longer : (prefix piece rest more : List ℕ) → (prefix ++ (piece ++ rest)) ++ more ≡ prefix ++ (piece ++ (rest ++ more))
+longer prefix piece rest more = append_assoc prefix (piece ++ rest) more ∙ ap (λ zs. prefix ++ zs) (append_assoc piece rest more)
 
 HasReplaced-before : {piece new xs ys : List ℕ} (more : List ℕ) → HasReplaced piece new xs ys → HasReplaced piece new (xs ++ more) (ys ++ more)
 HasReplaced-before {piece = piece} {new = new} more r = (
@@ -155,8 +155,8 @@ HasReplaced-behind {piece = piece} {new = new} more r = (
 )
 
 -- a piece of a piece
-HasReplaced-inner : {piece new front was now rest xs ys : List ℕ} → IsReplaced front was now rest xs ys → HasReplaced piece new was now → HasReplaced piece new xs ys
-HasReplaced-inner {piece = piece} {new = new} {front = front} {rest = rest} r inner = rw (r.was, r.now) (HasReplaced-behind front (HasReplaced-before rest inner))
+HasReplaced-inner : {piece new prefix was now rest xs ys : List ℕ} → IsReplaced prefix was now rest xs ys → HasReplaced piece new was now → HasReplaced piece new xs ys
+HasReplaced-inner {piece = piece} {new = new} {prefix = prefix} {rest = rest} r inner = rw (r.was, r.now) (HasReplaced-behind prefix (HasReplaced-before rest inner))
 
 HasReplaced-layer : {piece new : List ℕ} (g : List Object → List Object) (os : List Object) (b : Body) → objects_in b ≡ Some os → HasReplaced piece new (flat_map ids_of_object os) (flat_map ids_of_object (g os))
     → HasReplaced piece new (object_ids_in b) (object_ids_in (body_with_objects g b))
@@ -283,13 +283,13 @@ pub numbered_object-keeps : (m : MapParts) (layer : ℕ) (g : List Object → Li
     → length os < MAX_OBJECTS → m.next_object_id < MAX_NEXT_ID → IsObject (object_level (level_of m layer)) o → o.id ≡ m.next_object_id → IsWellFormed m
     → IsWellFormed (with_next_ids m.next_layer_id (m.next_object_id + 1) (with_objects layer g m))
 numbered_object-keeps m layer g os k o e is few below object id h =
-    let kept = raised_object-keeps m below h in
+    let raised_is = raised_object-keeps m below h in
     let old = objects_of_layer-IsBody m layer os e h in
     let put : HasReplaced [] (o.id ∷ []) (flat_map ids_of_object os) (flat_map ids_of_object (g os)) = rw is (_, (_, flat-IsReplaced ids_of_object (insert-IsReplaced os k o))) in
     let r = HasReplaced-objects layer g os m e put in
     with_objects-keeps layer g os (with_next_ids m.next_layer_id (m.next_object_id + 1) m) e (let more = length-insert os k o in rw is (omega (arith, few))) (rw is (Each-insert _ os k o object old.1))
-    (AreIds-replaced r.1.1 kept.layers.object_ids
-    (next_id-AreNewIds m.next_object_id o.id (r.0 ++ r.1.0) id h.layers.object_ids.next_low (rw (← r.1.1.was) h.layers.object_ids.each))) kept
+    (AreIds-replaced r.1.1 raised_is.layers.object_ids
+    (next_id-AreNewIds m.next_object_id o.id (r.0 ++ r.1.0) id h.layers.object_ids.next_low (rw (← r.1.1.was) h.layers.object_ids.each))) raised_is
 
 -- two changes that agree on the objects of the layer
 pub with_objects-along : (m : MapParts) (layer : ℕ) (f g : List Object → List Object) (os : List Object) → objects_of_layer m layer ≡ Some os → f os ≡ g os → with_objects layer f m ≡ with_objects layer g m

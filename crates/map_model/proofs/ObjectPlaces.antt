@@ -24,7 +24,7 @@ use Rattle.map_model.proofs.Keeps.{layer-Stands}
 use Rattle.map_model.proofs.LensLaws.{some-eq}
 use Rattle.map_model.proofs.Trees.{none_among, tree-is}
 use Rattle.map_model.proofs.Changes.{find-at_position, slice_get-Some}
-use Rattle.map_model.proofs.Listings.{Each-front, Each-rest, Distinct-front, Distinct-rest, Apart-pieces}
+use Rattle.map_model.proofs.Listings.{Each-prefix, Each-rest, Distinct-prefix, Distinct-rest, Apart-pieces}
 use Rattle.map_model.proofs.Places.{Each-id_at, position-only}
 
 -- ---- the layer that is drawn at a place
@@ -55,7 +55,7 @@ Each-object_at : (P : ℕ → Type 0) (ls : List (ℕ × Layer)) (k : ℕ) (l : 
 Each-object_at P [] zero l os at o e f g h = cc
 Each-object_at P [] (suc k) l os at o e f g h = cc
 Each-object_at P (j ∷ ls) zero l os at o e f g h =
-    let same : j ≡ l = cc in by_body j.1.body (ap (λ (y : ℕ × Layer). objects_of y.1) same ∙ f) (Each-front P (object_ids_of j) (flat_map object_ids_of ls) h)
+    let same : j ≡ l = cc in by_body j.1.body (ap (λ (y : ℕ × Layer). objects_of y.1) same ∙ f) (Each-prefix P (object_ids_of j) (flat_map object_ids_of ls) h)
   where
     by_body : (b : Body) → objects_in b ≡ Some os → Each P (object_ids_in b) → P o.id
     by_body (Tiles t cells) q d = cc
@@ -90,7 +90,7 @@ first_some-only [] (suc k) l os at o e f g h = cc
 first_some-only (j ∷ ls) zero l os at o e f g h =
     let same : j ≡ l = cc in
     let here : place_in_layer o.id j ≡ Some (place_of_layer l.1 at) =
-    rw same (by_body l.1.body f (subst (λ i. Distinct (object_ids_of i)) same (Distinct-front (object_ids_of j) (flat_map object_ids_of ls) h))) in
+    rw same (by_body l.1.body f (subst (λ i. Distinct (object_ids_of i)) same (Distinct-prefix (object_ids_of j) (flat_map object_ids_of ls) h))) in
     ap (λ p. or_else p (first_some (place_in_layer o.id) ls)) here
   where
     by_body : (b : Body) → objects_in b ≡ Some os → Distinct (object_ids_in b)
@@ -109,11 +109,11 @@ first_some-only (j ∷ ls) (suc k) l os at o e f g h =
 drawn-found : (m : MapParts) (l : Layer) → layer_of m l.id ≡ Some l → (j : ℕ) × ((level : ℕ) × (slice_get (all_drawn m.layers) j ≡ Some (level, bare l)))
 drawn-found m l e =
     let s = layer-Stands m l.id l e in
-    let start : length s.front + 0 ≡ length s.front = omega arith in (
-      length s.front,
+    let start : length s.prefix + 0 ≡ length s.prefix = omega arith in (
+      length s.prefix,
       (
         s.own_level,
-        ap (λ ds. slice_get ds (length s.front)) s.was ∙ ap (slice_get (s.front ++ (tree s.own_room s.own_level l ++ s.rest))) (sym start) ∙ slice_get-behind s.front (tree s.own_room s.own_level l ++ s.rest) 0
+        ap (λ ds. slice_get ds (length s.prefix)) s.was ∙ ap (slice_get (s.prefix ++ (tree s.own_room s.own_level l ++ s.rest))) (sym start) ∙ slice_get-behind s.prefix (tree s.own_room s.own_level l ++ s.rest) 0
             ∙ ap (λ t. slice_get (t ++ s.rest) 0) (tree-is s.own_room s.own_level l),
       ),
     )

@@ -17,7 +17,7 @@ use Rattle.map_model.specs.Lists.{Each, Distinct, first_some, or_else, or_empty}
 use Rattle.map_model.specs.NewMap.{empty_object_layer}
 use Rattle.map_model.specs.WellFormed.{IsWellFormed, ids_of}
 use Rattle.map_model.proofs.Changes.{slice_get-Some}
-use Rattle.map_model.proofs.Listings.{Each-front, Each-rest, Distinct-front, Distinct-rest, Apart-pieces}
+use Rattle.map_model.proofs.Listings.{Each-prefix, Each-rest, Distinct-prefix, Distinct-rest, Apart-pieces}
 use Rattle.map_model.proofs.Trees.{Stands, find_one-is, stands_one, stands, tree-is}
 use Rattle.map_model.proofs.Walks.{holds-own}
 
@@ -26,10 +26,10 @@ use Rattle.map_model.proofs.Walks.{holds-own}
 stands-id : {id room level : ℕ} {l : Layer} {xs : List (ℕ × Layer)} {ys : (Layer → Layer) → List (ℕ × Layer)} (P : ℕ → Type 0) → Stands id room level l xs ys → Each P (flat_map ids_of xs) → P id
 stands-id {id = id} {l = l} P s h =
     let is : l.id ≡ id = grind (arith, nat_tests, s.has) in
-    let all : Each P (flat_map ids_of (s.front ++ (tree s.own_room s.own_level l ++ s.rest))) = rw (← s.was) h in
-    let behind = Each-rest P (flat_map ids_of s.front) (flat_map ids_of (tree s.own_room s.own_level l ++ s.rest)) (rw (flat_map-append ids_of s.front (tree s.own_room s.own_level l ++ s.rest)) at all) in
+    let all : Each P (flat_map ids_of (s.prefix ++ (tree s.own_room s.own_level l ++ s.rest))) = rw (← s.was) h in
+    let behind = Each-rest P (flat_map ids_of s.prefix) (flat_map ids_of (tree s.own_room s.own_level l ++ s.rest)) (rw (flat_map-append ids_of s.prefix (tree s.own_room s.own_level l ++ s.rest)) at all) in
     let own : Each P (flat_map ids_of (tree s.own_room s.own_level l)) =
-    Each-front P (flat_map ids_of (tree s.own_room s.own_level l)) (flat_map ids_of s.rest) (rw (flat_map-append ids_of (tree s.own_room s.own_level l) s.rest) at behind) in
+    Each-prefix P (flat_map ids_of (tree s.own_room s.own_level l)) (flat_map ids_of s.rest) (rw (flat_map-append ids_of (tree s.own_room s.own_level l) s.rest) at behind) in
     subst P is (rw (tree-is s.own_room s.own_level l) at own).0
 
 -- where each id is another, no layer is found
@@ -50,7 +50,7 @@ Each-held P id room level (x ∷ xs) zero l e held h = by_found (find_one id roo
     same = cc
 
     own : Each P (flat_map ids_of (tree room level x))
-    own = Each-front P (flat_map ids_of (tree room level x)) (flat_map ids_of (drawn room level xs)) (rw (flat_map-append ids_of (tree room level x) (drawn room level xs)) at h)
+    own = Each-prefix P (flat_map ids_of (tree room level x)) (flat_map ids_of (drawn room level xs)) (rw (flat_map-append ids_of (tree room level x) (drawn room level xs)) at h)
 
     by_found : (o : Option Layer) → find_one id room x ≡ o → is_some (find_one id room x) ≡ true → P id
     by_found None q some = let none : false ≡ true = rw q at some in cc
@@ -65,7 +65,7 @@ Distinct-tree room level [] (suc k) l e h = cc
 Distinct-tree room level (x ∷ xs) zero l e h =
     let same : x ≡ l = cc in
     subst (λ (y : Layer). Distinct (flat_map ids_of (tree room level y))) same
-    (Distinct-front (flat_map ids_of (tree room level x)) (flat_map ids_of (drawn room level xs)) (rw (flat_map-append ids_of (tree room level x) (drawn room level xs)) at h))
+    (Distinct-prefix (flat_map ids_of (tree room level x)) (flat_map ids_of (drawn room level xs)) (rw (flat_map-append ids_of (tree room level x) (drawn room level xs)) at h))
 Distinct-tree room level (x ∷ xs) (suc k) l e h =
     Distinct-tree room level xs k l e (Distinct-rest (flat_map ids_of (tree room level x)) (flat_map ids_of (drawn room level xs)) (rw (flat_map-append ids_of (tree room level x) (drawn room level xs)) at h))
 
@@ -131,7 +131,7 @@ places_within id room level within (l ∷ ls) place e h = by_first (place_among 
     pieces = rw (flat_map-append ids_of (tree (suc room) level l) (drawn (suc room) level ls)) at h
 
     own : Distinct (flat_map ids_of (tree (suc room) level l))
-    own = Distinct-front (flat_map ids_of (tree (suc room) level l)) (flat_map ids_of (drawn (suc room) level ls)) pieces
+    own = Distinct-prefix (flat_map ids_of (tree (suc room) level l)) (flat_map ids_of (drawn (suc room) level ls)) pieces
 
     by_stands : StandsAt room (Some l.id) (inside l) place
         → (g : Layer) × ((place.parent ≡ Some g.id) × ((layer_among g.id (suc room) (l ∷ ls) ≡ Some g) × IsSome (option_and_then (λ ks. slice_get ks place.at) (group_of g))))

@@ -57,10 +57,10 @@ length-drawn room a b ls = length-list room (length-tree room) a b ls
 pub record Stands (id room level : ℕ) (l : Layer) (xs : List (ℕ × Layer)) (ys : (Layer → Layer) → List (ℕ × Layer)) : Type 0 where
   pub own_room : ℕ
   pub own_level : ℕ
-  pub front : List (ℕ × Layer)
+  pub prefix : List (ℕ × Layer)
   pub rest : List (ℕ × Layer)
-  pub was : xs ≡ front ++ (tree own_room own_level l ++ rest)
-  pub now : (f : Layer → Layer) → ys f ≡ front ++ (tree own_room own_level (f l) ++ rest)
+  pub was : xs ≡ prefix ++ (tree own_room own_level l ++ rest)
+  pub now : (f : Layer → Layer) → ys f ≡ prefix ++ (tree own_room own_level (f l) ++ rest)
   pub first : find (is_drawn_with id) xs ≡ Some (own_level, bare l)
   pub deep : own_level + 2 * own_room ≡ level + 2 * room
   pub has : has_id id l ≡ true
@@ -71,18 +71,18 @@ find-append p (x ∷ xs) ys =
     elim (p x) as (λ b. cond b (Some x) (find p (xs ++ ys)) ≡ or_else (cond b (Some x) (find p xs)) (find p ys))
     [ true ↦ refl | false ↦ find-append p xs ys ]
 
-longer : {X : Type 0} (front piece rest more : List X) → (front ++ (piece ++ rest)) ++ more ≡ front ++ (piece ++ (rest ++ more))
-longer front piece rest more = append_assoc front (piece ++ rest) more ∙ ap (λ zs. front ++ zs) (append_assoc piece rest more)
+longer : {X : Type 0} (prefix piece rest more : List X) → (prefix ++ (piece ++ rest)) ++ more ≡ prefix ++ (piece ++ (rest ++ more))
+longer prefix piece rest more = append_assoc prefix (piece ++ rest) more ∙ ap (λ zs. prefix ++ zs) (append_assoc piece rest more)
 
 module _ {id room level : ℕ} {l : Layer} {xs : List (ℕ × Layer)} {ys : (Layer → Layer) → List (ℕ × Layer)} (more : List (ℕ × Layer)) (s : Stands id room level l xs ys) where
   Stands-before : Stands id room level l (xs ++ more) (λ f. ys f ++ more)
   Stands-before = record {
     own_room = s.own_room;
     own_level = s.own_level;
-    front = s.front;
+    prefix = s.prefix;
     rest = s.rest ++ more;
-    was = ap (λ zs. zs ++ more) s.was ∙ longer s.front (tree s.own_room s.own_level l) s.rest more;
-    now = λ f. ap (λ zs. zs ++ more) (s.now f) ∙ longer s.front (tree s.own_room s.own_level (f l)) s.rest more;
+    was = ap (λ zs. zs ++ more) s.was ∙ longer s.prefix (tree s.own_room s.own_level l) s.rest more;
+    now = λ f. ap (λ zs. zs ++ more) (s.now f) ∙ longer s.prefix (tree s.own_room s.own_level (f l)) s.rest more;
     first = find-append (is_drawn_with id) xs more ∙ ap (λ o. or_else o (find (is_drawn_with id) more)) s.first;
     deep = s.deep;
     has = s.has;
@@ -92,10 +92,10 @@ module _ {id room level : ℕ} {l : Layer} {xs : List (ℕ × Layer)} {ys : (Lay
   Stands-behind none = record {
     own_room = s.own_room;
     own_level = s.own_level;
-    front = more ++ s.front;
+    prefix = more ++ s.prefix;
     rest = s.rest;
-    was = ap (λ zs. more ++ zs) s.was ∙ sym (append_assoc more s.front (tree s.own_room s.own_level l ++ s.rest));
-    now = λ f. ap (λ zs. more ++ zs) (s.now f) ∙ sym (append_assoc more s.front (tree s.own_room s.own_level (f l) ++ s.rest));
+    was = ap (λ zs. more ++ zs) s.was ∙ sym (append_assoc more s.prefix (tree s.own_room s.own_level l ++ s.rest));
+    now = λ f. ap (λ zs. more ++ zs) (s.now f) ∙ sym (append_assoc more s.prefix (tree s.own_room s.own_level (f l) ++ s.rest));
     first = find-append (is_drawn_with id) more xs ∙ ap (λ o. or_else o (find (is_drawn_with id) xs)) none ∙ s.first;
     deep = s.deep;
     has = s.has;
@@ -143,7 +143,7 @@ stands_at : (id room level : ℕ) (l y : Layer) → y ≡ l → has_id id y ≡ 
 stands_at id room level l y is has = record {
   own_room = room;
   own_level = level;
-  front = [];
+  prefix = [];
   rest = [];
   was = ap (tree room level) is ∙ sym (append-nil (tree room level l));
   now = λ f. ap (tree room level) (change_one-is id room f y ∙ rw has (ap f is)) ∙ sym (append-nil (tree room level (f l)));
@@ -158,7 +158,7 @@ stands_below : (id room level : ℕ) (l x : Layer) → has_id id x ≡ false →
 stands_below id room level l x other s = record {
   own_room = s.own_room;
   own_level = s.own_level;
-  front = (level, bare x) ∷ s.front;
+  prefix = (level, bare x) ∷ s.prefix;
   rest = s.rest;
   was = tree-is (suc room) level x ∙ ap (λ zs. (level, bare x) ∷ zs) s.was;
   now = λ f.

@@ -8,7 +8,7 @@ use Rattle.map_model.specs.declared.parts.Layer.{Layer}
 use Rattle.map_model.specs.Groups.{drawn, group_of, holds, inside, tree}
 use Rattle.map_model.specs.Keeping.{inner_level}
 use Rattle.map_model.specs.Lists.{Distinct, or_empty}
-use Rattle.map_model.specs.Ways.{IsWay, LeadsFrom, Reaches, ReachesIn}
+use Rattle.map_model.specs.Ways.{IsWay, LeadsFrom, ArrivesAt, ArrivesIn}
 use Rattle.map_model.specs.WellFormed.{ids_of}
 use Rattle.map_model.proofs.Places.{Distinct-tree, Each-held, position-held}
 use Rattle.map_model.proofs.Trees.{tree-is}
@@ -63,30 +63,30 @@ way-within id room ls way at h = by_found (slice_get ls at) refl h.1
 
 -- ---- a way to a layer with the id, where the ids are distinct
 -- from the layer with the id there is no place to go to
-pub reaches-own : (id : ℕ) (l : Layer) (way : List ℕ) → way ≡ [] → l.id ≡ id → Reaches id (reverse way) l
-unfolding Reaches
-reaches-own id l way e own = rw e own
+pub arrives-own : (id : ℕ) (l : Layer) (way : List ℕ) → way ≡ [] → l.id ≡ id → ArrivesAt id (reverse way) l
+unfolding ArrivesAt
+arrives-own id l way e own = rw e own
 
-pub reaches-group : (id : ℕ) (l : Layer) (ks : List Layer) (way : List ℕ) → group_of l ≡ Some ks → ReachesIn id way ks → Reaches id way l
-unfolding Reaches
-reaches-group id l ks [] g h = absurd h
-reaches-group id l ks (at ∷ way) g h = rw g h
+pub arrives-group : (id : ℕ) (l : Layer) (ks : List Layer) (way : List ℕ) → group_of l ≡ Some ks → ArrivesIn id way ks → ArrivesAt id way l
+unfolding ArrivesAt
+arrives-group id l ks [] g h = absurd h
+arrives-group id l ks (at ∷ way) g h = rw g h
 
-pub reaches-pushed : (id : ℕ) (ls : List Layer) (l : Layer) (way : List ℕ) (at : ℕ) → slice_get ls at ≡ Some l → Reaches id (reverse way) l → ReachesIn id (reverse (way ++ at ∷ [])) ls
-reaches-pushed id ls l way at there reaches = rw (reverse-append way (at ∷ [])) (rw there reaches)
+pub arrives-pushed : (id : ℕ) (ls : List Layer) (l : Layer) (way : List ℕ) (at : ℕ) → slice_get ls at ≡ Some l → ArrivesAt id (reverse way) l → ArrivesIn id (reverse (way ++ at ∷ [])) ls
+arrives-pushed id ls l way at there arrives = rw (reverse-append way (at ∷ [])) (rw there arrives)
 
--- what a list of places reaches, it leads to, and it is held
-reached_one : (id : ℕ) (way : List ℕ) (room level : ℕ) (l : Layer) → length way ≤ room → Distinct (flat_map ids_of (tree room level l)) → Reaches id way l → LeadsFrom id room way l × (holds id room l ≡ true)
-unfolding LeadsFrom Reaches
-reached_one id [] room level l short distinct h = (leads-own id room l [] refl h, sym (holds-own id room l h))
-reached_one id (at ∷ way) zero level l short distinct h = absurd (omega (arith, short))
-reached_one id (at ∷ way) (suc room) level l short distinct h = by_group (λ k d r. reached_one id way room (inner_level level) k (omega (arith, short)) d r) (group_of l) refl h
+-- where a list of places arrives, it leads to, and it is held
+arrived_one : (id : ℕ) (way : List ℕ) (room level : ℕ) (l : Layer) → length way ≤ room → Distinct (flat_map ids_of (tree room level l)) → ArrivesAt id way l → LeadsFrom id room way l × (holds id room l ≡ true)
+unfolding LeadsFrom ArrivesAt
+arrived_one id [] room level l short distinct h = (leads-own id room l [] refl h, sym (holds-own id room l h))
+arrived_one id (at ∷ way) zero level l short distinct h = absurd (omega (arith, short))
+arrived_one id (at ∷ way) (suc room) level l short distinct h = by_group (λ k d r. arrived_one id way room (inner_level level) k (omega (arith, short)) d r) (group_of l) refl h
   where
     inner : Distinct (l.id ∷ flat_map ids_of (drawn room (inner_level level) (inside l)))
     inner = rw (tree-is (suc room) level l) at distinct
 
-    by_group : ((k : Layer) → Distinct (flat_map ids_of (tree room (inner_level level) k)) → Reaches id way k → LeadsFrom id room way k × (holds id room k ≡ true))
-        → (o : Option (List Layer)) → group_of l ≡ o → IsSomeAnd o (λ ls. IsSomeAnd (slice_get ls at) (Reaches id way)) → LeadsFrom id (suc room) (at ∷ way) l × (holds id (suc room) l ≡ true)
+    by_group : ((k : Layer) → Distinct (flat_map ids_of (tree room (inner_level level) k)) → ArrivesAt id way k → LeadsFrom id room way k × (holds id room k ≡ true))
+        → (o : Option (List Layer)) → group_of l ≡ o → IsSomeAnd o (λ ls. IsSomeAnd (slice_get ls at) (ArrivesAt id way)) → LeadsFrom id (suc room) (at ∷ way) l × (holds id (suc room) l ≡ true)
     by_group further None g q = absurd q
     by_group further (Some ks) g q = by_slot (slice_get ks at) refl q
       where
@@ -96,7 +96,7 @@ reached_one id (at ∷ way) (suc room) level l short distinct h = by_group (λ k
         apart : Distinct (l.id ∷ flat_map ids_of (drawn room (inner_level level) ks))
         apart = rw those at inner
 
-        by_slot : (o : Option Layer) → slice_get ks at ≡ o → IsSomeAnd o (Reaches id way) → LeadsFrom id (suc room) (at ∷ way) l × (holds id (suc room) l ≡ true)
+        by_slot : (o : Option Layer) → slice_get ks at ≡ o → IsSomeAnd o (ArrivesAt id way) → LeadsFrom id (suc room) (at ∷ way) l × (holds id (suc room) l ≡ true)
         by_slot None e r = absurd r
         by_slot (Some k) e r =
             let there = further k (Distinct-tree room (inner_level level) ks at k e apart.1) r in
@@ -106,12 +106,12 @@ reached_one id (at ∷ way) (suc room) level l short distinct h = by_group (λ k
             let held = rw same at (holds-group id (suc room) l ks other (λ z. absurd (omega (arith, z))) g) in
             ((other, rw g (place, rw e there.0)), sym held ∙ ap is_some place)
 
-pub way-reached : (id : ℕ) (way : List ℕ) (room level : ℕ) (ls : List Layer) → length way ≤ room + 1 → Distinct (flat_map ids_of (drawn room level ls)) → ReachesIn id way ls → IsWay id room way ls
-way-reached id [] room level ls short distinct h = h
-way-reached id (at ∷ way) room level ls short distinct h = by_slot (slice_get ls at) refl h
+pub way-arrived : (id : ℕ) (way : List ℕ) (room level : ℕ) (ls : List Layer) → length way ≤ room + 1 → Distinct (flat_map ids_of (drawn room level ls)) → ArrivesIn id way ls → IsWay id room way ls
+way-arrived id [] room level ls short distinct h = h
+way-arrived id (at ∷ way) room level ls short distinct h = by_slot (slice_get ls at) refl h
   where
-    by_slot : (o : Option Layer) → slice_get ls at ≡ o → IsSomeAnd o (Reaches id way) → IsWay id room (at ∷ way) ls
+    by_slot : (o : Option Layer) → slice_get ls at ≡ o → IsSomeAnd o (ArrivesAt id way) → IsWay id room (at ∷ way) ls
     by_slot None e r = absurd r
     by_slot (Some l) e r =
-        let further = reached_one id way room level l (omega (arith, short)) (Distinct-tree room level ls at l e distinct) r in
+        let further = arrived_one id way room level l (omega (arith, short)) (Distinct-tree room level ls at l e distinct) r in
         (position-held id room level ls at l e further.1 distinct, rw e further.0)

@@ -17,12 +17,12 @@ tiles_of (Objects os) = []
 tiles_of Other = []
 tiles_of (Group' s r) = []
 
--- the value of a tile layer at a place
+-- the value of the cell of a tile layer with a number
 abbrev pub tile_at : Body → ℕ → Option ℕ
-tile_at (Tiles e cells) place = slice_get cells place
-tile_at (Objects os) place = None
-tile_at Other place = None
-tile_at (Group' s r) place = None
+tile_at (Tiles e cells) number = slice_get cells number
+tile_at (Objects os) number = None
+tile_at Other number = None
+tile_at (Group' s r) number = None
 
 -- a tile layer with f of its values; another layer as it is
 abbrev pub body_with_tiles : (List ℕ → List ℕ) → Body → Body

@@ -45,30 +45,30 @@ abbrev pub object_moved : ℤ → ℤ → Object → Object
 object_moved right down o = record o { placing = placing_moved right down o.placing }
 
 -- ---- a document on a canvas
--- a body behind so many tile layers: a tile layer has the canvas's cells at that place, and objects are moved by its pixels
+-- a body behind so many tile layers: a tile layer has the canvas's cells of that number, and objects are moved by its pixels
 abbrev pub body_on : Canvas → ℕ → Body → Body
-body_on c place (Tiles e own) = Tiles e (slice_index_or c.layers place own)
-body_on c place (Objects os) = Objects (map (object_moved c.right c.down) os)
-body_on c place Other = Other
-body_on c place (Group' s r) = Group' s r
+body_on c number (Tiles e own) = Tiles e (slice_index_or c.layers number own)
+body_on c number (Objects os) = Objects (map (object_moved c.right c.down) os)
+body_on c number Other = Other
+body_on c number (Group' s r) = Group' s r
 
 abbrev pub layer_on : Canvas → ℕ → Layer → Layer
-layer_on c place l = record l { body = body_on c place l.body }
+layer_on c number l = record l { body = body_on c number l.body }
 
 -- g of each layer of a list, and of the number of tile layers before it; count tells how many a layer makes
 abbrev pub each_on : (ℕ → Layer → Layer) → (Layer → ℕ) → ℕ → List Layer → List Layer
-each_on g count place [] = []
-each_on g count place (l ∷ ls) = g place l ∷ each_on g count (place + count l) ls
+each_on g count number [] = []
+each_on g count number (l ∷ ls) = g number l ∷ each_on g count (number + count l) ls
 
 -- a layer behind so many tile layers, and those that stand in it
 unfoldable pub one_on : ℕ → Canvas → ℕ → Layer → Layer
-one_on zero c place l = layer_on c place l
-one_on (suc room) c place l =
-    layer_with_layers (each_on (one_on room c) (λ k. length (lists_under room k)) (place + length (lists_in l.body))) (layer_on c place l)
+one_on zero c number l = layer_on c number l
+one_on (suc room) c number l =
+    layer_with_layers (each_on (one_on room c) (λ k. length (lists_under room k)) (number + length (lists_in l.body))) (layer_on c number l)
 
 -- layers behind so many tile layers, and those that stand in them
 abbrev pub layers_on : ℕ → Canvas → ℕ → List Layer → List Layer
-layers_on room c place ls = each_on (one_on room c) (λ l. length (lists_under room l)) place ls
+layers_on room c number ls = each_on (one_on room c) (λ l. length (lists_under room l)) number ls
 
 abbrev pub map_on : Canvas → MapParts → MapParts
 map_on c m = record m { width = c.width; height = c.height; layers = layers_on MAX_GROUPS c 0 m.layers }
@@ -127,14 +127,14 @@ pub record IsCanvasOf (d : DocumentParts) (c : Canvas) : Type 0 where
 -- ---- one body at a time
 -- the lists of cells when a body behind so many tile layers has taken its cells and left its own
 abbrev pub lists_after : ℕ → Body → List (List ℕ) → List (List ℕ)
-lists_after place (Tiles e own) lists = slice_set lists place own
-lists_after place (Objects os) lists = lists
-lists_after place Other lists = lists
-lists_after place (Group' s r) lists = lists
+lists_after number (Tiles e own) lists = slice_set lists number own
+lists_after number (Objects os) lists = lists
+lists_after number Other lists = lists
+lists_after number (Group' s r) lists = lists
 
--- lists with others in the place of as many of them, from a place on
+-- lists with others instead of as many of them, from a number on
 abbrev pub lists_left : ℕ → List (List ℕ) → List (List ℕ) → List (List ℕ)
-lists_left place own lists = take place lists ++ (own ++ drop (place + length own) lists)
+lists_left number own lists = take number lists ++ (own ++ drop (number + length own) lists)
 
 abbrev pub with_lists : List (List ℕ) → Canvas → Canvas
 with_lists lists c = record c { layers = lists }

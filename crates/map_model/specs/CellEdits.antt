@@ -13,20 +13,20 @@ abbrev pub side_value : Side → CellEdit → ℕ
 side_value Before e = e.before
 side_value After e = e.after
 
--- the place of a changed cell in a layer of this width, row by row
-abbrev pub cell_place : ℕ → CellEdit → ℕ
-cell_place width e = e.y * width + e.x
+-- the number of a changed cell in a layer of this width, row by row
+abbrev pub cell_number : ℕ → CellEdit → ℕ
+cell_number width e = e.y * width + e.x
 
 -- the cell lies in a layer of this width with so many values
 abbrev pub IsBelow : ℕ → ℕ → CellEdit → Type 0
-IsBelow width count e = cell_place width e < count
+IsBelow width count e = cell_number width e < count
 
 abbrev pub with_value : ℕ → ℕ → List ℕ → List ℕ
 with_value at value values = slice_set values at value
 
 -- the values of a layer with the cells of a list set, in order, to their values on a side
 abbrev pub put_values : ℕ → Side → List CellEdit → List ℕ → List ℕ
-put_values width side es values = fold (λ vs e. with_value (cell_place width e) (side_value side e) vs) values es
+put_values width side es values = fold (λ vs e. with_value (cell_number width e) (side_value side e) vs) values es
 
 -- the cell that changes
 abbrev pub cell : CellEdit → ℕ × ℕ

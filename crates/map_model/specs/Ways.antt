@@ -19,14 +19,14 @@ IsWay id room [] ls = ⊥
 IsWay id room (at ∷ way) ls = (position (holds id room) ls ≡ Some at) × IsSomeAnd (slice_get ls at) (LeadsFrom id room way)
 
 -- The places lead from a layer to one with the id, be it the first one or not.
-unfoldable pub Reaches : ℕ → List ℕ → Layer → Type 0
-Reaches id [] l = l.id ≡ id
-Reaches id (at ∷ way) l = IsSomeAnd (group_of l) (λ ls. IsSomeAnd (slice_get ls at) (Reaches id way))
+unfoldable pub ArrivesAt : ℕ → List ℕ → Layer → Type 0
+ArrivesAt id [] l = l.id ≡ id
+ArrivesAt id (at ∷ way) l = IsSomeAnd (group_of l) (λ ls. IsSomeAnd (slice_get ls at) (ArrivesAt id way))
 
 -- the same from a list of layers
-abbrev pub ReachesIn : ℕ → List ℕ → List Layer → Type 0
-ReachesIn id [] ls = ⊥
-ReachesIn id (at ∷ way) ls = IsSomeAnd (slice_get ls at) (Reaches id way)
+abbrev pub ArrivesIn : ℕ → List ℕ → List Layer → Type 0
+ArrivesIn id [] ls = ⊥
+ArrivesIn id (at ∷ way) ls = IsSomeAnd (slice_get ls at) (ArrivesAt id way)
 
 -- A layer stands among layers, or in a group of them: where ids are distinct, it is the one with its id.
 abbrev pub IsDrawnIn : ℕ → List Layer → Layer → Type 0

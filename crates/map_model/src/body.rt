@@ -37,7 +37,7 @@ impl Body {
     /// Sets the value of a tile layer at an index.
     pub(crate) fn set_tile(&mut self, at: usize, value: Gid)
         requires tiles { IsTiles self.old }
-        requires place { at < length (tiles_of self.old) }
+        requires number { at < length (tiles_of self.old) }
         ensures { self.new ≡ body_with_tiles (with_value at value) self.old }
     {
         match self {
@@ -51,7 +51,7 @@ impl Body {
     /// Sets the cells of a list, in a tile layer of this width, to their values on a side.
     pub(crate) fn put_tiles(&mut self, width: usize, edits: &[CellEdit], side: Side)
         requires tiles { IsTiles self.old }
-        requires places { Each (IsBelow width (length (tiles_of self.old))) edits.now }
+        requires numbers { Each (IsBelow width (length (tiles_of self.old))) edits.now }
         ensures body { self.new ≡ body_with_tiles (put_values width side edits.now) self.old }
         ensures range { HaveRange side edits.now }
     {

@@ -44,14 +44,14 @@ impl LayerCells {
         self.lists.as_slice()
     }
 
-    // Exchanges the cells at a place and others.
-    fn swap(&mut self, place: usize, cells: &mut Cells)
-        requires { place < length self.old }
-        ensures given { slice_get self.old place ≡ Some cells.new }
-        ensures held { self.new ≡ slice_set self.old place cells.old }
+    // Exchanges the cells with a number and others.
+    fn swap(&mut self, number: usize, cells: &mut Cells)
+        requires { number < length self.old }
+        ensures given { slice_get self.old number ≡ Some cells.new }
+        ensures held { self.new ≡ slice_set self.old number cells.old }
         ensures fits { length self.old < 2 ^ 64 }
     {
-        mem::swap(&mut self.lists[place], cells);
+        mem::swap(&mut self.lists[number], cells);
     }
 }
 
@@ -106,24 +106,24 @@ fn move_objects(objects: &mut Chain<Object>, right: i64, down: i64)
 impl Body {
     // Puts a body behind so many tile layers on a canvas, which gets its cells. The answer is behind how many tile layers
     // the next body stands.
-    fn exchange(&mut self, canvas: &mut Canvas, place: usize) -> usize
-        requires room { place + length (lists_in self.old) ≤ length canvas.old.layers }
+    fn exchange(&mut self, canvas: &mut Canvas, number: usize) -> usize
+        requires room { number + length (lists_in self.old) ≤ length canvas.old.layers }
         requires objects { BodyMayBeMoved canvas.old.right canvas.old.down self.old }
-        ensures body { self.new ≡ body_on canvas.old place self.old }
-        ensures canvas { canvas.new ≡ with_lists (lists_after place self.old canvas.old.layers) canvas.old }
-        ensures next { result ≡ place + length (lists_in self.old) }
+        ensures body { self.new ≡ body_on canvas.old number self.old }
+        ensures canvas { canvas.new ≡ with_lists (lists_after number self.old canvas.old.layers) canvas.old }
+        ensures next { result ≡ number + length (lists_in self.old) }
     {
         match self {
             Body::Tiles(_, cells) => {
-                canvas.layers.swap(place, cells);
-                place + 1
+                canvas.layers.swap(number, cells);
+                number + 1
             }
             Body::Objects(objects) => {
                 move_objects(objects, canvas.right, canvas.down);
-                place
+                number
             }
-            Body::Other => place,
-            Body::Group(_) => place,
+            Body::Other => number,
+            Body::Group(_) => number,
         }
     }
 }
@@ -134,51 +134,51 @@ impl Body {
 pub fn exchange_layers(
     layers: &mut Chain<Layer>,
     canvas: &mut Canvas,
-    place: usize,
+    number: usize,
     room: usize,
 ) -> usize
-    requires count { place + length (flat_map lists_of (drawn room layer_level layers.old)) ≤ length canvas.old.layers }
+    requires count { number + length (flat_map lists_of (drawn room layer_level layers.old)) ≤ length canvas.old.layers }
     requires objects { Each (MayBeDrawn canvas.old.right canvas.old.down) (drawn room layer_level layers.old) }
-    ensures layers { layers.new ≡ layers_on room canvas.old place layers.old }
-    ensures canvas { canvas.new ≡ with_lists (lists_left place (flat_map lists_of (drawn room layer_level layers.old)) canvas.old.layers) canvas.old }
-    ensures next { result ≡ place + length (flat_map lists_of (drawn room layer_level layers.old)) }
+    ensures layers { layers.new ≡ layers_on room canvas.old number layers.old }
+    ensures canvas { canvas.new ≡ with_lists (lists_left number (flat_map lists_of (drawn room layer_level layers.old)) canvas.old.layers) canvas.old }
+    ensures next { result ≡ number + length (flat_map lists_of (drawn room layer_level layers.old)) }
 {
-    let mut place = place;
+    let mut number = number;
     for at in 0..layers.len() {
-        place = exchange_layer(layers.get_mut(at), canvas, place, room);
+        number = exchange_layer(layers.get_mut(at), canvas, number, room);
     }
-    place
+    number
 }
 
 // The same for one layer, and those that stand in it.
 #[cycle(exchange)]
-fn exchange_layer(layer: &mut Layer, canvas: &mut Canvas, place: usize, room: usize) -> usize
-    requires count { place + length (lists_under room layer.old) ≤ length canvas.old.layers }
+fn exchange_layer(layer: &mut Layer, canvas: &mut Canvas, number: usize, room: usize) -> usize
+    requires count { number + length (lists_under room layer.old) ≤ length canvas.old.layers }
     requires objects { Each (MayBeDrawn canvas.old.right canvas.old.down) (tree room layer_level layer.old) }
-    ensures layer { layer.new ≡ one_on room canvas.old place layer.old }
-    ensures canvas { canvas.new ≡ with_lists (lists_left place (lists_under room layer.old) canvas.old.layers) canvas.old }
-    ensures next { result ≡ place + length (lists_under room layer.old) }
+    ensures layer { layer.new ≡ one_on room canvas.old number layer.old }
+    ensures canvas { canvas.new ≡ with_lists (lists_left number (lists_under room layer.old) canvas.old.layers) canvas.old }
+    ensures next { result ≡ number + length (lists_under room layer.old) }
 {
-    let place = layer.body.exchange(canvas, place);
+    let number = layer.body.exchange(canvas, number);
     if room == 0 {
-        return place;
+        return number;
     }
-    exchange_inside(&mut layer.body, canvas, place, room - 1)
+    exchange_inside(&mut layer.body, canvas, number, room - 1)
 }
 
 // The same for those that stand in a layer.
 #[cycle(exchange)]
-fn exchange_inside(body: &mut Body, canvas: &mut Canvas, place: usize, room: usize) -> usize
-    requires count { place + length (flat_map lists_of (drawn room layer_level (or_empty (group_in body.old)))) ≤ length canvas.old.layers }
+fn exchange_inside(body: &mut Body, canvas: &mut Canvas, number: usize, room: usize) -> usize
+    requires count { number + length (flat_map lists_of (drawn room layer_level (or_empty (group_in body.old)))) ≤ length canvas.old.layers }
     requires objects { Each (MayBeDrawn canvas.old.right canvas.old.down) (drawn room layer_level (or_empty (group_in body.old))) }
-    ensures body { body.new ≡ body_with_layers (layers_on room canvas.old place) body.old }
-    ensures canvas { canvas.new ≡ with_lists (lists_left place (flat_map lists_of (drawn room layer_level (or_empty (group_in body.old)))) canvas.old.layers) canvas.old }
-    ensures next { result ≡ place + length (flat_map lists_of (drawn room layer_level (or_empty (group_in body.old)))) }
+    ensures body { body.new ≡ body_with_layers (layers_on room canvas.old number) body.old }
+    ensures canvas { canvas.new ≡ with_lists (lists_left number (flat_map lists_of (drawn room layer_level (or_empty (group_in body.old)))) canvas.old.layers) canvas.old }
+    ensures next { result ≡ number + length (flat_map lists_of (drawn room layer_level (or_empty (group_in body.old)))) }
 {
     match body {
-        Body::Group(layers) => exchange_layers(layers, canvas, place, room),
-        Body::Tiles(_, _) => place,
-        Body::Objects(_) => place,
-        Body::Other => place,
+        Body::Group(layers) => exchange_layers(layers, canvas, number, room),
+        Body::Tiles(_, _) => number,
+        Body::Objects(_) => number,
+        Body::Other => number,
     }
 }

@@ -2,7 +2,7 @@
 ghost use Rattle.std.specs.Prelude.{◌≡◌, [], ◌+◌, ◌*◌, ◌<◌, length, slice_set, string_bytes};
 ghost use Rattle.serde_json.specs.View.{view as data_of, members_view};
 ghost use Rattle.map_model.specs.Lists.{Each};
-ghost use Rattle.map_model.specs.CellEdits.{HaveRange, IsBelow, cell_place, put_values, side_value, with_value};
+ghost use Rattle.map_model.specs.CellEdits.{HaveRange, IsBelow, cell_number, put_values, side_value, with_value};
 ghost use Rattle.map_model.specs.WellFormed.{IsTileValue};
 
 use crate::edit::{CellEdit, Side};
@@ -103,7 +103,7 @@ impl Cells {
 #[inline(always)]
 fn put_one(values: &mut [Gid], width: usize, edit: CellEdit, side: Side)
     requires { IsBelow width (length values.old) edit }
-    ensures values { values.new ≡ with_value (cell_place width edit) (side_value side edit) values.old }
+    ensures values { values.new ≡ with_value (cell_number width edit) (side_value side edit) values.old }
     ensures range { IsTileValue (side_value side edit) }
 {
     let at = edit.y as usize * width + edit.x as usize;

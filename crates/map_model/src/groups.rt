@@ -11,7 +11,7 @@ ghost use Rattle.map_model.specs.Groups.{drawn, find_one, group_in, has_id, hold
 ghost use Rattle.map_model.specs.Keeping.{layer_level};
 ghost use Rattle.map_model.specs.Layers.{place_among, place_inside};
 ghost use Rattle.map_model.specs.Lists.{Distinct, first_some};
-ghost use Rattle.map_model.specs.Ways.{IsWay, LeadsFrom, ReachesIn};
+ghost use Rattle.map_model.specs.Ways.{IsWay, LeadsFrom, ArrivesIn};
 ghost use Rattle.map_model.specs.WellFormed.{layer_ids};
 
 use crate::limits::MAX_GROUPS;
@@ -241,7 +241,7 @@ fn change_inside<R, F: FnOnce(&mut Layer) -> R>(
 fn find_way_here(layers: &Chain<Layer>, id: u32, room: usize, way: &mut Way) -> bool
     requires empty { way.old.items ≡ [] }
     requires room { room ≤ MAX_GROUPS }
-    ensures way { IsTrue result → ReachesIn id (reverse way.new.items) layers.now }
+    ensures way { IsTrue result → ArrivesIn id (reverse way.new.items) layers.now }
     ensures none { IsFalse result → way.new.items ≡ [] }
     ensures short { array_vec_len way.new ≤ room + 1 }
 {

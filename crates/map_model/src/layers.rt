@@ -23,7 +23,7 @@ use tile_id::Gid;
 pub fn set_in(layers: &mut Chain<Layer>, id: u32, at: usize, value: Gid)
     requires distinct { Distinct (layer_ids layers.old) }
     requires tiles { IsSomeAnd (layer_among id MAX_GROUPS layers.old) (λ l. IsTiles l.body) }
-    requires place { at < length (tiles_of_layer (layer_among id MAX_GROUPS layers.old)) }
+    requires number { at < length (tiles_of_layer (layer_among id MAX_GROUPS layers.old)) }
     ensures { layers.new ≡ change_among id MAX_GROUPS (layer_with_tiles (with_value at value)) layers.old }
 {
     change_layer(layers, id, move |layer| layer.body.set_tile(at, value));
@@ -34,7 +34,7 @@ pub fn set_in(layers: &mut Chain<Layer>, id: u32, at: usize, value: Gid)
 pub fn put_in(layers: &mut Chain<Layer>, id: u32, width: usize, edits: &[CellEdit], side: Side)
     requires distinct { Distinct (layer_ids layers.old) }
     requires tiles { IsSomeAnd (layer_among id MAX_GROUPS layers.old) (λ l. IsTiles l.body) }
-    requires places { Each (IsBelow width (length (tiles_of_layer (layer_among id MAX_GROUPS layers.old)))) edits.now }
+    requires numbers { Each (IsBelow width (length (tiles_of_layer (layer_among id MAX_GROUPS layers.old)))) edits.now }
     ensures layers { layers.new ≡ change_among id MAX_GROUPS (layer_with_tiles (put_values width side edits.now)) layers.old }
     ensures range { HaveRange side edits.now }
 {

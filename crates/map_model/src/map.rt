@@ -97,7 +97,7 @@ impl Map {
         self.layer(layer)?.body.tile_at(at)
     }
 
-    // The place of a cell, row by row.
+    // The number of a cell, row by row.
     pub(crate) fn index(&self, x: u32, y: u32) -> usize
         requires column { x < self.now.width }
         requires row { y < self.now.height }

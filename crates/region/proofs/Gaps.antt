@@ -4,7 +4,7 @@ use Rattle.std.specs.Option.{option_to_list}
 use Rattle.region.specs.declared.runs.Run.{Run}
 use Rattle.region.specs.Cells.{IsFrom}
 use Rattle.region.specs.Runs.{IsRun, IsMaximalRuns, EndsBefore, in_run, in_runs}
-use Rattle.region.specs.Walks.{LiesBehind, IsPart, in_option, is_before, is_after, HaveEnded, EndBeforeFirst, AreSplitAt}
+use Rattle.region.specs.Walks.{LiesBehind, LiesWithin, in_option, is_before, is_after, HaveEnded, EndBeforeFirst, AreSplitAt}
 use Rattle.region.proofs.Canonical.{After, after, in_run-row, in_run-start}
 use Rattle.region.proofs.Search.{row_before, end_before}
 use Rattle.region.proofs.Splits.{in_runs-from, ended_out, HaveEnded-later, ended_at}
@@ -15,34 +15,34 @@ pub option_len : {A : Type 0} (o : Option A) → length (option_to_list o) ≤ 1
 option_len None = omega arith
 option_len (Some a) = omega arith
 
-pub part_itself : (r : Run) → IsRun r → IsPart r r
-part_itself r h = record { row = refl; start = omega arith; end = omega arith; some = h.some }
+pub within_itself : (r : Run) → IsRun r → LiesWithin r r
+within_itself r h = record { row = refl; start = omega arith; end = omega arith; some = h.some }
 
-pub part_trans : (p r s : Run) → IsPart p r → IsPart r s → IsPart p s
-part_trans p r s h k = record { row = h.row ∙ k.row; start = omega (arith, h.start, k.start); end = omega (arith, h.end, k.end); some = h.some }
+pub within_trans : (p r s : Run) → LiesWithin p r → LiesWithin r s → LiesWithin p s
+within_trans p r s h k = record { row = h.row ∙ k.row; start = omega (arith, h.start, k.start); end = omega (arith, h.end, k.end); some = h.some }
 
--- a part has ended where the whole ends
-pub part_ended : (p r : Run) → IsPart p r → is_after (r.x + r.len, r.y) p ≡ true
-part_ended p r h = end_before p (r.x + r.len, r.y) h.row h.end
+-- what lies within a run has ended where the whole ends
+pub within_ended : (p r : Run) → LiesWithin p r → is_after (r.x + r.len, r.y) p ≡ true
+within_ended p r h = end_before p (r.x + r.len, r.y) h.row h.end
 
-pub end_from : (p r : Run) → IsPart p r → IsFrom (r.x + r.len, r.y) (p.x, p.y)
+pub end_from : (p r : Run) → LiesWithin p r → IsFrom (r.x + r.len, r.y) (p.x, p.y)
 end_from p r h = inr (h.row, omega (arith, h.end))
 
-pub parts_ended : (o : Option Run) (p r : Run) → IfSome o (λ t. IsPart t p) → IsPart p r → IfSome o (λ t. is_after (r.x + r.len, r.y) t ≡ true)
-parts_ended None p r h k = tt
-parts_ended (Some t) p r h k = part_ended t r (part_trans t p r h k)
+pub each_ended : (o : Option Run) (p r : Run) → IfSome o (λ t. LiesWithin t p) → LiesWithin p r → IfSome o (λ t. is_after (r.x + r.len, r.y) t ≡ true)
+each_ended None p r h k = tt
+each_ended (Some t) p r h k = within_ended t r (within_trans t p r h k)
 
 pub end_to_start : (r : Run) (q : ℕ × ℕ) → IsFrom q (r.x + r.len, r.y) → IsFrom q (r.x, r.y)
 end_to_start r q (inl h) = inl h
 end_to_start r q (inr h) = inr (h.0, omega (arith, h.1))
 
 -- what ends before the run starts has none of its cells
-pub start_cells : (runs front rest : List Run) (r : Run) (o : Bool) (q : ℕ × ℕ) → AreSplitAt (r.x, r.y) runs front rest
+pub start_cells : (runs prefix rest : List Run) (r : Run) (o : Bool) (q : ℕ × ℕ) → AreSplitAt (r.x, r.y) runs prefix rest
     → (o || (in_run r q && not (in_runs rest q))) ≡ (o || (in_run r q && not (in_runs runs q)))
-start_cells runs front rest r o q h = ap (λ b. o || b) (by_test (in_run r q) refl)
+start_cells runs prefix rest r o q h = ap (λ b. o || b) (by_test (in_run r q) refl)
   where
     by_test : (b : Bool) → in_run r q ≡ b → (b && not (in_runs rest q)) ≡ (b && not (in_runs runs q))
-    by_test true i = ap not (sym (in_runs-from q (r.x, r.y) runs front rest h (inr (in_run-row r q i, in_run-start r q i))))
+    by_test true i = ap not (sym (in_runs-from q (r.x, r.y) runs prefix rest h (inr (in_run-row r q i, in_run-start r q i))))
     by_test false i = refl
 
 cut_tests : (o r b a ts : Bool) → (b && a) ≡ false → (b && ts) ≡ false
@@ -67,19 +67,19 @@ module _ (o : List Run) (new : List Run) (p : Option Run) (r t : Run) (ts : List
   done_cells q e =
       rw (pushed q, before q, sides t q others.0) (done_tests (in_runs o q) (in_run r q) (is_before q t) (is_after q t) (in_runs ts q) (before_later t ts q others) (sym e))
 
--- t ends within the run that has s, a part behind t
-pub ended_within : (t s r : Run) → LiesBehind s t → IsPart s r → is_after (r.x + r.len, r.y) t ≡ true
+-- t ends within the run that has s, which lies within it behind t
+pub ended_within : (t s r : Run) → LiesBehind s t → LiesWithin s r → is_after (r.x + r.len, r.y) t ≡ true
 ended_within t s r (inl h) i = row_before t t (r.x + r.len, r.y) (omega (arith, i.row))
 ended_within t s r (inr h) i = end_before t (r.x + r.len, r.y) (h.0 ∙ i.row) (omega (arith, h.1, i.end))
 
-pub gone_later : (t s r : Run) (ts : List Run) (b : Bool) (q : ℕ × ℕ) → LiesBehind s t → IsPart s r → IsFrom q (r.x + r.len, r.y) → in_runs (t ∷ ts) q ≡ b → in_runs ts q ≡ b
+pub gone_later : (t s r : Run) (ts : List Run) (b : Bool) (q : ℕ × ℕ) → LiesBehind s t → LiesWithin s r → IsFrom q (r.x + r.len, r.y) → in_runs (t ∷ ts) q ≡ b → in_runs ts q ≡ b
 gone_later t s r ts b q h i f e = rw (ended_out t (r.x + r.len, r.y) q f (ended_within t s r h i)) at e
 
-pub left_order : (out new : List Run) (p : Option Run) (r s t : Run) → IsRun t → IfSome p (λ u. IsPart u r) → IfSome p (λ u. LiesBehind t u) → IsPart s r → LiesBehind s t
+pub left_order : (out new : List Run) (p : Option Run) (r s t : Run) → IsRun t → IfSome p (λ u. LiesWithin u r) → IfSome p (λ u. LiesBehind t u) → LiesWithin s r → LiesBehind s t
     → HaveEnded (r.x, r.y) out → (HaveEnded (s.x, s.y) out → IfSome p (λ u. is_after (s.x, s.y) u ≡ true) → HaveEnded (s.x, s.y) new) → HaveEnded (s.x, s.y) new
 left_order out new p r s t i a b c d h k = k (HaveEnded-later out (r.x, r.y) (s.x, s.y) h (inr (sym c.row, c.start))) (ended p a b)
   where
-    ended : (p : Option Run) → IfSome p (λ u. IsPart u r) → IfSome p (λ u. LiesBehind t u) → IfSome p (λ u. is_after (s.x, s.y) u ≡ true)
+    ended : (p : Option Run) → IfSome p (λ u. LiesWithin u r) → IfSome p (λ u. LiesBehind t u) → IfSome p (λ u. is_after (s.x, s.y) u ≡ true)
     ended None a b = tt
     ended (Some u) a b = ended_at u s (between t u s i b d (a.row ∙ sym c.row))
 
@@ -96,10 +96,10 @@ module _ (out o1 runs rest cuts : List Run) (t : Run) (ts : List Run) (cuts-is :
   same_tests : (n o l a t : Bool) → n ≡ o → (n || (l && not (t || true))) ≡ (o || (a && not (t || true)))
   same_tests n o l a t h = grind arith
 
-  pub front_cells : (q : ℕ × ℕ) → (in_runs o1 q || (in_runs rest q && not (in_run t q))) ≡ (in_runs out q || (in_runs runs q && not (in_run t q)))
+  pub prefix_cells : (q : ℕ × ℕ) → (in_runs o1 q || (in_runs rest q && not (in_run t q))) ≡ (in_runs out q || (in_runs runs q && not (in_run t q)))
       → (IsFrom q (t.x, t.y) → in_runs o1 q ≡ in_runs out q)
       → (in_runs o1 q || (in_runs rest q && not (in_runs cuts q))) ≡ (in_runs out q || (in_runs runs q && not (in_runs cuts q)))
-  front_cells q e f = rw cuts-is (by_test (in_runs ts q) refl)
+  prefix_cells q e f = rw cuts-is (by_test (in_runs ts q) refl)
     where
       by_test : (b : Bool) → in_runs ts q ≡ b → (in_runs o1 q || (in_runs rest q && not (in_run t q || b))) ≡ (in_runs out q || (in_runs runs q && not (in_run t q || b)))
       by_test true i = same_tests (in_runs o1 q) (in_runs out q) (in_runs rest q) (in_runs runs q) (in_run t q) (f (from_start q (after t ts q (rw cuts-is at cut_runs) i)))

@@ -10,7 +10,7 @@ use Rattle.region.specs.Runs.{IsRun, in_runs}
 use Rattle.std.specs.List.{list_any}
 use Rattle.region.specs.Cells.{has_at, in_moved_cut, set_of}
 use Rattle.region.specs.Runs.{IsMaximalRuns, EndsBefore, EndsBeforeAll}
-use Rattle.region.specs.Walks.{IsMovedPart, in_run_at, in_moved_run, in_moved_runs}
+use Rattle.region.specs.Walks.{LiesWithinMoved, in_run_at, in_moved_run, in_moved_runs}
 use Rattle.std.specs.Option.{option_to_list}
 use Rattle.region.specs.Walks.{in_option}
 use Rattle.region.proofs.Members.{contains-set_of}
@@ -82,9 +82,9 @@ module _ (r : Run) (dx dy : ℤ) (w h m s e : ℕ) (in_rows : m < h) (row : pos 
   moved_cells q = by_signs q (pos q.0 -ℤ dx) (pos q.1 -ℤ dy) refl refl
 
 -- and the run of those columns lies within the moved one
-pub moved_part : (r : Run) (dx dy : ℤ) (w m s e : ℕ) → pos m ≡ pos r.y +ℤ dy → IsMovedColumn r.x dx w s → IsMovedColumn (r.x + r.len) dx w e → s < e
-    → IsMovedPart dx dy (record { y = m; x = s; len = e - s }) r
-moved_part r dx dy w m s e row start end l =
+pub moved_within : (r : Run) (dx dy : ℤ) (w m s e : ℕ) → pos m ≡ pos r.y +ℤ dy → IsMovedColumn r.x dx w s → IsMovedColumn (r.x + r.len) dx w e → s < e
+    → LiesWithinMoved dx dy (record { y = m; x = s; len = e - s }) r
+moved_within r dx dy w m s e row start end l =
     let last : e - 1 < e = omega arith in
     let sum : s + (e - s) ≡ e = omega arith in
     let inside : s < w = omega (arith, end.within) in
@@ -93,20 +93,20 @@ moved_part r dx dy w m s e row start end l =
     record { row = row; start = from; end = omega (arith, ints, to, sum, l); some = omega arith }
 
 -- ---- a walk over the runs
--- each moved part of one of the runs may be put at the end
+-- what lies within one of the runs, once it is moved, may be put at the end
 abbrev pub IsClear : ℤ → ℤ → List Run → List Run → Type 0
 IsClear dx dy out [] = Unit {0}
-IsClear dx dy out (r ∷ rs) = ((m : Run) → IsMovedPart dx dy m r → IsRun m → IsMaximalRuns (out ++ m ∷ [])) × IsClear dx dy out rs
+IsClear dx dy out (r ∷ rs) = ((m : Run) → LiesWithinMoved dx dy m r → IsRun m → IsMaximalRuns (out ++ m ∷ [])) × IsClear dx dy out rs
 
 pub clear-none : (dx dy : ℤ) (rs : List Run) → IsClear dx dy [] rs
 clear-none dx dy [] = tt
 clear-none dx dy (r ∷ rs) = (λ m p i. (i, tt, tt), clear-none dx dy rs)
 
-moved_apart : (dx dy : ℤ) (r s m n : Run) → EndsBefore r s → IsMovedPart dx dy m r → IsMovedPart dx dy n s → EndsBefore m n
+moved_apart : (dx dy : ℤ) (r s m n : Run) → EndsBefore r s → LiesWithinMoved dx dy m r → LiesWithinMoved dx dy n s → EndsBefore m n
 moved_apart dx dy r s m n (inl h) p q = inl (omega (arith, ints, p.row, q.row))
 moved_apart dx dy r s m n (inr h) p q = inr (omega (arith, ints, h.0, p.row, q.row), omega (arith, ints, h.1, p.end, q.start))
 
-pub clear-push : (dx dy : ℤ) (out : List Run) (r m : Run) (rs : List Run) → IsMaximalRuns (out ++ m ∷ []) → IsMovedPart dx dy m r
+pub clear-push : (dx dy : ℤ) (out : List Run) (r m : Run) (rs : List Run) → IsMaximalRuns (out ++ m ∷ []) → LiesWithinMoved dx dy m r
     → EndsBeforeAll r rs → IsMaximalRuns rs → IsClear dx dy (out ++ m ∷ []) rs
 clear-push dx dy out r m [] o p b h = tt
 clear-push dx dy out r m (s ∷ ss) o p b h =
@@ -114,7 +114,7 @@ clear-push dx dy out r m (s ∷ ss) o p b h =
 
 -- a step of the walk: o is what is left of the run at i once it is moved and cut
 module _ (dx dy : ℤ) (runs out new : List Run) (i : ℕ) (d : Run) (o : Option Run) (more : i < length runs) (maximal : IsMaximalRuns runs)
-    (new-is : new ≡ out ++ option_to_list o) (part : IfSome o (λ m. IsMovedPart dx dy m (get_or runs i d))) (fits : IfSome o IsRun)
+    (new-is : new ≡ out ++ option_to_list o) (within : IfSome o (λ m. LiesWithinMoved dx dy m (get_or runs i d))) (fits : IfSome o IsRun)
     (order : IsMaximalRuns out) (clear : IsClear dx dy out (drop i runs)) where
   rest-is : drop i runs ≡ get_or runs i d ∷ drop (suc i) runs
   rest-is = drop-cons runs i d more
@@ -125,19 +125,19 @@ module _ (dx dy : ℤ) (runs out new : List Run) (i : ℕ) (d : Run) (o : Option
   rest_clear : IsClear dx dy out (get_or runs i d ∷ drop (suc i) runs)
   rest_clear = rw rest-is at clear
 
-  step_order : (o : Option Run) → IfSome o (λ m. IsMovedPart dx dy m (get_or runs i d)) → IfSome o IsRun → IsMaximalRuns (out ++ option_to_list o)
+  step_order : (o : Option Run) → IfSome o (λ m. LiesWithinMoved dx dy m (get_or runs i d)) → IfSome o IsRun → IsMaximalRuns (out ++ option_to_list o)
   step_order None p f = rw (append_none out) order
   step_order (Some m) p f = rest_clear.0 m p f
 
-  step_clear : (o : Option Run) → IfSome o (λ m. IsMovedPart dx dy m (get_or runs i d)) → IfSome o IsRun → IsClear dx dy (out ++ option_to_list o) (drop (suc i) runs)
+  step_clear : (o : Option Run) → IfSome o (λ m. LiesWithinMoved dx dy m (get_or runs i d)) → IfSome o IsRun → IsClear dx dy (out ++ option_to_list o) (drop (suc i) runs)
   step_clear None p f = rw (append_none out) rest_clear.1
   step_clear (Some m) p f = clear-push dx dy out (get_or runs i d) m (drop (suc i) runs) (rest_clear.0 m p f) p rest_runs.1 rest_runs.2
 
   pub moved_order : IsMaximalRuns new
-  moved_order = rw new-is (step_order o part fits)
+  moved_order = rw new-is (step_order o within fits)
 
   pub moved_clear : IsClear dx dy new (drop (suc i) runs)
-  moved_clear = rw new-is (step_clear o part fits)
+  moved_clear = rw new-is (step_clear o within fits)
 
   or_assoc : (a b c : Bool) → ((a || b) || c) ≡ (a || (b || c))
   or_assoc true b c = refl

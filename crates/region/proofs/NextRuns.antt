@@ -9,15 +9,15 @@ use Rattle.region.proofs.Order.{IsMaximalRuns-back}
 use Rattle.region.proofs.Search.{not_later}
 use Rattle.region.proofs.Splits.{in_runs-from}
 
-pub HasNone-nothing : (runs front : List Run) (y from end : ℕ) → AreSplitAt (from, y) runs front [] → HasNone (in_runs runs) y from end
-HasNone-nothing runs front y from end h x le lt = in_runs-from (x, y) (from, y) runs front [] h (inr (refl, le))
+pub HasNone-nothing : (runs prefix : List Run) (y from end : ℕ) → AreSplitAt (from, y) runs prefix [] → HasNone (in_runs runs) y from end
+HasNone-nothing runs prefix y from end h x le lt = in_runs-from (x, y) (from, y) runs prefix [] h (inr (refl, le))
 
 -- the rest begins with a run, and so do maximal runs
-pub parted : {q : ℕ × ℕ} {runs front rest tail : List Run} {r : Run} → IsMaximalRuns runs → AreSplitAt q runs front rest → rest ≡ r ∷ tail
-    → IsMaximalRuns (r ∷ tail) × AreSplitAt q runs front (r ∷ tail)
-parted {q = q} {runs = runs} {front = front} {tail = tail} {r = r} maximal split is =
-    let whole : AreSplitAt q runs front (r ∷ tail) = subst (AreSplitAt q runs front) is split in
-    (IsMaximalRuns-back front (r ∷ tail) (subst IsMaximalRuns whole.whole maximal), whole)
+pub parted : {q : ℕ × ℕ} {runs prefix rest tail : List Run} {r : Run} → IsMaximalRuns runs → AreSplitAt q runs prefix rest → rest ≡ r ∷ tail
+    → IsMaximalRuns (r ∷ tail) × AreSplitAt q runs prefix (r ∷ tail)
+parted {q = q} {runs = runs} {prefix = prefix} {tail = tail} {r = r} maximal split is =
+    let whole : AreSplitAt q runs prefix (r ∷ tail) = subst (AreSplitAt q runs prefix) is split in
+    (IsMaximalRuns-back prefix (r ∷ tail) (subst IsMaximalRuns whole.whole maximal), whole)
 
 -- ---- cells and one run
 not_ended : (r : Run) (x y from : ℕ) → from ≤ x → is_after (from, y) r ≡ false → r.y ≡ y → from < r.x + r.len
@@ -39,9 +39,9 @@ end_out : (r : Run) (x y : ℕ) → r.x + r.len ≤ x → in_run r (x, y) ≡ fa
 end_out r x y l = grind (arith, nat_tests)
 
 -- ---- cells and all runs
-module _ (runs front tail : List Run) (r : Run) (y from : ℕ) (maximal : IsMaximalRuns (r ∷ tail)) (split : AreSplitAt (from, y) runs front (r ∷ tail)) where
+module _ (runs prefix tail : List Run) (r : Run) (y from : ℕ) (maximal : IsMaximalRuns (r ∷ tail)) (split : AreSplitAt (from, y) runs prefix (r ∷ tail)) where
   in_runs-at : (x : ℕ) → from ≤ x → in_runs runs (x, y) ≡ (in_run r (x, y) || in_runs tail (x, y))
-  in_runs-at x le = in_runs-from (x, y) (from, y) runs front (r ∷ tail) split (inr (refl, le))
+  in_runs-at x le = in_runs-from (x, y) (from, y) runs prefix (r ∷ tail) split (inr (refl, le))
 
   none_at : (x : ℕ) → from ≤ x → (in_run r (x, y) ≡ false) × (is_after (x, y) r ≡ false) → in_runs runs (x, y) ≡ false
   none_at x le out = in_runs-at x le ∙ ap (λ b. b || in_runs tail (x, y)) out.0 ∙ not_later r tail (x, y) maximal out.1
@@ -57,10 +57,10 @@ module _ (runs front tail : List Run) (r : Run) (y from : ℕ) (maximal : IsMaxi
 
   pub HasNone-other : (end : ℕ) → (r.y ≡ y → ⊥) ⊎ ((r.y ≡ y) × (min (r.x + r.len) end ≤ max r.x from)) → HasNone (in_runs runs) y from end
   HasNone-other end (inl other) x le lt =
-      let low = not_earlier r y from split.reaches in
+      let low = not_earlier r y from split.lasts in
       none_at x le (below_out r x y (grind (arith, other)))
   HasNone-other end (inr short) x le lt =
-      let far = not_ended r x y from le split.reaches short.0 in
+      let far = not_ended r x y from le split.lasts short.0 in
       none_at x le (left_out r x y short.0 (omega (arith, short.1)))
 
   pub IsNextRun-cut : (end : ℕ) → r.y ≡ y → max r.x from < min (r.x + r.len) end → (run : Run) → run.y ≡ y → run.x ≡ max r.x from → run.len ≡ min (r.x + r.len) end - max r.x from

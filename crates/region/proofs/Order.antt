@@ -1,11 +1,11 @@
--- Maximal runs, their parts, and runs that may be there.
+-- Maximal runs, runs within them, and runs that may be there.
 use Rattle.std.proofs.Common.{◌≡◌, ℕ, zero, suc, inl, inr, Bool, true, false, ◌||◌, List, [], ◌∷◌, ◌++◌, append_assoc, drop, refl, ap, ◌∙◌, arith, Option, Some, None}
 use Rattle.std.proofs.Math.Seq.{drop-nil}
 use Rattle.std.specs.Option.{option_to_list}
 use Rattle.std.proofs.lemmas.List.Folds.{list_any-append}
 use Rattle.region.specs.declared.runs.Run.{Run}
 use Rattle.region.specs.Runs.{IsRun, IsMaximalRuns, EndsBefore, EndsBeforeAll, in_run, in_runs}
-use Rattle.region.specs.Walks.{LiesBehind, IsPart, in_option}
+use Rattle.region.specs.Walks.{LiesBehind, LiesWithin, in_option}
 
 ends_before_trans : (r s t : Run) → IsRun s → EndsBefore r s → EndsBefore s t → EndsBefore r t
 ends_before_trans r s t i (inl h) (inl k) = inl (omega arith)
@@ -17,10 +17,10 @@ pub EndsBeforeAll-later : (r s : Run) (ss : List Run) → EndsBefore r s → IsM
 EndsBeforeAll-later r s [] h k = tt
 EndsBeforeAll-later r s (t ∷ ts) h k = ends_before_trans r s t k.0 h k.1
 
-pub IsMaximalRuns-front : (xs ys : List Run) → IsMaximalRuns (xs ++ ys) → IsMaximalRuns xs
-IsMaximalRuns-front [] ys h = tt
-IsMaximalRuns-front (x ∷ []) ys h = (h.0, tt, tt)
-IsMaximalRuns-front (x ∷ (y ∷ xs)) ys h = (h.0, h.1, IsMaximalRuns-front (y ∷ xs) ys h.2)
+pub IsMaximalRuns-prefix : (xs ys : List Run) → IsMaximalRuns (xs ++ ys) → IsMaximalRuns xs
+IsMaximalRuns-prefix [] ys h = tt
+IsMaximalRuns-prefix (x ∷ []) ys h = (h.0, tt, tt)
+IsMaximalRuns-prefix (x ∷ (y ∷ xs)) ys h = (h.0, h.1, IsMaximalRuns-prefix (y ∷ xs) ys h.2)
 
 pub IsMaximalRuns-back : (xs ys : List Run) → IsMaximalRuns (xs ++ ys) → IsMaximalRuns ys
 IsMaximalRuns-back [] ys h = h
@@ -47,8 +47,8 @@ in_option-list out (Some p) q = list_any-append (λ r. in_run r q) out (p ∷ []
     or-false true = refl
     or-false false = refl
 
-pub part_run : (p r : Run) → IsPart p r → IsRun r → IsRun p
-part_run p r i h = record { some = i.some; fits = omega (arith, i.end, h.fits) }
+pub within_run : (p r : Run) → LiesWithin p r → IsRun r → IsRun p
+within_run p r i h = record { some = i.some; fits = omega (arith, i.end, h.fits) }
 
 pub joined : (xs : List Run) (p : Run) (rs : List Run) → IsMaximalRuns (xs ++ p ∷ []) → IsMaximalRuns (p ∷ rs) → IsMaximalRuns (xs ++ p ∷ rs)
 joined [] p rs h k = k

@@ -6,7 +6,7 @@ use Rattle.region.specs.declared.runs.Run.{Run}
 use Rattle.region.specs.Runs.{IsRun, IsMaximalRuns, EndsBefore, EndsBeforeAll, in_run, in_runs}
 use Rattle.region.specs.Walks.{HaveEnded, is_after}
 use Rattle.region.proofs.Search.{after_cases, row_before, end_before}
-use Rattle.region.proofs.Splits.{HaveEnded-append, HaveEnded-front, HaveEnded-back}
+use Rattle.region.proofs.Splits.{HaveEnded-append, HaveEnded-prefix, HaveEnded-back}
 use Rattle.region.proofs.Order.{joined as joined_runs, appended}
 
 pub IsMaximalRuns-last : (xs : List Run) (l : Run) → IsMaximalRuns (xs ++ l ∷ []) → IsRun l
@@ -65,9 +65,9 @@ module _ (xs : List Run) (l r : Run) (runs : IsMaximalRuns (xs ++ l ∷ [])) (ru
   last_run = IsMaximalRuns-last xs l runs
 
   -- and they touch
-  module _ (m : Run) (row : m.y ≡ l.y) (start : m.x ≡ l.x) (end : m.x + m.len ≡ max (l.x + l.len) (r.x + r.len)) (reaches : (l.y ≡ r.y) × (r.x ≤ l.x + l.len)) where
+  module _ (m : Run) (row : m.y ≡ l.y) (start : m.x ≡ l.x) (end : m.x + m.len ≡ max (l.x + l.len) (r.x + r.len)) (touches : (l.y ≡ r.y) × (r.x ≤ l.x + l.len)) where
     end_first : l.x + l.len ≤ r.x
-    end_first = elim behind [ inl h ↦ absurd (omega (arith, reaches.0)) | inr h ↦ h.1 ]
+    end_first = elim behind [ inl h ↦ absurd (omega (arith, touches.0)) | inr h ↦ h.1 ]
 
     same_end : m.x + m.len ≡ r.x + r.len
     same_end = omega (arith, end, end_first)
@@ -76,22 +76,22 @@ module _ (xs : List Run) (l r : Run) (runs : IsMaximalRuns (xs ++ l ∷ [])) (ru
     joined_run = record { some = omega (arith, same_end, start, end_first, last_run.some, run.some); fits = omega (arith, same_end, run.fits) }
 
     pub joins-cells : (q : ℕ × ℕ) → in_runs (xs ++ m ∷ []) q ≡ (in_runs (xs ++ l ∷ []) q || in_run r q)
-    joins-cells q = in_runs-join xs l r m q reaches.0 row start (omega (arith, end_first)) reaches.1 end
+    joins-cells q = in_runs-join xs l r m q touches.0 row start (omega (arith, end_first)) touches.1 end
 
     ends_as : (next : List Run) → EndsBeforeAll r next → EndsBeforeAll m next
     ends_as [] h = tt
-    ends_as (s ∷ next) (inl h) = inl (omega (arith, row, reaches.0))
-    ends_as (s ∷ next) (inr h) = inr (row ∙ reaches.0 ∙ h.0, omega (arith, same_end, h.1))
+    ends_as (s ∷ next) (inl h) = inl (omega (arith, row, touches.0))
+    ends_as (s ∷ next) (inr h) = inr (row ∙ touches.0 ∙ h.0, omega (arith, same_end, h.1))
 
     pub joins-runs : (next : List Run) → IsMaximalRuns (r ∷ next) → IsMaximalRuns ((xs ++ m ∷ []) ++ next)
     joins-runs next h = appended xs m next (joined_runs xs m next (IsMaximalRuns-replace xs l m row start joined_run runs) (joined_run, ends_as next h.1, h.2))
 
     pub joins-ended : (q : ℕ × ℕ) → HaveEnded q (xs ++ l ∷ []) → is_after q r ≡ true → HaveEnded q (xs ++ m ∷ [])
-    joins-ended q h k = HaveEnded-append xs (m ∷ []) q (HaveEnded-front xs (l ∷ []) q h) (ended_as (after_cases r q k), tt)
+    joins-ended q h k = HaveEnded-append xs (m ∷ []) q (HaveEnded-prefix xs (l ∷ []) q h) (ended_as (after_cases r q k), tt)
       where
         ended_as : (r.y < q.1) ⊎ ((r.y ≡ q.1) × (r.x + r.len ≤ q.0)) → is_after q m ≡ true
-        ended_as (inl a) = row_before m m q (omega (arith, row, reaches.0))
-        ended_as (inr a) = end_before m q (row ∙ reaches.0 ∙ a.0) (omega (arith, same_end, a.1))
+        ended_as (inl a) = row_before m m q (omega (arith, row, touches.0))
+        ended_as (inr a) = end_before m q (row ∙ touches.0 ∙ a.0) (omega (arith, same_end, a.1))
 
   -- and they do not
   module _ (apart : (l.y ≡ r.y) × (r.x ≤ l.x + l.len) → ⊥) where

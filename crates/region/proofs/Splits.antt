@@ -7,43 +7,43 @@ use Rattle.std.proofs.lemmas.List.Folds.{list_any-append}
 use Rattle.region.specs.declared.runs.Run.{Run}
 use Rattle.region.specs.Cells.{IsFrom}
 use Rattle.region.specs.Runs.{IsMaximalRuns, EndsBefore, in_run, in_runs}
-use Rattle.region.specs.Walks.{is_after, HaveEnded, EndBeforeFirst, ReachesTo, AreSplitAt}
+use Rattle.region.specs.Walks.{is_after, HaveEnded, EndBeforeFirst, LastsTo, AreSplitAt}
 use Rattle.region.proofs.Search.{Splits, next_splits, after_cases, row_before, end_before}
 use Rattle.region.proofs.Order.{EndsBeforeAll-later}
 
--- ---- where the runs end that stand in front
+-- ---- where the runs of a prefix end
 pub ended-take : (q : ℕ × ℕ) (rs : List Run) (i : ℕ) → Splits q rs i → HaveEnded q (take i rs)
 ended-take q [] zero h = tt
 ended-take q [] (suc i) h = tt
 ended-take q (r ∷ rs) zero h = tt
 ended-take q (r ∷ rs) (suc i) h = (h.0 0 r (omega arith) (omega arith), ended-take q rs i (next_splits q r rs i h))
 
-pub reaches-drop : (q : ℕ × ℕ) (rs : List Run) (i : ℕ) → Splits q rs i → ReachesTo q (drop i rs)
-reaches-drop q [] zero h = tt
-reaches-drop q [] (suc i) h = tt
-reaches-drop q (r ∷ rs) zero h = h.1 0 r (omega arith) (omega arith)
-reaches-drop q (r ∷ rs) (suc i) h = reaches-drop q rs i (next_splits q r rs i h)
+pub lasts-drop : (q : ℕ × ℕ) (rs : List Run) (i : ℕ) → Splits q rs i → LastsTo q (drop i rs)
+lasts-drop q [] zero h = tt
+lasts-drop q [] (suc i) h = tt
+lasts-drop q (r ∷ rs) zero h = h.1 0 r (omega arith) (omega arith)
+lasts-drop q (r ∷ rs) (suc i) h = lasts-drop q rs i (next_splits q r rs i h)
 
--- runs of which a front is split are split there too, if what stands behind that front does not end before the cell
-pub split_on : (q : ℕ × ℕ) (runs front rest : List Run) (w : ℕ) → AreSplitAt q (take w runs) front rest → ReachesTo q (drop w runs)
-    → AreSplitAt q runs (take (length front) runs) (drop (length front) runs)
-split_on q runs front rest w h k = rw (ap (take (length front)) parts, ap (drop (length front)) parts, take-append_seam front (rest ++ drop w runs), drop-append_seam front (rest ++ drop w runs))
-    (record { whole = parts; ended = h.ended; reaches = reaches_on rest h.reaches })
+-- runs of which a prefix is split are split there too, if what stands behind that prefix does not end before the cell
+pub split_on : (q : ℕ × ℕ) (runs prefix rest : List Run) (w : ℕ) → AreSplitAt q (take w runs) prefix rest → LastsTo q (drop w runs)
+    → AreSplitAt q runs (take (length prefix) runs) (drop (length prefix) runs)
+split_on q runs prefix rest w h k = rw (ap (take (length prefix)) split_is, ap (drop (length prefix)) split_is, take-append_seam prefix (rest ++ drop w runs), drop-append_seam prefix (rest ++ drop w runs))
+    (record { whole = split_is; ended = h.ended; lasts = lasts_on rest h.lasts })
   where
-    parts : runs ≡ front ++ (rest ++ drop w runs)
-    parts = sym (take-append-drop w runs) ∙ ap (λ t. t ++ drop w runs) h.whole ∙ append_assoc front rest (drop w runs)
+    split_is : runs ≡ prefix ++ (rest ++ drop w runs)
+    split_is = sym (take-append-drop w runs) ∙ ap (λ t. t ++ drop w runs) h.whole ∙ append_assoc prefix rest (drop w runs)
 
-    reaches_on : (rest : List Run) → ReachesTo q rest → ReachesTo q (rest ++ drop w runs)
-    reaches_on [] h = k
-    reaches_on (r ∷ rest) h = h
+    lasts_on : (rest : List Run) → LastsTo q rest → LastsTo q (rest ++ drop w runs)
+    lasts_on [] h = k
+    lasts_on (r ∷ rest) h = h
 
-pub reaches_at : (q : ℕ × ℕ) (runs : List Run) (w : ℕ) (d : Run) → w < length runs → is_after q (get_or runs w d) ≡ false → ReachesTo q (drop w runs)
-reaches_at q runs w d l h = rw (drop-cons runs w d l) h
+pub lasts_at : (q : ℕ × ℕ) (runs : List Run) (w : ℕ) (d : Run) → w < length runs → is_after q (get_or runs w d) ≡ false → LastsTo q (drop w runs)
+lasts_at q runs w d l h = rw (drop-cons runs w d l) h
 
-pub reaches_past : (q : ℕ × ℕ) (runs : List Run) (w : ℕ) → length runs ≤ w → ReachesTo q (drop w runs)
-reaches_past q runs w l = rw (drop_of_length-le runs l) tt
+pub lasts_past : (q : ℕ × ℕ) (runs : List Run) (w : ℕ) → length runs ≤ w → LastsTo q (drop w runs)
+lasts_past q runs w l = rw (drop_of_length-le runs l) tt
 
--- ---- which cells the runs in front have
+-- ---- which cells the runs of a prefix have
 pub ended_out : (r : Run) (p q : ℕ × ℕ) → (p.1 < q.1) ⊎ ((p.1 ≡ q.1) × (p.0 ≤ q.0)) → is_after p r ≡ true → in_run r q ≡ false
 ended_out r p q (inl h) e = later_row r p q h e
   where
@@ -67,12 +67,12 @@ or-right true b h = refl
 or-right false b h = h
 
 -- a cell of the rest is one of the runs'
-pub in_runs-rest : (q p : ℕ × ℕ) (runs front rest : List Run) → AreSplitAt p runs front rest → in_runs rest q ≡ true → in_runs runs q ≡ true
-in_runs-rest q p runs front rest h e = rw (h.whole, in_runs-append front rest q) (or-right (in_runs front q) (in_runs rest q) e)
+pub in_runs-rest : (q p : ℕ × ℕ) (runs prefix rest : List Run) → AreSplitAt p runs prefix rest → in_runs rest q ≡ true → in_runs runs q ≡ true
+in_runs-rest q p runs prefix rest h e = rw (h.whole, in_runs-append prefix rest q) (or-right (in_runs prefix q) (in_runs rest q) e)
 
 -- and from there on the rest has each cell of the runs
-pub in_runs-from : (q p : ℕ × ℕ) (runs front rest : List Run) → AreSplitAt p runs front rest → IsFrom q p → in_runs runs q ≡ in_runs rest q
-in_runs-from q p runs front rest h f = rw (h.whole, in_runs-append front rest q, in_runs-ended front p q h.ended f) refl
+pub in_runs-from : (q p : ℕ × ℕ) (runs prefix rest : List Run) → AreSplitAt p runs prefix rest → IsFrom q p → in_runs runs q ≡ in_runs rest q
+in_runs-from q p runs prefix rest h f = rw (h.whole, in_runs-append prefix rest q, in_runs-ended prefix p q h.ended f) refl
 
 -- ---- what has ended before a cell
 pub is_after-later : (r : Run) (p q : ℕ × ℕ) → is_after p r ≡ true → IsFrom q p → is_after q r ≡ true
@@ -92,9 +92,9 @@ pub HaveEnded-append : (xs ys : List Run) (q : ℕ × ℕ) → HaveEnded q xs �
 HaveEnded-append [] ys q h k = k
 HaveEnded-append (x ∷ xs) ys q h k = (h.0, HaveEnded-append xs ys q h.1 k)
 
-pub HaveEnded-front : (xs ys : List Run) (q : ℕ × ℕ) → HaveEnded q (xs ++ ys) → HaveEnded q xs
-HaveEnded-front [] ys q h = tt
-HaveEnded-front (x ∷ xs) ys q h = (h.0, HaveEnded-front xs ys q h.1)
+pub HaveEnded-prefix : (xs ys : List Run) (q : ℕ × ℕ) → HaveEnded q (xs ++ ys) → HaveEnded q xs
+HaveEnded-prefix [] ys q h = tt
+HaveEnded-prefix (x ∷ xs) ys q h = (h.0, HaveEnded-prefix xs ys q h.1)
 
 pub HaveEnded-back : (xs ys : List Run) (q : ℕ × ℕ) → HaveEnded q (xs ++ ys) → HaveEnded q ys
 HaveEnded-back [] ys q h = h
@@ -122,12 +122,12 @@ before_skipped : (out xs : List Run) (s : Run) (ys : List Run) → IsMaximalRuns
 before_skipped out [] s ys h e = e
 before_skipped out (x ∷ xs) s ys h e = HaveEnded-later out (x.x, x.y) (s.x, s.y) e (starts_from x s (ends_before x xs s ys h))
 
--- what is given instead of the front of the runs ends before the rest
+-- what is given instead of the prefix of the runs ends before the rest
 pub advanced : (out new xs ys : List Run) → IsMaximalRuns (xs ++ ys) → EndBeforeFirst out (xs ++ ys)
     → ((q : ℕ × ℕ) → HaveEnded q out → HaveEnded q xs → HaveEnded q new) → EndBeforeFirst new ys
 advanced out new xs [] h e k = tt
 advanced out new xs (s ∷ ys) h e k = k (s.x, s.y) (before_skipped out xs s ys h e) (before_next xs s ys h)
 
-pub EndBeforeFirst-front : (out xs ys : List Run) → EndBeforeFirst out (xs ++ ys) → EndBeforeFirst out xs
-EndBeforeFirst-front out [] ys e = tt
-EndBeforeFirst-front out (x ∷ xs) ys e = e
+pub EndBeforeFirst-prefix : (out xs ys : List Run) → EndBeforeFirst out (xs ++ ys) → EndBeforeFirst out xs
+EndBeforeFirst-prefix out [] ys e = tt
+EndBeforeFirst-prefix out (x ∷ xs) ys e = e

@@ -10,14 +10,14 @@ abbrev pub LiesBehind : Run → Run → Type 0
 LiesBehind r s = (s.y < r.y) ⊎ ((s.y ≡ r.y) × (s.x + s.len ≤ r.x))
 
 -- the first run lies within the second one
-pub record IsPart (p r : Run) : Type 0 where
+pub record LiesWithin (p r : Run) : Type 0 where
   pub row : p.y ≡ r.y
   pub start : r.x ≤ p.x
   pub end : p.x + p.len ≤ r.x + r.len
   pub some : 1 ≤ p.len
 
 -- the first run lies within the second one, moved by dx columns and dy rows
-pub record IsMovedPart (dx dy : ℤ) (p r : Run) : Type 0 where
+pub record LiesWithinMoved (dx dy : ℤ) (p r : Run) : Type 0 where
   pub row : pos p.y ≡ pos r.y +ℤ dy
   pub start : (pos r.x +ℤ dx) ≤ℤ pos p.x
   pub end : pos (p.x + p.len) ≤ℤ (pos (r.x + r.len) +ℤ dx)
@@ -51,15 +51,15 @@ IsFromFirst q [] = ⊥
 IsFromFirst q (r ∷ rs) = IsFrom q (r.x, r.y)
 
 -- the first run does not end before a cell
-abbrev pub ReachesTo : ℕ × ℕ → List Run → Type 0
-ReachesTo q [] = Unit {0}
-ReachesTo q (r ∷ rs) = is_after q r ≡ false
+abbrev pub LastsTo : ℕ × ℕ → List Run → Type 0
+LastsTo q [] = Unit {0}
+LastsTo q (r ∷ rs) = is_after q r ≡ false
 
--- runs in two parts: those in front end before a cell, and the first of the rest does not
-pub record AreSplitAt (q : ℕ × ℕ) (runs front rest : List Run) : Type 0 where
-  pub whole : runs ≡ front ++ rest
-  pub ended : HaveEnded q front
-  pub reaches : ReachesTo q rest
+-- runs in two lists: those of the prefix end before a cell, and the first of the rest does not
+pub record AreSplitAt (q : ℕ × ℕ) (runs prefix rest : List Run) : Type 0 where
+  pub whole : runs ≡ prefix ++ rest
+  pub ended : HaveEnded q prefix
+  pub lasts : LastsTo q rest
 
 -- whether a run has the cell at a column and a row, none of which is negative
 abbrev pub in_run_at : Run → ℤ → ℤ → Bool

@@ -1,7 +1,7 @@
 // Runs that are moved and cut.
 ghost use Rattle.std.specs.Prelude.{◌≡◌, ℕ, ℤ, pos, ◌+ℤ◌, ◌≤ℤ◌, ◌<ℤ◌, ◌<◌, ◌≤◌, IfSome, IfNone};
 ghost use Rattle.region.specs.Runs.{IsRun};
-ghost use Rattle.region.specs.Walks.{IsMovedPart, in_option, in_moved_run};
+ghost use Rattle.region.specs.Walks.{LiesWithinMoved, in_option, in_moved_run};
 
 use crate::runs::Run;
 use crate::stored::StoredRun;
@@ -14,7 +14,7 @@ impl StoredRun {
         requires columns { w ≤ 4096 }
         requires rows { h ≤ 4096 }
         ensures cells { (q : ℕ × ℕ) → in_option result q ≡ in_moved_run self dx dy w h q }
-        ensures part { IfSome result (λ r. IsMovedPart dx dy r self) }
+        ensures within { IfSome result (λ r. LiesWithinMoved dx dy r self) }
         ensures fits { IfSome result IsRun }
     {
         let own = self.run();

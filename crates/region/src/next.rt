@@ -13,10 +13,10 @@ pub(crate) fn next_in(runs: &[StoredRun], y: u32, from: u32, end: u32) -> Option
     ensures none { IfNone result (HasNone (in_runs runs.now) y from end) }
 {
     let (_, rest) = split_ended(runs, from, y);
-    let Some((kept, _)) = rest.split_first() else {
+    let Some((stored, _)) = rest.split_first() else {
         return None;
     };
-    let run = kept.run();
+    let run = stored.run();
     let start = run.x.max(from);
     let end = run.end().min(end);
     if run.y != y || end <= start {

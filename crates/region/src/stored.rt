@@ -1,8 +1,8 @@
-// Runs as a region keeps them, and what two of them have to do with each other.
+// Runs as a region stores them, and what two of them have to do with each other.
 ghost use Rattle.std.specs.Prelude.{◌≡◌, ℕ, ◌+◌, ◌<◌, ◌≤◌, ◌&&◌, ◌↔◌, IsTrue, IfSome, max};
 ghost use Rattle.region.specs.Runs.{IsRun, in_run};
 ghost use Rattle.region.specs.Stored.{IsShort};
-ghost use Rattle.region.specs.Walks.{LiesBehind, IsPart, in_option, is_before, is_after};
+ghost use Rattle.region.specs.Walks.{LiesBehind, LiesWithin, in_option, is_before, is_after};
 
 use crate::runs::Run;
 use std::marker::Model;
@@ -30,7 +30,7 @@ impl Model for StoredRun {
 }
 
 impl StoredRun {
-    // The run, to be kept.
+    // The run, to be stored.
     #[inline(always)]
     pub(crate) fn of(run: Run) -> StoredRun
         requires { IsShort run }
@@ -43,7 +43,7 @@ impl StoredRun {
         }
     }
 
-    // The run that is kept.
+    // The run that is stored.
     #[inline(always)]
     pub(crate) fn run(self) -> Run
         ensures run { result ≡ self }
@@ -76,7 +76,7 @@ impl StoredRun {
     }
 
     // Whether a run that starts no earlier touches this one or overlaps it.
-    pub(crate) fn reaches(self, run: StoredRun) -> bool
+    pub(crate) fn touches(self, run: StoredRun) -> bool
         requires { IsRun self }
         ensures { IsTrue result ↔ ((self.y ≡ run.y) × (run.x ≤ self.x + self.len)) }
     {
@@ -84,7 +84,7 @@ impl StoredRun {
         own.y == run.y && run.x <= own.end()
     }
 
-    // This run and one that it reaches.
+    // This run and one that it touches.
     pub(crate) fn joined(self, run: StoredRun) -> StoredRun
         requires first { IsRun self }
         requires second { IsRun run }
@@ -106,8 +106,8 @@ impl StoredRun {
         requires first { IsRun self }
         requires second { IsRun run }
         ensures cells { (q : ℕ × ℕ) → in_option result q ≡ (in_run self q && in_run run q) }
-        ensures first { IfSome result (λ r. IsPart r self) }
-        ensures second { IfSome result (λ r. IsPart r run) }
+        ensures first { IfSome result (λ r. LiesWithin r self) }
+        ensures second { IfSome result (λ r. LiesWithin r run) }
     {
         let (own, run) = (self.run(), run.run());
         let start = own.x.max(run.x);
@@ -126,7 +126,7 @@ impl StoredRun {
     pub(crate) fn before(self, run: StoredRun) -> Option<StoredRun>
         requires { IsRun self }
         ensures cells { (q : ℕ × ℕ) → in_option result q ≡ (in_run self q && is_before q run) }
-        ensures part { IfSome result (λ r. IsPart r self) }
+        ensures within { IfSome result (λ r. LiesWithin r self) }
         ensures order { IfSome result (λ r. LiesBehind run r) }
     {
         let (own, run) = (self.run(), run.run());
@@ -149,7 +149,7 @@ impl StoredRun {
         requires first { IsRun self }
         requires second { IsRun run }
         ensures cells { (q : ℕ × ℕ) → in_option result q ≡ (in_run self q && is_after q run) }
-        ensures part { IfSome result (λ r. IsPart r self) }
+        ensures within { IfSome result (λ r. LiesWithin r self) }
         ensures order { IfSome result (λ r. LiesBehind r run) }
     {
         let (own, run) = (self.run(), run.run());

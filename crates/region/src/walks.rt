@@ -3,7 +3,7 @@
 ghost use Rattle.std.specs.Prelude.{◌≡◌, ℕ, ◌+◌, ◌<◌, ◌≤◌, ◌||◌, ◌&&◌, not, List, ◌∷◌, ◌++◌, true, false, length, IfOk, IfSome, vec_len, vec_capacity};
 ghost use Rattle.region.specs.Cells.{IsFrom};
 ghost use Rattle.region.specs.Runs.{IsRun, IsMaximalRuns, in_run, in_runs};
-ghost use Rattle.region.specs.Walks.{AreSplitAt, EndBeforeFirst, HaveEnded, IsFromFirst, ReachesTo, in_moved_runs, in_option, is_after, is_before};
+ghost use Rattle.region.specs.Walks.{AreSplitAt, EndBeforeFirst, HaveEnded, IsFromFirst, LastsTo, in_moved_runs, in_option, is_after, is_before};
 ghost use Rattle.region.specs.declared.runs.Run.{Run as RunOf};
 ghost use Rattle.std.specs.Option.{option_to_list};
 
@@ -45,8 +45,8 @@ fn split_far(runs: &[StoredRun], x: u32, y: u32) -> (&[StoredRun], &[StoredRun])
     while window < runs.len() && runs[window].ends_before(x, y) {
         window += window.min(runs.len() - window);
     }
-    let (front, _) = split_ended(&runs[..window], x, y);
-    runs.split_at(front.len())
+    let (prefix, _) = split_ended(&runs[..window], x, y);
+    runs.split_at(prefix.len())
 }
 
 // The runs that end before another one starts, and the others.
@@ -86,7 +86,7 @@ pub(crate) fn push_run(runs: &mut Vec<StoredRun>, run: StoredRun)
     match runs.as_slice().split_last() {
         None => runs.push_reserved(run),
         Some((last, _)) => {
-            if last.reaches(run) {
+            if last.touches(run) {
                 let joined = last.joined(run);
                 let _last = runs.pop();
                 runs.push_reserved(joined);
@@ -99,18 +99,18 @@ pub(crate) fn push_run(runs: &mut Vec<StoredRun>, run: StoredRun)
 
 // Puts a run at the end, if there is one, or joins it to the last one. There is room for it.
 #[inline(always)]
-fn push_part(out: &mut Vec<StoredRun>, part: Option<StoredRun>)
-    requires room { vec_len out.old + length (option_to_list part) ≤ vec_capacity out.old }
+fn push_optional(out: &mut Vec<StoredRun>, optional: Option<StoredRun>)
+    requires room { vec_len out.old + length (option_to_list optional) ≤ vec_capacity out.old }
     requires runs { IsMaximalRuns out.old.items }
-    requires part { IfSome part IsRun }
-    requires order { IfSome part (λ r. HaveEnded (r.x, r.y) out.old.items) }
-    ensures cells { (q : ℕ × ℕ) → in_runs out.new.items q ≡ (in_runs out.old.items q || in_option part q) }
+    requires optional { IfSome optional IsRun }
+    requires order { IfSome optional (λ r. HaveEnded (r.x, r.y) out.old.items) }
+    ensures cells { (q : ℕ × ℕ) → in_runs out.new.items q ≡ (in_runs out.old.items q || in_option optional q) }
     ensures runs { IsMaximalRuns out.new.items }
-    ensures ended { (q : ℕ × ℕ) → HaveEnded q out.old.items → IfSome part (λ r. is_after q r ≡ true) → HaveEnded q out.new.items }
-    ensures len { vec_len out.new ≤ vec_len out.old + length (option_to_list part) }
+    ensures ended { (q : ℕ × ℕ) → HaveEnded q out.old.items → IfSome optional (λ r. is_after q r ≡ true) → HaveEnded q out.new.items }
+    ensures len { vec_len out.new ≤ vec_len out.old + length (option_to_list optional) }
     ensures capacity { vec_capacity out.new ≡ vec_capacity out.old }
 {
-    if let Some(run) = part {
+    if let Some(run) = optional {
         push_run(out, run);
     }
 }
@@ -136,11 +136,11 @@ fn push_runs(out: &mut Vec<StoredRun>, runs: &[StoredRun])
     }
 }
 
-// What runs have before another run, which the first of them reaches.
+// What runs have before another run, to which the first of them lasts.
 #[inline(always)]
 fn first_before(runs: &[StoredRun], other: StoredRun) -> Option<StoredRun>
     requires runs { IsMaximalRuns runs.now }
-    requires reaches { ReachesTo (other.x, other.y) runs.now }
+    requires lasts { LastsTo (other.x, other.y) runs.now }
     ensures cells { (q : ℕ × ℕ) → in_option result q ≡ (in_runs runs.now q && is_before q other) }
     ensures run { IfSome result IsRun }
     ensures order { (out : List RunOf) → EndBeforeFirst out runs.now → IfSome result (λ p. HaveEnded (p.x, p.y) out) }
@@ -167,17 +167,17 @@ fn push_before<'a>(
     ensures cells { (q : ℕ × ℕ) → (in_runs out.new.items q || (in_runs result.now q && not (in_run other q)))
         ≡ (in_runs out.old.items q || (in_runs runs.entry.now q && not (in_run other q))) }
     ensures before { (q : ℕ × ℕ) → IsFrom q (other.x, other.y) → in_runs out.new.items q ≡ in_runs out.old.items q }
-    ensures left { (front : List RunOf) × AreSplitAt (other.x + other.len, other.y) runs.entry.now front result.now }
+    ensures left { (prefix : List RunOf) × AreSplitAt (other.x + other.len, other.y) runs.entry.now prefix result.now }
     ensures runs { IsMaximalRuns out.new.items }
     ensures order { EndBeforeFirst out.new.items result.now }
     ensures ended { HaveEnded (other.x, other.y) out.old.items → HaveEnded (other.x, other.y) out.new.items }
     ensures len { vec_len out.new + length result.now ≤ vec_len out.old + length runs.entry.now }
     ensures capacity { vec_capacity out.old ≤ vec_capacity out.new }
 {
-    let (front, rest) = split_at_start(runs, other);
-    push_runs(out, front);
+    let (prefix, rest) = split_at_start(runs, other);
+    push_runs(out, prefix);
     let (cut, rest) = split_at_end(rest, other);
-    push_part(out, first_before(cut, other));
+    push_optional(out, first_before(cut, other));
     rest
 }
 
@@ -204,7 +204,7 @@ fn push_gaps<'a>(
     let (_, mut rest) = split_at_start(others, run);
     let mut left = run;
     while let Some((cut, behind)) = rest.split_first() {
-        push_part(out, left.before(*cut));
+        push_optional(out, left.before(*cut));
         match left.after(*cut) {
             Some(after) => {
                 left = after;
@@ -254,14 +254,14 @@ pub(crate) fn merged(
     Ok(out)
 }
 
-// Gives what runs share with another one, which the first of them reaches and by whose end they all end.
+// Gives what runs share with another one, to which the first of them lasts and by whose end they all end.
 #[inline(always)]
 fn push_within(out: &mut Vec<StoredRun>, runs: &[StoredRun], other: StoredRun)
     requires room { vec_len out.old + length runs.now ≤ vec_capacity out.old }
     requires first { IsMaximalRuns out.old.items }
     requires second { IsMaximalRuns runs.now }
     requires other { IsRun other }
-    requires reaches { ReachesTo (other.x, other.y) runs.now }
+    requires lasts { LastsTo (other.x, other.y) runs.now }
     requires within { HaveEnded (other.x + other.len, other.y) runs.now }
     requires order { (q : ℕ × ℕ) → IsFrom q (other.x, other.y) → IsFromFirst q runs.now → HaveEnded q out.old.items }
     ensures cells { (q : ℕ × ℕ) → in_runs out.new.items q ≡ (in_runs out.old.items q || (in_runs runs.now q && in_run other q)) }
@@ -271,7 +271,7 @@ fn push_within(out: &mut Vec<StoredRun>, runs: &[StoredRun], other: StoredRun)
     ensures capacity { vec_capacity out.old ≤ vec_capacity out.new }
 {
     if let Some((first, others)) = runs.split_first() {
-        push_part(out, first.shared(other));
+        push_optional(out, first.shared(other));
         push_runs(out, others);
     }
 }
@@ -291,7 +291,7 @@ fn push_shared<'a>(
     ensures cells { (q : ℕ × ℕ) → (in_runs out.new.items q || (in_runs result.now q && in_run other q))
         ≡ (in_runs out.old.items q || (in_runs runs.entry.now q && in_run other q)) }
     ensures within { (q : ℕ × ℕ) → in_run other q ≡ false → in_runs out.new.items q ≡ in_runs out.old.items q }
-    ensures left { (front : List RunOf) × AreSplitAt (other.x + other.len, other.y) runs.entry.now front result.now }
+    ensures left { (prefix : List RunOf) × AreSplitAt (other.x + other.len, other.y) runs.entry.now prefix result.now }
     ensures runs { IsMaximalRuns out.new.items }
     ensures order { (q : ℕ × ℕ) → IsFrom q (other.x, other.y) → IsFromFirst q result.now → HaveEnded q out.new.items }
     ensures len { vec_len out.new + length result.now ≤ vec_len out.old + length runs.entry.now }

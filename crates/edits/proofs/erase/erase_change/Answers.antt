@@ -6,7 +6,7 @@ use Rattle.edits.specs.Blocks.{erase_over}
 use Rattle.edits.specs.Covering.{covered_map, where_selected}
 use Rattle.edits.specs.Refusals.{tiles_or_fault}
 use Rattle.edits.specs.Stamping.{after_erase}
-use Rattle.edits.proofs.Calls.{IsTheLayer, IsTheLayer-found, IsReach-erase, IsPainted-result}
+use Rattle.edits.proofs.Calls.{IsTheLayer, IsTheLayer-found, IsExtent-erase, IsPainted-result}
 use Rattle.edits.proofs.erase.erase_change.Goals as goal
 
 pub change-requires : goal.change-requires
@@ -14,7 +14,7 @@ change-requires c =
     let m = c.parts-parts.result.now in
     let value = c.parts-parts.ensures.value in
     let layer : IsTheLayer m c.args.layer c.in_ok-tiles.tiles.now = IsTheLayer-found m c.args.layer c.in_ok-tiles.tiles.now (rw value c.parts-parts.ensures.well_formed) (rw value c.in_ok-tiles.ensures) in
-    IsReach-erase m c.args.layer c.in_ok-tiles.tiles c.selection.result c.new.result c.new-2.result c.args.area.now layer (search rules) (search rules)
+    IsExtent-erase m c.args.layer c.in_ok-tiles.tiles c.selection.result c.new.result c.new-2.result c.args.area.now layer (search rules) (search rules)
 
 pub returns-clause-change : goal.returns-clause-change
 returns-clause-change c =

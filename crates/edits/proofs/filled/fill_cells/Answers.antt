@@ -1,6 +1,6 @@
 use Rattle.std.proofs.Common.{sym, ◌∙◌, arith}
 use Rattle.std.proofs.lemmas.Bool.{eqb-true}
-use Rattle.edits.proofs.SelectedPlaces.{difference-own, difference-taken, taken-free}
+use Rattle.edits.proofs.SelectedNumbers.{difference-own, difference-taken, taken-free}
 use Rattle.edits.proofs.filled.fill_cells.Goals as goal
 
 pub returns-then-eq : goal.returns-then-eq

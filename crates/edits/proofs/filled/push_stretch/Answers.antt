@@ -36,9 +36,9 @@ loop-left-preserved c =
     let within = cell_within g c.requires.ground (first + bit) c.args.stretch.y column c.requires.row in
     let none = λ (k : ℕ) (l : row + (first + n) ≤ k) (m : k < row + (first + bit)).
     let i = k - (row + first) in
-    let place : row + first + i ≡ k = omega arith in
+    let number : row + first + i ≡ k = omega arith in
     false-unless (taken_at s k) (λ t.
-    let set = rest i (omega (arith, lowest.0)) (omega arith) ∙ and_from _ _ (lt-ltb (row + first + i) (row + end) (omega arith)) (ap (taken_at s) place ∙ t) in
+    let set = rest i (omega (arith, lowest.0)) (omega arith) ∙ and_from _ _ (lt-ltb (row + first + i) (row + end) (omega arith)) (ap (taken_at s) number ∙ t) in
     let clear = ap (λ b. nat_eq b 1) (lowest.2 i (omega arith)) in
     false≢true (sym clear ∙ set)) in
     let skip = changes-unmarked g s value (row + (first + n)) (row + (first + bit)) (omega arith) (omega arith) (omega (arith, within)) none in
@@ -69,9 +69,9 @@ returns c =
     let within = cell_within g c.requires.ground last c.args.stretch.y (omega (arith, c.requires.column, c.requires.some)) c.requires.row in
     let none = λ (k : ℕ) (l : row + (first + n) ≤ k) (m : k < row + end).
     let i = k - (row + first) in
-    let place : row + first + i ≡ k = omega arith in
+    let number : row + first + i ≡ k = omega arith in
     false-unless (taken_at s k) (λ t.
-    let set = rest i (omega (arith, c.requires.word)) (omega arith) ∙ and_from _ _ (lt-ltb (row + first + i) (row + end) (omega arith)) (ap (taken_at s) place ∙ t) in
+    let set = rest i (omega (arith, c.requires.word)) (omega arith) ∙ and_from _ _ (lt-ltb (row + first + i) (row + end) (omega arith)) (ap (taken_at s) number ∙ t) in
     let clear = ap (λ b. nat_eq (bit_at b i) 1) c.loop-left-test.false ∙ ap (λ b. nat_eq b 1) (bit_at-zero i) in
     false≢true (sym clear ∙ set)) in
     c.loop-left.invariant.2 ∙ sym (changes-unmarked g s c.args.value (row + (first + n)) (row + end) (omega (arith, c.requires.column, c.requires.some)) (omega (arith, inside)) (omega (arith, within, c.requires.some)) none)

@@ -7,7 +7,7 @@ use Rattle.edits.specs.Blocks.{block_of, stamp_over}
 use Rattle.edits.specs.Covering.{covered_map, where_selected}
 use Rattle.edits.specs.Refusals.{is_known, tiles_or_fault}
 use Rattle.edits.specs.Stamping.{after_stamp}
-use Rattle.edits.proofs.Calls.{IsTheLayer, IsTheLayer-found, IsReach-stamp, IsPainted-result}
+use Rattle.edits.proofs.Calls.{IsTheLayer, IsTheLayer-found, IsExtent-stamp, IsPainted-result}
 use Rattle.edits.proofs.stamp.stamp_change.Goals as goal
 
 pub change-requires : goal.change-requires
@@ -15,7 +15,7 @@ change-requires c =
     let m = c.parts-parts.result.now in
     let value = c.parts-parts.ensures.value in
     let layer : IsTheLayer m c.args.layer c.in_ok-tiles.tiles.now = IsTheLayer-found m c.args.layer c.in_ok-tiles.tiles.now (rw value c.parts-parts.ensures.well_formed) (rw value c.in_ok-tiles.ensures) in
-    IsReach-stamp m c.args.layer c.in_ok-tiles.tiles c.selection.result c.new.result c.new-2.result (block_of c.args.block.now) layer c.requires (search rules) (search rules)
+    IsExtent-stamp m c.args.layer c.in_ok-tiles.tiles c.selection.result c.new.result c.new-2.result (block_of c.args.block.now) layer c.requires (search rules) (search rules)
 
 pub returns-clause-change : goal.returns-clause-change
 returns-clause-change c =

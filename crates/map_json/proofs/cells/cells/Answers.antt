@@ -2,12 +2,12 @@ use Rattle.std.specs.Option.{ok_or}
 use Rattle.std.proofs.Common.{ap, sym, ◌∙◌}
 use Rattle.serde_json.specs.View.{items_view}
 use Rattle.map_json.specs.Cells.{cells_of}
-use Rattle.map_json.proofs.Loops.{no_front, one_more_cell, bad_cell, all_cells}
+use Rattle.map_json.proofs.Loops.{no_prefix, one_more_cell, bad_cell, all_cells}
 use Rattle.map_json.specs.declared.fault.MapRefusal.TheVariants.{BadData}
 use Rattle.map_json.proofs.cells.cells.Goals as goal
 
 pub loop-value-init : goal.loop-value-init
-loop-value-init c = no_front c.in_ok-found.found.items _ c.in_ok-found.ensures.items
+loop-value-init c = no_prefix c.in_ok-found.found.items _ c.in_ok-found.ensures.items
 
 pub loop-value-preserved : goal.loop-value-preserved
 loop-value-preserved c =

@@ -9,8 +9,8 @@ use Rattle.map_model.proofs.GroupBodies.{object_ids-with}
 use Rattle.map_json.proofs.Gathered.{gathered-alone, gathered-inside, gathered-empty}
 use Rattle.map_json.proofs.doubles.+push_layers.Goals as goal
 
-put_twice : (front own more rest : List ℕ) → ((front ++ own) ++ more) ++ rest ≡ front ++ ((own ++ more) ++ rest)
-put_twice front own more rest = simp append_assoc
+put_twice : (prefix own more rest : List ℕ) → ((prefix ++ own) ++ more) ++ rest ≡ prefix ++ ((own ++ more) ++ rest)
+put_twice prefix own more rest = simp append_assoc
 
 -- one layer more, of ids of layers and of objects
 abbrev id_list : Layer → List ℕ

@@ -11,8 +11,8 @@ use Rattle.map_json.proofs.fractions.object_has_fraction.Goals as goal
 
 pub returns-else-others_have_fraction : goal.returns-else-others_have_fraction
 returns-else-others_have_fraction c =
-    let entries = c.args.members.now.entries in
-    let found : option_map (λ v. view v.now) c.get.result ≡ get_member VERSION.now (members_view entries)
-    = view_of_ref c.get.result ∙ (ap (option_map view) c.get.ensures.value ∙ view-lookup VERSION.now entries) in
-    let whole : members_have_float (without VERSION.now (members_view entries)) ≡ false = sym c.others_have_fraction.ensures ∙ c.if-others_have_fraction.false in
-    has_fraction-object (members_view entries) c.version_has_fraction.result whole (c.version_has_fraction.ensures ∙ ap version_has_fraction found)
+    let held = c.args.members.now.entries in
+    let found : option_map (λ v. view v.now) c.get.result ≡ get_member VERSION.now (members_view held)
+    = view_of_ref c.get.result ∙ (ap (option_map view) c.get.ensures.value ∙ view-lookup VERSION.now held) in
+    let whole : members_have_float (without VERSION.now (members_view held)) ≡ false = sym c.others_have_fraction.ensures ∙ c.if-others_have_fraction.false in
+    has_fraction-object (members_view held) c.version_has_fraction.result whole (c.version_has_fraction.ensures ∙ ap version_has_fraction found)

@@ -2,9 +2,9 @@ use Rattle.std.proofs.Common.{◌≡◌, ◌+◌, ◌*◌, ◌≤◌, length}
 use Rattle.std.specs.Vec.Iter.{into_iter_items}
 use Rattle.serde_json.specs.View.{items_view}
 use Rattle.map_model.specs.declared.limits.TheConstants.{MAX_LAYERS}
-use Rattle.map_json.specs.Entries.{each_counted}
+use Rattle.map_json.specs.Elements.{each_counted}
 use Rattle.map_json.specs.Reading.{layer_by, layers_at}
-use Rattle.map_json.proofs.Loops.{counted_front}
+use Rattle.map_json.proofs.Loops.{counted_prefix}
 use Rattle.map_json.proofs.layer.+layers.Given as goal
 
 abbrev pub decreases-layers_in : goal.decreases-layers_in
@@ -27,5 +27,5 @@ invariant-each_layer-loop-value l =
     let read = layer_by (layers_at l.room l.size.width l.size.height) l.size.width l.size.height in
     (goal.iterator-each_layer-loop-value).can_next l.value-iterator × (goal.iterator-each_layer-loop-value).is_finite l.value-iterator
     × (length l.found + length (into_iter_items l.value-iterator) ≡ length l.fn.values.items)
-    × (counted_front l.found (each_counted read l.count (items_view (into_iter_items l.value-iterator))) ≡ each_counted read l.initial.count (items_view l.fn.values.items))
+    × (counted_prefix l.found (each_counted read l.count (items_view (into_iter_items l.value-iterator))) ≡ each_counted read l.initial.count (items_view l.fn.values.items))
     × (l.count ≤ MAX_LAYERS)

@@ -14,7 +14,7 @@ use Rattle.map_model.specs.declared.names.TheConstants.{LAYERS}
 use Rattle.map_model.specs.declared.parts.Layer.{Layer}
 use Rattle.map_model.specs.Groups.{group_in}
 use Rattle.map_model.specs.Lists.{or_empty}
-use Rattle.map_json.specs.Appending.{Appends, AreWritten, in_place, layer_frame, replaced}
+use Rattle.map_json.specs.Appending.{Appends, AreWritten, instead, layer_frame, replaced}
 use Rattle.map_json.specs.Trees.{items_by, layer_tree, layers_tree}
 use Rattle.map_json.proofs.Frames.{replaced-put, layer_tree-frame, layer_tree-room, layer_tree-group}
 use Rattle.map_json.proofs.Returning.{ItemsReturn, ItemsReturn-none, ItemsReturn-item, MembersReturn, MembersReturn-none, MembersReturn-member, Returns-array, Returns-object, regroup_item, regroup_member}
@@ -27,8 +27,8 @@ pub push_framed-loop-name-init : goal.push_framed-loop-name-init
 push_framed-loop-name-init t c =
     let d = layers_tree c.args.room c.args.size.width c.args.size.height c.args.layers.now in
     let every = replaced LAYERS.now d c.args.frame.now in
-    let entries : c.into_iter-name-iterator.result ≡ c.members.result.now.entries = search rules in
-    let same = ap members_view entries ∙ c.members.ensures in
+    let held : c.into_iter-name-iterator.result ≡ c.members.result.now.entries = search rules in
+    let same = ap members_view held ∙ c.members.ensures in
     let shown = ap (replaced LAYERS.now d) same in (
       [],
       refl,
@@ -47,19 +47,19 @@ push_framed-loop-name-preserved t c =
     let done = l.invariant.0 in
     let e : Entry = (c.in-Some.name.now, c.in-Some.value.now) in
     let k = string_bytes c.in-Some.name.now in
-    let value = in_place LAYERS.now d k (view c.in-Some.value.now) in
+    let value = instead LAYERS.now d k (view c.in-Some.value.now) in
     let left = c.next.new.self in
     let step : l.name-iterator ≡ e ∷ left = c.in-Some.ensures.steps in
     let all = l.invariant.1 ∙ ap (λ es. done ++ es) step in
-    let entries : c.into_iter-name-iterator.result ≡ c.members.result.now.entries = search rules in
-    let last = put_last done e left (subst (λ es. IsStrictlySortedBy string_cmp (keys_of es)) (sym entries ∙ all) c.iter-name-items.ensures.ordered) in
+    let held : c.into_iter-name-iterator.result ≡ c.members.result.now.entries = search rules in
+    let last = put_last done e left (subst (λ es. IsStrictlySortedBy string_cmp (keys_of es)) (sym held ∙ all) c.iter-name-items.ensures.ordered) in
     let found : put k value (shown done) ≡ shown (done ++ e ∷ []) = sym (replaced-put LAYERS.now k d (view c.in-Some.value.now) (members_view done)) ∙ ap (replaced LAYERS.now d) last in
     let rest = members_text true (shown left) in
     let whole = or_parts (has_float (view c.in-Some.value.now)) _ (ap (λ es. members_have_float (members_view es)) (sym step) ∙ l.invariant.4) in
     let named : c.push_name.new.text.items ≡ l.text.items ++ (comma_if l.later ++ (quoted k ++ 58 ∷ [])) =
     subst (λ n. c.push_name.new.text.items ≡ l.text.items ++ (comma_if l.later ++ (quoted n ++ 58 ∷ []))) c.as_str.ensures.value c.in_ok-push_name.ensures in
     let shows : Appends value c.push_name.new.text.items c.push_member.new.text.items =
-    subst (λ n. Appends (in_place LAYERS.now d n (view c.in-Some.value.now)) c.push_name.new.text.items c.push_member.new.text.items) c.as_str-in-loop-name.ensures.value c.in_ok-push_member.ensures in (
+    subst (λ n. Appends (instead LAYERS.now d n (view c.in-Some.value.now)) c.push_name.new.text.items c.push_member.new.text.items) c.as_str-in-loop-name.ensures.value c.in_ok-push_member.ensures in (
       done ++ e ∷ [],
       all ∙ sym (append_assoc done (e ∷ []) left),
       ap (λ t. t ++ rest) (shows.0 ∙ ap (λ t. t ++ compact_text value) named)
@@ -77,8 +77,8 @@ push_framed-returns t c =
     let every = replaced LAYERS.now (layers_tree c.args.room c.args.size.width c.args.size.height c.args.layers.now) c.args.frame.now in
     let done = l.invariant.0 in
     let none : l.name-iterator ≡ [] = search rules in
-    let entries : c.into_iter-name-iterator.result ≡ c.members.result.now.entries = search rules in
-    let all : c.members.result.now.entries ≡ done = sym entries ∙ (l.invariant.1 ∙ (ap (λ es. done ++ es) none ∙ append-nil done)) in
+    let held : c.into_iter-name-iterator.result ≡ c.members.result.now.entries = search rules in
+    let all : c.members.result.now.entries ≡ done = sym held ∙ (l.invariant.1 ∙ (ap (λ es. done ++ es) none ∙ append-nil done)) in
     let same : every ≡ shown done = ap (replaced LAYERS.now (layers_tree c.args.room c.args.size.width c.args.size.height c.args.layers.now)) (sym c.members.ensures) ∙ ap shown all in
     let back = subst (λ ms. MembersReturn no_members ms every) same (MembersReturn-none every) in (
       c.in_ok-push-2.ensures.items

@@ -12,4 +12,4 @@ abbrev pub decreases-exchange_inside : goal.decreases-exchange_inside
 decreases-exchange_inside a = 3 * a.room + 2
 
 abbrev pub invariant-exchange_layers-loop-at : goal.invariant-exchange_layers-loop-at
-invariant-exchange_layers-loop-at l = AreLaid l.fn.room l.fn.canvas l.fn.place l.fn.layers l.layers l.canvas l.at l.place
+invariant-exchange_layers-loop-at l = AreLaid l.fn.room l.fn.canvas l.fn.number l.fn.layers l.layers l.canvas l.at l.number

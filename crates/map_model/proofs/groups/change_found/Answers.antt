@@ -6,7 +6,7 @@ use Rattle.map_model.specs.Keeping.{layer_level}
 use Rattle.map_model.specs.Groups.{find_one}
 use Rattle.map_model.specs.Ways.{IsWay}
 use Rattle.map_model.proofs.Walks.{position-first_some}
-use Rattle.map_model.proofs.Ways.{way-reached}
+use Rattle.map_model.proofs.Ways.{way-arrived}
 use Rattle.map_model.proofs.groups.change_found.Goals.{then-not-find_way_here, else-not-find_way_here}
 use Rattle.map_model.proofs.groups.change_found.Goals as goal
 
@@ -18,6 +18,6 @@ change_along-requires-clause-way g c =
           rw w.way'-is (w.find_way.ensures.way (w.find_way.ensures.there ∙ position-first_some (find_one c.args.id MAX_GROUPS) c.args.layers.now ∙ c.requires.there))
       | else-not-find_way_here w ↦
           let here = c.find_way_here.new.way.items in
-          rw w.way'-is (way-reached c.args.id (reverse here) MAX_GROUPS layer_level c.args.layers.now (omega (arith, c.find_way_here.ensures.short, length-reverse here)) c.requires.distinct (c.find_way_here.ensures.way w.if-not-find_way_here.false))
+          rw w.way'-is (way-arrived c.args.id (reverse here) MAX_GROUPS layer_level c.args.layers.now (omega (arith, c.find_way_here.ensures.short, length-reverse here)) c.requires.distinct (c.find_way_here.ensures.way w.if-not-find_way_here.false))
     ] in
     rw c.as_slice.ensures.value way

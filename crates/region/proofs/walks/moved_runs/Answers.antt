@@ -24,17 +24,17 @@ pub loop-run-preserved : goal.loop-run-preserved
 loop-run-preserved c =
     let item = c.run-item.result in
     let inv = c.loop-run.invariant in
-    let part = rw c.run-item.is at c.moved.ensures.part in
+    let within = rw c.run-item.is at c.moved.ensures.within in
     let fits = c.moved.ensures.fits in
     let pushed = c.push_some.ensures in
     record {
       room = omega (arith, inv.room, pushed.len, pushed.capacity, c.loop-run-test.true);
       order = moved_order _ _ c.args.runs.now c.loop-run.out.items c.push_some.new.runs.items c.loop-run.run-index item c.moved.result c.loop-run-test.true c.requires.runs pushed.items
-          part fits inv.order inv.clear;
+          within fits inv.order inv.clear;
       clear = rw add-one (moved_clear _ _ c.args.runs.now c.loop-run.out.items c.push_some.new.runs.items c.loop-run.run-index item c.moved.result c.loop-run-test.true c.requires.runs pushed.items
-          part fits inv.order inv.clear);
+          within fits inv.order inv.clear);
       cells = λ q. rw add-one (moved_step _ _ c.args.runs.now c.loop-run.out.items c.push_some.new.runs.items c.loop-run.run-index item c.moved.result c.loop-run-test.true c.requires.runs pushed.items
-          part fits inv.order inv.clear c.args.w c.args.h q (rw c.run-item.is at (c.moved.ensures.cells q)) ∙ inv.cells q);
+          within fits inv.order inv.clear c.args.w c.args.h q (rw c.run-item.is at (c.moved.ensures.cells q)) ∙ inv.cells q);
     }
 
 or-false : (b : Bool) → b ≡ (b || false)

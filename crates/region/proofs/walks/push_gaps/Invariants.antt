@@ -1,7 +1,7 @@
 use Rattle.std.proofs.Common.{◌≡◌, ℕ, ◌+◌, ◌≤◌, ◌||◌, ◌&&◌, not, length, vec_len, vec_capacity}
 use Rattle.region.specs.Cells.{IsFrom}
 use Rattle.region.specs.Runs.{IsMaximalRuns, in_run, in_runs}
-use Rattle.region.specs.Walks.{IsPart, HaveEnded}
+use Rattle.region.specs.Walks.{LiesWithin, HaveEnded}
 use Rattle.region.proofs.walks.push_gaps.Given as goal
 
 abbrev pub invariant-loop-cut : goal.invariant-loop-cut
@@ -10,7 +10,7 @@ invariant-loop-cut l = record {
   capacity : vec_capacity l.fn.out ≤ vec_capacity l.out;
   runs : IsMaximalRuns l.out.items;
   others : IsMaximalRuns l.rest;
-  part : IsPart l.left l.fn.run;
+  within : LiesWithin l.left l.fn.run;
   order : HaveEnded (l.left.x, l.left.y) l.out.items;
   cells : (q : ℕ × ℕ) → (in_runs l.out.items q || (in_run l.left q && not (in_runs l.rest q))) ≡ (in_runs l.fn.out.items q || (in_run l.fn.run q && not (in_runs l.fn.others q)));
   later : (q : ℕ × ℕ) → IsFrom q (l.fn.run.x + l.fn.run.len, l.fn.run.y) → in_runs l.rest q ≡ in_runs l.fn.others q;

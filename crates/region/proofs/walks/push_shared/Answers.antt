@@ -1,8 +1,8 @@
 use Rattle.std.proofs.Common.{◌≡◌, Bool, ◌+◌, refl, false, ◌||◌, ◌&&◌, ◌++◌, ◌∙◌, arith}
 use Rattle.region.specs.Runs.{IsMaximalRuns, in_runs}
 use Rattle.region.proofs.Before.{whole, taken, shared_cells}
-use Rattle.region.proofs.Order.{IsMaximalRuns-front, IsMaximalRuns-back}
-use Rattle.region.proofs.Shared.{from_first, from_front, front_ended}
+use Rattle.region.proofs.Order.{IsMaximalRuns-prefix, IsMaximalRuns-back}
+use Rattle.region.proofs.Shared.{from_first, from_prefix, prefix_ended}
 use Rattle.region.proofs.Splits.{HaveEnded-back}
 use Rattle.region.proofs.walks.push_shared.Goals as goal
 
@@ -11,16 +11,16 @@ split_at_end-requires-clause-runs c = IsMaximalRuns-back c.split_at_start.result
 
 pub push_within-requires-clause-second : goal.push_within-requires-clause-second
 push_within-requires-clause-second c =
-    IsMaximalRuns-front c.split_at_end.result.0.now c.split_at_end.result.1.now
+    IsMaximalRuns-prefix c.split_at_end.result.0.now c.split_at_end.result.1.now
     (rw c.split_at_end.ensures.whole at (IsMaximalRuns-back c.split_at_start.result.0.now c.split_at_start.result.1.now (rw c.split_at_start.ensures.whole at c.requires.second)))
 
 pub push_within-requires-clause-order : goal.push_within-requires-clause-order
 push_within-requires-clause-order c q from_other from_shared =
-    let front = c.split_at_start.result.0.now in
+    let prefix = c.split_at_start.result.0.now in
     let shared = c.split_at_end.result.0.now in
     let rest = c.split_at_end.result.1.now in
-    let is = whole c.args.runs.now front shared c.split_at_start.result.1.now rest c.args.other (c.args.other.x + c.args.other.len) c.requires.other refl c.split_at_start.ensures c.split_at_end.ensures in
-    let from_all = from_first front (shared ++ rest) q (rw is at c.requires.second) (from_front shared rest q from_shared) in
+    let is = whole c.args.runs.now prefix shared c.split_at_start.result.1.now rest c.args.other (c.args.other.x + c.args.other.len) c.requires.other refl c.split_at_start.ensures c.split_at_end.ensures in
+    let from_all = from_first prefix (shared ++ rest) q (rw is at c.requires.second) (from_prefix shared rest q from_shared) in
     c.requires.order q from_other (rw is from_all)
 
 pub returns-clause-cells : goal.returns-clause-cells
@@ -36,20 +36,20 @@ returns-clause-within c q outside = c.push_within.ensures.cells q ∙ rw outside
 
 pub returns-clause-left : goal.returns-clause-left
 returns-clause-left c =
-    let front = c.split_at_start.result.0.now in
+    let prefix = c.split_at_start.result.0.now in
     let shared = c.split_at_end.result.0.now in (
-      front ++ shared,
-      taken c.args.runs.now front shared c.split_at_start.result.1.now c.split_at_end.result.1.now c.args.other (c.args.other.x + c.args.other.len) c.requires.other refl c.split_at_start.ensures
+      prefix ++ shared,
+      taken c.args.runs.now prefix shared c.split_at_start.result.1.now c.split_at_end.result.1.now c.args.other (c.args.other.x + c.args.other.len) c.requires.other refl c.split_at_start.ensures
           c.split_at_end.ensures,
     )
 
 pub returns-clause-order : goal.returns-clause-order
 returns-clause-order c q from_other from_rest =
-    let front = c.split_at_start.result.0.now in
+    let prefix = c.split_at_start.result.0.now in
     let shared = c.split_at_end.result.0.now in
     let rest = c.split_at_end.result.1.now in
     let is =
-    (taken c.args.runs.now front shared c.split_at_start.result.1.now rest c.args.other (c.args.other.x + c.args.other.len) c.requires.other refl c.split_at_start.ensures c.split_at_end.ensures).whole in
-    let runs : IsMaximalRuns ((front ++ shared) ++ rest) = rw is at c.requires.second in
-    let from_all = from_first (front ++ shared) rest q runs from_rest in
-    c.push_within.ensures.ended q (c.requires.order q from_other (rw is from_all)) (HaveEnded-back front shared q (front_ended (front ++ shared) rest q runs from_rest))
+    (taken c.args.runs.now prefix shared c.split_at_start.result.1.now rest c.args.other (c.args.other.x + c.args.other.len) c.requires.other refl c.split_at_start.ensures c.split_at_end.ensures).whole in
+    let runs : IsMaximalRuns ((prefix ++ shared) ++ rest) = rw is at c.requires.second in
+    let from_all = from_first (prefix ++ shared) rest q runs from_rest in
+    c.push_within.ensures.ended q (c.requires.order q from_other (rw is from_all)) (HaveEnded-back prefix shared q (prefix_ended (prefix ++ shared) rest q runs from_rest))

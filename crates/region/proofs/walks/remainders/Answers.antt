@@ -1,14 +1,14 @@
 use Rattle.std.proofs.Common.{◌≡◌, ◌∷◌, Bool, true, false, ◌||◌, ◌&&◌, ◌∙◌, arith}
 use Rattle.std.proofs.lemmas.List.{nil_from_length}
 use Rattle.region.specs.Runs.{IsMaximalRuns, in_runs}
-use Rattle.region.proofs.Gaps.{front_cells, gap_cells, next_order}
+use Rattle.region.proofs.Gaps.{prefix_cells, gap_cells, next_order}
 use Rattle.region.proofs.Order.{IsMaximalRuns-back}
 use Rattle.region.proofs.walks.remainders.Goals as goal
 
 pub returns-in_default-split_first-clause-cells : goal.returns-in_default-split_first-clause-cells
 returns-in_default-split_first-clause-cells c q =
     let inv = c.loop-cut.invariant in
-    let given = front_cells c.loop-cut.out.items c.push_before-rest.new.out.items c.loop-cut.runs.now c.push_before-rest.result.now c.loop-cut.cuts.now c.in-Some.cut.now c.in-Some.field-0-1.now
+    let given = prefix_cells c.loop-cut.out.items c.push_before-rest.new.out.items c.loop-cut.runs.now c.push_before-rest.result.now c.loop-cut.cuts.now c.in-Some.cut.now c.in-Some.field-0-1.now
     c.in-Some.ensures.cases.0 inv.second q (c.push_before-rest.ensures.cells q) (c.push_before-rest.ensures.before q) in
     let all = nil_from_length c.push_before-rest.result.now c.in_default-split_first.ensures.cases in
     or-false (in_runs c.push_before-rest.new.out.items q) ∙ rw all at given ∙ inv.cells q
@@ -40,7 +40,7 @@ loop-cut-preserved c =
       order = next_order c.push_gaps-cuts.new.out.items run others left gaps.ended;
       cells = λ q.
           gap_cells c.push_before-rest.new.out.items c.push_gaps-cuts.new.out.items c.push_before-rest.result.now c.loop-cut.cuts.now c.push_gaps-cuts.result.now run others is left q (gaps.cells q) (gaps.later q)
-          ∙ front_cells c.loop-cut.out.items c.push_before-rest.new.out.items c.loop-cut.runs.now c.push_before-rest.result.now c.loop-cut.cuts.now c.in-Some.cut.now c.in-Some.field-0-1.now
+          ∙ prefix_cells c.loop-cut.out.items c.push_before-rest.new.out.items c.loop-cut.runs.now c.push_before-rest.result.now c.loop-cut.cuts.now c.in-Some.cut.now c.in-Some.field-0-1.now
           c.in-Some.ensures.cases.0 inv.second q (before.cells q) (before.before q)
           ∙ inv.cells q;
     }

@@ -63,4 +63,4 @@ returns-in-Some-ending-clause-refused g c = λ e.
     c.in-Some-ending.ensures.strict
 
 pub returns-in-Err-clause-read : goal.returns-in-Err-clause-read
-returns-in-Err-clause-read g c = λ e. goes_read _ _ _ _ _ _ _ _ _ _ _ _ (goes_keeps _ _ _ _ _ _ _ _ _ _ c.session.invariant.goes c.flush_if.ensures) c.in-Err.ensures.unfinished refl c.in-Err.ensures.kept
+returns-in-Err-clause-read g c = λ e. goes_read _ _ _ _ _ _ _ _ _ _ _ _ (goes_keeps _ _ _ _ _ _ _ _ _ _ c.session.invariant.goes c.flush_if.ensures) c.in-Err.ensures.unfinished refl c.in-Err.ensures.within_line

@@ -1,7 +1,7 @@
 use Rattle.std.proofs.Common.{refl}
 use Rattle.edits.specs.declared.flood.Spread.{Spread}
 use Rattle.edits.specs.Flooding.{start_of}
-use Rattle.edits.proofs.Reaching.{IsSound-first, is_taken-kept, taken-first, taken-joined}
+use Rattle.edits.proofs.Reaching.{IsSound-first, is_taken-keeps, taken-first, taken-joined}
 use Rattle.edits.proofs.flood.Spread.over.Goals as goal
 
 pub take_start-requires-clause-sound : goal.take_start-requires-clause-sound
@@ -19,4 +19,4 @@ returns-clause-cells c =
     let g = c.args.ground.now in
     let joined = c.in_ok-take_joined.ensures in
     taken-joined g c.take_joined.new.self joined.sound joined.closed
-    (λ h. is_taken-kept g c.take_start.new.self c.take_joined.new.self joined.keeps (start_of g) (c.in_ok-take_start.ensures.start h))
+    (λ h. is_taken-keeps g c.take_start.new.self c.take_joined.new.self joined.keeps (start_of g) (c.in_ok-take_start.ensures.start h))

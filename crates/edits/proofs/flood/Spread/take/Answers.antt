@@ -14,7 +14,7 @@ joined_bits-bits-requires-clause-seeds c i l e =
     let both = bit_at_and c.args.seeds bits i in
     let on : bit_at bits i ≡ 1 = omega (arith, e, both, bit_at-lt bits i, bit_at-lt c.args.seeds i) in
     let seed : bit_at c.args.seeds i ≡ 1 = omega (arith, e, both, bit_at-lt bits i, bit_at-lt c.args.seeds i) in
-    (on, c.requires.led i l seed (free-opened c.args.ground.now s p (c.look_at.ensures.sound.places p) (c.look_at.ensures.seen i l) (sym (c.word-open.ensures i l) ∙ eq-eqb (bit_at bits i) 1 on)))
+    (on, c.requires.led i l seed (free-opened c.args.ground.now s p (c.look_at.ensures.sound.numbers p) (c.look_at.ensures.seen i l) (sym (c.word-open.ensures i l) ∙ eq-eqb (bit_at bits i) 1 on)))
 
 pub returns-then-bits-eq0-clause-covers : goal.returns-then-bits-eq0-clause-covers
 returns-then-bits-eq0-clause-covers c =
@@ -22,7 +22,7 @@ returns-then-bits-eq0-clause-covers c =
     let set : bit_at c.joined_bits-bits.result i ≡ 1 = c.joined_bits-bits.ensures.seeds i l e in
     let clear : bit_at c.joined_bits-bits.result i ≡ 0 = ap (λ n. bit_at n i) c.if-bits-eq0.true ∙ bit_at-zero i in
     absurd (omega (arith, set, clear)) in
-    covers-closed c.args.ground.now c.look_at.new.self c.args.word c.word-open.result c.args.seeds c.word-open.ensures c.look_at.ensures.sound.places none
+    covers-closed c.args.ground.now c.look_at.new.self c.args.word c.word-open.result c.args.seeds c.word-open.ensures c.look_at.ensures.sound.numbers none
 
 pub returns-clause-sound : goal.returns-clause-sound
 returns-clause-sound c =

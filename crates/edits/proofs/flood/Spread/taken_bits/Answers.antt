@@ -20,26 +20,26 @@ and_true false = refl
 pub returns : goal.returns
 returns c i l =
     let s = c.args.self.now in
-    let place = c.args.place in
+    let number = c.args.number in
     let stop = c.args.stop in
-    let k = place % 64 in
+    let k = number % 64 in
     let taken = c.word.result in
     let opened = c.word-2.result in
     let word : ℕ = bit_and taken (bit_not w64 opened) in
-    let mask = low_mask (stop - place) i (omega (arith, c.requires.word)) in
+    let mask = low_mask (stop - number) i (omega (arith, c.requires.word)) in
     has_and (word / 2 ^ k) _ i ∙ ap (λ b. nat_eq (bit_at (word / 2 ^ k) i) 1 && b) mask
-    ∙ elim (cases_lt i (stop - place)) [
+    ∙ elim (cases_lt i (stop - number)) [
       | inr past ↦
-          let out : nat_lt i (stop - place) ≡ false = grind (arith, nat_tests) in
-          let after : nat_lt (place + i) stop ≡ false = let far : stop ≤ place + i = omega arith in grind (arith, nat_tests) in
-          ap (λ b. nat_eq (bit_at (word / 2 ^ k) i) 1 && b) out ∙ and_false (nat_eq (bit_at (word / 2 ^ k) i) 1) ∙ sym (ap (λ b. b && taken_at s (place + i)) after)
+          let out : nat_lt i (stop - number) ≡ false = grind (arith, nat_tests) in
+          let after : nat_lt (number + i) stop ≡ false = let far : stop ≤ number + i = omega arith in grind (arith, nat_tests) in
+          ap (λ b. nat_eq (bit_at (word / 2 ^ k) i) 1 && b) out ∙ and_false (nat_eq (bit_at (word / 2 ^ k) i) 1) ∙ sym (ap (λ b. b && taken_at s (number + i)) after)
       | inl before ↦
           let bit : k + i < 64 = omega (arith, c.requires.word) in
-          let at : 64 * (place / 64) + (k + i) ≡ place + i = omega arith in
-          ap (λ b. nat_eq (bit_at (word / 2 ^ k) i) 1 && b) (lt-ltb i (stop - place) before) ∙ and_true (nat_eq (bit_at (word / 2 ^ k) i) 1)
+          let at : 64 * (number / 64) + (k + i) ≡ number + i = omega arith in
+          ap (λ b. nat_eq (bit_at (word / 2 ^ k) i) 1 && b) (lt-ltb i (stop - number) before) ∙ and_true (nat_eq (bit_at (word / 2 ^ k) i) 1)
           ∙ ap (λ b. nat_eq b 1) (shr_bit word k i) ∙ has_and taken (bit_not w64 opened) (k + i)
           ∙ ap (λ b. b && nat_eq (bit_at (bit_not w64 opened) (k + i)) 1) (c.word.ensures (k + i) bit ∙ ap (is_marked s.taken) at)
-          ∙ ap (λ b. is_marked s.taken (place + i) && b) (has_not opened (k + i) (omega arith) bit ∙ ap not (c.word-2.ensures (k + i) bit ∙ ap (is_marked s.open) at))
-          ∙ sym (taken-two s (place + i) (is_marked s.open (place + i)) (is_marked s.taken (place + i)) refl refl)
-          ∙ sym (ap (λ b. b && taken_at s (place + i)) (lt-ltb (place + i) stop (omega arith)))
+          ∙ ap (λ b. is_marked s.taken (number + i) && b) (has_not opened (k + i) (omega arith) bit ∙ ap not (c.word-2.ensures (k + i) bit ∙ ap (is_marked s.open) at))
+          ∙ sym (taken-two s (number + i) (is_marked s.open (number + i)) (is_marked s.taken (number + i)) refl refl)
+          ∙ sym (ap (λ b. b && taken_at s (number + i)) (lt-ltb (number + i) stop (omega arith)))
     ]

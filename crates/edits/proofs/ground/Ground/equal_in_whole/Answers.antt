@@ -38,14 +38,14 @@ loop-i-preserved c j l =
     let i = c.loop-i.i in
     let bits = c.loop-i.bits in
     let own = c.index-self-first.result in
-    let place = first + 63 - i in
-    let same : c.eq.result ≡ nat_eq (get_or tiles place own) value = c.eq.ensures in
-    let read : is_value (slice_get tiles place) value ≡ nat_eq (get_or tiles place own) value = ap (λ o. is_value o value) (slice_get-get_or tiles place own (omega (arith, c.requires))) in
+    let number = first + 63 - i in
+    let same : c.eq.result ≡ nat_eq (get_or tiles number own) value = c.eq.ensures in
+    let read : is_value (slice_get tiles number) value ≡ nat_eq (get_or tiles number own) value = ap (λ o. is_value o value) (slice_get-get_or tiles number own (omega (arith, c.requires))) in
     has_or (bits * 2 % 2 ^ 64) c.from.result j ∙ ap (λ n. nat_eq (bit_at (bits * 2 % 2 ^ 64) j) 1 || nat_eq (bit_at n j) 1) c.from.ensures
     ∙ elim (cases_eq j 0) [
       | inl here ↦
           let clear = ap (λ n. nat_eq n 1) (shl_low bits 1 j l (omega arith)) in
-          let at : place ≡ first + (64 - (i + 1) + j) = omega arith in
+          let at : number ≡ first + (64 - (i + 1) + j) = omega arith in
           ap (λ b. b || nat_eq (bit_at (from_bool c.eq.result) j) 1) clear ∙ ap (λ k. nat_eq (bit_at (from_bool c.eq.result) k) 1) here ∙ low_bit c.eq.result
           ∙ same ∙ sym read ∙ ap (λ k. is_value (slice_get tiles k) value) at ∙ sym (ap (λ b. b && is_value (slice_get tiles (first + (64 - (i + 1) + j))) value) (lt-ltb j (i + 1) (omega arith)))
       | inr later ↦

@@ -4,7 +4,7 @@ use Rattle.std.proofs.lemmas.Bool.{cases_lt}
 use Rattle.std.proofs.lemmas.Nat.{le_or_l}
 use Rattle.std.proofs.lemmas.Nat.Bits.{bit_at_above}
 use Rattle.edits.proofs.Flooded.{IsLed-step}
-use Rattle.edits.proofs.Marking.{other_no, other_yes, stepped-from, stepped-kept, stepped-left, stepped-right}
+use Rattle.edits.proofs.Marking.{other_no, other_yes, stepped-from, stepped-keeps, stepped-left, stepped-right}
 use Rattle.edits.proofs.ground.Ground.joined_bits.Goals as goal
 
 pub loop-next-preserved : goal.loop-next-preserved
@@ -20,7 +20,7 @@ loop-next-preserved c =
     let yes = λ (i : ℕ) (l : i < 64) (e : bit_at inner i ≡ 1). other_yes starts i ((first + i) % g.width) (omega arith) l (c.row_starts-inner.ensures i l) e in
     let no = λ (i : ℕ) (l : i < 64) (e : (first + i) % g.width ≢ 0). other_no starts i ((first + i) % g.width) (omega arith) l (c.row_starts-inner.ensures i l) e in
     record {
-      seeds = λ i l e. stepped-kept next inner mask i l (inv.seeds i l e);
+      seeds = λ i l e. stepped-keeps next inner mask i l (inv.seeds i l e);
       led = λ i l e. elim (stepped-from next inner mask i l e) [
         | inl own ↦ inv.led i l own
         | inr (on, inl k) ↦

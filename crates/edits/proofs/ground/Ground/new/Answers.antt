@@ -1,7 +1,7 @@
 use Rattle.std.proofs.Common.{◌/◌, length, refl}
 use Rattle.std.proofs.lemmas.List.{get_or_read}
 use Rattle.edits.specs.declared.ground.Ground.{Ground}
-use Rattle.edits.proofs.SelectedPlaces.{IsGroundOf-made, place_of}
+use Rattle.edits.proofs.SelectedNumbers.{IsGroundOf-made, number_of}
 use Rattle.edits.proofs.ground.Ground.new.Goals as goal
 
 pub returns : goal.returns
@@ -17,5 +17,5 @@ returns c =
       value = c.index-tiles-y.result;
       selection = c.args.selection;
     } in
-    let own = get_or_read tiles _ c.index-tiles-y.result (place_of g x y c.requires) c.index-tiles-y.is 0 in
+    let own = get_or_read tiles _ c.index-tiles-y.result (number_of g x y c.requires) c.index-tiles-y.is 0 in
     IsGroundOf-made g x y c.requires refl refl refl own

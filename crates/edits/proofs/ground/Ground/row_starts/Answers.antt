@@ -8,40 +8,40 @@ use Rattle.edits.proofs.Marking.{found-more, found-none, has_one}
 use Rattle.edits.proofs.ground.Ground.row_starts.Goals as goal
 use Rattle.edits.proofs.ground.Ground.row_starts.Goals.{then-past-eq0, else-past-eq0}
 
-pub loop-place-init : goal.loop-place-init
-loop-place-init c =
+pub loop-number-init : goal.loop-number-init
+loop-number-init c =
     let w = c.args.self.now.width in
     let first = 64 * c.args.word in
     let y = c.args.word * 64 / w in
     let own = div-add-mod' (c.args.word * 64) w in
     let past = mod_below (c.args.word * 64) w (omega (arith, c.requires.ground.column)) in
-    let place = c.if-past-eq0.place in
-    let at : ((k : ℕ) × (first + place ≡ k * w)) × ((i : ℕ) → i < place → (y * w < first + i) × (first + i < y * w + w)) =
+    let number = c.if-past-eq0.number in
+    let at : ((k : ℕ) × (first + number ≡ k * w)) × ((i : ℕ) → i < number → (y * w < first + i) × (first + i < y * w + w)) =
     elim c.if-past-eq0.branch [
-      | then-past-eq0 v ↦ let here = v.if-past-eq0.true in let zero = v.place-is in ((y, omega (arith, own, here, zero)), λ i l. absurd (omega (arith, zero)))
-      | else-past-eq0 v ↦ let here = v.if-past-eq0.false in let next = v.place-is in
+      | then-past-eq0 v ↦ let here = v.if-past-eq0.true in let zero = v.number-is in ((y, omega (arith, own, here, zero)), λ i l. absurd (omega (arith, zero)))
+      | else-past-eq0 v ↦ let here = v.if-past-eq0.false in let next = v.number-is in
           ((suc y, omega (arith, own, past, next)), λ i l. (omega (arith, own, past, here, next), omega (arith, own, past, next)))
     ] in (
       at.0,
       λ i l. ap (λ b. nat_eq b 1) (bit_at-zero i)
-          ∙ found-none (nat_lt i place) (nat_eq ((first + i) % w) 0) (λ h. let b = at.1 i (ltb-true i place h) in no_row_start w (first + i) y b.0 b.1),
+          ∙ found-none (nat_lt i number) (nat_eq ((first + i) % w) 0) (λ h. let b = at.1 i (ltb-true i number h) in no_row_start w (first + i) y b.0 b.1),
     )
 
-pub loop-place-preserved : goal.loop-place-preserved
-loop-place-preserved c =
+pub loop-number-preserved : goal.loop-number-preserved
+loop-number-preserved c =
     let w = c.args.self.now.width in
     let first = 64 * c.args.word in
-    let place = c.loop-place.place in
-    let y = c.loop-place.invariant.0.0 in
-    let here : first + place ≡ y * w = c.loop-place.invariant.0.1 in
+    let number = c.loop-number.number in
+    let y = c.loop-number.invariant.0.0 in
+    let here : first + number ≡ y * w = c.loop-number.invariant.0.1 in
     let some : 0 < w = omega (arith, c.requires.ground.column) in (
       (suc y, omega (arith, here)),
-      λ i l. has_one c.loop-place.starts place i (omega arith) l
-          ∙ ap (λ b. b || nat_eq place i) (c.loop-place.invariant.1 i l)
-          ∙ found-more (nat_lt i place) (nat_eq ((first + i) % w) 0) (nat_eq place i) (nat_lt i (place + w))
-          (λ h. let before = ltb-true i place h in (let differ : nat_eq place i ≡ false = grind (arith, nat_tests) in differ, lt-ltb i (place + w) (omega arith)))
-          (λ h. let same = eqb-true place i h in (row_start w (first + i) y some (omega (arith, here)), lt-ltb i (place + w) (omega arith)))
-          (λ a e b. let under = ltb-true i (place + w) b in
-          let past : place < i = grind (arith, nat_tests) in
+      λ i l. has_one c.loop-number.starts number i (omega arith) l
+          ∙ ap (λ b. b || nat_eq number i) (c.loop-number.invariant.1 i l)
+          ∙ found-more (nat_lt i number) (nat_eq ((first + i) % w) 0) (nat_eq number i) (nat_lt i (number + w))
+          (λ h. let before = ltb-true i number h in (let differ : nat_eq number i ≡ false = grind (arith, nat_tests) in differ, lt-ltb i (number + w) (omega arith)))
+          (λ h. let same = eqb-true number i h in (row_start w (first + i) y some (omega (arith, here)), lt-ltb i (number + w) (omega arith)))
+          (λ a e b. let under = ltb-true i (number + w) b in
+          let past : number < i = grind (arith, nat_tests) in
           no_row_start w (first + i) y (omega (arith, here)) (omega (arith, here))),
     )

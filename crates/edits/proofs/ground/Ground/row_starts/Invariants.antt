@@ -2,11 +2,11 @@ use Rattle.std.proofs.Common.{◌≡◌, ℕ, ◌+◌, ◌-◌, ◌*◌, ◌%◌
 use Rattle.std.specs.Int.{bit_at}
 use Rattle.edits.proofs.ground.Ground.row_starts.Given as goal
 
--- the place is that of a row's start, and the starts before it are found
-abbrev pub invariant-loop-place : goal.invariant-loop-place
-invariant-loop-place l =
-    ((k : ℕ) × (64 * l.word + l.place ≡ k * l.self.width))
-    × ((i : ℕ) → i < 64 → nat_eq (bit_at l.starts i) 1 ≡ (nat_lt i l.place && nat_eq ((64 * l.word + i) % l.self.width) 0))
+-- the number is that of a row's start, and the starts before it are found
+abbrev pub invariant-loop-number : goal.invariant-loop-number
+invariant-loop-number l =
+    ((k : ℕ) × (64 * l.word + l.number ≡ k * l.self.width))
+    × ((i : ℕ) → i < 64 → nat_eq (bit_at l.starts i) 1 ≡ (nat_lt i l.number && nat_eq ((64 * l.word + i) % l.self.width) 0))
 
-abbrev pub decreases-loop-place : goal.decreases-loop-place
-decreases-loop-place l = 64 - l.place
+abbrev pub decreases-loop-number : goal.decreases-loop-number
+decreases-loop-number l = 64 - l.number

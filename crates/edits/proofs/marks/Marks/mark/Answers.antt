@@ -22,7 +22,7 @@ loop-word-preserved c =
     let high : ((at ≡ last / 64) × (c.if-word-last.high ≡ last % 64)) ⊎ ((at ≢ last / 64) × (c.if-word-last.high ≡ 63)) =
     elim c.if-word-last.branch [ then-word-last w ↦ inl (w.if-word-last.true, w.high-is) | else-word-last w ↦ inr (w.if-word-last.false, w.high-is) ] in
     let word = get_or_read words at c.index_mut.result.now inside c.index_mut.ensures.value 0 in
-    let kept = λ (k : ℕ) (apart : at ≢ k / 64). has_bit-set_other words at (bit_or c.index_mut.result.now bits) k apart in
+    let unchanged = λ (k : ℕ) (apart : at ≢ k / 64). has_bit-set_other words at (bit_or c.index_mut.result.now bits) k apart in
     let here = λ (k : ℕ) (e : at ≡ k / 64).
     ap (λ v. has_bit (set words at (bit_or v bits)) k) word
     ∙ has_bit-set_or words at bits k inside e
@@ -30,8 +30,8 @@ loop-word-preserved c =
     ∙ between-word first c.args.end at c.if-word-first.low c.if-word-last.high k (omega arith) (omega arith) (omega arith) low high (sym e)) in (
       length-set words at (bit_or c.index_mut.result.now bits) ∙ c.loop-word.invariant.0,
       λ k l. elim (cases_lt k (64 * at)) [
-        | inl below ↦ kept k (omega arith) ∙ c.loop-word.invariant.1 k below
+        | inl below ↦ unchanged k (omega arith) ∙ c.loop-word.invariant.1 k below
         | inr from ↦ here k (omega arith) ∙ ap (λ b. b || is_between first c.args.end k) (c.loop-word.invariant.2 k from)
       ],
-      λ k l. kept k (omega arith) ∙ c.loop-word.invariant.2 k (omega arith),
+      λ k l. unchanged k (omega arith) ∙ c.loop-word.invariant.2 k (omega arith),
     )

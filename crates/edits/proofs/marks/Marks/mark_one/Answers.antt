@@ -8,6 +8,6 @@ use Rattle.edits.proofs.marks.Marks.mark_one.Goals as goal
 pub returns-clause-marks : goal.returns-clause-marks
 returns-clause-marks c k =
     let words = c.args.self.now.words.items in
-    let place = c.args.place in
-    let word = get_or_read words (place / 64) c.index_mut.result.now (omega arith) c.index_mut.ensures.value 0 in
-    ap (λ v. has_bit (set words (place / 64) (bit_or v (1 * 2 ^ (place % 64) % 2 ^ 64))) k) word ∙ has_bit-set_one words place k (omega arith)
+    let number = c.args.number in
+    let word = get_or_read words (number / 64) c.index_mut.result.now (omega arith) c.index_mut.ensures.value 0 in
+    ap (λ v. has_bit (set words (number / 64) (bit_or v (1 * 2 ^ (number % 64) % 2 ^ 64))) k) word ∙ has_bit-set_one words number k (omega arith)

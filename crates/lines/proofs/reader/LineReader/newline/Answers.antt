@@ -1,6 +1,6 @@
 use Rattle.std.proofs.Common.{◌-◌, arith, ap, slice_range}
 use Rattle.lines.proofs.Newlines.{none_at_all, cut_at_first}
-use Rattle.lines.proofs.Parts.{length-range}
+use Rattle.lines.proofs.Ranges.{length-range}
 use Rattle.lines.proofs.reader.LineReader.newline.Goals as goal
 
 pub returns-then-self-clause-none : goal.returns-then-self-clause-none

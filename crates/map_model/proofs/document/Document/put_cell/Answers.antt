@@ -5,19 +5,19 @@ use Rattle.map_model.specs.CellEdits.{with_value}
 use Rattle.map_model.specs.Lookups.{HasTiles}
 use Rattle.map_model.specs.WellFormed.{IsTileValue}
 use Rattle.map_model.proofs.CellEdits.{with_value-keeps}
-use Rattle.map_model.proofs.Keeps.{place-within, with_tiles-keeps}
+use Rattle.map_model.proofs.Keeps.{number-within, with_tiles-keeps}
 use Rattle.map_model.proofs.Selections.{selection-IsSelectionOf}
 use Rattle.map_model.proofs.document.Document.put_cell.Goals as goal
 
-pub set_in-requires-clause-place : goal.set_in-requires-clause-place
-set_in-requires-clause-place c =
+pub set_in-requires-clause-number : goal.set_in-requires-clause-number
+set_in-requires-clause-number c =
     let m = c.self-inside.inside.0.0.parts in
     let is : m ≡ c.args.self.now.map = ap (λ (i : Inside). i.map) c.self-inside.view_is ∙ ap (λ (d : DocumentParts). d.map) c.self.view_is in
     let tiles : HasTiles m c.args.layer = rw is c.requires.tiles in
     let column : c.args.x < m.width = rw is c.requires.column in
     let row : c.args.y < m.height = rw is c.requires.row in
     let at : c.index-at.result ≡ c.args.y * m.width + c.args.x = search rules in
-    place-within m c.args.layer c.args.x c.args.y c.index-at.result at column row tiles c.self-inside.invariant
+    number-within m c.args.layer c.args.x c.args.y c.index-at.result at column row tiles c.self-inside.invariant
 
 pub invariant_of-self-inside : goal.invariant_of-self-inside
 invariant_of-self-inside c =

@@ -5,17 +5,17 @@ use Rattle.map_model.specs.CellEdits.{put_values}
 use Rattle.map_model.specs.Lists.{Each}
 use Rattle.map_model.specs.Lookups.{HasTiles, IsWithin}
 use Rattle.map_model.proofs.CellEdits.{put_values-keeps}
-use Rattle.map_model.proofs.Keeps.{places-within, with_tiles-keeps}
+use Rattle.map_model.proofs.Keeps.{numbers-within, with_tiles-keeps}
 use Rattle.map_model.proofs.Selections.{selection-IsSelectionOf}
 use Rattle.map_model.proofs.document.Document.put_edits.Goals as goal
 
-pub put_in-requires-clause-places : goal.put_in-requires-clause-places
-put_in-requires-clause-places c =
+pub put_in-requires-clause-numbers : goal.put_in-requires-clause-numbers
+put_in-requires-clause-numbers c =
     let m = c.self-inside.inside.0.0.parts in
     let is : m ≡ c.args.self.now.map = ap (λ (i : Inside). i.map) c.self-inside.view_is ∙ ap (λ (d : DocumentParts). d.map) c.self.view_is in
     let tiles : HasTiles m c.args.layer = rw is c.requires.tiles in
     let inside : Each (IsWithin m) c.args.edits.now = rw is c.requires.inside in
-    places-within m c.args.layer c.args.edits.now inside tiles c.self-inside.invariant
+    numbers-within m c.args.layer c.args.edits.now inside tiles c.self-inside.invariant
 
 pub invariant_of-self-inside : goal.invariant_of-self-inside
 invariant_of-self-inside c =
