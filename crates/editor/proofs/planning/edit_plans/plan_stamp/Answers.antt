@@ -11,14 +11,14 @@ pub stamp-requires : goal.stamp-requires
 stamp-requires c =
     let x : SFits w32 c.args.block.now.x = search rules in
     let y : SFits w32 c.args.block.now.y = search rules in
-    rw (c.as_slice.ensures.value, c.in-Ok.ensures, to_z-of_z w32 c.args.block.now.x x, to_z-of_z w32 c.args.block.now.y y)
+    rw (c.as_slice.ensures, c.in-Ok.ensures, to_z-of_z w32 c.args.block.now.x x, to_z-of_z w32 c.args.block.now.y y)
     (stamp-IsBlock c.args.layer c.args.block.now.x c.args.block.now.y c.args.block.now.width c.args.block.now.values.now c.args.follows c.requires)
 
 pub returns : goal.returns
 returns c =
     let x : SFits w32 c.args.block.now.x = search rules in
     let y : SFits w32 c.args.block.now.y = search rules in
-    let command = rw (c.as_slice.ensures.value, c.in-Ok.ensures, to_z-of_z w32 c.args.block.now.x x, to_z-of_z w32 c.args.block.now.y y) at c.stamp.ensures.command in
-    let refusal = rw (c.as_slice.ensures.value, c.in-Ok.ensures, to_z-of_z w32 c.args.block.now.x x, to_z-of_z w32 c.args.block.now.y y) at c.stamp.ensures.refusal in
+    let command = rw (c.as_slice.ensures, c.in-Ok.ensures, to_z-of_z w32 c.args.block.now.x x, to_z-of_z w32 c.args.block.now.y y) at c.stamp.ensures.command in
+    let refusal = rw (c.as_slice.ensures, c.in-Ok.ensures, to_z-of_z w32 c.args.block.now.x x, to_z-of_z w32 c.args.block.now.y y) at c.stamp.ensures.refusal in
     rw c.planned.ensures
     (mapped-PlansEdit Paint (stamp_names c.args.layer c.args.follows) c.args.document.now _ c.stamp.result c.map.result command refusal c.map.ensures.cases)
