@@ -25,7 +25,7 @@ session-preserved g c =
       sound = c.in-Some.ensures.sound;
       ended = c.in-Ok-Some.ensures.ended;
       goes = goes_replied _ _ _ _ _ _ _ _ _ _ _ _ _ _ _ (goes_keeps _ _ _ _ _ _ _ _ _ _ c.session.invariant.goes c.flush_if.ensures) (rw c.in-Ok-Some.field-0-is at c.in-Ok-Some.ensures.found)
-          (rw c.line.ensures at c.in-Some.ensures.step) (at_ok _ (sym c.is_err-in-session.ensures.value ∙ c.if-is_err-2.false) c.write_reply.ensures.ok) (λ e. sym c.refusal.ensures ∙ c.in_default-ending.ensures.none e);
+          (rw c.line.ensures at c.in-Some.ensures.step) (at_ok _ (sym c.is_err-in-session.ensures.value ∙ c.if-is_err-2.false) c.write_reply.ensures.ok) (λ e. sym c.refusal-refusal.ensures ∙ c.in_default-ending.ensures.none e);
       bounded = omega (arith, c.session.invariant.bounded);
       few = omega (arith, c.session.invariant.few);
     }
@@ -56,7 +56,7 @@ returns-in-Ok-None-clause-unsaved g c = λ e.
 
 pub returns-in-Some-ending-clause-refused : goal.returns-in-Some-ending-clause-refused
 returns-in-Some-ending-clause-refused g c = λ e.
-    let is = refusal_of-Some _ _ (sym c.refusal.ensures ∙ c.in-Some-ending.ensures.some) in
+    let is = refusal_of-Some _ _ (sym c.refusal-refusal.ensures ∙ c.in-Some-ending.ensures.some) in
     goes_refused _ _ _ _ _ _ _ _ _ _ _ _ _ _ _ (goes_keeps _ _ _ _ _ _ _ _ _ _ c.session.invariant.goes c.flush_if.ensures) (rw c.in-Ok-Some.field-0-is at c.in-Ok-Some.ensures.found)
     (rw (c.line.ensures, is) at c.in-Some.ensures.step)
     (keeps_appends _ _ _ _ (rw is at (at_ok _ (sym c.is_err-in-session.ensures.value ∙ c.if-is_err-2.false) c.write_reply.ensures.ok)) c.end_refused.ensures)
