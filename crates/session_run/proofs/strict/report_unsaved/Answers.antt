@@ -1,5 +1,4 @@
 use Rattle.std.proofs.Common.{rules}
-use Rattle.undo_group.specs.Stacks.{group_of}
 use Rattle.undo_stack.specs.Stacks.{history}
 use Rattle.session_run.proofs.Endings.{all-IsReported, clean-IsReported, found-IsCleanNamed, missing-IsCleanNamed, none-IsReported, unsaved-IsReported}
 use Rattle.session_run.proofs.strict.report_unsaved.Goals as goal
