@@ -43,7 +43,7 @@ fn collected(alloc: Global, values: &Gids<'_>) -> Result<SmallVec<Gid, FEW_VALUE
     let mut collected = SmallVec::new(alloc);
     collected.reserve(values.len())?;
     for value in values.values() {
-        collected.push(value)?;
+        collected.push_reserved(value);
     }
     Ok(collected)
 }
