@@ -1,5 +1,8 @@
 /* The map editor as a library: a session in memory, which does the lines that docs/session-lines.md lists.
  *
+ * SPDX-License-Identifier: MIT OR Apache-2.0
+ * Copyright (c) 2026 the Roskevad authors
+ *
  * Call the functions whose names begin with `roskevad_editor_`. They are `static inline`, and give the library an address also where you
  * have none: a null pointer is fine with them where the length is 0.
  *
@@ -28,7 +31,7 @@ extern "C" {
 #endif
 
 /* The version of this header. `roskevad_version` gives that of the library. */
-#define ROSKEVAD_VERSION "0.1.0"
+#define ROSKEVAD_VERSION "0.2.0"
 
 /* The greatest undo limit. */
 #define ROSKEVAD_GREATEST_LIMIT 1000000

@@ -6,11 +6,11 @@ import zipfile
 from pathlib import Path
 
 HERE = Path(__file__).resolve().parent
-NAME, VERSION = 'roskevad', '0.1.0'
+NAME, VERSION = 'roskevad', '0.2.0'
 INFO = f'{NAME}-{VERSION}.dist-info'
 SUFFIXES = {'.py', '.html', '.css', '.js'}
 TAG = 'py3-none-manylinux2014_x86_64'
-METADATA = f'Metadata-Version: 2.1\nName: {NAME}\nVersion: {VERSION}\nRequires-Python: >=3.9\n'
+METADATA = f'Metadata-Version: 2.1\nName: {NAME}\nVersion: {VERSION}\nLicense: MIT OR Apache-2.0\nRequires-Python: >=3.9\n'
 WHEEL = f'Wheel-Version: 1.0\nGenerator: {NAME}\nRoot-Is-Purelib: false\nTag: {TAG}\n'
 
 

@@ -54,7 +54,7 @@ fn table_arg<'a>(alloc: Global) -> Result<Arg<'a>, AllocError> {
 // The command with its options.
 fn whole_command<'a>(alloc: Global) -> Result<Command<'a>, AllocError> {
     let with_files = Command::new(alloc, "map_report")
-        .version("0.1.0")
+        .version("0.2.0")
         .about(ABOUT)
         .after_help(AFTER_HELP)
         .arg(file_arg(alloc)?)?;
