@@ -9,9 +9,9 @@ pub mod Texts
 pub mod Pushes
 pub mod Levels
 pub mod Joins
-pub mod Stacks
 pub mod Macros
 pub mod Targets
-pub mod Merges
 pub mod Calm
 pub mod Reports
+pub mod Held
+pub mod Innermost

@@ -1,0 +1,9 @@
+use Rattle.std.proofs.Common.{refl}
+use Rattle.undo_stack.specs.Moving.{undo_answer_at}
+use Rattle.undo_stack.proofs.Views.{outside-open}
+use Rattle.undo_stack.proofs.stack.Stack.undo.Goals as goal
+
+pub returns-then-is_open-clause-step : goal.returns-then-is_open-clause-step
+returns-then-is_open-clause-step g c =
+    let s = c.args.self.now in
+    record { answered = outside-open g.C.Command.change s.sequences.levels.items s.document (undo_answer_at s.sequences.steps.index) c.if-is_open.ensures; leads = refl }
