@@ -8,7 +8,7 @@ use Rattle.map_model.specs.Document.{DocumentParts}
 use Rattle.command_api.specs.Law.{Change, is_free}
 use Rattle.undo_stack.specs.History.{Step, History, step_named, last_after}
 use Rattle.undo_stack.specs.Pushing.{up_to}
-use Rattle.undo_stack.specs.Calm.{IsGone, NoneFree}
+use Rattle.undo_stack.specs.Calm.{is_gone, IsGone, NoneFree}
 use Rattle.undo_stack.specs.Held.{Becomes, IsHeld, IsHeldButAt, IsDroppedAt}
 use Rattle.undo_stack.specs.Entries.{entry_change, nesting}
 use Rattle.undo_stack.specs.Sequence.{before, steps_down, steps_up, steps_of, FitsDown, FitsUp}
@@ -84,14 +84,17 @@ module _ {C : Type 0} (f : C → Change) (es : List (Entry C)) (v : Entry C) (j 
   long : length below ≡ j
   long = length-down k (take j es) d ∙ length-take-le j es within
 
+  same_view : (clean : Option ℕ) (limit : ℕ) (h : History) → h ≡ record { base = before k (take j es) d; steps = below ++ step ∷ above; position = h.position; clean = clean; limit = limit; levels = [] }
+      → history_of f d (remove es j) j (up_to j clean) limit [] ≡ without_step j h
+  same_view clean limit h is =
+      rw (take-remove es j within, drop-remove es j within)
+      (sym (ap (without_step j) is ∙ ap (λ (ss : List Step). record { base = before k (take j es) d; steps = ss; position = j; clean = up_to j clean; limit = limit; levels = [] }) (remove-between below above step j long)))
+
   left_view : (clean : Option ℕ) (limit : ℕ) (h : History) → h ≡ record { base = before k (take j es) d; steps = below ++ step ∷ above; position = h.position; clean = clean; limit = limit; levels = [] }
       → Drops j h h (history_of f d (remove es j) j (up_to j clean) limit [])
   left_view clean limit h is =
       let may : MayGo j h = may_go h below above step j d (ap (λ (x : History). x.steps) is) long (ap (λ (x : History). last_after x.base below) is ∙ last_after-down k (take j es) d) refl gone.free in
-      let same : history_of f d (remove es j) j (up_to j clean) limit [] ≡ without_step j h =
-      rw (take-remove es j within, drop-remove es j within)
-      (sym (ap (without_step j) is ∙ ap (λ (ss : List Step). record { base = before k (take j es) d; steps = ss; position = j; clean = up_to j clean; limit = limit; levels = [] }) (remove-between below above step j long))) in
-      inr (may, same)
+      inr (may, same_view clean limit h is)
 
   left_sound : (clean : Option ℕ) → FitsDown k (take j es) d → FitsUp k (drop (j + 1) es) d → IsTurnable f d (remove es j) j (up_to j clean)
   left_sound clean down up =
@@ -117,6 +120,9 @@ module _ {C : Type 0} (f : C → Change) (es : List (Entry C)) (v : Entry C) (j 
     view_up : (clean : Option ℕ) (limit : ℕ) → Drops j (history_of f d es j clean limit []) (history_of f d es j clean limit []) (history_of f d (remove es j) j (up_to j clean) limit [])
     view_up clean limit = left_view clean limit (history_of f d es j clean limit []) (rw (drop_first es v j inside at, same_up) refl)
 
+    same_view_up : (clean : Option ℕ) (limit : ℕ) → history_of f d (remove es j) j (up_to j clean) limit [] ≡ without_step j (history_of f d es j clean limit [])
+    same_view_up clean limit = same_view clean limit (history_of f d es j clean limit []) (rw (drop_first es v j inside at, same_up) refl)
+
   -- the entry was redone: it is the last one below
   module _ (down : FitsDown k (take (j + 1) es) d) where
     next_down : FitsDown k (take j es) ((k v).undone d) × (k v).fits_undo d
@@ -128,17 +134,23 @@ module _ {C : Type 0} (f : C → Change) (es : List (Entry C)) (v : Entry C) (j 
     rest_down : FitsDown k (take j es) d
     rest_down = rw same_down at next_down.0
 
-    view_down : (clean : Option ℕ) (limit : ℕ) → Drops j (history_of f d es (j + 1) clean limit []) (history_of f d es (j + 1) clean limit []) (history_of f d (remove es j) j (up_to j clean) limit [])
-    view_down clean limit =
+    whole_down : (clean : Option ℕ) (limit : ℕ) → history_of f d es (j + 1) clean limit [] ≡ record { base = before k (take j es) d; steps = below ++ step ∷ above; position = j + 1; clean = clean; limit = limit; levels = [] }
+    whole_down clean limit =
         let base : before k (take (j + 1) es) d ≡ before k (take j es) d = ap (λ r. before k r d) (take_last es v j inside at) ∙ before-append k (take j es) v d ∙ ap (before k (take j es)) same_down in
         let steps : steps_of k es (j + 1) d ≡ below ++ step ∷ above =
         ap (λ r. steps_down k r d ++ above) (take_last es v j inside at)
         ∙ ap (λ ss. ss ++ above) (steps_down-append k (take j es) v d ∙ ap (λ e. steps_down k (take j es) e ++ step ∷ []) same_down)
         ∙ append_assoc below (step ∷ []) above in
-        left_view clean limit (history_of f d es (j + 1) clean limit []) (rw (base, steps) refl)
+        rw (base, steps) refl
+
+    view_down : (clean : Option ℕ) (limit : ℕ) → Drops j (history_of f d es (j + 1) clean limit []) (history_of f d es (j + 1) clean limit []) (history_of f d (remove es j) j (up_to j clean) limit [])
+    view_down clean limit = left_view clean limit (history_of f d es (j + 1) clean limit []) (whole_down clean limit)
+
+    same_view_down : (clean : Option ℕ) (limit : ℕ) → history_of f d (remove es j) j (up_to j clean) limit [] ≡ without_step j (history_of f d es (j + 1) clean limit [])
+    same_view_down clean limit = same_view clean limit (history_of f d es (j + 1) clean limit []) (whole_down clean limit)
 
 -- ---- a sequence q, of which p is what is left without the entry at the number j
-module _ {C : Type 0} (f : C → Change) (q p : Sequence C) (v : Entry C) (j : ℕ) (inside : j < length q.entries.items) (at : v ≡ get_or q.entries.items j v) (gone : IsGone (entry_change f v)) (w : Becomes q (remove q.entries.items j) j (up_to j q.clean) p)
+module _ {C : Type 0} (f : C → Change) (q p : Sequence C) (v : Entry C) (j : ℕ) (inside : j < length q.entries.items) (at : v ≡ get_or q.entries.items j v) (goes : true ≡ is_gone (entry_change f v)) (gone : IsGone (entry_change f v)) (w : Becomes q (remove q.entries.items j) j (up_to j q.clean) p)
     (d : DocumentParts) (h : IsHeldButAt f d j q) where
   left : FitsDown (entry_change f) (take j q.entries.items) d → FitsUp (entry_change f) (drop (j + 1) q.entries.items) d → IsHeld f d p
   left down up =
@@ -157,6 +169,11 @@ module _ {C : Type 0} (f : C → Change) (q p : Sequence C) (v : Entry C) (j : �
       record {
         held = left down (rest_up f q.entries.items v j d inside at gone up);
         dropped = rw (seen f q p (remove q.entries.items j) j (up_to j q.clean) w d, index) (view_up f q.entries.items v j d inside at gone up q.clean q.limit);
+        entry = v;
+        was = at;
+        left = rw (← goes, seen f q p (remove q.entries.items j) j (up_to j q.clean) w d, index) (same_view_up f q.entries.items v j d inside at gone up q.clean q.limit);
+        below = rw (w.entries, take-remove q.entries.items j (omega (arith, inside))) refl;
+        above = λ next. absurd (omega (arith, index, next));
       }
 
   pub below_gone : q.index ≡ j + 1 → IsDroppedAt f d j q p
@@ -166,4 +183,9 @@ module _ {C : Type 0} (f : C → Change) (q p : Sequence C) (v : Entry C) (j : �
       record {
         held = left (rest_down f q.entries.items v j d inside at gone down) up;
         dropped = rw (seen f q p (remove q.entries.items j) j (up_to j q.clean) w d, index) (view_down f q.entries.items v j d inside at gone down q.clean q.limit);
+        entry = v;
+        was = at;
+        left = rw (← goes, seen f q p (remove q.entries.items j) j (up_to j q.clean) w d, index) (same_view_down f q.entries.items v j d inside at gone down q.clean q.limit);
+        below = rw (w.entries, take-remove q.entries.items j (omega (arith, inside))) refl;
+        above = λ next. rw (w.index, w.entries, drop-remove q.entries.items j (omega (arith, inside))) refl;
       }

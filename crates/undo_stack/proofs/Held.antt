@@ -9,12 +9,12 @@ use Rattle.command_api.specs.Law.{Change, IsSame, IsLawful, IsRedone, is_free}
 use Rattle.undo_stack.specs.History.{step_named, History, current}
 use Rattle.undo_stack.specs.Pushing.{cut, limited_to, lowered, up_to, with_added, Merges, step_of, IsPushed, next_of}
 use Rattle.undo_stack.specs.Sequence.{FitsDown, IsMoved}
-use Rattle.undo_stack.specs.Calm.{IsLive, NoneFree}
+use Rattle.undo_stack.specs.Calm.{is_gone, IsLive, NoneFree}
 use Rattle.undo_stack.specs.Moving.{positioned}
 use Rattle.undo_stack.specs.Entries.{entry_change, nesting, greatest}
 use Rattle.undo_stack.specs.Held.{Becomes, IsCut, history_at, target_in, IsSoundAt, IsHeld, IsHeldToLast, IsHeldButAt, IsUnchangedAt, IsTakenInto, MergesInto, IsSettledAt, IsDroppedAt}
 use Rattle.undo_stack.specs.Merging.{MergesChange, HasTarget}
-use Rattle.undo_stack.specs.Reporting.{TakesIn, EndsIn, IsReportedAt, last_entry, reports}
+use Rattle.undo_stack.specs.Reporting.{TakesIn, EndsIn, IsReportedAt, last_entry, left_by, reports}
 use Rattle.undo_stack.specs.Sound.{history_of, IsAtMost, IsTurnable, sequence_nesting}
 use Rattle.undo_stack.specs.declared.entry.Entry.{Entry}
 use Rattle.undo_stack.specs.declared.limits.TheConstants.{MAX_DEPTH, MAX_LIMIT}
@@ -302,10 +302,15 @@ module _ {C : Type 0} (f : C → Change) where
       record { sound = s; live = live_none_free f p.entries.items all; none_free = λ none. all }
 
   -- the entry at a number stays, where it is live
-  pub kept_at : (d : DocumentParts) (at : ℕ) (q : Sequence C) (v : Entry C) → at < length q.entries.items → v ≡ get_or q.entries.items at v → IsLive (entry_change f v) → IsHeldButAt f d at q → IsDroppedAt f d at q q
-  kept_at d at q v inside is live h = record {
+  pub kept_at : (d : DocumentParts) (at : ℕ) (q : Sequence C) (v : Entry C) → at < length q.entries.items → v ≡ get_or q.entries.items at v → false ≡ is_gone (entry_change f v) → IsLive (entry_change f v) → IsHeldButAt f d at q → IsDroppedAt f d at q q
+  kept_at d at q v inside is stays live h = record {
     held = record { sound = h.sound; live = live_again f q.entries.items v at inside is live h.live; none_free = h.none_free };
     dropped = inl refl;
+    entry = v;
+    was = is;
+    left = ap (λ (b : Bool). left_by b at (history_at f d q) (history_at f d q)) stays;
+    below = refl;
+    above = λ index. ap (λ (n : ℕ). drop n q.entries.items) index;
   }
 
   -- ---- a push, by what became of the command when it was redone

@@ -17,7 +17,7 @@ use Rattle.undo_stack.specs.Lending.{innermost_of, innermost, with_innermost_of,
 use Rattle.undo_stack.specs.Held.{IsHeld, history_at, target_in}
 use Rattle.undo_stack.specs.Reporting.{IsReportedAt, reports}
 use Rattle.undo_stack.specs.Sound.{Inner, IsAtMost, start_of, history_of, sequence_nesting, level_nesting}
-use Rattle.undo_stack.specs.Stacks.{inner_of, inners, history, AreHeld, AreReady, Holds, IsClosed, IsDone, IsReady, IsReported, target_entry}
+use Rattle.undo_stack.specs.Stacks.{inner_of, inners, history, AreHeld, AreReady, Holds, IsClosed, IsDone, IsReady, IsReported, target_entry, IsCalm, LevelsAreLive}
 use Rattle.undo_stack.specs.declared.entry.Entry.{Entry}
 use Rattle.undo_stack.specs.declared.level.Level.{Level}
 use Rattle.undo_stack.specs.declared.limits.TheConstants.{MAX_DEPTH, MAX_LIMIT}
@@ -197,6 +197,14 @@ module _ {C : Type 0} (f : C → Change) (s : Stack C) (none : s.sequences.level
 pub closed_step : {C : Type 0} (f : C → Change) (R : History → History → Type 0) (s t : Stack C) → s.sequences.levels.items ≡ [] → t.sequences.levels.items ≡ [] → R (history_at f s.document s.sequences.steps) (history_at f t.document t.sequences.steps) → R (history f s) (history f t)
 closed_step f R s t none none_too r =
     subst (λ (h : History). R h (history f t)) (sym (closed_history f s none)) (subst (R (history_at f s.document s.sequences.steps)) (sym (closed_history f t none_too)) r)
+
+-- ---- a stack that holds is calm
+AreHeld-LevelsAreLive : {C : Type 0} (f : C → Change) (ls : List (Level C)) (d : DocumentParts) → AreHeld f ls d → LevelsAreLive f ls
+AreHeld-LevelsAreLive f [] d h = tt
+AreHeld-LevelsAreLive f (l ∷ ls) d h = (h.0.live, AreHeld-LevelsAreLive f ls d h.2)
+
+pub Holds-IsCalm : {C : Type 0} (f : C → Change) (s : Stack C) → Holds f s → IsCalm f s
+Holds-IsCalm f s h = record { steps = h.own.live; levels = AreHeld-LevelsAreLive f s.sequences.levels.items s.document h.levels }
 
 -- ---- stacks that are the same but for room, a clean index or a limit
 AreReady-as : {C : Type 0} (q p : Sequence C) (ls : List (Level C)) → p.entries ≡ q.entries → p.index ≡ q.index → AreReady q ls → AreReady p ls

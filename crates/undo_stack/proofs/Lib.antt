@@ -7,6 +7,7 @@ pub mod Gone
 pub mod Views
 pub mod Texts
 pub mod Pushes
+mod Reported
 pub mod Levels
 pub mod Joins
 pub mod Macros

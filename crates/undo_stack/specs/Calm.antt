@@ -1,5 +1,5 @@
 -- Entries without a free command that is obsolete. What stands in a closed macro is not looked at.
-use Rattle.std.specs.Prelude.{◌≡◌, List, true, false}
+use Rattle.std.specs.Prelude.{◌≡◌, List, Bool, true, false, ◌&&◌}
 use Rattle.std.specs.List.{All}
 use Rattle.map_model.specs.Document.{DocumentParts}
 use Rattle.command_api.specs.Law.{Change, is_free}
@@ -11,6 +11,10 @@ pub record IsGone (c : Change) : Type 0 where
   pub free : is_free c.names.vanishing ≡ true
   pub redone : (d : DocumentParts) → c.fits_redo d → c.redone d ≡ d
   pub undone : (d : DocumentParts) → c.fits_undo d → c.undone d ≡ d
+
+-- whether the change is that of a free command that reports itself obsolete
+abbrev pub is_gone : Change → Bool
+is_gone c = is_free c.names.vanishing && c.obsolete
 
 -- where the change is that of a free command, it is not obsolete
 abbrev pub IsLive : Change → Type 0

@@ -1,14 +1,15 @@
 -- A sequence of entries with an index, as code keeps it, seen as a history at a document. The stack has one of its own, and each
 -- open macro has one, of which all entries are done.
-use Rattle.std.specs.Prelude.{◌≡◌, ℕ, ◌<◌, ◌≤◌, List, [], Option, Bool, true, false, Result, Ok, Err, take, length}
+use Rattle.std.specs.Prelude.{◌≡◌, ℕ, ◌+◌, ◌-◌, ◌<◌, ◌≤◌, List, [], Option, Bool, true, false, Result, Ok, Err, take, drop, set, get_or, length}
 use Rattle.std.specs.List.{remove}
 use Rattle.map_model.specs.Document.{DocumentParts}
-use Rattle.command_api.specs.Law.{Change}
+use Rattle.command_api.specs.Law.{Change, IsRedone, IsUndone}
 use Rattle.undo_stack.specs.History.{History, step_named}
 use Rattle.undo_stack.specs.Pushing.{cut, up_to, without_last, Merges, with_target_at}
-use Rattle.undo_stack.specs.Calm.{AreLive, NoneFree}
+use Rattle.undo_stack.specs.Calm.{AreLive, NoneFree, is_gone}
+use Rattle.undo_stack.specs.Entries.{entry_change}
 use Rattle.undo_stack.specs.Merging.{HasTarget, SettlesTarget}
-use Rattle.undo_stack.specs.Reporting.{last_entry, reports}
+use Rattle.undo_stack.specs.Reporting.{IsRedoneIn, IsUndoneIn, last_entry, left_by, reports}
 use Rattle.undo_stack.specs.Sound.{history_of, IsTurnable, sequence_nesting}
 use Rattle.undo_stack.specs.Turning.{Drops}
 use Rattle.undo_stack.specs.declared.entry.Entry.{Entry}
@@ -90,3 +91,43 @@ IsHeldButAt f d at q = IsHeldBut f d (remove q.entries.items at) q
 pub record IsDroppedAt {C : Type 0} (f : C → Change) (d : DocumentParts) (at : ℕ) (q p : Sequence C) : Type 0 where
   pub held : IsHeld f d p
   pub dropped : Drops at (history_at f d q) (history_at f d q) (history_at f d p)
+  pub entry : Entry C
+  pub was : entry ≡ get_or q.entries.items at entry
+  pub left : history_at f d p ≡ left_by (is_gone (entry_change f entry)) at (history_at f d q) (history_at f d q)
+  pub below : take at p.entries.items ≡ take at q.entries.items
+  pub above : q.index ≡ at + 1 → drop p.index p.entries.items ≡ drop (at + 1) q.entries.items
+
+-- the entry at a number, which was v, is w in p, and all others are as in q
+pub record IsSetAt {C : Type 0} (at : ℕ) (v w : Entry C) (q p : Sequence C) : Type 0 where
+  pub was : v ≡ get_or q.entries.items at v
+  pub entries : p.entries.items ≡ set q.entries.items at w
+
+-- undoing the entry below the index, which led to d, made p of the sequence q, and e of the document
+pub record UndoesLast {C : Type 0} (f : C → Change) (d : DocumentParts) (q : Sequence C) (e : DocumentParts) (p : Sequence C) : Type 0 where
+  pub before : Entry C
+  pub after : Entry C
+  pub put : IsSetAt (q.index - 1) before after q p
+  pub undone : IsUndone (entry_change f before) (entry_change f after) d e
+
+-- redoing the entry above the index, at d, made p of the sequence q, and e of the document
+pub record RedoesNext {C : Type 0} (f : C → Change) (d : DocumentParts) (q : Sequence C) (e : DocumentParts) (p : Sequence C) : Type 0 where
+  pub before : Entry C
+  pub after : Entry C
+  pub put : IsSetAt q.index before after q p
+  pub redone : IsRedone (entry_change f before) (entry_change f after) d e
+
+-- the same, and its step goes as its command reports
+pub record StepsDown {C : Type 0} (f : C → Change) (d : DocumentParts) (q : Sequence C) (e : DocumentParts) (p : Sequence C) : Type 0 where
+  pub entry : Entry C
+  pub was : entry ≡ get_or q.entries.items (q.index - 1) entry
+  pub document : e ≡ (entry_change f entry).undone d
+  pub undone : IsUndoneIn f entry d (history_at f d q) (history_at f e p)
+  pub index : p.index ≡ q.index - 1
+  pub rest : take (q.index - 1) p.entries.items ≡ take (q.index - 1) q.entries.items
+
+pub record StepsUp {C : Type 0} (f : C → Change) (d : DocumentParts) (q : Sequence C) (e : DocumentParts) (p : Sequence C) : Type 0 where
+  pub entry : Entry C
+  pub was : entry ≡ get_or q.entries.items q.index entry
+  pub document : e ≡ (entry_change f entry).redone d
+  pub redone : IsRedoneIn f entry d (history_at f d q) (history_at f e p)
+  pub rest : drop p.index p.entries.items ≡ drop (q.index + 1) q.entries.items

@@ -1,14 +1,18 @@
--- What becomes of a pushed command, as the commands report it.
+-- What becomes of commands that are pushed or turned, as they report it.
 --
--- The command is redone. Then it either ends in the entry of the target, which takes it in, or becomes an entry. Its step is
--- gone exactly where that entry reports that it is obsolete.
-use Rattle.std.specs.Prelude.{◌≡◌, ◌↔◌, List, [], ◌∷◌, Option, Some, None, Bool, true, false, Result, Ok, Err}
+-- A pushed command is redone. Then it either ends in the entry of the target, which takes it in, or becomes an entry. Its
+-- step is gone exactly where that entry reports that it is obsolete.
+--
+-- Of a turn only the step of a free command may go: exactly where the command reports, after its turn, that it is obsolete.
+use Rattle.std.specs.Prelude.{◌≡◌, ◌↔◌, ◌+◌, ◌-◌, ℕ, List, [], ◌∷◌, take, drop, reverse, Option, Some, None, Bool, true, false, Result, Ok, Err}
 use Rattle.map_model.specs.Document.{DocumentParts}
-use Rattle.command_api.specs.Law.{Change, IsRedone}
+use Rattle.command_api.specs.Law.{Change, IsRedone, IsUndone, is_free}
 use Rattle.undo_stack.specs.History.{History, current}
 use Rattle.undo_stack.specs.Pushing.{step_of, cut, Merges, next_of}
 use Rattle.undo_stack.specs.Entries.{entry_change}
 use Rattle.undo_stack.specs.Merging.{IsJoined}
+use Rattle.undo_stack.specs.Moving.{positioned}
+use Rattle.undo_stack.specs.Turning.{without_step}
 use Rattle.undo_stack.specs.declared.entry.Entry.{Entry}
 use Rattle.undo_stack.specs.declared.entry.Entry.TheVariants.{Command}
 
@@ -52,3 +56,41 @@ pub record IsReportedAt {C : Type 0} (f : C → Change) (x : C) (d : DocumentPar
   pub entry : Option (Entry C)
   pub ends : EndsIn merged f command e v entry
   pub next : n ≡ next_of merged (reports f entry) (step_of (f x) (current h)) (cut h)
+
+-- the history h without the step at a number, where that is gone, else next
+abbrev pub left_by : Bool → ℕ → History → History → History
+left_by true at h next = without_step at h
+left_by false at h next = next
+
+-- whether the step of an entry, which is that of a free command or not, is gone after a turn
+abbrev pub GoesBy : {C : Type 0} → (C → Change) → Bool → (Entry C → Type 0) → Bool → Type 0
+GoesBy {C} f true IsTurned gone = (w : Entry C) × IsTurned w × (gone ≡ (entry_change f w).obsolete)
+GoesBy f false IsTurned gone = gone ≡ false
+
+-- undoing the entry v below the position, which led to the document d, made n of the history h
+pub record IsUndoneIn {C : Type 0} (f : C → Change) (v : Entry C) (d : DocumentParts) (h n : History) : Type 0 where
+  pub gone : Bool
+  pub goes : GoesBy f (is_free (entry_change f v).names.vanishing) (λ w. IsUndone (entry_change f v) (entry_change f w) d ((entry_change f v).undone d)) gone
+  pub left : n ≡ left_by gone (h.position - 1) h (positioned (h.position - 1) h)
+
+-- redoing the entry v above the position, at the document d, made n of the history h
+pub record IsRedoneIn {C : Type 0} (f : C → Change) (v : Entry C) (d : DocumentParts) (h n : History) : Type 0 where
+  pub gone : Bool
+  pub goes : GoesBy f (is_free (entry_change f v).names.vanishing) (λ w. IsRedone (entry_change f v) (entry_change f w) d ((entry_change f v).redone d)) gone
+  pub left : n ≡ left_by gone h.position h (positioned (h.position + 1) h)
+
+-- undoing these entries, one after the other, the first of which led to d
+abbrev pub AreUndone : {C : Type 0} → (C → Change) → List (Entry C) → DocumentParts → History → History → Type 0
+AreUndone f [] d h n = n ≡ h
+AreUndone f (v ∷ vs) d h n = (m : History) × IsUndoneIn f v d h m × AreUndone f vs ((entry_change f v).undone d) m n
+
+-- redoing these entries, one after the other, from the document d on
+abbrev pub AreRedone : {C : Type 0} → (C → Change) → List (Entry C) → DocumentParts → History → History → Type 0
+AreRedone f [] d h n = n ≡ h
+AreRedone f (v ∷ vs) d h n = (m : History) × IsRedoneIn f v d h m × AreRedone f vs ((entry_change f v).redone d) m n
+
+-- turning the entries es, from the position of h back to the number i, or on to it, made n of h. One of the two is no turn
+pub record AreTurned {C : Type 0} (f : C → Change) (es : List (Entry C)) (i : ℕ) (d : DocumentParts) (h n : History) : Type 0 where
+  pub between : History
+  pub back : AreUndone f (reverse (drop i (take h.position es))) d h between
+  pub on : AreRedone f (take (i - h.position) (drop h.position es)) d between n

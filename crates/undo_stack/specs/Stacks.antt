@@ -1,14 +1,15 @@
 -- A stack, seen as a history, where f says what its commands do. An open macro is a `Level` in code, which keeps a box, an
 -- `Inner` where its entries are seen as lists, and an `Open` in the history, with whole documents.
-use Rattle.std.specs.Prelude.{◌≡◌, ◌+◌, ◌<◌, ◌≤◌, Bool, true, List, [], ◌∷◌, ◌++◌, Option, None, length, map}
+use Rattle.std.specs.Prelude.{◌≡◌, ℕ, ◌+◌, ◌<◌, ◌≤◌, Bool, true, List, [], ◌∷◌, ◌++◌, Option, None, length, map}
 use Rattle.std.specs.VecDeque.{deque_capacity}
 use Rattle.map_model.specs.Document.{DocumentParts}
 use Rattle.command_api.specs.Law.{Change, untagged, Never}
 use Rattle.undo_stack.specs.History.{History}
+use Rattle.undo_stack.specs.Calm.{AreLive}
 use Rattle.undo_stack.specs.Entries.{entry_change, is_macro, nesting}
 use Rattle.undo_stack.specs.Held.{IsHeld, target_in}
 use Rattle.undo_stack.specs.Lending.{innermost}
-use Rattle.undo_stack.specs.Reporting.{IsReportedAt}
+use Rattle.undo_stack.specs.Reporting.{AreTurned, IsReportedAt}
 use Rattle.undo_stack.specs.Sequence.{before, FitsDown}
 use Rattle.undo_stack.specs.Sound.{Inner, history_of, level_nesting, sequence_nesting, start_of}
 use Rattle.undo_stack.specs.declared.entry.Entry.{Entry}
@@ -71,6 +72,16 @@ pub record Holds {C : Type 0} (f : C → Change) (s : Stack C) : Type 0 where
   pub ready : AreReady s.sequences.steps s.sequences.levels.items
   pub nesting : level_nesting (inners s) ≤ MAX_DEPTH
 
+-- none of the entries of these levels is a free command that reports itself obsolete
+abbrev pub LevelsAreLive : {C : Type 0} → (C → Change) → List (Level C) → Type 0
+LevelsAreLive f [] = Unit {0}
+LevelsAreLive f (l ∷ ls) = AreLive f l.sequence.entries.items × LevelsAreLive f ls
+
+-- no free command that reports itself obsolete stands among the steps or in an open macro. What is in a closed one may be such
+pub record IsCalm {C : Type 0} (f : C → Change) (s : Stack C) : Type 0 where
+  pub steps : AreLive f s.sequences.steps.entries.items
+  pub levels : LevelsAreLive f s.sequences.levels.items
+
 -- the entry that is the target once the entries above the index are gone
 abbrev pub target_entry : {C : Type 0} → Stack C → Option (Entry C)
 target_entry s = target_in (innermost s.sequences)
@@ -78,3 +89,8 @@ target_entry s = target_in (innermost s.sequences)
 -- pushing the command x onto the stack s gave t, and the step is gone exactly where the entry that x ended in is obsolete
 abbrev pub IsReported : {C : Type 0} → (C → Change) → C → Stack C → Stack C → Type 0
 IsReported f x s t = IsReportedAt f x s.document (target_entry s) (history f s) t.document (history f t)
+
+-- turning the entries of the stack s up to the number i gave t, and the step of each is gone exactly where its command is free
+-- and reports, after its turn, that it is obsolete
+abbrev pub IsTurnReported : {C : Type 0} → (C → Change) → ℕ → Stack C → Stack C → Type 0
+IsTurnReported f i s t = AreTurned f s.sequences.steps.entries.items i s.document (history f s) (history f t)

@@ -1,10 +1,10 @@
-ghost use Rattle.std.specs.Prelude.{◌≡◌, ◌≤◌, ◌<◌, [], length, IfOk, IfErr, slice_get, option_copied};
+ghost use Rattle.std.specs.Prelude.{◌≡◌, ◌+◌, ◌-◌, ◌≤◌, ◌<◌, [], length, IfOk, IfErr, slice_get, option_copied};
 ghost use Rattle.undo_stack.specs.History.{new_history, current, count, is_clean};
 ghost use Rattle.undo_stack.specs.Pushing.{IsPushed, step_of};
 ghost use Rattle.undo_stack.specs.Moving.{MarksClean, UnmarksClean, SetsLimit, Clears};
 ghost use Rattle.undo_stack.specs.Turning.{Undoes, Redoes, SetsIndex};
 ghost use Rattle.undo_stack.specs.Reading.{text_at, action_of, undo_text_of, redo_text_of};
-ghost use Rattle.undo_stack.specs.Stacks.{history, macros, Holds, IsReported};
+ghost use Rattle.undo_stack.specs.Stacks.{history, macros, Holds, IsCalm, IsReported, IsTurnReported};
 ghost use Rattle.undo_stack.specs.declared.limits.TheConstants.{MAX_LIMIT};
 
 mod macros;
@@ -219,6 +219,13 @@ impl<C: Command> Stack<C> {
 }
 
 impl<C: Command> Stack<C> {
+    /// A law: a stack whose commands fit keeps no free command that reports itself obsolete, but within ended macros.
+    pub fn sound_is_calm(&self)
+        requires { Holds C.change self.now }
+        ensures { IsCalm C.change self.now }
+    {
+    }
+
     /// Makes the change of a command, and puts it into the history. The steps above the index go, and with them a clean index
     /// among them.
     ///
@@ -259,6 +266,7 @@ impl<C: Command> Stack<C> {
     pub fn undo(&mut self) -> Result<(), StackFault>
         requires { Holds C.change self.old }
         ensures sound { Holds C.change self.new }
+        ensures reported { IfOk result (λ _. IsTurnReported C.change ((history C.change self.old).position - 1) self.old self.new) }
         ensures step { Undoes (history C.change self.old) result (history C.change self.new) }
     {
         if self.sequences.is_open() {
@@ -279,6 +287,7 @@ impl<C: Command> Stack<C> {
     pub fn redo(&mut self) -> Result<(), StackFault>
         requires { Holds C.change self.old }
         ensures sound { Holds C.change self.new }
+        ensures reported { IfOk result (λ _. IsTurnReported C.change ((history C.change self.old).position + 1) self.old self.new) }
         ensures step { Redoes (history C.change self.old) result (history C.change self.new) }
     {
         if self.sequences.is_open() {
@@ -298,6 +307,7 @@ impl<C: Command> Stack<C> {
     pub fn set_index(&mut self, index: usize) -> Result<(), StackFault>
         requires { Holds C.change self.old }
         ensures sound { Holds C.change self.new }
+        ensures reported { IfOk result (λ _. IsTurnReported C.change index self.old self.new) }
         ensures step { SetsIndex index (history C.change self.old) result (history C.change self.new) }
     {
         if self.sequences.is_open() {

@@ -1,8 +1,9 @@
 // Turns of the entries of a sequence, one after the other. Each that is a free command, which is obsolete then, goes.
-ghost use Rattle.std.specs.Prelude.{◌≡◌, ◌<◌, ◌≤◌, ◌+◌, ◌-◌, false, min, max, length};
+ghost use Rattle.std.specs.Prelude.{◌≡◌, ◌<◌, ◌≤◌, ◌+◌, ◌-◌, false, min, max, length, take, drop, reverse};
 ghost use Rattle.map_model.specs.Document.{DocumentParts};
-ghost use Rattle.undo_stack.specs.Held.{history_at, IsHeld, IsHeldButAt, IsSoundAt, IsDroppedAt};
+ghost use Rattle.undo_stack.specs.Held.{history_at, IsHeld, IsHeldButAt, IsSoundAt, IsDroppedAt, RedoesNext, StepsDown, StepsUp, UndoesLast};
 ghost use Rattle.undo_stack.specs.Moving.{positioned};
+ghost use Rattle.undo_stack.specs.Reporting.{AreRedone, AreTurned, AreUndone};
 ghost use Rattle.undo_stack.specs.Turning.{TurnsBack, TurnsOn, TurnsTo, TurnBy};
 
 use super::Sequence;
@@ -15,12 +16,16 @@ impl<C: Command> Sequence<C> {
     pub fn step_to(&mut self, document: &mut Document, index: usize)
         requires { IsHeld C.change document.old self.old }
         ensures held { IsHeld C.change document.new self.new }
+        ensures reported { AreTurned C.change self.old.entries.items index document.old (history_at C.change document.old self.old) (history_at C.change document.new self.new) }
         ensures turned { TurnsTo index (history_at C.change document.old self.old) (history_at C.change document.new self.new) }
     {
-        let back = self.index.saturating_sub(index);
-        let on = index.min(self.entries.len()).saturating_sub(self.index);
-        self.step_back_by(document, back);
-        self.step_on_by(document, on);
+        if index < self.index {
+            let steps = self.index - index;
+            self.step_back_by(document, steps);
+        } else {
+            let steps = index.min(self.entries.len()) - self.index;
+            self.step_on_by(document, steps);
+        }
     }
 
     // So many steps back.
@@ -28,6 +33,8 @@ impl<C: Command> Sequence<C> {
         requires held { IsHeld C.change document.old self.old }
         requires below { steps ≤ self.old.index }
         ensures held { IsHeld C.change document.new self.new }
+        ensures reported { AreUndone C.change (reverse (drop (self.old.index - steps) (take self.old.index self.old.entries.items))) document.old
+            (history_at C.change document.old self.old) (history_at C.change document.new self.new) }
         ensures turned { TurnBy TurnsBack steps (history_at C.change document.old self.old) (history_at C.change document.new self.new) }
     {
         let mut left = steps;
@@ -42,6 +49,8 @@ impl<C: Command> Sequence<C> {
         requires held { IsHeld C.change document.old self.old }
         requires above { self.old.index + steps ≤ length (history_at C.change document.old self.old).steps }
         ensures held { IsHeld C.change document.new self.new }
+        ensures reported { AreRedone C.change (take steps (drop self.old.index self.old.entries.items)) document.old
+            (history_at C.change document.old self.old) (history_at C.change document.new self.new) }
         ensures turned { TurnBy TurnsOn steps (history_at C.change document.old self.old) (history_at C.change document.new self.new) }
     {
         let mut left = steps;
@@ -57,6 +66,7 @@ impl<C: Command> Sequence<C> {
         requires held { IsHeld C.change document.old self.old }
         requires below { 0 < self.old.index }
         ensures held { IsHeld C.change document.new self.new }
+        ensures reported { StepsDown C.change document.old self.old document.new self.new }
         ensures turned { TurnsBack (history_at C.change document.old self.old) (history_at C.change document.new self.new) }
     {
         self.turn_back(document);
@@ -71,6 +81,7 @@ impl<C: Command> Sequence<C> {
         requires held { IsHeld C.change document.old self.old }
         requires above { self.old.index < length (history_at C.change document.old self.old).steps }
         ensures held { IsHeld C.change document.new self.new }
+        ensures reported { StepsUp C.change document.old self.old document.new self.new }
         ensures turned { TurnsOn (history_at C.change document.old self.old) (history_at C.change document.new self.new) }
     {
         self.turn_on(document);
@@ -85,6 +96,7 @@ impl<C: Command> Sequence<C> {
         requires held { IsHeld C.change document.old self.old }
         requires below { 0 < self.old.index }
         ensures held { IsHeldButAt C.change document.new self.new.index self.new }
+        ensures undone { UndoesLast C.change document.old self.old document.new self.new }
         ensures index { self.new.index ≡ self.old.index - 1 }
         ensures count { length self.new.entries.items ≡ length self.old.entries.items }
         ensures history { history_at C.change document.new self.new ≡ positioned (self.old.index - 1) (history_at C.change document.old self.old) }
@@ -99,6 +111,7 @@ impl<C: Command> Sequence<C> {
         requires held { IsHeld C.change document.old self.old }
         requires above { self.old.index < length self.old.entries.items }
         ensures held { IsHeldButAt C.change document.new self.old.index self.new }
+        ensures redone { RedoesNext C.change document.old self.old document.new self.new }
         ensures index { self.new.index ≡ self.old.index + 1 }
         ensures history { history_at C.change document.new self.new ≡ positioned (self.old.index + 1) (history_at C.change document.old self.old) }
     {
@@ -138,6 +151,7 @@ impl<C: Command> Sequence<C> {
         requires held { IsHeld C.change document.old self.old }
         requires bound { self.old.has_free ≡ false }
         ensures held { IsHeld C.change document.new self.new }
+        ensures reported { AreTurned C.change self.old.entries.items index document.old (history_at C.change document.old self.old) (history_at C.change document.new self.new) }
         ensures history { history_at C.change document.new self.new
             ≡ positioned (min index (length (history_at C.change document.old self.old).steps)) (history_at C.change document.old self.old) }
     {

@@ -1,9 +1,11 @@
-use Rattle.std.proofs.Common.{arith, sym, refl, length, nat_lt, Ok, Err}
+use Rattle.std.proofs.Common.{◌+◌, ◌<◌, arith, sym, refl, length, nat_lt, Ok, Err}
 use Rattle.std.specs.Prelude.{if◌then◌else◌}
+use Rattle.undo_stack.specs.Reporting.{AreTurned}
 use Rattle.undo_stack.specs.Stacks.{history}
 use Rattle.undo_stack.specs.Turning.{TurnsOn}
 use Rattle.undo_stack.specs.declared.stack.StackFault.TheVariants.{NothingToRedo}
 use Rattle.undo_stack.proofs.Innermost.{closed_step}
+use Rattle.undo_stack.proofs.Reported.{turned_once_up}
 use Rattle.undo_stack.proofs.Views.{outside-open, redo-accepted, redo-refused, step_above}
 use Rattle.undo_stack.proofs.stack.Stack.redo.Goals as goal
 
@@ -36,3 +38,13 @@ returns-clause-step g c =
       answered = sym (redo-accepted f s.document s.sequences.steps.entries.items s.sequences.steps.index s.sequences.steps.clean s.sequences.steps.limit s.sequences.levels.items none (omega (arith, c.requires.own.sound.turnable.within, s.sequences.steps.entries.ok.0)));
       leads = closed_step f TurnsOn s (record s { document = c.step_on.new.document; sequences = record s.sequences { steps = c.step_on.new.self } }) none none c.step_on.ensures.turned;
     }
+
+pub returns-clause-reported : goal.returns-clause-reported
+returns-clause-reported g c =
+    let f = g.C.Command.change in
+    let s = c.args.self.now in
+    let q = s.sequences.steps in
+    let none = c.if-is_open.ensures in
+    let inside : q.index < length q.entries.items = omega (arith, c.requires.own.sound.turnable.within, q.entries.ok.0) in
+    closed_step f (AreTurned f q.entries.items (q.index + 1) s.document) s (record s { document = c.step_on.new.document; sequences = record s.sequences { steps = c.step_on.new.self } }) none none
+    (turned_once_up f s.document q c.step_on.new.document c.step_on.new.self inside c.step_on.ensures.reported)
