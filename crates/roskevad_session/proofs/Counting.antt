@@ -35,4 +35,4 @@ as_many_in f d es n at clean limit (l ∷ ls) =
     rw (texts_of f (start_of f (map inner_of (l ∷ ls)) d) es n) (same_bounds (map is_macro es ++ true ∷ []) (map p es ++ (inner_of l).text ∷ []) at both)
 
 pub as_many : {C : Type 0} (f : C → Change) (s : Stack C) (at : ℕ) → is_some (slice_get (macros s) at) ≡ is_some (text_at (history f s) at)
-as_many f s at = as_many_in f s.document s.entries.items s.index at s.clean s.limit s.levels.items
+as_many f s at = let q = s.sequences.steps in as_many_in f s.document q.entries.items q.index at q.clean q.limit s.sequences.levels.items

@@ -1,38 +1,29 @@
--- Stacks of which an entry that changes nothing goes.
+-- Sequences of which an entry that changes nothing goes.
 use Rattle.std.proofs.Common.{◌≡◌, ℕ, ◌+◌, ◌<◌, ◌≤◌, List, [], ◌∷◌, ◌++◌, Option, Some, None, IsSome, OnSome, true, take, drop, length, map, get_or, slice_get, suc, refl, sym, ◌∙◌, ap, arith, inr}
 use Rattle.std.proofs.lemmas.List.{length-take-le, take_at, drop_at, append_assoc, length-append, map-append}
 use Rattle.std.proofs.lemmas.List.Edits.{length-remove}
+use Rattle.std.proofs.lemmas.List.Elements.{All-append, All-drop, All-take}
 use Rattle.std.specs.List.{remove}
 use Rattle.map_model.specs.Document.{DocumentParts}
 use Rattle.command_api.specs.Law.{Change, is_free}
 use Rattle.undo_stack.specs.History.{Step, History, step_named, last_after}
 use Rattle.undo_stack.specs.Pushing.{up_to}
-use Rattle.undo_stack.specs.Calm.{IsGone}
+use Rattle.undo_stack.specs.Calm.{is_gone, IsGone, NoneFree}
+use Rattle.undo_stack.specs.Held.{Becomes, IsHeld, IsHeldButAt, IsDroppedAt}
 use Rattle.undo_stack.specs.Entries.{entry_change, nesting}
 use Rattle.undo_stack.specs.Sequence.{before, steps_down, steps_up, steps_of, FitsDown, FitsUp}
 use Rattle.undo_stack.specs.Sound.{history_of, IsTurnable, IsAtMost, sequence_nesting}
-use Rattle.undo_stack.specs.Stacks.{history, Holds}
 use Rattle.undo_stack.specs.Turning.{MayGo, Drops, without_step}
 use Rattle.undo_stack.specs.declared.entry.Entry.{Entry}
-use Rattle.undo_stack.specs.declared.stack.Stack.{Stack}
+use Rattle.undo_stack.specs.declared.sequence.Sequence.{Sequence}
 use Rattle.undo_stack.proofs.Pushes.{greatest-append, at_most-up_to, sequence_nesting-take, sequence_nesting-drop}
-use Rattle.undo_stack.proofs.Sequences.{before-append, steps_down-append, FitsDown-pop, length-down, take_last, drop_first, last_after-down}
-use Rattle.undo_stack.proofs.Stacks.{inners_closed}
+use Rattle.undo_stack.proofs.Sequences.{take-remove, drop-remove, before-append, steps_down-append, FitsDown-pop, length-down, take_last, drop_first, last_after-down}
 use Rattle.undo_stack.proofs.Turnings.{false-true}
-use Rattle.undo_stack.proofs.Views.{bounded_closed}
+use Rattle.undo_stack.proofs.Held.{Bound, none_free, seen, sound}
 
 pub where_some : {X : Type 0} {P : Type 0} (o : Option X) → OnSome o P → IsSome o → P
 where_some None h some = false-true some
 where_some (Some x) h some = h
-
--- ---- a list without the thing at a number
-take-remove : {A : Type 0} (xs : List A) (j : ℕ) → j ≤ length xs → take j (remove xs j) ≡ take j xs
-take-remove xs j h = take_at (take j xs) (drop (suc j) xs) j (length-take-le j xs h)
-
-drop-remove : {A : Type 0} (xs : List A) (j : ℕ) → j ≤ length xs → drop j (remove xs j) ≡ drop (j + 1) xs
-drop-remove xs j h =
-    let next : suc j ≡ j + 1 = omega arith in
-    drop_at (take j xs) (drop (suc j) xs) j (length-take-le j xs h) ∙ ap (λ (n : ℕ). drop n xs) next
 
 sequence_nesting-remove : {C : Type 0} (es : List (Entry C)) (j : ℕ) → sequence_nesting (remove es j) ≤ sequence_nesting es
 sequence_nesting-remove es j =
@@ -93,16 +84,19 @@ module _ {C : Type 0} (f : C → Change) (es : List (Entry C)) (v : Entry C) (j 
   long : length below ≡ j
   long = length-down k (take j es) d ∙ length-take-le j es within
 
+  same_view : (clean : Option ℕ) (limit : ℕ) (h : History) → h ≡ record { base = before k (take j es) d; steps = below ++ step ∷ above; position = h.position; clean = clean; limit = limit; levels = [] }
+      → history_of f d (remove es j) j (up_to j clean) limit [] ≡ without_step j h
+  same_view clean limit h is =
+      rw (take-remove es j within, drop-remove es j within)
+      (sym (ap (without_step j) is ∙ ap (λ (ss : List Step). record { base = before k (take j es) d; steps = ss; position = j; clean = up_to j clean; limit = limit; levels = [] }) (remove-between below above step j long)))
+
   left_view : (clean : Option ℕ) (limit : ℕ) (h : History) → h ≡ record { base = before k (take j es) d; steps = below ++ step ∷ above; position = h.position; clean = clean; limit = limit; levels = [] }
       → Drops j h h (history_of f d (remove es j) j (up_to j clean) limit [])
   left_view clean limit h is =
       let may : MayGo j h = may_go h below above step j d (ap (λ (x : History). x.steps) is) long (ap (λ (x : History). last_after x.base below) is ∙ last_after-down k (take j es) d) refl gone.free in
-      let same : history_of f d (remove es j) j (up_to j clean) limit [] ≡ without_step j h =
-      rw (take-remove es j within, drop-remove es j within)
-      (sym (ap (without_step j) is ∙ ap (λ (ss : List Step). record { base = before k (take j es) d; steps = ss; position = j; clean = up_to j clean; limit = limit; levels = [] }) (remove-between below above step j long))) in
-      inr (may, same)
+      inr (may, same_view clean limit h is)
 
-  left_sound : (clean : Option ℕ) → FitsDown k (take j es) d → FitsUp k (drop (j + 1) es) d → IsTurnable f d (remove es j) j (up_to j clean) []
+  left_sound : (clean : Option ℕ) → FitsDown k (take j es) d → FitsUp k (drop (j + 1) es) d → IsTurnable f d (remove es j) j (up_to j clean)
   left_sound clean down up =
       let more = length-remove es j inside in
       record {
@@ -110,7 +104,6 @@ module _ {C : Type 0} (f : C → Change) (es : List (Entry C)) (v : Entry C) (j 
         clean_within = at_most-more (up_to j clean) j (length (remove es j)) (omega (arith, more, inside)) (at_most-up_to j clean);
         down = rw (take-remove es j within) down;
         up = rw (drop-remove es j within) up;
-        inner = tt;
       }
 
   -- the entry was undone: it is the first one above
@@ -127,6 +120,9 @@ module _ {C : Type 0} (f : C → Change) (es : List (Entry C)) (v : Entry C) (j 
     view_up : (clean : Option ℕ) (limit : ℕ) → Drops j (history_of f d es j clean limit []) (history_of f d es j clean limit []) (history_of f d (remove es j) j (up_to j clean) limit [])
     view_up clean limit = left_view clean limit (history_of f d es j clean limit []) (rw (drop_first es v j inside at, same_up) refl)
 
+    same_view_up : (clean : Option ℕ) (limit : ℕ) → history_of f d (remove es j) j (up_to j clean) limit [] ≡ without_step j (history_of f d es j clean limit [])
+    same_view_up clean limit = same_view clean limit (history_of f d es j clean limit []) (rw (drop_first es v j inside at, same_up) refl)
+
   -- the entry was redone: it is the last one below
   module _ (down : FitsDown k (take (j + 1) es) d) where
     next_down : FitsDown k (take j es) ((k v).undone d) × (k v).fits_undo d
@@ -138,65 +134,58 @@ module _ {C : Type 0} (f : C → Change) (es : List (Entry C)) (v : Entry C) (j 
     rest_down : FitsDown k (take j es) d
     rest_down = rw same_down at next_down.0
 
-    view_down : (clean : Option ℕ) (limit : ℕ) → Drops j (history_of f d es (j + 1) clean limit []) (history_of f d es (j + 1) clean limit []) (history_of f d (remove es j) j (up_to j clean) limit [])
-    view_down clean limit =
+    whole_down : (clean : Option ℕ) (limit : ℕ) → history_of f d es (j + 1) clean limit [] ≡ record { base = before k (take j es) d; steps = below ++ step ∷ above; position = j + 1; clean = clean; limit = limit; levels = [] }
+    whole_down clean limit =
         let base : before k (take (j + 1) es) d ≡ before k (take j es) d = ap (λ r. before k r d) (take_last es v j inside at) ∙ before-append k (take j es) v d ∙ ap (before k (take j es)) same_down in
         let steps : steps_of k es (j + 1) d ≡ below ++ step ∷ above =
         ap (λ r. steps_down k r d ++ above) (take_last es v j inside at)
         ∙ ap (λ ss. ss ++ above) (steps_down-append k (take j es) v d ∙ ap (λ e. steps_down k (take j es) e ++ step ∷ []) same_down)
         ∙ append_assoc below (step ∷ []) above in
-        left_view clean limit (history_of f d es (j + 1) clean limit []) (rw (base, steps) refl)
+        rw (base, steps) refl
 
--- ---- stacks with no open level, of which t is s without the entry at the number j
-pub record IsWithout {C : Type 0} (j : ℕ) (s t : Stack C) : Type 0 where
-  pub document : t.document ≡ s.document
-  pub entries : t.entries.items ≡ remove s.entries.items j
-  pub index : t.index ≡ j
-  pub clean : t.clean ≡ up_to j s.clean
-  pub limit : t.limit ≡ s.limit
-  pub levels : t.levels.items ≡ s.levels.items
+    view_down : (clean : Option ℕ) (limit : ℕ) → Drops j (history_of f d es (j + 1) clean limit []) (history_of f d es (j + 1) clean limit []) (history_of f d (remove es j) j (up_to j clean) limit [])
+    view_down clean limit = left_view clean limit (history_of f d es (j + 1) clean limit []) (whole_down clean limit)
 
-module _ {C : Type 0} (f : C → Change) (s t : Stack C) (v : Entry C) (j : ℕ) (closed : s.levels.items ≡ []) (sound : Holds f s) (inside : j < length s.entries.items) (at : v ≡ get_or s.entries.items j v)
-    (gone : IsGone (entry_change f v)) (w : IsWithout j s t) where
-  turnable : IsTurnable f s.document s.entries.items s.index s.clean []
-  turnable = rw (inners_closed s.levels.items closed) at sound.turnable
+    same_view_down : (clean : Option ℕ) (limit : ℕ) → history_of f d (remove es j) j (up_to j clean) limit [] ≡ without_step j (history_of f d es (j + 1) clean limit [])
+    same_view_down clean limit = same_view clean limit (history_of f d es (j + 1) clean limit []) (whole_down clean limit)
 
-  closed_too : t.levels.items ≡ []
-  closed_too = w.levels ∙ closed
-
-  sound_of : FitsDown (entry_change f) (take j s.entries.items) s.document → FitsUp (entry_change f) (drop (j + 1) s.entries.items) s.document → Holds f t
-  sound_of down up =
-      let b = sound.bounded in
-      let more = length-remove s.entries.items j inside in
-      let less = sequence_nesting-remove s.entries.items j in
+-- ---- a sequence q, of which p is what is left without the entry at the number j
+module _ {C : Type 0} (f : C → Change) (q p : Sequence C) (v : Entry C) (j : ℕ) (inside : j < length q.entries.items) (at : v ≡ get_or q.entries.items j v) (goes : true ≡ is_gone (entry_change f v)) (gone : IsGone (entry_change f v)) (w : Becomes q (remove q.entries.items j) j (up_to j q.clean) p)
+    (d : DocumentParts) (h : IsHeldButAt f d j q) where
+  left : FitsDown (entry_change f) (take j q.entries.items) d → FitsUp (entry_change f) (drop (j + 1) q.entries.items) d → IsHeld f d p
+  left down up =
+      let es = q.entries.items in
+      let bound : NoneFree f es → NoneFree f (remove es j) = λ all. let next : suc j ≡ j + 1 = omega arith in rw next (All-append (Bound f) (take j es) (drop (j + 1) es) (All-take (Bound f) j es all) (All-drop (Bound f) (j + 1) es all)) in
       record {
-        turnable = rw (inners_closed t.levels.items closed_too, w.document, w.entries, w.index, w.clean) (left_sound f s.entries.items v j s.document inside at gone s.clean down up);
-        bounded = bounded_closed t closed_too (rw w.limit b.limit) (rw (w.limit, w.entries) (λ h. omega (arith, more, b.count h))) (rw w.entries (omega (arith, less, b.entry_nesting)));
+        sound = sound f q p (remove es j) j (up_to j q.clean) w d d (left_sound f es v j d inside at gone q.clean down up) (let more = length-remove es j inside in omega arith) (sequence_nesting-remove es j) h.sound;
+        live = rw w.entries h.live;
+        none_free = none_free f q p (remove es j) j (up_to j q.clean) w bound h.none_free;
       }
 
-  dropped_of : (n : ℕ) → s.index ≡ n
-      → Drops j (history_of f s.document s.entries.items n s.clean s.limit []) (history_of f s.document s.entries.items n s.clean s.limit []) (history_of f s.document (remove s.entries.items j) j (up_to j s.clean) s.limit [])
-      → Drops j (history f s) (history f s) (history f t)
-  dropped_of n index d = rw (inners_closed s.levels.items closed, inners_closed t.levels.items closed_too, w.document, w.entries, w.index, w.clean, w.limit, index) d
+  pub above_gone : q.index ≡ j → IsDroppedAt f d j q p
+  above_gone index =
+      let down : FitsDown (entry_change f) (take j q.entries.items) d = rw index at h.sound.turnable.down in
+      let up : FitsUp (entry_change f) (drop j q.entries.items) d = rw index at h.sound.turnable.up in
+      record {
+        held = left down (rest_up f q.entries.items v j d inside at gone up);
+        dropped = rw (seen f q p (remove q.entries.items j) j (up_to j q.clean) w d, index) (view_up f q.entries.items v j d inside at gone up q.clean q.limit);
+        entry = v;
+        was = at;
+        left = rw (← goes, seen f q p (remove q.entries.items j) j (up_to j q.clean) w d, index) (same_view_up f q.entries.items v j d inside at gone up q.clean q.limit);
+        below = rw (w.entries, take-remove q.entries.items j (omega (arith, inside))) refl;
+        above = λ next. absurd (omega (arith, index, next));
+      }
 
-  pub above_sound : s.index ≡ j → Holds f t
-  above_sound index =
-      let down : FitsDown (entry_change f) (take j s.entries.items) s.document = rw index at turnable.down in
-      let up : FitsUp (entry_change f) (drop j s.entries.items) s.document = rw index at turnable.up in
-      sound_of down (rest_up f s.entries.items v j s.document inside at gone up)
-
-  pub above_dropped : s.index ≡ j → Drops j (history f s) (history f s) (history f t)
-  above_dropped index =
-      let up : FitsUp (entry_change f) (drop j s.entries.items) s.document = rw index at turnable.up in
-      dropped_of j index (view_up f s.entries.items v j s.document inside at gone up s.clean s.limit)
-
-  pub below_sound : s.index ≡ j + 1 → Holds f t
-  below_sound index =
-      let down : FitsDown (entry_change f) (take (j + 1) s.entries.items) s.document = rw index at turnable.down in
-      let up : FitsUp (entry_change f) (drop (j + 1) s.entries.items) s.document = rw index at turnable.up in
-      sound_of (rest_down f s.entries.items v j s.document inside at gone down) up
-
-  pub below_dropped : s.index ≡ j + 1 → Drops j (history f s) (history f s) (history f t)
-  below_dropped index =
-      let down : FitsDown (entry_change f) (take (j + 1) s.entries.items) s.document = rw index at turnable.down in
-      dropped_of (j + 1) index (view_down f s.entries.items v j s.document inside at gone down s.clean s.limit)
+  pub below_gone : q.index ≡ j + 1 → IsDroppedAt f d j q p
+  below_gone index =
+      let down : FitsDown (entry_change f) (take (j + 1) q.entries.items) d = rw index at h.sound.turnable.down in
+      let up : FitsUp (entry_change f) (drop (j + 1) q.entries.items) d = rw index at h.sound.turnable.up in
+      record {
+        held = left (rest_down f q.entries.items v j d inside at gone down) up;
+        dropped = rw (seen f q p (remove q.entries.items j) j (up_to j q.clean) w d, index) (view_down f q.entries.items v j d inside at gone down q.clean q.limit);
+        entry = v;
+        was = at;
+        left = rw (← goes, seen f q p (remove q.entries.items j) j (up_to j q.clean) w d, index) (same_view_down f q.entries.items v j d inside at gone down q.clean q.limit);
+        below = rw (w.entries, take-remove q.entries.items j (omega (arith, inside))) refl;
+        above = λ next. rw (w.index, w.entries, drop-remove q.entries.items j (omega (arith, inside))) refl;
+      }

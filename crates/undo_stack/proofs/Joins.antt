@@ -1,5 +1,5 @@
 -- A newer change that is merged into a change, and into the last one of a sequence; and the last one of a sequence that goes.
-use Rattle.std.proofs.Common.{◌≡◌, ℕ, ◌+◌, ◌-◌, ◌<◌, ◌≤◌, List, [], ◌∷◌, ◌++◌, Some, take, drop, length, set, get_or, refl, sym, ◌∙◌, ap, subst, arith, length-set, Bool, true, false, Ok, Err}
+use Rattle.std.proofs.Common.{◌≡◌, ℕ, ◌+◌, ◌-◌, ◌<◌, ◌≤◌, List, [], ◌∷◌, ◌++◌, Some, take, drop, length, set, get_or, refl, sym, ◌∙◌, ap, subst, arith, Bool, true, false, Ok, Err}
 use Rattle.std.specs.Prelude.{Result}
 use Rattle.std.proofs.lemmas.List.{take_all, drop-set-lt}
 use Rattle.std.proofs.lemmas.Grind.{take-set_at}
@@ -108,24 +108,6 @@ module _ {B : Type 0} (xs : List B) (n : ℕ) (some : 0 < n) (count : n ≡ leng
   last_sequence v is =
       let all : length xs ≤ n = omega (arith, count) in
       sym (take_all n xs all) ∙ take_below xs v n some (omega (arith, count)) is
-
-  pub last_sequence-set : (w : B) → set xs (n - 1) w ≡ take (n - 1) xs ++ w ∷ []
-  last_sequence-set w =
-      let all : length (set xs (n - 1) w) ≤ n = omega (arith, count, length-set xs (n - 1) w) in
-      sym (take_all n (set xs (n - 1) w) all) ∙ take_below-set xs w n some (omega (arith, count))
-
--- the same of a whole sequence
-pub last_fits_all : {B : Type 0} (f : B → Change) (xs : List B) (v : B) (n : ℕ) (d : DocumentParts) → 0 < n → n ≡ length xs → v ≡ get_or xs (n - 1) v → FitsDown f xs d → (f v).fits_undo d
-last_fits_all f xs v n d p q k h =
-    let all : length xs ≤ n = omega arith in
-    last_fits f xs v n d p (omega arith) k (rw (take_all n xs all) h)
-
-pub merges_last : {E B : Type 0} (f : B → Change) (xs : List B) (v w : B) (n : ℕ) (c : Change) (d : DocumentParts) (r : Result Bool E) → 0 < n → n ≡ length xs → v ≡ get_or xs (n - 1) v → FitsDown f xs (c.undone d) → MergesChange (f v) c d r (f w) → MergesSequence f xs c d r (set xs (n - 1) w)
-merges_last f xs v w n c d r p q k h m =
-    let all : length xs ≤ n = omega arith in
-    let both : length (set xs (n - 1) w) ≤ n = omega (arith, length-set xs (n - 1) w) in
-    let known = merges_below f xs v w n c d r p (omega arith) k (rw (take_all n xs all) h) m in
-    rw (take_all n xs all, take_all n (set xs (n - 1) w) both) at known
 
 -- a sequence is as it is
 pub altered_none : {B : Type 0} (f : B → Change) (xs : List B) (d : DocumentParts) → FitsDown f xs d → IsAltered f (λ ss. ss) xs d xs d

@@ -7,11 +7,12 @@ pub mod Gone
 pub mod Views
 pub mod Texts
 pub mod Pushes
+mod Reported
 pub mod Levels
 pub mod Joins
-pub mod Stacks
 pub mod Macros
 pub mod Targets
-pub mod Merges
 pub mod Calm
 pub mod Reports
+pub mod Held
+pub mod Innermost

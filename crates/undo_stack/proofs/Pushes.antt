@@ -11,7 +11,7 @@ use Rattle.undo_stack.specs.Merging.{IsEntered}
 use Rattle.undo_stack.specs.Entries.{entry_change, nesting, greatest}
 use Rattle.undo_stack.specs.Sound.{Inner, history_of, IsTurnable, IsAtMost, sequence_nesting}
 use Rattle.undo_stack.specs.declared.entry.Entry.{Entry}
-use Rattle.undo_stack.proofs.Sequences.{before-append, steps_down-append, FitsDown-push, last_after-down, length-down, take-steps, last_after-take, drop-steps_down, FitsDown-drop}
+use Rattle.undo_stack.proofs.Sequences.{before-append, steps_down-append, FitsDown-push, last_after-down, length-down, take-steps, last_after-take, drop-steps_down}
 use Rattle.undo_stack.proofs.Views.{current-view}
 
 -- an obsolete change leaves the document as it is
@@ -80,7 +80,7 @@ done_view f d es n clean limit h =
     let all : length es ≤ n = omega arith in
     rw (take_all n es all, drop_all n es all, append-nil (steps_down (entry_change f) es d)) refl
 
-pub done_sound : {C : Type 0} (f : C → Change) (d : DocumentParts) (es : List (Entry C)) (n : ℕ) (clean : Option ℕ) → length es ≡ n → FitsDown (entry_change f) es d → IsAtMost clean n → IsTurnable f d es n clean []
+pub done_sound : {C : Type 0} (f : C → Change) (d : DocumentParts) (es : List (Entry C)) (n : ℕ) (clean : Option ℕ) → length es ≡ n → FitsDown (entry_change f) es d → IsAtMost clean n → IsTurnable f d es n clean
 done_sound f d es n clean h p q =
     let all : length es ≤ n = omega arith in
     record {
@@ -88,7 +88,6 @@ done_sound f d es n clean h p q =
       clean_within = rw h q;
       down = rw (take_all n es all) p;
       up = rw (drop_all n es all) tt;
-      inner = tt;
     }
 
 -- the steps that are done are no more than the entries
@@ -102,7 +101,7 @@ cut_done f d es n clean limit h = rw (take-steps (entry_change f) es n d h) refl
 pub cut_view : {C : Type 0} (f : C → Change) (d : DocumentParts) (es : List (Entry C)) (n : ℕ) (clean : Option ℕ) (limit : ℕ) → n ≤ length es → cut (history_of f d es n clean limit []) ≡ history_of f d (take n es) n (up_to n clean) limit []
 cut_view f d es n clean limit h = cut_done f d es n clean limit h ∙ sym (done_view f d (take n es) n (up_to n clean) limit (length-take-le n es h))
 
-pub cut_sound : {C : Type 0} (f : C → Change) (d : DocumentParts) (es : List (Entry C)) (n : ℕ) (clean : Option ℕ) → IsTurnable f d es n clean [] → IsTurnable f d (take n es) n (up_to n clean) []
+pub cut_sound : {C : Type 0} (f : C → Change) (d : DocumentParts) (es : List (Entry C)) (n : ℕ) (clean : Option ℕ) → IsTurnable f d es n clean → IsTurnable f d (take n es) n (up_to n clean)
 cut_sound f d es n clean s = done_sound f d (take n es) n (up_to n clean) (length-take-le n es s.within) s.down (at_most-up_to n clean)
 
 cut_current : {C : Type 0} (f : C → Change) (d : DocumentParts) (es : List (Entry C)) (n : ℕ) (clean : Option ℕ) (limit : ℕ) → n ≤ length es → current (cut (history_of f d es n clean limit [])) ≡ d
@@ -136,7 +135,7 @@ added_view f e es x n clean limit len =
     ∙ ap (make (before k es d)) (steps_down-append k es x e)
     ∙ sym (ap grown (done_view f d es n clean limit len))
 
-pub added_fits : {C : Type 0} (f : C → Change) (e : DocumentParts) (es : List (Entry C)) (x : Entry C) (n : ℕ) (clean : Option ℕ) → length es ≡ n → IsTurnable f ((entry_change f x).undone e) es n clean [] → (entry_change f x).fits_undo e → FitsDown (entry_change f) (es ++ x ∷ []) e
+pub added_fits : {C : Type 0} (f : C → Change) (e : DocumentParts) (es : List (Entry C)) (x : Entry C) (n : ℕ) (clean : Option ℕ) → length es ≡ n → IsTurnable f ((entry_change f x).undone e) es n clean → (entry_change f x).fits_undo e → FitsDown (entry_change f) (es ++ x ∷ []) e
 added_fits f e es x n clean len s fits =
     let all : length es ≤ n = omega arith in
     FitsDown-push (entry_change f) es x e (rw (take_all n es all) at s.down) fits
@@ -158,11 +157,6 @@ limited_view f e es n clean (suc m) len h =
     ∙ ap (make (last_after (before k es e) (take over steps))) (sym (drop-steps_down k over es e))
     ∙ sym (ap gone same)
     ∙ sym (ap (limited_to (suc m)) (done_view f e es n clean (suc m) len))
-
-pub limited_sound : {C : Type 0} (f : C → Change) (e : DocumentParts) (es : List (Entry C)) (n : ℕ) (clean : Option ℕ) (k : ℕ) → length es ≡ n → FitsDown (entry_change f) es e → IsAtMost clean n → IsTurnable f e (drop k es) (n - k) (lowered k clean) []
-limited_sound f e es n clean k len fits most =
-    let left : length (drop k es) ≡ n - k = omega (arith, length-drop k es) in
-    done_sound f e (drop k es) (n - k) (lowered k clean) left (FitsDown-drop (entry_change f) k es e fits) (at_most-lowered k clean n most)
 
 -- the step of a command, by what became of the command when it was redone
 pub redone_step : (v w : Change) (d e k : DocumentParts) → IsRedone v w d e → k ≡ d → step_of v k ≡ step_named w.names e

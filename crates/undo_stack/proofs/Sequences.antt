@@ -1,6 +1,7 @@
 -- Sequences of changes that grow and shrink at their end.
 use Rattle.std.proofs.Common.{◌≡◌, ℕ, ◌+◌, ◌<◌, ◌≤◌, List, [], ◌∷◌, ◌++◌, take, drop, length, map, set, get_or, zero, suc, refl, sym, ◌∙◌, ap, arith}
-use Rattle.std.proofs.lemmas.List.{take_more, drop-set-lt, drop_more, length-append, length-take-le, take_at, take-append-drop}
+use Rattle.std.proofs.lemmas.List.{drop_at, take_more, drop-set-lt, drop_more, length-append, length-take-le, take_at, take-append-drop}
+use Rattle.std.specs.List.{remove}
 use Rattle.map_model.specs.Document.{DocumentParts}
 use Rattle.command_api.specs.Law.{Change}
 use Rattle.undo_stack.specs.History.{step_named, last_after}
@@ -76,3 +77,12 @@ pub FitsDown-drop : {B : Type 0} (f : B → Change) (k : ℕ) (xs : List B) (d :
 FitsDown-drop f zero xs d h = h
 FitsDown-drop f (suc k) [] d h = tt
 FitsDown-drop f (suc k) (x ∷ xs) d h = FitsDown-drop f k xs d h.1
+
+-- a list without the thing at a number
+pub take-remove : {A : Type 0} (xs : List A) (j : ℕ) → j ≤ length xs → take j (remove xs j) ≡ take j xs
+take-remove xs j h = take_at (take j xs) (drop (suc j) xs) j (length-take-le j xs h)
+
+pub drop-remove : {A : Type 0} (xs : List A) (j : ℕ) → j ≤ length xs → drop j (remove xs j) ≡ drop (j + 1) xs
+drop-remove xs j h =
+    let next : suc j ≡ j + 1 = omega arith in
+    drop_at (take j xs) (drop (suc j) xs) j (length-take-le j xs h) ∙ ap (λ (n : ℕ). drop n xs) next

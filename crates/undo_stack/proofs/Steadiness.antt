@@ -4,9 +4,9 @@ use Rattle.map_model.specs.Document.{DocumentParts}
 use Rattle.command_api.specs.Law.{Change, is_free}
 use Rattle.undo_stack.specs.Entries.{entry_change}
 use Rattle.undo_stack.specs.History.{Step, Open, History, new_history, innermost}
-use Rattle.undo_stack.specs.Pushing.{cut, without_last, led_to, dropped, limited, limited_to, without_target, with_target_at, with_added, next_of, IsPushed}
+use Rattle.undo_stack.specs.Pushing.{cut, without_last, led_to, limited_to, without_target, with_target_at, with_added, next_of, IsPushed}
 use Rattle.undo_stack.specs.Macros.{Begins, Ends, begun, ended_in, step_of_level}
-use Rattle.undo_stack.specs.Moving.{Answer, Leads, StepsBack, StepsOn, GoesTo, MarksClean, UnmarksClean, SetsLimit, Clears, cleared, positioned}
+use Rattle.undo_stack.specs.Moving.{Answer, Leads, StepsBack, StepsOn, GoesTo, MarksClean, UnmarksClean, SetsLimit, Clears, positioned}
 use Rattle.undo_stack.specs.Sound.{start_of}
 use Rattle.undo_stack.specs.Stacks.{history, inner_of, Holds}
 use Rattle.undo_stack.specs.Turning.{AreBound, IsSteady, SetsIndex}
@@ -109,7 +109,7 @@ Clears-steady h n c = rw c tt
 
 -- ---- a stack
 position-within : {C : Type 0} (f : C → Change) (s : Stack C) → Holds f s → (history f s).position ≤ length (history f s).steps
-position-within f s sound = omega (arith, sound.turnable.within, length-steps (entry_change f) s.entries.items s.index (start_of f (map inner_of s.levels.items) s.document))
+position-within f s sound = omega (arith, sound.own.sound.turnable.within, length-steps (entry_change f) s.sequences.steps.entries.items s.sequences.steps.index (start_of f (map inner_of s.sequences.levels.items) s.document))
 
 pub stack-SetsIndex : {C : Type 0} (f : C → Change) (s : Stack C) (i : ℕ) (answer : Answer) (n : History) → Holds f s → IsSteady (history f s) → SetsIndex i (history f s) answer n
     → GoesTo i (history f s) answer n

@@ -100,6 +100,17 @@ turned_to i h n within is =
       on = rw is (subst (λ (j : ℕ). TurnBy TurnsOn k m (positioned j h)) at (turned_on k m));
     }
 
+-- turns in one direction
+pub turned_only_back : (i : ℕ) (h n : History) → i ≤ h.position → TurnBy TurnsBack (h.position - i) h n → TurnsTo i h n
+turned_only_back i h n below back =
+    let none : 0 ≡ min i (length h.steps) - h.position = omega (arith, below) in
+    record { between = n; back = back; on = subst (λ (k : ℕ). TurnBy TurnsOn k n n) none refl }
+
+pub turned_only_on : (i : ℕ) (h n : History) → h.position ≤ i → TurnBy TurnsOn (min i (length h.steps) - h.position) h n → TurnsTo i h n
+turned_only_on i h n above on =
+    let none : 0 ≡ h.position - i = omega (arith, above) in
+    record { between = h; back = subst (λ (k : ℕ). TurnBy TurnsBack k h h) none refl; on = on }
+
 -- one more turn
 pub turned_more : (R : History → History → Type 0) (k : ℕ) (h m n : History) → TurnBy R k h m → R m n → TurnBy R (k + 1) h n
 turned_more R zero h m n t r = (n, rw t at r, refl)

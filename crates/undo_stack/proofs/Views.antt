@@ -8,12 +8,10 @@ use Rattle.undo_stack.specs.Reading.{undo_text_of, redo_text_of}
 use Rattle.undo_stack.specs.Moving.{Answer, positioned, outside, redo_answer, cleared}
 use Rattle.undo_stack.specs.Sequence.{before, steps_down, steps_of, IsMoved}
 use Rattle.undo_stack.specs.Entries.{entry_change}
-use Rattle.undo_stack.specs.Sound.{Inner, start_of, opens, history_of, IsTurnable, sequence_nesting}
-use Rattle.undo_stack.specs.Stacks.{inner_of, IsBounded}
+use Rattle.undo_stack.specs.Sound.{Inner, start_of, opens, history_of, IsTurnable}
+use Rattle.undo_stack.specs.Stacks.{inner_of}
 use Rattle.undo_stack.specs.declared.entry.Entry.{Entry}
 use Rattle.undo_stack.specs.declared.level.Level.{Level}
-use Rattle.undo_stack.specs.declared.limits.TheConstants.{MAX_DEPTH, MAX_LIMIT}
-use Rattle.undo_stack.specs.declared.stack.Stack.{Stack}
 use Rattle.undo_stack.specs.declared.stack.StackFault.TheVariants.{MacroOpen, NothingToRedo}
 use Rattle.undo_stack.proofs.Sequences.{last_after-down, take-steps, length-steps}
 
@@ -56,7 +54,7 @@ redo_text_of-open f d es n clean limit [] h = absurd (omega arith)
 redo_text_of-open f d es n clean limit (l ∷ ls) h = refl
 
 -- while a level is open, a call that moves answers so
-pub outside-open : {C : Type 0} (f : C → Change) (ls : List (Level C)) (d : DocumentParts) (answer : Answer) → 0 < length ls → outside (opens f (map inner_of ls) d) answer ≡ Err MacroOpen
+pub outside-open : {C : Type 0} (f : C → Change) (ls : List (Level C)) (d : DocumentParts) (answer : Answer) → 0 < length ls → Err MacroOpen ≡ outside (opens f (map inner_of ls) d) answer
 outside-open f [] d answer h = absurd (omega arith)
 outside-open f (l ∷ ls) d answer h = refl
 
@@ -64,29 +62,16 @@ pub length-opens : {C : Type 0} (f : C → Change) (ls : List (Level C)) (d : Do
 length-opens f [] d = refl
 length-opens f (l ∷ ls) d = let h = length-opens f ls d in omega arith
 
--- a stack with no open level keeps its limits
-pub bounded_closed : {C : Type 0} (s : Stack C) → s.levels.items ≡ [] → s.limit ≤ MAX_LIMIT → (0 < s.limit → length s.entries.items ≤ s.limit) → sequence_nesting s.entries.items ≤ MAX_DEPTH → IsBounded s
-bounded_closed s closed limit count deep = record {
-  limit = limit;
-  count = count;
-  entry_nesting = deep;
-  open_nesting = rw closed (omega arith);
-  none_above = rw closed tt;
-  entry_room = rw closed tt;
-  level_room = rw closed tt;
-}
-
 -- entries of which one was turned
-pub moved_view : {C : Type 0} (f : C → Change) (d e : DocumentParts) (es ts : List (Entry C)) (i j : ℕ) (clean : Option ℕ) (limit : ℕ) (ls : List (Level C)) → ls ≡ [] → IsMoved (entry_change f) es i d ts j e → history_of f e ts j clean limit (map inner_of ls) ≡ positioned j (history_of f d es i clean limit (map inner_of ls))
-moved_view f d e es ts i j clean limit ls none m = rw (none, m.base, m.steps) refl
+pub moved_view : {C : Type 0} (f : C → Change) (d e : DocumentParts) (es ts : List (Entry C)) (i j : ℕ) (clean : Option ℕ) (limit : ℕ) → IsMoved (entry_change f) es i d ts j e → history_of f e ts j clean limit [] ≡ positioned j (history_of f d es i clean limit [])
+moved_view f d e es ts i j clean limit m = rw (m.base, m.steps) refl
 
-pub moved_sound : {C : Type 0} (f : C → Change) (d e : DocumentParts) (es ts : List (Entry C)) (i j : ℕ) (clean : Option ℕ) (ls : List (Level C)) → ls ≡ [] → IsTurnable f d es i clean (map inner_of ls) → j ≤ length es → IsMoved (entry_change f) es i d ts j e → IsTurnable f e ts j clean (map inner_of ls)
-moved_sound f d e es ts i j clean ls none s h m = rw none record {
+pub moved_sound : {C : Type 0} (f : C → Change) (d e : DocumentParts) (es ts : List (Entry C)) (i j : ℕ) (clean : Option ℕ) → IsTurnable f d es i clean → j ≤ length es → IsMoved (entry_change f) es i d ts j e → IsTurnable f e ts j clean
+moved_sound f d e es ts i j clean s h m = record {
   within = rw m.same_length h;
   clean_within = rw m.same_length s.clean_within;
   down = m.down;
   up = m.up;
-  inner = tt;
 }
 
 -- redo is accepted below the last position, and not at it

@@ -11,3 +11,5 @@ pub mod Sound
 pub mod Stacks
 pub mod Merging
 pub mod Reporting
+pub mod Held
+pub mod Lending

@@ -3,10 +3,8 @@ use Rattle.std.specs.Prelude.{◌≡◌, ◌<◌, List, [], ◌∷◌, Some, Non
 use Rattle.map_model.specs.Document.{DocumentParts}
 use Rattle.command_api.specs.Law.{Change, IsSame, IsSettled}
 use Rattle.undo_stack.specs.History.{Step, step_named, Open, History, last_after, innermost}
-use Rattle.undo_stack.specs.Pushing.{cut, without_last, last_step, led_to, target, before_target, vanishing_of, Continues, Merges, Vanishes, with_target_at, without_target, next_of}
+use Rattle.undo_stack.specs.Pushing.{cut, without_last, last_step, led_to, target, before_target, vanishing_of, Continues, Vanishes, without_target, next_of}
 use Rattle.undo_stack.specs.Sequence.{before, steps_down, FitsDown}
-use Rattle.undo_stack.specs.Stacks.{history, Holds}
-use Rattle.undo_stack.specs.declared.stack.Stack.{Stack}
 
 -- the change c continues the step of the change v
 abbrev pub Joins : Change → Change → Type 0
@@ -65,27 +63,3 @@ pub record SettlesTarget (d : DocumentParts) (gone : Bool) (h n : History) : Typ
 pub record IsEntered (gone : Bool) (h : History) (s : Step) (n : History) : Type 0 where
   pub gone_where : Vanishes false gone (cut h) s
   pub next : n ≡ next_of false gone s (cut h)
-
--- the stack before the command c, which led to its document
-abbrev pub stack_before : {C : Type 0} → (C → Change) → C → Stack C → Stack C
-stack_before f c s = record s { document = (f c).undone s.document }
-
--- before the command c, the stacks s and t hold the same history
-pub record IsUnchanged {C : Type 0} (f : C → Change) (c : C) (s t : Stack C) : Type 0 where
-  pub document : t.document ≡ s.document
-  pub sound : Holds f (stack_before f c t)
-  pub same : history f (stack_before f c t) ≡ history f (stack_before f c s)
-
--- the target of the stack s took the command c in, and the steps above it went
-pub record IsTakenIn {C : Type 0} (f : C → Change) (c : C) (s t : Stack C) : Type 0 where
-  pub merges : Merges (cut (history f (stack_before f c s))) (step_named (f c).names s.document)
-  pub document : t.document ≡ s.document
-  pub sound : Holds f t
-  pub target : HasTarget (history f t).levels (history f t)
-  pub next : history f t ≡ (let h = cut (history f (stack_before f c s)) in with_target_at s.document h.levels h)
-
--- merging the command c, which led to the document of s, made t of the stack s
-abbrev pub MergesStack : {E C : Type 0} → (C → Change) → C → Stack C → Result Bool E → Stack C → Type 0
-MergesStack f c s (Ok true) t = IsTakenIn f c s t
-MergesStack f c s (Ok false) t = (Merges (cut (history f (stack_before f c s))) (step_named (f c).names s.document) → ⊥) × IsUnchanged f c s t
-MergesStack f c s (Err e) t = IsUnchanged f c s t

@@ -1,5 +1,5 @@
 -- Entries, open levels, a position among the entries and the current document, as a history.
-use Rattle.std.specs.Prelude.{ℕ, ◌+◌, ◌≤◌, max, List, [], ◌∷◌, ◌++◌, Option, Some, None, take, drop, length, map}
+use Rattle.std.specs.Prelude.{ℕ, ◌+◌, ◌≤◌, max, List, [], ◌∷◌, Option, Some, None, take, drop, length, map}
 use Rattle.map_model.specs.Document.{DocumentParts}
 use Rattle.command_api.specs.Law.{Change}
 use Rattle.undo_stack.specs.History.{Open, History}
@@ -28,11 +28,6 @@ opens f (l ∷ ls) d = record {
   steps = steps_down (entry_change f) l.sequence (start_of f ls d);
 } ∷ opens f ls d
 
--- each entry of these levels, which led to d, fits for undo
-abbrev pub FitsOpens : {C : Type 0} → (C → Change) → List (Inner C) → DocumentParts → Type 0
-FitsOpens f [] d = Unit {0}
-FitsOpens f (l ∷ ls) d = FitsDown (entry_change f) l.sequence (start_of f ls d) × FitsOpens f ls d
-
 -- the history of these entries and levels, which led to the document d, where n entries are below the levels
 abbrev pub history_of : {C : Type 0} → (C → Change) → DocumentParts → List (Entry C) → ℕ → Option ℕ → ℕ → List (Inner C) → History
 history_of f d es n clean limit ls = record {
@@ -48,19 +43,12 @@ abbrev pub IsAtMost : Option ℕ → ℕ → Type 0
 IsAtMost None n = Unit {0}
 IsAtMost (Some k) n = k ≤ n
 
--- the positions are among the entries; the entries of the levels and the first n entries fit for undo, the others for redo
-pub record IsTurnable {C : Type 0} (f : C → Change) (d : DocumentParts) (es : List (Entry C)) (n : ℕ) (clean : Option ℕ) (ls : List (Inner C)) : Type 0 where
+-- the positions are among the entries; at the document d the first n entries fit for undo, the others for redo
+pub record IsTurnable {C : Type 0} (f : C → Change) (d : DocumentParts) (es : List (Entry C)) (n : ℕ) (clean : Option ℕ) : Type 0 where
   pub within : n ≤ length es
   pub clean_within : IsAtMost clean (length es)
-  pub down : FitsDown (entry_change f) (take n es) (start_of f ls d)
-  pub up : FitsUp (entry_change f) (drop n es) (start_of f ls d)
-  pub inner : FitsOpens f ls d
-
--- the same levels, with an entry behind those of the last one
-abbrev pub with_child : {C : Type 0} → Entry C → List (Inner C) → List (Inner C)
-with_child e [] = []
-with_child e (l ∷ []) = record l { sequence = l.sequence ++ e ∷ [] } ∷ []
-with_child e (l ∷ m ∷ ls) = l ∷ with_child e (m ∷ ls)
+  pub down : FitsDown (entry_change f) (take n es) d
+  pub up : FitsUp (entry_change f) (drop n es) d
 
 -- how many macros stand in one another in these entries
 abbrev pub sequence_nesting : {C : Type 0} → List (Entry C) → ℕ

@@ -1,31 +1,33 @@
 -- A stack, seen as a history, where f says what its commands do. An open macro is a `Level` in code, which keeps a box, an
 -- `Inner` where its entries are seen as lists, and an `Open` in the history, with whole documents.
-use Rattle.std.specs.Prelude.{◌≡◌, ◌<◌, ◌≤◌, Bool, true, List, [], ◌∷◌, ◌++◌, length, map, vec_len, vec_capacity}
-use Rattle.std.specs.VecDeque.{deque_len, deque_capacity}
-use Rattle.command_api.specs.Law.{Change}
+use Rattle.std.specs.Prelude.{◌≡◌, ℕ, ◌+◌, ◌<◌, ◌≤◌, Bool, true, List, [], ◌∷◌, ◌++◌, Option, None, length, map}
+use Rattle.std.specs.VecDeque.{deque_capacity}
+use Rattle.map_model.specs.Document.{DocumentParts}
+use Rattle.command_api.specs.Law.{Change, untagged, Never}
 use Rattle.undo_stack.specs.History.{History}
-use Rattle.undo_stack.specs.Entries.{is_macro}
-use Rattle.undo_stack.specs.Sound.{Inner, history_of, IsTurnable, sequence_nesting, level_nesting}
+use Rattle.undo_stack.specs.Calm.{AreLive}
+use Rattle.undo_stack.specs.Entries.{entry_change, is_macro, nesting}
+use Rattle.undo_stack.specs.Held.{IsHeld, target_in}
+use Rattle.undo_stack.specs.Lending.{innermost}
+use Rattle.undo_stack.specs.Reporting.{AreTurned, IsReportedAt}
+use Rattle.undo_stack.specs.Sequence.{before, FitsDown}
+use Rattle.undo_stack.specs.Sound.{Inner, history_of, level_nesting, sequence_nesting, start_of}
 use Rattle.undo_stack.specs.declared.entry.Entry.{Entry}
-use Rattle.undo_stack.specs.declared.entry.Entry.TheVariants.{Macro}
 use Rattle.undo_stack.specs.declared.level.Level.{Level}
-use Rattle.undo_stack.specs.declared.limits.TheConstants.{MAX_DEPTH, MAX_LIMIT}
+use Rattle.undo_stack.specs.declared.limits.TheConstants.{MAX_DEPTH}
+use Rattle.undo_stack.specs.declared.sequence.Sequence.{Sequence}
 use Rattle.undo_stack.specs.declared.stack.Stack.{Stack}
 
 -- what a level of a stack holds
 abbrev pub inner_of : {C : Type 0} → Level C → Inner C
-inner_of l = record { text = l.contents.value.text; action = l.contents.value.action; sequence = l.contents.value.children.items }
+inner_of l = record { text = l.contents.value.text; action = l.contents.value.action; sequence = l.sequence.entries.items }
 
 abbrev pub inners : {C : Type 0} → Stack C → List (Inner C)
-inners s = map inner_of s.levels.items
-
--- the entry that a level is once it is closed
-abbrev pub closed_level : {C : Type 0} → Level C → Entry C
-closed_level l = Macro l.contents
+inners s = map inner_of s.sequences.levels.items
 
 -- the history that a stack holds
 abbrev pub history : {C : Type 0} → (C → Change) → Stack C → History
-history f s = history_of f s.document s.entries.items s.index s.clean s.limit (inners s)
+history f s = history_of f s.document s.sequences.steps.entries.items s.sequences.steps.index s.sequences.steps.clean s.sequences.steps.limit (inners s)
 
 -- of each step whether it is a macro: of the entries, and last of the open one where there is one
 abbrev pub macros_in : {C : Type 0} → List (Level C) → List (Entry C) → List Bool
@@ -33,35 +35,62 @@ macros_in [] es = map is_macro es
 macros_in (l ∷ ls) es = map is_macro es ++ true ∷ []
 
 abbrev pub macros : {C : Type 0} → Stack C → List Bool
-macros s = macros_in s.levels.items s.entries.items
+macros s = macros_in s.sequences.levels.items s.sequences.steps.entries.items
 
--- where there are any of these levels, P
-abbrev pub WhereOpen : {A : Type 0} → List A → Type 0 → Type 0
-WhereOpen [] P = Unit {0}
-WhereOpen (l ∷ ls) P = P
+-- the entry e is what the level l is once it is closed
+pub record IsClosed {C : Type 0} (f : C → Change) (l : Inner C) (e : Entry C) : Type 0 where
+  pub names : (entry_change f e).names ≡ untagged l.text l.action Never
+  pub undone : (d : DocumentParts) → (entry_change f e).undone d ≡ before (entry_change f) l.sequence d
+  pub fits : (d : DocumentParts) → FitsDown (entry_change f) l.sequence d → (entry_change f e).fits_undo d
+  pub deep : nesting e ≡ sequence_nesting l.sequence + 1
 
--- each of these levels but the last has free room
-abbrev pub HaveRoom : {C : Type 0} → List (Level C) → Type 0
-HaveRoom [] = Unit {0}
-HaveRoom (l ∷ ls) = WhereOpen ls (vec_len l.contents.value.children < vec_capacity l.contents.value.children) × HaveRoom ls
+-- all entries of a sequence are done, and it has no limit and no clean index, as that of a macro
+pub record IsDone {C : Type 0} (q : Sequence C) : Type 0 where
+  pub index : q.index ≡ length q.entries.items
+  pub clean : q.clean ≡ None
+  pub limit : q.limit ≡ 0
 
--- there is free room in the last of these levels
-abbrev pub LastHasRoom : {C : Type 0} → List (Level C) → Type 0
-LastHasRoom [] = Unit {0}
-LastHasRoom (l ∷ []) = vec_len l.contents.value.children < vec_capacity l.contents.value.children
-LastHasRoom (l ∷ m ∷ ls) = LastHasRoom (m ∷ ls)
+-- these levels are held, which led to the document d
+abbrev pub AreHeld : {C : Type 0} → (C → Change) → List (Level C) → DocumentParts → Type 0
+AreHeld f [] d = Unit {0}
+AreHeld f (l ∷ ls) d = IsHeld f (start_of f (map inner_of ls) d) l.sequence × IsDone l.sequence × AreHeld f ls d
 
--- the limits of a stack, and, while a level is open, free room for what it becomes
-pub record IsBounded {C : Type 0} (s : Stack C) : Type 0 where
-  pub limit : s.limit ≤ MAX_LIMIT
-  pub count : 0 < s.limit → length s.entries.items ≤ s.limit
-  pub entry_nesting : sequence_nesting s.entries.items ≤ MAX_DEPTH
-  pub open_nesting : level_nesting (inners s) ≤ MAX_DEPTH
-  pub none_above : WhereOpen s.levels.items (s.index ≡ length s.entries.items)
-  pub entry_room : WhereOpen s.levels.items (deque_len s.entries < deque_capacity s.entries)
-  pub level_room : HaveRoom s.levels.items
+-- nothing stands above the index of a sequence, and there is free room at it
+pub record IsReady {C : Type 0} (q : Sequence C) : Type 0 where
+  pub index : q.index ≡ length q.entries.items
+  pub room : q.index < deque_capacity q.entries
 
--- the commands of a stack fit its document, each at its turn, and it keeps its limits
+-- each of these sequences but the last is ready for what the one in it becomes
+abbrev pub AreReady : {C : Type 0} → Sequence C → List (Level C) → Type 0
+AreReady q [] = Unit {0}
+AreReady q (l ∷ ls) = IsReady q × AreReady l.sequence ls
+
+-- the sequences of a stack are held, each open macro has room in the one around it, and the macros keep their depth
 pub record Holds {C : Type 0} (f : C → Change) (s : Stack C) : Type 0 where
-  pub turnable : IsTurnable f s.document s.entries.items s.index s.clean (inners s)
-  pub bounded : IsBounded s
+  pub own : IsHeld f (start_of f (inners s) s.document) s.sequences.steps
+  pub levels : AreHeld f s.sequences.levels.items s.document
+  pub ready : AreReady s.sequences.steps s.sequences.levels.items
+  pub nesting : level_nesting (inners s) ≤ MAX_DEPTH
+
+-- none of the entries of these levels is a free command that reports itself obsolete
+abbrev pub LevelsAreLive : {C : Type 0} → (C → Change) → List (Level C) → Type 0
+LevelsAreLive f [] = Unit {0}
+LevelsAreLive f (l ∷ ls) = AreLive f l.sequence.entries.items × LevelsAreLive f ls
+
+-- no free command that reports itself obsolete stands among the steps or in an open macro. What is in a closed one may be such
+pub record IsCalm {C : Type 0} (f : C → Change) (s : Stack C) : Type 0 where
+  pub steps : AreLive f s.sequences.steps.entries.items
+  pub levels : LevelsAreLive f s.sequences.levels.items
+
+-- the entry that is the target once the entries above the index are gone
+abbrev pub target_entry : {C : Type 0} → Stack C → Option (Entry C)
+target_entry s = target_in (innermost s.sequences)
+
+-- pushing the command x onto the stack s gave t, and the step is gone exactly where the entry that x ended in is obsolete
+abbrev pub IsReported : {C : Type 0} → (C → Change) → C → Stack C → Stack C → Type 0
+IsReported f x s t = IsReportedAt f x s.document (target_entry s) (history f s) t.document (history f t)
+
+-- turning the entries of the stack s up to the number i gave t, and the step of each is gone exactly where its command is free
+-- and reports, after its turn, that it is obsolete
+abbrev pub IsTurnReported : {C : Type 0} → (C → Change) → ℕ → Stack C → Stack C → Type 0
+IsTurnReported f i s t = AreTurned f s.sequences.steps.entries.items i s.document (history f s) (history f t)

@@ -1,7 +1,7 @@
 ghost use Rattle.std.specs.Prelude.{◌≡◌, ◌≤◌, [], true, false, length, take, drop, map};
 ghost use Rattle.command_api.specs.Law.{IsRedone, IsUndone, IsLawful, is_free};
 ghost use Rattle.command_api.specs.Offers.{IsOfferOf};
-ghost use Rattle.undo_stack.specs.Calm.{IsGone, IsLive};
+ghost use Rattle.undo_stack.specs.Calm.{is_gone, IsGone, IsLive};
 ghost use Rattle.undo_stack.specs.Entries.{entry_change, is_macro, nesting};
 ghost use Rattle.undo_stack.specs.Merging.{MergesChange};
 ghost use Rattle.undo_stack.specs.Sequence.{sequence_change, FitsDown, FitsUp, IsMoved};
@@ -111,6 +111,7 @@ impl<C: Command> Entry<C> {
 
     /// Whether the entry is a free command that is obsolete.
     pub fn is_gone(&self) -> bool
+        ensures answer { result ≡ is_gone (entry_change C.change self.now) }
         ensures gone { result ≡ true → IsGone (entry_change C.change self.now) }
         ensures live { result ≡ false → IsLive (entry_change C.change self.now) }
     {

@@ -7,6 +7,7 @@
 mod entry;
 mod level;
 pub mod limits;
+mod sequence;
 mod stack;
 
 pub use stack::{Stack, StackFault};

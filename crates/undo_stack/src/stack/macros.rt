@@ -1,10 +1,10 @@
 // The beginning and the end of a macro.
 ghost use Rattle.std.specs.Prelude.{◌≡◌, ◌<◌, length, IfOk, vec_len, vec_capacity};
-ghost use Rattle.std.specs.VecDeque.{deque_len, deque_capacity};
-ghost use Rattle.undo_stack.specs.Calm.{IsCalm};
+ghost use Rattle.std.specs.VecDeque.{deque_capacity};
 ghost use Rattle.undo_stack.specs.Macros.{Begins, Ends};
 ghost use Rattle.undo_stack.specs.Pushing.{cut};
-ghost use Rattle.undo_stack.specs.Stacks.{history, Holds, LastHasRoom};
+ghost use Rattle.undo_stack.specs.Lending.{innermost};
+ghost use Rattle.undo_stack.specs.Stacks.{history, Holds, IsReady};
 
 use super::{Stack, StackFault};
 use crate::level::Level;
@@ -21,21 +21,20 @@ impl<C: Command> Stack<C> {
     pub fn begin_macro(&mut self, text: &str, action: &str) -> Result<(), StackFault>
         requires { Holds C.change self.old }
         ensures sound { Holds C.change self.new }
-        ensures calm { IsCalm C.change self.old → IsCalm C.change self.new }
         ensures step { Begins text.now action.now (history C.change self.old) result (history C.change self.new) }
     {
-        if self.levels.len() >= MAX_DEPTH {
+        if self.sequences.levels.len() >= MAX_DEPTH {
             return Err(StackFault::TooDeep);
         }
         // All that the macro needs, up to its end, is taken before the first change.
         let Ok(level) = Level::new(self.alloc, text, action) else {
             return Err(StackFault::NoMemory);
         };
-        let Ok(()) = self.take_level_room() else {
+        let Ok(()) = self.take_room() else {
             return Err(StackFault::NoMemory);
         };
-        self.cut_outside();
-        self.levels.push_reserved(level);
+        self.cut();
+        self.sequences.levels.push_reserved(level);
         Ok(())
     }
 
@@ -47,54 +46,42 @@ impl<C: Command> Stack<C> {
     pub fn end_macro(&mut self) -> Result<(), StackFault>
         requires { Holds C.change self.old }
         ensures sound { Holds C.change self.new }
-        ensures calm { IsCalm C.change self.old → IsCalm C.change self.new }
         ensures step { Ends (history C.change self.old) result (history C.change self.new) }
     {
-        let Some(level) = self.levels.pop() else {
+        let Some(level) = self.sequences.levels.pop() else {
             return Err(StackFault::NoMacroOpen);
         };
         let entry = level.into_entry();
-        if self.is_open() {
-            self.add_child(entry);
-        } else {
-            self.add_step(entry);
-        }
+        self.sequences.innermost().add(entry);
         Ok(())
     }
 
     // Sees to it that there is room for a further level, and for what it becomes.
-    fn take_level_room(&mut self) -> Result<(), AllocError>
+    fn take_room(&mut self) -> Result<(), AllocError>
         requires { Holds C.change self.old }
         ensures sound { Holds C.change self.new }
-        ensures calm { IsCalm C.change self.old → IsCalm C.change self.new }
         ensures same { history C.change self.new ≡ history C.change self.old }
-        ensures count { length self.new.levels.items ≡ length self.old.levels.items }
-        ensures room { IfOk result (λ _. vec_len self.new.levels < vec_capacity self.new.levels) }
-        ensures level_room { IfOk result (λ _. LastHasRoom self.new.levels.items) }
-        ensures entry_room { IfOk result (λ _. self.new.index < deque_capacity self.new.entries) }
+        ensures count { length self.new.sequences.levels.items ≡ length self.old.sequences.levels.items }
+        ensures room { IfOk result (λ _. vec_len self.new.sequences.levels < vec_capacity self.new.sequences.levels) }
+        ensures inner_room { IfOk result (λ _. let q = innermost self.new.sequences in q.index < deque_capacity q.entries) }
     {
-        self.levels.reserve(1)?;
-        if self.is_open() {
-            return self.take_child_room();
-        }
-        self.take_room()
+        self.sequences.levels.reserve(1)?;
+        self.sequences.innermost().take_room()
     }
 
     // With no level open the entries above the index go, and a clean index above it is lost.
-    fn cut_outside(&mut self)
+    fn cut(&mut self)
         requires sound { Holds C.change self.old }
-        requires room { self.old.index < deque_capacity self.old.entries }
+        requires room { let q = innermost self.old.sequences in q.index < deque_capacity q.entries }
         ensures sound { Holds C.change self.new }
-        ensures calm { IsCalm C.change self.old → IsCalm C.change self.new }
         ensures cut { history C.change self.new ≡ cut (history C.change self.old) }
-        ensures at_end { self.new.index ≡ length self.new.entries.items }
-        ensures room { deque_len self.new.entries < deque_capacity self.new.entries }
-        ensures levels { self.new.levels ≡ self.old.levels }
+        ensures ready { IsReady (innermost self.new.sequences) }
+        ensures levels { self.new.sequences.levels ≡ self.old.sequences.levels }
         ensures document { self.new.document ≡ self.old.document }
     {
-        if self.is_open() {
+        if self.sequences.is_open() {
             return;
         }
-        self.cut();
+        self.sequences.steps.cut();
     }
 }

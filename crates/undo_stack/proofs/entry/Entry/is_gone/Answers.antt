@@ -1,7 +1,16 @@
-use Rattle.std.proofs.Common.{sym, ◌∙◌}
+use Rattle.std.proofs.Common.{refl, sym, ◌∙◌}
 use Rattle.undo_stack.proofs.EntryChanges.{entry_change-Command, entry_change-Macro}
 use Rattle.undo_stack.proofs.Turnings.{false-true, gone_at}
 use Rattle.undo_stack.proofs.entry.Entry.is_gone.Goals as goal
+
+pub returns-then-is_free-clause-answer : goal.returns-then-is_free-clause-answer
+returns-then-is_free-clause-answer g c = rw (c.in-Command.is, entry_change-Command g.C.Command.change c.in-Command.command, ← c.is_free.ensures, c.if-is_free.true) c.obsolete.ensures.answer
+
+pub returns-else-is_free-clause-answer : goal.returns-else-is_free-clause-answer
+returns-else-is_free-clause-answer g c = rw (c.in-Command.is, entry_change-Command g.C.Command.change c.in-Command.command, ← c.is_free.ensures, c.if-is_free.false) refl
+
+pub returns-in-Macro-clause-answer : goal.returns-in-Macro-clause-answer
+returns-in-Macro-clause-answer g c = rw (c.in-Macro.is, entry_change-Macro g.C.Command.change c.in-Macro.field-0) refl
 
 pub returns-then-is_free-clause-gone : goal.returns-then-is_free-clause-gone
 returns-then-is_free-clause-gone g c =

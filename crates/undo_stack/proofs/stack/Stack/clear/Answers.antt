@@ -4,4 +4,5 @@ use Rattle.undo_stack.proofs.stack.Stack.clear.Goals as goal
 pub returns-clause-step : goal.returns-clause-step
 returns-clause-step g c =
     let s = c.args.self.now in
-    cleared_view g.C.Command.change s.document s.entries.items c.clear.new.self.items s.index s.clean s.limit s.levels.items c.clear-2.new.self.items c.requires.turnable.within c.clear.ensures.items c.clear-2.ensures.items
+    let e = c.clear.ensures in
+    rw (e.index, e.clean, e.limit) (cleared_view g.C.Command.change s.document s.sequences.steps.entries.items c.clear.new.self.entries.items s.sequences.steps.index s.sequences.steps.clean s.sequences.steps.limit s.sequences.levels.items c.clear-2.new.self.items c.requires.own.sound.turnable.within e.entries c.clear-2.ensures.items)

@@ -5,4 +5,4 @@ use Rattle.undo_stack.proofs.stack.Stack.depth.Goals as goal
 pub returns : goal.returns
 returns g c =
     let s = c.args.self.now in
-    omega (arith, length-opens g.C.Command.change s.levels.items s.document, c.len.ensures, s.levels.ok.0)
+    omega (arith, length-opens g.C.Command.change s.sequences.levels.items s.document, c.len.ensures, s.sequences.levels.ok.0)

@@ -1,102 +1,62 @@
-use Rattle.std.proofs.Common.{◌≡◌, ◌∙◌, ap, refl, subst, Bool, true, false, Some, Ok}
-use Rattle.std.proofs.lemmas.Result.{IfOk-weaker}
-use Rattle.map_model.specs.Document.{DocumentParts}
-use Rattle.undo_stack.specs.History.{step_named, current}
-use Rattle.undo_stack.specs.Pushing.{step_of, IsPushed}
-use Rattle.undo_stack.specs.Stacks.{history, inners}
-use Rattle.undo_stack.specs.Merging.{SettlesTarget, IsEntered, stack_before}
-use Rattle.undo_stack.specs.declared.stack.Stack.{Stack}
-use Rattle.undo_stack.proofs.Pushes.{pushed_entered}
-use Rattle.undo_stack.proofs.Targets.{pushed_merged, merged_next}
-use Rattle.undo_stack.proofs.Merges.{pushed_on, entered_unchanged}
+use Rattle.std.proofs.Common.{◌≡◌}
+use Rattle.std.proofs.lemmas.Result.{IfErr-weaker, IfOk-weaker}
+use Rattle.undo_stack.specs.History.{current}
+use Rattle.undo_stack.specs.Held.{history_at, target_in}
+use Rattle.undo_stack.specs.Lending.{innermost}
+use Rattle.undo_stack.specs.Pushing.{IsPushed, step_of}
+use Rattle.undo_stack.specs.Reporting.{IsReportedAt}
+use Rattle.undo_stack.specs.Stacks.{history, inners, IsReported}
+use Rattle.undo_stack.proofs.Innermost.{by_result, inner_held, led, pushed_led, reported_led, same_led}
+use Rattle.undo_stack.proofs.Reports.{both_ok}
 use Rattle.undo_stack.proofs.Views.{current-view}
-use Rattle.undo_stack.specs.Reporting.{target_entry, reports, IsReported}
-use Rattle.undo_stack.specs.declared.entry.Entry.TheVariants.{Command}
-use Rattle.command_api.specs.Law.{Change}
-use Rattle.undo_stack.proofs.EntryChanges.{entry_change-Command}
-use Rattle.undo_stack.proofs.Turnings.{false-true}
-use Rattle.undo_stack.proofs.Reports.{both_ok, reported_on}
 use Rattle.undo_stack.proofs.stack.Stack.push.Goals as goal
 
-pub redo-requires : goal.redo-requires
-redo-requires g c =
-    let s = c.args.self.now in
-    rw (current-view g.C.Command.change s.document s.entries.items s.index s.clean s.limit (inners s) c.requires.sound.turnable.within) at c.requires.fits
+pub push-requires-clause-held : goal.push-requires-clause-held
+push-requires-clause-held g c = rw c.innermost.ensures.value (inner_held g.C.Command.change c.args.self.now c.requires.sound)
 
-pub returns-in-Ok-true-clause-pushed : goal.returns-in-Ok-true-clause-pushed
-returns-in-Ok-true-clause-pushed g c =
+pub push-requires-clause-fits : goal.push-requires-clause-fits
+push-requires-clause-fits g c =
+    let s = c.args.self.now in
+    let q = s.sequences.steps in
+    rw (current-view g.C.Command.change s.document q.entries.items q.index q.clean q.limit (inners s) c.requires.sound.own.sound.turnable.within) at c.requires.fits
+
+pub returns-clause-sound : goal.returns-clause-sound
+returns-clause-sound g c =
+    let e = rw c.innermost.ensures.value at c.push.ensures in
+    by_result c.push.result e.pushed e.unchanged
+    (λ p. (pushed_led g.C.Command.change c.args.self.now c.requires.sound c.push.new.document c.push.new.self c.args.command e.held e.nesting p).0)
+    (λ same. (same_led g.C.Command.change c.args.self.now c.requires.sound c.push.new.document c.push.new.self e.held e.nesting same).0)
+
+pub returns-clause-pushed : goal.returns-clause-pushed
+returns-clause-pushed g c =
     let f = g.C.Command.change in
     let s = c.args.self.now in
-    let y = c.redo.new.self in
-    let e = c.redo.new.document in
-    let t = c.merge.new.self in
-    let done : Stack g.row.C.Denot = record s { document = e } in
-    let m = rw (c.in-Ok-true.is ∙ ap (λ (b : Bool). Ok b) c.in-Ok-true.field-0-test) at c.merge.ensures.merged in
-    let gone = reports f (target_entry t) in
-    let settled = subst (λ (d : DocumentParts). SettlesTarget d gone (history f t) (history f c.settle.new.self)) m.document c.settle.ensures.settled in
-    pushed_on f c.args.command y s e (history f c.settle.new.self) c.redo.ensures c.requires.sound.turnable.within
-    (pushed_merged gone (history f (stack_before f y done)) (step_named (f y).names e) (history f t) (history f c.settle.new.self) m.merges m.next settled)
+    let w = f c.args.command in
+    let d = c.push.new.document in
+    let q = c.push.new.self in
+    let e = rw c.innermost.ensures.value at c.push.ensures in
+    let h = history_at f s.document (innermost s.sequences) in
+    IfOk-weaker c.push.result (λ _. IsPushed h (step_of w (current h)) (history_at f d q)) (λ _. IsPushed (history f s) (step_of w (current (history f s))) (history f (led s d q)))
+    (λ _ p. (pushed_led f s c.requires.sound d q c.args.command e.held e.nesting p).1) e.pushed
 
-pub returns-in-Ok-false-clause-pushed : goal.returns-in-Ok-false-clause-pushed
-returns-in-Ok-false-clause-pushed g c =
-    let f = g.C.Command.change in
-    let s = c.args.self.now in
-    let x = c.args.command in
-    let y = c.redo.new.self in
-    let e = c.redo.new.document in
-    let t = c.merge.new.self in
-    let n = history f c.enter.new.self in
-    let done : Stack g.row.C.Denot = record s { document = e } in
-    let m = rw (c.in-Ok-false.is ∙ ap (λ (b : Bool). Ok b) c.in-Ok-false.field-0-test) at c.merge.ensures.merged in
-    IfOk-weaker c.enter.result (λ u. IsEntered (f y).obsolete (history f (stack_before f y t)) (step_named (f y).names t.document) n) (λ u. IsPushed (history f s) (step_of (f x) (current (history f s))) n)
-    (λ u p. pushed_on f x y s e n c.redo.ensures c.requires.sound.turnable.within
-    (pushed_entered (f y).obsolete (history f (stack_before f y done)) (step_named (f y).names e) n m.0 (entered_unchanged f (f y).obsolete y done t n m.1 p)))
-    c.enter.ensures.entered
-
-pub returns-in-Ok-true-clause-calm : goal.returns-in-Ok-true-clause-calm
-returns-in-Ok-true-clause-calm g c h =
-    let m = rw (c.in-Ok-true.is ∙ ap (λ (b : Bool). Ok b) c.in-Ok-true.field-0-test) at c.merge.ensures.calm in
-    c.settle.ensures.calm (m h)
-
-pub returns-in-Ok-false-clause-calm : goal.returns-in-Ok-false-clause-calm
-returns-in-Ok-false-clause-calm g c h =
-    let m = rw (c.in-Ok-false.is ∙ ap (λ (b : Bool). Ok b) c.in-Ok-false.field-0-test) at c.merge.ensures.calm in
-    c.enter.ensures.calm (m h)
-
-pub returns-in-Err-clause-calm : goal.returns-in-Err-clause-calm
-returns-in-Err-clause-calm g c h = let m = rw c.in-Err.is at c.merge.ensures.calm in m h
-
-pub returns-in-Ok-true-clause-reported : goal.returns-in-Ok-true-clause-reported
-returns-in-Ok-true-clause-reported g c =
-    let f = g.C.Command.change in
-    let s = c.args.self.now in
-    let y = c.redo.new.self in
-    let e = c.redo.new.document in
-    let t = c.merge.new.self in
-    let done : Stack g.row.C.Denot = record s { document = e } in
-    let ok = c.in-Ok-true.is ∙ ap (λ (b : Bool). Ok b) c.in-Ok-true.field-0-test in
-    let m = rw ok at c.merge.ensures.merged in
-    let joined = rw ok at c.merge.ensures.joined in
-    let gone = reports f (target_entry t) in
-    let settled = subst (λ (d : DocumentParts). SettlesTarget d gone (history f t) (history f c.settle.new.self)) m.document c.settle.ensures.settled in
-    reported_on f c.args.command y s c.settle.new.self e true (target_entry t) c.redo.ensures c.requires.sound.turnable.within (c.settle.ensures.document ∙ m.document)
-    ((λ _. m.merges), (λ _. refl)) joined
-    (merged_next gone (history f (stack_before f y done)) (step_named (f y).names e) (history f t) (history f c.settle.new.self) m.next settled)
-
-pub returns-in-Ok-false-clause-reported : goal.returns-in-Ok-false-clause-reported
-returns-in-Ok-false-clause-reported g c =
+pub returns-clause-reported : goal.returns-clause-reported
+returns-clause-reported g c =
     let f = g.C.Command.change in
     let s = c.args.self.now in
     let x = c.args.command in
-    let y = c.redo.new.self in
-    let e = c.redo.new.document in
-    let t = c.merge.new.self in
-    let u = c.enter.new.self in
-    let done : Stack g.row.C.Denot = record s { document = e } in
-    let m = rw (c.in-Ok-false.is ∙ ap (λ (b : Bool). Ok b) c.in-Ok-false.field-0-test) at c.merge.ensures.merged in
-    let told : reports f (Some (Command y)) ≡ (f y).obsolete = ap (λ (v : Change). v.obsolete) (entry_change-Command f y) in
-    both_ok (λ _. u.document ≡ t.document) (λ _. IsEntered (f y).obsolete (history f (stack_before f y t)) (step_named (f y).names t.document) (history f u)) (λ _. IsReported f x s u) c.enter.result
-    (λ _ document entered. reported_on f x y s u e false (Some (Command y)) c.redo.ensures c.requires.sound.turnable.within (document ∙ m.1.document)
-    ((λ q. false-true q), (λ k. absurd (m.0 k))) refl
-    (rw told (entered_unchanged f (f y).obsolete y done t (history f u) m.1 entered).next))
-    c.enter.ensures.document c.enter.ensures.entered
+    let d = c.push.new.document in
+    let q = c.push.new.self in
+    let e = rw c.innermost.ensures.value at c.push.ensures in
+    let h = history_at f s.document (innermost s.sequences) in
+    both_ok (λ _. IsPushed h (step_of (f x) (current h)) (history_at f d q)) (λ _. IsReportedAt f x s.document (target_in (innermost s.sequences)) h d (history_at f d q)) (λ _. IsReported f x s (led s d q)) c.push.result
+    (λ _ p r. reported_led f s c.requires.sound d q x p r) e.pushed e.reported
+
+pub returns-clause-unchanged : goal.returns-clause-unchanged
+returns-clause-unchanged g c =
+    let f = g.C.Command.change in
+    let s = c.args.self.now in
+    let d = c.push.new.document in
+    let q = c.push.new.self in
+    let e = rw c.innermost.ensures.value at c.push.ensures in
+    IfErr-weaker c.push.result (λ _. history_at f d q ≡ history_at f s.document (innermost s.sequences)) (λ _. history f (led s d q) ≡ history f s)
+    (λ _ same. (same_led f s c.requires.sound d q e.held e.nesting same).1) e.unchanged

@@ -1,27 +1,50 @@
-use Rattle.std.proofs.Common.{arith, sym, refl, map}
-use Rattle.undo_stack.specs.Sound.{start_of}
-use Rattle.undo_stack.specs.Stacks.{inner_of}
-use Rattle.undo_stack.proofs.Views.{redo-accepted, redo-refused, step_above}
+use Rattle.std.proofs.Common.{◌+◌, ◌<◌, arith, sym, refl, length, nat_lt, Ok, Err}
+use Rattle.std.specs.Prelude.{if◌then◌else◌}
+use Rattle.undo_stack.specs.Reporting.{AreTurned}
+use Rattle.undo_stack.specs.Stacks.{history}
+use Rattle.undo_stack.specs.Turning.{TurnsOn}
+use Rattle.undo_stack.specs.declared.stack.StackFault.TheVariants.{NothingToRedo}
+use Rattle.undo_stack.proofs.Innermost.{closed_step}
+use Rattle.undo_stack.proofs.Reported.{turned_once_up}
+use Rattle.undo_stack.proofs.Views.{outside-open, redo-accepted, redo-refused, step_above}
 use Rattle.undo_stack.proofs.stack.Stack.redo.Goals as goal
 
 pub returns-then-self-len-clause-step : goal.returns-then-self-len-clause-step
 returns-then-self-len-clause-step g c =
     let s = c.args.self.now in
     record {
-      answered = sym (redo-refused g.C.Command.change s.document s.entries.items s.index s.clean s.limit s.levels.items c.if-is_open.ensures (omega (arith, s.entries.ok.0)));
+      answered = sym (redo-refused g.C.Command.change s.document s.sequences.steps.entries.items s.sequences.steps.index s.sequences.steps.clean s.sequences.steps.limit s.sequences.levels.items c.if-is_open.ensures (omega (arith, s.sequences.steps.entries.ok.0)));
       leads = refl;
     }
 
-pub step_on-requires-clause-above : goal.step_on-requires-clause-above
-step_on-requires-clause-above g c =
+pub returns-then-is_open-clause-step : goal.returns-then-is_open-clause-step
+returns-then-is_open-clause-step g c =
     let f = g.C.Command.change in
     let s = c.args.self.now in
-    step_above f (start_of f (map inner_of s.levels.items) s.document) s.entries.items s.index (omega (arith, c.requires.turnable.within, s.entries.ok.0))
+    let h = history f s in
+    record { answered = outside-open f s.sequences.levels.items s.document (if nat_lt h.position (length h.steps) then Ok tt else Err NothingToRedo) c.if-is_open.ensures; leads = refl }
+
+pub step_on-requires-clause-above : goal.step_on-requires-clause-above
+step_on-requires-clause-above g c =
+    let s = c.args.self.now in
+    step_above g.C.Command.change s.document s.sequences.steps.entries.items s.sequences.steps.index (omega (arith, c.requires.own.sound.turnable.within, s.sequences.steps.entries.ok.0))
 
 pub returns-clause-step : goal.returns-clause-step
 returns-clause-step g c =
+    let f = g.C.Command.change in
     let s = c.args.self.now in
+    let none = c.if-is_open.ensures in
     record {
-      answered = sym (redo-accepted g.C.Command.change s.document s.entries.items s.index s.clean s.limit s.levels.items c.if-is_open.ensures (omega (arith, c.requires.turnable.within, s.entries.ok.0)));
-      leads = c.step_on.ensures.turned;
+      answered = sym (redo-accepted f s.document s.sequences.steps.entries.items s.sequences.steps.index s.sequences.steps.clean s.sequences.steps.limit s.sequences.levels.items none (omega (arith, c.requires.own.sound.turnable.within, s.sequences.steps.entries.ok.0)));
+      leads = closed_step f TurnsOn s (record s { document = c.step_on.new.document; sequences = record s.sequences { steps = c.step_on.new.self } }) none none c.step_on.ensures.turned;
     }
+
+pub returns-clause-reported : goal.returns-clause-reported
+returns-clause-reported g c =
+    let f = g.C.Command.change in
+    let s = c.args.self.now in
+    let q = s.sequences.steps in
+    let none = c.if-is_open.ensures in
+    let inside : q.index < length q.entries.items = omega (arith, c.requires.own.sound.turnable.within, q.entries.ok.0) in
+    closed_step f (AreTurned f q.entries.items (q.index + 1) s.document) s (record s { document = c.step_on.new.document; sequences = record s.sequences { steps = c.step_on.new.self } }) none none
+    (turned_once_up f s.document q c.step_on.new.document c.step_on.new.self inside c.step_on.ensures.reported)

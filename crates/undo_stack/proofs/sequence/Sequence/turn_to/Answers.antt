@@ -1,0 +1,29 @@
+use Rattle.std.proofs.Common.{◌∙◌, ℕ, ap, arith, min}
+use Rattle.undo_stack.specs.Entries.{entry_change}
+use Rattle.undo_stack.specs.Held.{history_at}
+use Rattle.undo_stack.specs.Moving.{positioned}
+use Rattle.undo_stack.proofs.Held.{moved_held}
+use Rattle.undo_stack.proofs.Reported.{bound_turned}
+use Rattle.undo_stack.proofs.Sequences.{length-steps}
+use Rattle.undo_stack.proofs.Views.{turned_view}
+use Rattle.undo_stack.proofs.sequence.Sequence.turn_to.Goals as goal
+
+pub returns-clause-history : goal.returns-clause-history
+returns-clause-history g c =
+    let f = g.C.Command.change in
+    let q = c.args.self.now in
+    let all = length-steps (entry_change f) q.entries.items q.index c.args.document.now in
+    turned_view (history_at f c.args.document.now q) (history_at f c.undo_to.new.document c.undo_to.new.self) (history_at f c.redo_to.new.document c.redo_to.new.self) c.args.index (omega (arith, all, c.requires.held.sound.turnable.within)) c.undo_to.ensures.history c.redo_to.ensures.history
+
+pub returns-clause-held : goal.returns-clause-held
+returns-clause-held g c =
+    moved_held g.C.Command.change c.args.self.now c.redo_to.new.self c.args.document.now c.redo_to.new.document _ c.requires.bound (returns-clause-history g c) c.requires.held c.redo_to.ensures.sound
+
+pub returns-clause-reported : goal.returns-clause-reported
+returns-clause-reported g c =
+    let f = g.C.Command.change in
+    let q = c.args.self.now in
+    let h = history_at f c.args.document.now q in
+    let all = length-steps (entry_change f) q.entries.items q.index c.args.document.now in
+    bound_turned f q.entries.items c.args.index c.args.document.now h (history_at f c.redo_to.new.document c.redo_to.new.self) (c.requires.held.none_free c.requires.bound) c.requires.held.sound.turnable.within
+    (returns-clause-history g c ∙ ap (λ (n : ℕ). positioned (min c.args.index n) h) all)
