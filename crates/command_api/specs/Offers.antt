@@ -15,7 +15,8 @@ use Rattle.map_model.specs.Lookups.{HasTiles}
 use Rattle.map_model.specs.Properties.{new_property, properties_of, property_at, scalar_value, setting_with}
 use Rattle.map_model.specs.PropertyLenses.{setting_named, setting_place, without_setting}
 use Rattle.map_model.specs.WellFormed.{IsWellFormed}
-use Rattle.command_api.specs.Law.{Change, Names, is_free}
+use Rattle.command_api.specs.Law.{Change}
+use Rattle.command_api.specs.Names.{Names, is_free}
 use Rattle.command_api.specs.Tag.{Tag, OfLayer, OfObject, OfName}
 use Rattle.command_api.specs.declared.ids.TheConstants.{MOVE_ID, SET_ID}
 use Rattle.command_api.specs.declared.offer.Offer.{Offer}

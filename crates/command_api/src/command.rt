@@ -1,5 +1,6 @@
 ghost use Rattle.std.specs.Prelude.{◌≡◌, ◌↔◌, IfOk, IsTrue, Ok, true};
-ghost use Rattle.command_api.specs.Law.{Change, IsLawful, IsRedone, IsSame, IsUndone, is_free};
+ghost use Rattle.command_api.specs.Law.{Change, IsLawful, IsRedone, IsSame, IsUndone};
+ghost use Rattle.command_api.specs.Names.{is_free};
 ghost use Rattle.command_api.specs.Offers.{AsksMerge, IsMerged, IsOfferOf, Takes};
 ghost use Rattle.command_api.specs.Tag.{id_of};
 

@@ -9,7 +9,7 @@ use Rattle.map_model.specs.WellFormed.{IsPixels}
 use Rattle.edits.specs.Stamping.{IsBlock}
 use Rattle.command_api.specs.declared.fault.EditFault.{EditFault}
 use Rattle.command_api.specs.declared.fault.EditFault.TheVariants.{NoSuchLayer, LayerOfAnotherKind, OutsideTheMap, UnknownTile, NoSuchObject, NoSuchProperty, NoSuchTileset, TilesetInUse, FirstIdNotAbove, OutOfRange, TooMany, NoMemory}
-use Rattle.command_api.specs.Law.{Names}
+use Rattle.command_api.specs.Names.{Names}
 use Rattle.command_api.specs.Making.{IsRefusalOf, Makes}
 use Rattle.session.specs.declared.limits.TheConstants.{MAX_LINE}
 use Rattle.session.specs.declared.line.Line.TheVariants.{Stamp}

@@ -1,7 +1,8 @@
 ghost use Rattle.std.specs.Prelude.{◌≡◌, ◌+◌, ◌-◌, ◌^◌, ◌↔◌, ◌<◌, ◌≤◌, false, [], ◌∷◌, ◌++◌, length, IsTrue, IfOk, OnOk, OnErr, IfSome, IfNone, Ok, Some, None, vec_len, slice_range, take, drop};
 ghost use Rattle.std.specs.Bool.{OnTrue, OnFalse};
 ghost use Rattle.std.specs.Io.KnownBytes.{IsAtEnd, Consumes, Keeps};
-ghost use Rattle.lines.specs.Lines.{Reading, fresh, budget, HasLine, first_newline, input_left, SameInput, FindsLine, HasNoNewline, SkipsLine, StopsInLine, AsksInNeed, SameCalls, HasFailed};
+ghost use Rattle.lines.specs.Lines.{HasNoNewline};
+ghost use Rattle.lines.specs.Reading.{Reading, fresh, budget, HasLine, first_newline, input_left, SameInput, FindsLine, SkipsLine, StopsInLine, AsksInNeed, SameCalls, HasFailed};
 
 use memchr::memchr;
 use std::alloc::{AllocError, Global};

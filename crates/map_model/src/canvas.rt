@@ -2,7 +2,8 @@
 ghost use Rattle.std.specs.Prelude.{◌≡◌, ◌+◌, ◌+ℤ◌, ◌^◌, ◌<◌, ◌≤◌, Some, IfSome, length, map, slice_get, slice_set};
 ghost use Rattle.std.specs.List.{flat_map};
 ghost use Rattle.std.specs.Option.{option_map};
-ghost use Rattle.map_model.specs.Canvas.{body_on, layers_on, lists_after, lists_in, lists_left, lists_of, lists_under, object_moved, one_on, placing_moved, with_lists, BodyMayBeMoved, MayBeDrawn, MayBeMoved};
+ghost use Rattle.map_model.specs.Canvas.{body_on, layers_on, lists_after, lists_in, lists_left, lists_of, lists_under, one_on, with_lists, BodyMayBeMoved, MayBeDrawn, MayBeMoved};
+ghost use Rattle.map_model.specs.Objects.{object_moved, placing_moved};
 ghost use Rattle.map_model.specs.Groups.{body_with_layers, drawn, group_in, tree};
 ghost use Rattle.map_model.specs.Keeping.{layer_level};
 ghost use Rattle.map_model.specs.Lists.{Each, or_empty};

@@ -5,7 +5,8 @@ ghost use Rattle.editor.specs.Editors.{IsSound, machine_of};
 ghost use Rattle.editor.specs.Machine.{started_machine, workspace};
 ghost use Rattle.editor.specs.Steps.{Step, StepIn};
 ghost use Rattle.session.specs.Spelling.{CanBeSpelled};
-ghost use Rattle.session_run.specs.Runs.{PutsSame, RunsAll, RunsSome, RunsToRead, RunsToRefused, RunsToUnsaved, RunsToWrite, StepFound};
+ghost use Rattle.session_run.specs.Runs.{RunsAll, RunsSome, RunsToRead, RunsToRefused, RunsToUnsaved, RunsToWrite};
+ghost use Rattle.session_run.specs.WithinRuns.{PutsSame, StepFound};
 
 use crate::strict::{Report, end_refused, ending, ends_unsaved};
 use crate::writing::{flush_if, write_reply};

@@ -1,7 +1,8 @@
 -- What the merge of a pushed edit makes of a change, a sequence, a history and a stack.
 use Rattle.std.specs.Prelude.{◌≡◌, ◌<◌, List, [], ◌∷◌, Some, None, Bool, true, false, Result, Ok, Err, length}
 use Rattle.map_model.specs.Document.{DocumentParts}
-use Rattle.command_api.specs.Law.{Change, IsSame, IsSettled}
+use Rattle.command_api.specs.Law.{Change, IsSame}
+use Rattle.command_api.specs.Names.{IsSettled}
 use Rattle.undo_stack.specs.History.{Step, step_named, Open, History, last_after, innermost}
 use Rattle.undo_stack.specs.Pushing.{cut, without_last, last_step, led_to, target, before_target, vanishing_of, Continues, Merges, Vanishes, with_target_at, without_target, next_of}
 use Rattle.undo_stack.specs.Sequence.{before, steps_down, FitsDown}

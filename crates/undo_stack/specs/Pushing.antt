@@ -10,7 +10,8 @@
 -- Where the two documents of 1 or 2 are equal, a free t or edit may go too: it does where its command says so (Reporting).
 use Rattle.std.specs.Prelude.{◌≡◌, ℕ, ◌+◌, ◌-◌, List, [], ◌∷◌, ◌++◌, Option, Some, None, take, drop, length, Bool, true, false, leb, if◌then◌else◌, ◌↔◌, zero, suc}
 use Rattle.map_model.specs.Document.{DocumentParts}
-use Rattle.command_api.specs.Law.{Change, Vanishing, Never, IsSettled}
+use Rattle.command_api.specs.Law.{Change}
+use Rattle.command_api.specs.Names.{Vanishing, Never, IsSettled}
 use Rattle.undo_stack.specs.History.{Step, step_named, Open, History, last_after, document_at, innermost, current}
 
 -- the step of an edit that is made on the document d

@@ -5,7 +5,7 @@
 -- stays, whatever is in it.
 use Rattle.std.specs.Prelude.{◌≡◌, ℕ, ◌+◌, ◌-◌, min, length, Option, Some, None, Ok, Err, zero, suc, true, false, ◌⊎◌, List, [], ◌∷◌, slice_get}
 use Rattle.std.specs.List.{remove}
-use Rattle.command_api.specs.Law.{is_free}
+use Rattle.command_api.specs.Names.{is_free}
 use Rattle.undo_stack.specs.History.{Step, History, document_at}
 use Rattle.undo_stack.specs.Pushing.{up_to}
 use Rattle.undo_stack.specs.Moving.{Answer, undo_answer, redo_answer, goto_answer, positioned}

@@ -1,5 +1,6 @@
 ghost use Rattle.std.specs.Prelude.{◌≡◌, ◌≤◌, [], true, false, length, take, drop, map};
-ghost use Rattle.command_api.specs.Law.{IsRedone, IsUndone, IsLawful, is_free};
+ghost use Rattle.command_api.specs.Law.{IsRedone, IsUndone, IsLawful};
+ghost use Rattle.command_api.specs.Names.{is_free};
 ghost use Rattle.command_api.specs.Offers.{IsOfferOf};
 ghost use Rattle.undo_stack.specs.Calm.{IsGone, IsLive};
 ghost use Rattle.undo_stack.specs.Entries.{entry_change, is_macro, nesting};
