@@ -151,7 +151,7 @@ pub fn exchange_layers(
     number
 }
 
-// The same for one layer, and those that stand in it.
+// Exchanges the cells and moves the objects of one layer, and of those that stand in it.
 #[cycle(exchange)]
 fn exchange_layer(layer: &mut Layer, canvas: &mut Canvas, number: usize, room: usize) -> usize
     requires count { number + length (lists_under room layer.old) ≤ length canvas.old.layers }
@@ -167,7 +167,7 @@ fn exchange_layer(layer: &mut Layer, canvas: &mut Canvas, number: usize, room: u
     exchange_inside(&mut layer.body, canvas, number, room - 1)
 }
 
-// The same for those that stand in a layer.
+// Exchanges the cells and moves the objects of the layers that stand in a layer.
 #[cycle(exchange)]
 fn exchange_inside(body: &mut Body, canvas: &mut Canvas, number: usize, room: usize) -> usize
     requires count { number + length (flat_map lists_of (drawn room layer_level (or_empty (group_in body.old)))) ≤ length canvas.old.layers }

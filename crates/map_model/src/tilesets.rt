@@ -127,7 +127,7 @@ fn is_in_layers(layers: &Chain<Layer>, low: u32, end: u32, room: usize) -> bool
     false
 }
 
-// The same of a layer and those that stand in it.
+// Whether the base of a value in a layer, or in one that stands in it, is not below `low`, and below `end`.
 #[cycle(uses)]
 fn is_in_layer(layer: &Layer, low: u32, end: u32, room: usize) -> bool
     ensures { result ≡ list_any (λ d. list_any (is_between low end) (values_of d)) (tree room layer_level layer.now) }

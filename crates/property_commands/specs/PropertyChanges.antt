@@ -74,7 +74,7 @@ abbrev pub before_of : SetKind → Option Setting
 before_of (Replace setting is_made is_same) = Some setting
 before_of (Add property) = None
 
--- the same kind of setting, for another one that is given: one that replaces is the same where it holds that one
+-- a kind of setting as it is for another setting that is given: one that replaces is the same where it holds that one
 abbrev pub IsKindFor : Setting → SetKind → SetKind → Type 0
 IsKindFor s (Replace setting is_made is_same) kind = (told : Bool) × ((kind ≡ Replace setting is_made told) × (IsTrue told ↔ setting ≡ s))
 IsKindFor s (Add property) kind = kind ≡ Add property

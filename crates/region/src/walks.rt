@@ -19,7 +19,7 @@ pub(crate) fn split_ended(runs: &[StoredRun], x: u32, y: u32) -> (&[StoredRun], 
     runs.split_at(at)
 }
 
-// The same, for runs of which often none or one ends before the cell.
+// The runs that end before a cell, and the others, where often none or one ends before the cell.
 #[inline(always)]
 fn split_near(runs: &[StoredRun], x: u32, y: u32) -> (&[StoredRun], &[StoredRun])
     requires { IsMaximalRuns runs.now }
@@ -34,8 +34,8 @@ fn split_near(runs: &[StoredRun], x: u32, y: u32) -> (&[StoredRun], &[StoredRun]
     split_far(runs, x, y)
 }
 
-// The same, for runs of which few end before the cell: it takes a number of steps that grows with the logarithm of
-// how many do.
+// The runs that end before a cell, and the others, where few end before the cell: it takes a number of steps that grows
+// with the logarithm of how many do.
 #[inline(never)]
 fn split_far(runs: &[StoredRun], x: u32, y: u32) -> (&[StoredRun], &[StoredRun])
     requires { IsMaximalRuns runs.now }

@@ -115,7 +115,7 @@ module _ {B : Type 0} (xs : List B) (n : ℕ) (some : 0 < n) (count : n ≡ leng
       let all : length (set xs (n - 1) w) ≤ n = omega (arith, count, length-set xs (n - 1) w) in
       sym (take_all n (set xs (n - 1) w) all) ∙ take_below-set xs w n some (omega (arith, count))
 
--- the same of a whole sequence
+-- the last change of a whole sequence fits, and takes a newer one in
 pub last_fits_all : {B : Type 0} (f : B → Change) (xs : List B) (v : B) (n : ℕ) (d : DocumentParts) → 0 < n → n ≡ length xs → v ≡ get_or xs (n - 1) v → FitsDown f xs d → (f v).fits_undo d
 last_fits_all f xs v n d p q k h =
     let all : length xs ≤ n = omega arith in

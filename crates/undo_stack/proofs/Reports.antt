@@ -62,7 +62,7 @@ module _ {C : Type 0} (xs : List (Entry C)) (v : Entry C) (n : ℕ) (some : 0 < 
   takes_in_sequence f c d w r count m =
       takes_in f c d v w (last_entry xs) (last_entry (set xs (n - 1) w)) r (last_entry-sequence count) (λ _. ap last_entry (last_sequence-set xs n some count w) ∙ last_entry-append (take (n - 1) xs) w) m
 
--- the same of the target of a stack
+-- the target of a stack takes a command in where that is the last entry of its innermost macro
 pub takes_in_child : {E C : Type 0} (f : C → Change) (c : C) (d : DocumentParts) (es ts : List (Entry C)) (ls : List (Level C)) (v w : Level C) (at : ℕ) (r : Result Bool E) → at + 1 ≡ length ls → v ≡ get_or ls at v
     → TakesIn f c d (last_entry (inner_of v).sequence) r (last_entry (inner_of w).sequence) → TakesIn f c d (last_entry (innermost_sequence es ls)) r (last_entry (innermost_sequence ts (set ls at w)))
 takes_in_child f c d es ts ls v w at r last is t = rw (innermost_sequence-last es ls v at last is, innermost_sequence-set ts ls w at last) t

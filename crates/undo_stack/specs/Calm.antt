@@ -44,7 +44,7 @@ pub record AreCalm {C : Type 0} (f : C → Change) (has_free : Bool) (es : List 
 abbrev pub IsCalm : {C : Type 0} → (C → Change) → Stack C → Type 0
 IsCalm f s = AreCalm f s.has_free s.entries.items s.levels.items
 
--- the same, where the entry at a number was just turned and is not looked at
+-- the stack is calm but for the entry at a number, which was just turned and is not looked at
 pub record IsCalmBut {C : Type 0} (f : C → Change) (at : ℕ) (s : Stack C) : Type 0 where
   pub below : AreLive f (take at s.entries.items)
   pub above : AreLive f (drop (at + 1) s.entries.items)
@@ -56,7 +56,7 @@ abbrev pub AreLiveToLast : {C : Type 0} → (C → Change) → List (Entry C) �
 AreLiveToLast f es [] = AreLive f (without_last es)
 AreLiveToLast f es (l ∷ ls) = AreLive f es × AreLiveToLast f (inner_of l).sequence ls
 
--- the same, where the target just took a command in and is not looked at
+-- the stack is calm but for the target, which just took a command in and is not looked at
 pub record IsCalmToLast {C : Type 0} (f : C → Change) (s : Stack C) : Type 0 where
   pub sequences : AreLiveToLast f s.entries.items s.levels.items
   pub none_free : s.has_free ≡ false → NoneFree f s.entries.items

@@ -52,7 +52,7 @@ without_last [] = []
 without_last (s ∷ []) = []
 without_last (s ∷ t ∷ ss) = s ∷ without_last (t ∷ ss)
 
--- the same steps, with d as the document of the last one
+-- the steps, with d as the document of the last one
 abbrev pub led_to : DocumentParts → List Step → List Step
 led_to d [] = []
 led_to d (s ∷ []) = record s { after = d } ∷ []

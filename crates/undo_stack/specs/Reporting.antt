@@ -43,7 +43,7 @@ pub record HasTakenIn {C : Type 0} (f : C → Change) (c : C) (d : DocumentParts
   pub is : w ≡ Some newer
   pub joined : IsJoined (entry_change f older) (entry_change f newer) (f c) d
 
--- the same where a merge is done
+-- where a merge is done, the entry v took the command c in, which led to d, and is w now
 abbrev pub TakesIn : {E C : Type 0} → (C → Change) → C → DocumentParts → Option (Entry C) → Result Bool E → Option (Entry C) → Type 0
 TakesIn f c d v (Ok true) w = HasTakenIn f c d v w
 TakesIn f c d v (Ok false) w = Unit {0}

@@ -56,7 +56,7 @@ pub record IsTurnable {C : Type 0} (f : C → Change) (d : DocumentParts) (es : 
   pub up : FitsUp (entry_change f) (drop n es) (start_of f ls d)
   pub inner : FitsOpens f ls d
 
--- the same levels, with an entry behind those of the last one
+-- the levels, with an entry behind those of the last one
 abbrev pub with_child : {C : Type 0} → Entry C → List (Inner C) → List (Inner C)
 with_child e [] = []
 with_child e (l ∷ []) = record l { sequence = l.sequence ++ e ∷ [] } ∷ []

@@ -235,7 +235,7 @@ pub fn redo_up<C: Command>(
     }
 }
 
-/// The same as `undo_down`, of entries that need not lie in one sequence.
+/// Undoes the entries of a deque from the number `from` down to `to`, last to first.
 pub fn undo_each<C: Command>(
     entries: &mut VecDeque<Entry<C>>,
     document: &mut Document,
@@ -256,7 +256,7 @@ pub fn undo_each<C: Command>(
     }
 }
 
-/// The same as `redo_up`, of entries that need not lie in one sequence.
+/// Makes the entries of a deque from the number `from` up to `to` again, first to last.
 pub fn redo_each<C: Command>(
     entries: &mut VecDeque<Entry<C>>,
     document: &mut Document,

@@ -225,7 +225,7 @@ impl<C: Command> Stack<C> {
         }
     }
 
-    // The same at a number behind the entries.
+    // Whether the step with this number, which stands behind the entries, is an open macro.
     fn is_open_macro(&self, at: usize) -> Option<bool>
         requires { length self.now.entries.items ≤ at }
         ensures { result ≡ slice_get (macros self.now) at }
@@ -310,7 +310,7 @@ impl<C: Command> Stack<C> {
         self.enter_step(command)
     }
 
-    // The same where no macro is open.
+    // Puts a command that merges into nothing behind the entries below the index, where no macro is open.
     fn enter_step(&mut self, mut command: C) -> Result<(), AllocError>
         requires closed { self.old.levels.items ≡ [] }
         requires sound { Holds C.change (stack_before C.change command self.old) }
@@ -338,7 +338,7 @@ impl<C: Command> Stack<C> {
         Ok(())
     }
 
-    // The same where a macro is open.
+    // Puts a command that merges into nothing behind the entries of the innermost macro, where one is open.
     fn enter_child(&mut self, mut command: C) -> Result<(), AllocError>
         requires open { 0 < length self.old.levels.items }
         requires sound { Holds C.change (stack_before C.change command self.old) }

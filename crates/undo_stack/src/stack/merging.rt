@@ -25,7 +25,7 @@ impl<C: Command> Stack<C> {
         self.merge_offered(command, &command.offer())
     }
 
-    // The same with the offer that the command makes.
+    // The target takes a command in by the offer that the command makes.
     #[inline(always)]
     fn merge_offered(&mut self, command: &C, offer: &Offer<'_>) -> Result<bool, AllocError>
         requires offer { IsOfferOf (C.change command.now) offer.now }
@@ -45,7 +45,7 @@ impl<C: Command> Stack<C> {
         self.merge_step(command, offer)
     }
 
-    // The same where no macro is open.
+    // The entry below the index takes a command in, where no macro is open.
     fn merge_step(&mut self, command: &C, offer: &Offer<'_>) -> Result<bool, AllocError>
         requires closed { self.old.levels.items ≡ [] }
         requires offer { IsOfferOf (C.change command.now) offer.now }
@@ -69,7 +69,7 @@ impl<C: Command> Stack<C> {
         Ok(true)
     }
 
-    // The same where a macro is open.
+    // The last entry of the innermost macro takes a command in, where one is open.
     fn merge_child(&mut self, command: &C, offer: &Offer<'_>) -> Result<bool, AllocError>
         requires open { 0 < length self.old.levels.items }
         requires offer { IsOfferOf (C.change command.now) offer.now }
@@ -99,7 +99,7 @@ impl<C: Command> Stack<C> {
         }
     }
 
-    // The same where no macro is open.
+    // The entry below the index goes where it is obsolete and no macro is open.
     fn settle_step(&mut self)
         requires closed { self.old.levels.items ≡ [] }
         requires sound { Holds C.change self.old }
@@ -116,7 +116,7 @@ impl<C: Command> Stack<C> {
         }
     }
 
-    // The same where a macro is open.
+    // The last entry of the innermost macro goes where it is obsolete.
     fn settle_child(&mut self)
         requires open { 0 < length self.old.levels.items }
         requires sound { Holds C.change self.old }
