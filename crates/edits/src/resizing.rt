@@ -115,7 +115,7 @@ fn layer_stays(layer: &Layer, shift: &Shift, room: usize) -> bool
     }
 }
 
-// Whether each object of a map does.
+// Whether a shift leaves each object of a map within its limits.
 fn objects_stay(parts: &MapParts, shift: &Shift) -> bool
     requires right { IsShift shift.now.right }
     requires down { IsShift shift.now.down }

@@ -181,7 +181,7 @@ impl LineReader {
         // A fault comes only where a call of `read` failed, or at the bound.
         ensures fault { OnErr result (self.new.calls < 2 ^ 32 → HasFailed self.old self.new) }
 
-        // It comes within a line: no whole line is held, and at most a beginning of the line is gone.
+        // At a fault no whole line is held, and at most a beginning of the next line is gone.
         ensures within_line { OnErr result (HasNoNewline self.new.pending) }
         ensures unfinished { OnErr result (StopsInLine (input_left self.old (R.remaining reader.old))
             (input_left self.new (R.remaining reader.new))) }

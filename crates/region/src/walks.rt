@@ -35,7 +35,7 @@ fn split_near(runs: &[StoredRun], x: u32, y: u32) -> (&[StoredRun], &[StoredRun]
 }
 
 // The runs that end before a cell, and the others, where few end before the cell: it takes a number of steps that grows
-// with the logarithm of how many do.
+// with the logarithm of how many end before it.
 #[inline(never)]
 fn split_far(runs: &[StoredRun], x: u32, y: u32) -> (&[StoredRun], &[StoredRun])
     requires { IsMaximalRuns runs.now }
@@ -181,7 +181,7 @@ fn push_before<'a>(
     rest
 }
 
-// Gives what a run has apart from others, and answers the others without some that end before the run does.
+// Adds what a run has apart from others, and gives the others without some that end before the run does.
 #[inline(always)]
 fn push_gaps<'a>(
     out: &mut Vec<StoredRun>,

@@ -39,7 +39,7 @@ pub enum RunFault {
     /// There was no memory for the line buffer. Nothing was read or written.
     #[error("no memory")]
     Memory,
-    /// A line of a strict run was refused. It and the lines before are done, and no later one is. All replies were written.
+    /// A line of a strict run was refused. That line and those before it are done, and no later one is. All replies were written.
     #[error("line refused")]
     Refused,
     /// A strict run has read its whole input, and not each document is clean. All replies were written.

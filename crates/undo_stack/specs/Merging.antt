@@ -62,7 +62,7 @@ pub record SettlesTarget (d : DocumentParts) (gone : Bool) (h n : History) : Typ
   pub gone_where : IsSettled (vanishing_of (target h)) gone (before_target h) d
   pub next : n ≡ settled_to gone h
 
--- the edit s, which is not merged into the history h, makes of it the history n, and is gone there or not
+-- the edit s is not merged into the history h, and makes of it the history n; `gone` says whether its step has vanished
 pub record IsEntered (gone : Bool) (h : History) (s : Step) (n : History) : Type 0 where
   pub gone_where : Vanishes false gone (cut h) s
   pub next : n ≡ next_of false gone s (cut h)

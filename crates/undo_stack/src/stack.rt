@@ -120,7 +120,7 @@ impl<C: Command> Stack<C> {
         !self.levels.is_empty()
     }
 
-    /// Whether the document is the clean one, as when the stack was new. It is not while a macro is open.
+    /// Whether the document is the clean one, as it is in a new stack. While a macro is open it is not.
     pub fn is_clean(&self) -> bool
         ensures { result ≡ is_clean (history C.change self.now) }
     {
@@ -145,8 +145,8 @@ impl<C: Command> Stack<C> {
         &self.document
     }
 
-    /// Goes to the layer with an id, so that the document finds it at once, and a turn that changes it walks nowhere. It is for
-    /// speed alone: the history stays.
+    /// Goes to the layer with an id, so that the document finds it at once, and a turn that changes it walks nowhere. The
+    /// call is for speed alone: the history stays.
     pub fn seek_layer(&mut self, layer: u32)
         requires { Holds C.change self.old }
         ensures sound { Holds C.change self.new }
@@ -690,8 +690,8 @@ impl<C: Command> Stack<C> {
         self.index = index;
     }
 
-    // Whether it is worth laying the entries side by side for so many turns. They lie so until the limit drops one. Later
-    // all of them would move, which pays where at least half are turned.
+    // Whether it is worth moving the entries side by side for so many turns. They lie side by side until the limit drops one.
+    // From then on the move is of all entries, and pays if at least half of them are turned.
     fn is_worth_a_sequence(&self, turns: usize) -> bool {
         let (_, rest) = self.entries.as_slices();
         rest.is_empty() || turns >= self.entries.len() / 2
