@@ -235,7 +235,7 @@ pub fn redo_up<C: Command>(
     }
 }
 
-/// Undoes the entries of a deque from the number `from` down to `to`, last to first.
+/// Turns back the entries of a deque from the number `to` up to `from`, last to first.
 pub fn undo_each<C: Command>(
     entries: &mut VecDeque<Entry<C>>,
     document: &mut Document,

@@ -41,7 +41,7 @@ impl<C: Command> Level<C> {
     pub fn text(&self) -> &str
         ensures { result.now ≡ (inner_of self.now).text }
     {
-        // A level keeps its macro alone, and that its two texts and its entries: no document.
+        // A level keeps its macro alone. The macro keeps its two texts and its entries, and no document.
         let Level { contents } = self;
         let MacroContents {
             text,

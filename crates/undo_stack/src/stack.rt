@@ -479,7 +479,7 @@ impl<C: Command> Stack<C> {
     }
 }
 
-// A clean index, one lower, or lost where it is 0.
+// The clean index, one lower; it is lost where it is 0.
 fn one_lower(clean: Option<usize>) -> Option<usize>
     ensures { result ≡ lowered 1 clean }
 {
@@ -490,8 +490,8 @@ fn one_lower(clean: Option<usize>) -> Option<usize>
 }
 
 impl<C: Command> Stack<C> {
-    /// Turns the step below the index back, and lowers the index by one. Takes no memory. Where the step is that of a free
-    /// command, which is obsolete then, it goes, and a clean index above it is lost.
+    /// Turns the step below the index back, and lowers the index by one. Takes no memory. If the step is that of a free
+    /// command that is obsolete then, it goes, and a clean index above it is lost.
     ///
     /// The answer is `MacroOpen` while a macro is open, and `NothingToUndo` where the index is 0. The stack is then as it
     /// was.
@@ -511,8 +511,8 @@ impl<C: Command> Stack<C> {
         Ok(())
     }
 
-    /// Makes the step above the index again, and raises the index by one. Takes no memory. Where the step is that of a free
-    /// command, which is obsolete then, it goes, the index stays, and a clean index above it is lost.
+    /// Makes the step above the index again, and raises the index by one. Takes no memory. If the step is that of a free
+    /// command that is obsolete then, it goes, the index stays, and a clean index above it is lost.
     ///
     /// The answer is `MacroOpen` while a macro is open, and `NothingToRedo` where the index is the count. The stack is then
     /// as it was.

@@ -1,4 +1,4 @@
-// Turns of one step after the other, each of which goes where it is that of a free command, which is obsolete then.
+// Turns of one step after the other. If a step is that of a free command that is obsolete after its turn, it goes.
 ghost use Rattle.std.specs.Prelude.{◌≡◌, ◌<◌, ◌≤◌, ◌+◌, ◌-◌, [], length};
 ghost use Rattle.undo_stack.specs.Calm.{IsCalm, IsCalmBut};
 ghost use Rattle.undo_stack.specs.Moving.{positioned};
@@ -123,7 +123,7 @@ impl<C: Command> Stack<C> {
         self.index += 1;
     }
 
-    // The entry above the index, which was just undone, goes where a turn may leave it obsolete, and it is.
+    // The entry above the index, which was just undone, goes if a turn may leave it obsolete and this one did.
     #[inline(never)]
     fn drop_above(&mut self)
         requires closed { self.old.levels.items ≡ [] }
@@ -140,7 +140,7 @@ impl<C: Command> Stack<C> {
         }
     }
 
-    // The entry below the index, which was just made again, goes where a turn may leave it obsolete, and it is.
+    // The entry below the index, which was just made again, goes if a turn may leave it obsolete and this one did.
     #[inline(never)]
     fn drop_below(&mut self)
         requires closed { self.old.levels.items ≡ [] }
