@@ -105,8 +105,8 @@ fn move_objects(objects: &mut Chain<Object>, right: i64, down: i64)
 }
 
 impl Body {
-    // Puts a body behind so many tile layers on a canvas, which gets its cells. The answer is behind how many tile layers
-    // the next body stands.
+    // Puts a body on a canvas, which gets its cells. So many tile layers stand before it; the answer is how many stand before
+    // the next body.
     fn exchange(&mut self, canvas: &mut Canvas, number: usize) -> usize
         requires room { number + length (lists_in self.old) ≤ length canvas.old.layers }
         requires objects { BodyMayBeMoved canvas.old.right canvas.old.down self.old }
@@ -129,8 +129,8 @@ impl Body {
     }
 }
 
-/// Puts layers behind so many tile layers on a canvas, which gets their cells, and so those that stand in them, in as many
-/// groups as there is room for. The answer is behind how many tile layers the next layer stands.
+/// Puts layers on a canvas, which gets their cells, and so those that stand in them, in as many groups as there is room for.
+/// So many tile layers stand before them; the answer is how many stand before the next layer.
 #[cycle(exchange)]
 pub fn exchange_layers(
     layers: &mut Chain<Layer>,

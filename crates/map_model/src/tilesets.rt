@@ -54,7 +54,7 @@ impl Map {
     }
 }
 
-// Of a first id above this one, where the end so far is one, and another, the lower one.
+// The end so far, or the first id of a tileset if that is nearer: lower, but above this one.
 fn nearer_end(first_id: u32, end: u32, tileset: &Tileset) -> u32
     ensures { result ≡ nearer first_id end tileset.now }
 {

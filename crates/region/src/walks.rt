@@ -136,7 +136,7 @@ fn push_runs(out: &mut Vec<StoredRun>, runs: &[StoredRun])
     }
 }
 
-// What runs have before another run, to which the first of them lasts.
+// The part before another run of the first of some runs. That first run lasts to the other one.
 #[inline(always)]
 fn first_before(runs: &[StoredRun], other: StoredRun) -> Option<StoredRun>
     requires runs { IsMaximalRuns runs.now }
