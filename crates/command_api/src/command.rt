@@ -33,8 +33,8 @@ pub trait Command: Drop {
         ensures answer { result ≡ (change self.now).obsolete }
         ensures law { IsLawful (change self.now) };
 
-    /// Whether a turn may leave the command obsolete, which then turns nothing and is dropped by its stack. No command of the
-    /// editor's own lines is such a one. The answer stays the same for as long as the command lives.
+    /// Whether a turn may leave the command obsolete, so that it turns nothing and its stack drops it. No command of the
+    /// editor's own lines is of this kind. The answer stays the same for as long as the command lives.
     fn is_free(&self) -> bool
         ensures { result ≡ is_free (change self.now).names.vanishing };
 
