@@ -42,7 +42,7 @@ abbrev pub left_of : Bool → List Step → List Step
 left_of true ss = without_last ss
 left_of false ss = ss
 
--- ys is the sequence xs, which led to d; its last change is gone exactly if it is obsolete
+-- ys is the sequence xs, which led to d; its last change is gone where that is obsolete
 pub record SettlesSequence {B : Type 0} (f : B → Change) (gone : Bool) (xs : List B) (d : DocumentParts) (ys : List B) : Type 0 where
   pub gone_where : IsSettled (vanishing_of (last_step (steps_down f xs d))) gone (last_after (before f xs d) (without_last (steps_down f xs d))) d
   pub sequence : IsAltered f (left_of gone) xs d ys d
@@ -57,7 +57,7 @@ abbrev pub settled_to : Bool → History → History
 settled_to true h = without_target h.levels h
 settled_to false h = h
 
--- n is the history h, which led to d; its target is gone exactly if it is obsolete
+-- n is the history h, which led to d; its target is gone where that is obsolete
 pub record SettlesTarget (d : DocumentParts) (gone : Bool) (h n : History) : Type 0 where
   pub gone_where : IsSettled (vanishing_of (target h)) gone (before_target h) d
   pub next : n ≡ settled_to gone h
