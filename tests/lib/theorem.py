@@ -213,7 +213,8 @@ class Repository:
 
     def reached_from(self, source: Source, lines: List[str]) -> Set[Key]:
         """The definitions that these lines name."""
-        words = set(re.split(r'[\s(){}\[\],;:&<>]+', ' '.join(lines))) - variables(lines)
+        marks = r'[\s(){}\[\],;:]+' if source.path.endswith('.antt') else r'\W+'
+        words = set(re.split(marks, ' '.join(lines))) - variables(lines)
         if 'do' in words:
             words |= {'>>=', '>>'}
         names = {word.lstrip('λ.') for word in words} - {''}
