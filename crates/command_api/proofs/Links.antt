@@ -5,7 +5,7 @@ use Rattle.map_model.specs.Document.{DocumentParts}
 use Rattle.map_model.specs.Lens.{Lens, IsLawfulLens}
 use Rattle.map_model.specs.Slot.{Slot, IsLawfulSlot, place_in}
 use Rattle.map_model.proofs.Changes.{length-insert}
-use Rattle.command_api.specs.Law.{Names, Never}
+use Rattle.command_api.specs.Names.{Names, Never}
 use Rattle.command_api.specs.Making.{Makes}
 use Rattle.command_api.specs.Exchange.{IsExchanged, change_of}
 use Rattle.command_api.specs.Link.{linked, FitsLink, link}

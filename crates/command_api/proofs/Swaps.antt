@@ -4,7 +4,7 @@ use Rattle.map_model.specs.Document.{DocumentParts}
 use Rattle.map_model.specs.Lens.{Lens, IsLawfulLens, put}
 use Rattle.map_model.specs.WellFormed.{IsWellFormed}
 use Rattle.command_api.specs.declared.offer.Offer.{Offer}
-use Rattle.command_api.specs.Law.{Names, Vanishing, WhenEqual, IsSettled}
+use Rattle.command_api.specs.Names.{Names, Vanishing, WhenEqual, IsSettled}
 use Rattle.command_api.specs.Making.{Makes}
 use Rattle.command_api.specs.Exchange.{FitsTurn, IsExchanged, change_of}
 use Rattle.command_api.specs.Offers.{FitsPut, IsMerged, offer_undone}

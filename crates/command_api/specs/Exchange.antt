@@ -5,7 +5,8 @@
 use Rattle.std.specs.Prelude.{◌≡◌, Bool, true, false, not, Option, Some}
 use Rattle.std.specs.Option.{option_map}
 use Rattle.map_model.specs.Document.{DocumentParts}
-use Rattle.command_api.specs.Law.{Change, Names, IsSettled}
+use Rattle.command_api.specs.Law.{Change}
+use Rattle.command_api.specs.Names.{Names, IsSettled}
 use Rattle.command_api.specs.Tag.{id_of}
 use Rattle.command_api.specs.declared.exchange.Label.{Label}
 

@@ -5,3 +5,4 @@ pub mod Exchange
 pub mod Swap
 pub mod Link
 pub mod Offers
+pub mod Names

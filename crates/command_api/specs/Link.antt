@@ -4,7 +4,7 @@ use Rattle.map_model.specs.Document.{DocumentParts}
 use Rattle.map_model.specs.Slot.{Slot}
 use Rattle.map_model.specs.WellFormed.{IsWellFormed}
 use Rattle.command_api.specs.Exchange.{Exchange}
-use Rattle.command_api.specs.Law.{Names}
+use Rattle.command_api.specs.Names.{Names}
 
 -- the document after a held link is put in, or, where none is held, the item is taken out
 abbrev pub linked : {X : Type 0} → Slot X → Option (Option X) → DocumentParts → DocumentParts

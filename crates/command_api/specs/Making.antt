@@ -1,7 +1,8 @@
 -- Commands as an edit makes them, and how an edit is refused.
 use Rattle.std.specs.Prelude.{◌≡◌, Result, Ok, Err, IsOk}
 use Rattle.map_model.specs.Document.{DocumentParts}
-use Rattle.command_api.specs.Law.{Change, Names}
+use Rattle.command_api.specs.Law.{Change}
+use Rattle.command_api.specs.Names.{Names}
 use Rattle.command_api.specs.declared.fault.EditFault.{EditFault}
 use Rattle.command_api.specs.declared.fault.EditFault.TheVariants.{NoMemory}
 

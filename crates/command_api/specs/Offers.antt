@@ -15,7 +15,8 @@ use Rattle.map_model.specs.Lookups.{HasTiles}
 use Rattle.map_model.specs.Properties.{new_property, properties_of, property_at, scalar_value, setting_with}
 use Rattle.map_model.specs.PropertyLenses.{setting_named, setting_place, without_setting}
 use Rattle.map_model.specs.WellFormed.{IsWellFormed}
-use Rattle.command_api.specs.Law.{Change, Names, is_free}
+use Rattle.command_api.specs.Law.{Change}
+use Rattle.command_api.specs.Names.{Names, is_free}
 use Rattle.command_api.specs.Tag.{Tag, OfLayer, OfObject, OfName}
 use Rattle.command_api.specs.declared.ids.TheConstants.{MOVE_ID, SET_ID}
 use Rattle.command_api.specs.declared.offer.Offer.{Offer}
@@ -59,7 +60,8 @@ abbrev pub IsLastSetting : Owner → List ℕ → Setting → DocumentParts → 
 IsLastSetting owner name s d = IsSomeAnd (setting_place owner name d)
     (λ at. (property_at d.map at.0 at.1 ≡ Some (new_property name s)) × IsSomeAnd (properties_of d.map at.0) (λ ps. length ps ≡ at.1 + 1))
 
--- the same of a property that was not there before
+-- the well-formed document has the setting as its owner's last property, which was not there before, and is well formed
+-- without it
 pub record FitsNew (owner : Owner) (name : List ℕ) (after : Setting) (d : DocumentParts) : Type 0 where
   pub well_formed : IsWellFormed d.map
   pub last : IsLastSetting owner name after d

@@ -4,7 +4,7 @@ use Rattle.map_model.specs.Document.{DocumentParts}
 use Rattle.map_model.specs.Lens.{Lens, put}
 use Rattle.map_model.specs.WellFormed.{IsWellFormed}
 use Rattle.command_api.specs.Exchange.{Exchange}
-use Rattle.command_api.specs.Law.{Names}
+use Rattle.command_api.specs.Names.{Names}
 
 -- the held value is one that the document allows; it is put in, and the part's own is held
 abbrev pub swap_where : {V : Type 0} → Names → Lens DocumentParts V → (DocumentParts → V → Type 0) → Bool → V → Exchange

@@ -1,5 +1,6 @@
 ghost use Rattle.std.specs.Prelude.{◌≡◌, ◌↔◌, IfOk, IsTrue, Ok, true};
-ghost use Rattle.command_api.specs.Law.{Change, IsLawful, IsRedone, IsSame, IsUndone, is_free};
+ghost use Rattle.command_api.specs.Law.{Change, IsLawful, IsRedone, IsSame, IsUndone};
+ghost use Rattle.command_api.specs.Names.{is_free};
 ghost use Rattle.command_api.specs.Offers.{AsksMerge, IsMerged, IsOfferOf, Takes};
 ghost use Rattle.command_api.specs.Tag.{id_of};
 
@@ -32,8 +33,8 @@ pub trait Command: Drop {
         ensures answer { result ≡ (change self.now).obsolete }
         ensures law { IsLawful (change self.now) };
 
-    /// Whether a turn may leave the command obsolete, which then turns nothing and is dropped by its stack. No command of the
-    /// editor's own lines is such a one. The answer stays the same for as long as the command lives.
+    /// Whether a turn may leave the command obsolete, so that it turns nothing and its stack drops it. No command of the
+    /// editor's own lines is of this kind. The answer stays the same for as long as the command lives.
     fn is_free(&self) -> bool
         ensures { result ≡ is_free (change self.now).names.vanishing };
 

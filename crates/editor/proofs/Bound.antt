@@ -1,6 +1,7 @@
 -- No edit of a line is that of a free command.
 use Rattle.std.proofs.Common.{◌≡◌, false, refl, ap, ◌∙◌}
-use Rattle.command_api.specs.Law.{Change, IsSame, Names, is_free}
+use Rattle.command_api.specs.Law.{Change, IsSame}
+use Rattle.command_api.specs.Names.{Names, is_free}
 use Rattle.object_commands.proofs.Placements.{place_object-WhenEqual}
 use Rattle.paint_commands.proofs.Merges.{paint-WhenEqual}
 use Rattle.property_commands.proofs.Settings.{set-names}

@@ -9,7 +9,7 @@ use Rattle.map_model.specs.WellFormed.{IsPixels}
 use Rattle.edits.specs.Stamping.{IsBlock}
 use Rattle.command_api.specs.declared.fault.EditFault.{EditFault}
 use Rattle.command_api.specs.declared.fault.EditFault.TheVariants.{NoSuchLayer, LayerOfAnotherKind, OutsideTheMap, UnknownTile, NoSuchObject, NoSuchProperty, NoSuchTileset, TilesetInUse, FirstIdNotAbove, OutOfRange, TooMany, NoMemory}
-use Rattle.command_api.specs.Law.{Names}
+use Rattle.command_api.specs.Names.{Names}
 use Rattle.command_api.specs.Making.{IsRefusalOf, Makes}
 use Rattle.session.specs.declared.limits.TheConstants.{MAX_LINE}
 use Rattle.session.specs.declared.line.Line.TheVariants.{Stamp}
@@ -56,7 +56,7 @@ mapped-PlansEdit wrap names d after (Err fault) edit is r m =
     let P : Result Edit EditFault → Type 0 = λ x. PlansEdit (answer_of names after) d (plan_of x) in
     subst P (sym m) (made-PlansEdit names d after (Err fault) tt r)
 
--- the same of a command that takes no memory, and so is refused exactly as its edit is
+-- a command that takes no memory, and so is refused exactly as its edit is, and was then put into an edit
 pub exact-PlansEdit : {K : Type 0} (wrap : K → Edit) (names : Names) (d : DocumentParts) (after : Result DocumentParts EditFault) (made : Result K EditFault) (edit : Result Edit EditFault)
     → IfOk made (λ k. Makes names d after (edit_change (wrap k))) → IfErr made (λ fault. after ≡ Err fault)
     → MatchResult made (λ k. IsOkAnd edit (λ e. e ≡ wrap k)) (λ e. edit ≡ Err e) → PlansEdit (answer_of names after) d (plan_of edit)

@@ -10,7 +10,7 @@ use Rattle.map_json.specs.declared.fault.MapFault.TheVariants.{Refused}
 use Rattle.map_json.specs.declared.fault.MapRefusal.{MapRefusal}
 use Rattle.map_store.specs.Files.{Files, StoreParts, IsCalled, HasFailed}
 use Rattle.command_api.specs.declared.fault.EditFault.{EditFault}
-use Rattle.command_api.specs.Law.{Names}
+use Rattle.command_api.specs.Names.{Names}
 use Rattle.undo_stack.specs.History.{Step, History, step_named, current, new_history, is_clean, count}
 use Rattle.undo_stack.specs.Moving.{Answer, clean_answer, SetsLimit}
 use Rattle.undo_stack.specs.declared.limits.TheConstants.{MAX_LIMIT}

@@ -4,7 +4,7 @@ use Rattle.map_model.specs.Document.{DocumentParts}
 use Rattle.map_json.specs.Trees.{text_of}
 use Rattle.map_store.specs.Files.{SameOthers}
 use Rattle.command_api.specs.declared.fault.EditFault.{EditFault}
-use Rattle.command_api.specs.Law.{Names}
+use Rattle.command_api.specs.Names.{Names}
 use Rattle.edits.specs.declared.selecting.Selecting.TheVariants.{Nothing, Rectangle}
 use Rattle.edits.specs.Filling.{after_fill}
 use Rattle.edits.specs.Selecting.{after_select}
@@ -14,12 +14,10 @@ use Rattle.edits.specs.ObjectEdits.{after_add_object, after_move_object, after_r
 use Rattle.edits.specs.PropertyEdits.{after_set_property, after_remove_property}
 use Rattle.edits.specs.Resizing.{after_resize}
 use Rattle.edits.specs.TilesetEdits.{after_add_tileset, after_remove_tileset}
-use Rattle.layer_commands.specs.Changes.{add_names, remove_names, rename_names, show_names, move_names, resize_names}
-use Rattle.object_commands.specs.Changes.{add_object_names, move_object_names, resize_object_names, remove_object_names}
-use Rattle.property_commands.specs.PropertyChanges.{set_property_names, remove_property_names}
-use Rattle.property_commands.specs.TilesetChanges.{add_tileset_names, remove_tileset_names}
-use Rattle.paint_commands.specs.Painting.{erase_names, fill_names, stamp_names}
-use Rattle.paint_commands.specs.Selection.{select_names}
+use Rattle.layer_commands.specs.Names.{add_names, remove_names, rename_names, show_names, move_names, resize_names}
+use Rattle.object_commands.specs.Names.{add_object_names, move_object_names, resize_object_names, remove_object_names}
+use Rattle.property_commands.specs.Names.{set_property_names, remove_property_names, add_tileset_names, remove_tileset_names}
+use Rattle.paint_commands.specs.Names.{erase_names, fill_names, stamp_names, select_names}
 use Rattle.undo_stack.specs.History.{History, current}
 use Rattle.undo_stack.specs.Macros.{Begins, Ends}
 use Rattle.undo_stack.specs.Moving.{StepsBack, StepsOn, GoesTo, MarksClean, UnmarksClean, Clears}

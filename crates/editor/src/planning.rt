@@ -54,8 +54,8 @@ fn seek_owner<C: Command>(stack: &mut Stack<C>, owner: Owner)
     }
 }
 
-// Does what a line about the active document that is no edit asks for: its history, and what it is. It and the edits stand
-// apart, since a function clears at its entry all that its arms hand on.
+// Does a line about the active document that is no edit: it is about the history, or asks what the document holds. These lines
+// and the edits stand apart, since a function clears at its entry all that its arms hand on.
 #[inline(always)]
 fn on_history<C: Command>(alloc: Global, stack: &mut Stack<C>, line: &Line<'_>) -> Planned
     requires sound { Holds C.change stack.old }

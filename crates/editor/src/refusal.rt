@@ -8,7 +8,7 @@ use map_store::StoreFault;
 use session::Refusal;
 use undo_stack::StackFault;
 
-/// How a line is refused whose edit is.
+/// The refusal of a line whose edit is refused for this reason.
 pub fn of_edit(fault: EditFault) -> Refusal
     ensures { result ≡ refusal_of_edit fault }
 {
@@ -28,7 +28,7 @@ pub fn of_edit(fault: EditFault) -> Refusal
     }
 }
 
-/// How a line is refused whose call the stack refuses.
+/// The refusal of a line whose call the stack refuses for this reason.
 pub fn of_stack(fault: StackFault) -> Refusal
     ensures { result ≡ refusal_of_stack fault }
 {
@@ -43,7 +43,7 @@ pub fn of_stack(fault: StackFault) -> Refusal
     }
 }
 
-/// How a line is refused whose call the store refuses.
+/// The refusal of a line whose call the store refuses for this reason.
 pub fn of_store(fault: StoreFault) -> Refusal
     ensures { result ≡ refusal_of_store fault }
 {
@@ -54,7 +54,7 @@ pub fn of_store(fault: StoreFault) -> Refusal
     }
 }
 
-/// How a line is refused whose file says no map.
+/// The refusal of a line whose file says no map, for this reason.
 pub fn of_map(fault: MapFault) -> Refusal
     ensures { result ≡ refusal_of_map_fault fault }
 {

@@ -84,7 +84,7 @@ pub fn plan_step_text<C: Command>(alloc: Global, stack: &Stack<C>, number: u32) 
     }
 }
 
-/// Begins a macro. Where the line has no action of its own, its text is that too.
+/// Begins a macro. If the line gives no action text, the macro's text is that too.
 #[inline(never)]
 pub fn plan_begin<C: Command>(
     stack: &mut Stack<C>,

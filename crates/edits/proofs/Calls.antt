@@ -126,7 +126,7 @@ IsPainted-changes d id over after tiles change accepted layer is cells = record 
   };
 }
 
--- the same of a change that a call may have made, of a layer of this width and with this selection
+-- where a call made a change of a layer of this width, with this selection, that change is the difference
 pub IsPainted-result : (d : DocumentParts) (id : ℕ) (own : ℕ → ℕ → Option ℕ) (after : Result DocumentParts EditFault) (tiles : List ℕ) (width : ℕ) (over : ℕ → ℕ → Option ℕ)
     (o : Result CellChange EditFault) → after ≡ Ok (with_map (covered_map id own) d) → IsTheLayer d.map id tiles → width ≡ d.map.width → over ≡ own
     → IfOk o (λ change. change.layer ≡ id) → IfOk o (λ change. change.cells ≡ difference width tiles (covered width over tiles) (length tiles)) → IfOk o (IsPainted d id after)

@@ -212,7 +212,7 @@ joined-difference width xs ys zs (suc k) some =
     ∙ ap (λ es. es ++ joined (change_at width k x y) (change_at width k y z)) (joined-difference width xs ys zs k some)
     ∙ ap (λ es. difference width xs zs k ++ es) (joined-change_at width k x y z)
 
--- the same of three maps of one size
+-- two differences between three maps of one size, joined, are the difference across both
 pub joined-difference_in : (id : ℕ) (l m n : MapParts) → 0 < l.width → m.width ≡ l.width → m.height ≡ l.height
     → joined (difference_in id l m) (difference_in id m n) ≡ difference_in id l n
 joined-difference_in id l m n some wide high =

@@ -9,12 +9,12 @@ use Rattle.map_model.specs.declared.canvas.Canvas.{Canvas}
 use Rattle.map_model.specs.declared.parts.Body.{Body}
 use Rattle.map_model.specs.declared.parts.Body.TheVariants.{Tiles, Objects, Other, Group'}
 use Rattle.map_model.specs.declared.parts.Layer.{Layer}
-use Rattle.map_model.specs.Bodies.{body_with_tiles}
-use Rattle.map_model.specs.Canvas.{lists_in, lists_of, lists_under, object_moved, body_on, layer_on, layers_on, one_on}
+use Rattle.map_model.specs.Lookups.{body_with_tiles}
+use Rattle.map_model.specs.Canvas.{lists_in, lists_of, lists_under, body_on, layer_on, layers_on, one_on}
+use Rattle.map_model.specs.Objects.{object_moved, objects_in, objects_of, body_with_objects}
 use Rattle.map_model.specs.Groups.{bare, body_with_layers, drawn, group_in, group_of, inside, layer_with_layers, tree}
 use Rattle.map_model.specs.Keeping.{inner_level, layer_level}
 use Rattle.map_model.specs.Lists.{Each, or_empty}
-use Rattle.map_model.specs.Objects.{objects_in, objects_of, body_with_objects}
 use Rattle.map_model.proofs.CanvasTrees.{lists_under-is, lists_under-list, one_on-is}
 use Rattle.map_model.proofs.GroupBodies.{body_with_layers-along}
 use Rattle.map_model.proofs.Listings.{Each-prefix, Each-rest}

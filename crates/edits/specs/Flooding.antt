@@ -33,7 +33,7 @@ free_in ground = is_free ground.width ground.tiles.now ground.selection.now grou
 abbrev pub cell_of : Ground → ℕ → ℕ × ℕ
 cell_of ground number = (number % ground.width, number / ground.width)
 
--- the same of the cell with a number
+-- whether the cell with a number has the value, and may be changed
 unfoldable pub free_at : Ground → ℕ → Bool
 free_at ground number = free_in ground (cell_of ground number)
 

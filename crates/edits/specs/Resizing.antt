@@ -9,10 +9,9 @@ use Rattle.map_model.specs.declared.limits.TheConstants.{MAX_GROUPS, MAX_PIXELS}
 use Rattle.map_model.specs.declared.parts.Layer.{Layer}
 use Rattle.map_model.specs.declared.parts.MapParts.{MapParts}
 use Rattle.map_model.specs.declared.parts.Object.{Object}
-use Rattle.map_model.specs.Canvas.{object_moved, placing_moved}
+use Rattle.map_model.specs.Objects.{object_moved, placing_moved, objects_of, layer_with_objects}
 use Rattle.map_model.specs.Document.{DocumentParts}
 use Rattle.map_model.specs.Groups.{all_drawn, layer_with_layers}
-use Rattle.map_model.specs.Objects.{objects_of, layer_with_objects}
 use Rattle.map_model.specs.Lookups.{layer_with_tiles}
 use Rattle.map_model.specs.Sizes.{is_size}
 use Rattle.command_api.specs.declared.fault.EditFault.{EditFault}

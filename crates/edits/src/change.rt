@@ -85,7 +85,7 @@ impl CellEdits {
         CellEdits::of_list(CellList::Many(cells))
     }
 
-    // The same, of a list.
+    // The changed cells of a list, which are in row order, each once.
     pub(crate) fn of_list(cells: CellList) -> CellEdits
         requires { AreInRowOrder (cells_in cells) }
         ensures { result ≡ cells_in cells }

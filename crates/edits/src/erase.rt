@@ -12,8 +12,8 @@ use command_api::EditFault;
 use map_model::Document;
 use std::alloc::Global;
 
-/// What an erase changes: the cells of an area become 0 in a tile layer, as far as they lie in the map and in the
-/// selection, where that is not empty. It takes no longer than the cells of the map in the area ask for.
+/// What an erase changes: each cell of an area becomes 0 in a tile layer, if it lies in the map, and in the selection
+/// unless that is empty. The time grows with the cells of the map in the area.
 ///
 /// Refused, in this order: where there is no layer with the id; where it is not a tile layer; and then where there is
 /// no memory.

@@ -25,8 +25,9 @@ fn map_cell(map: &Map, x: i32, y: i32) -> Option<(u32, u32)>
     }
 }
 
-/// What a fill changes: the cells that are joined to a start take a value. They are those that neighbours in columns and
-/// rows lead to, all of the start's whole value, flags included, and all in the selection, where that is not empty.
+/// What a fill changes: the cells that are joined to a start take a value. A cell is joined to the start if steps along
+/// columns and rows lead to it over cells that have the start's whole value, flags included, and lie in the selection
+/// unless that is empty.
 ///
 /// Refused, in this order: where there is no layer with the id; where it is not a tile layer; where the start lies
 /// outside the map; where the value is not 0 and has no tileset; and then where there is no memory.

@@ -79,7 +79,7 @@ impl Spread {
         Ok(())
     }
 
-    // The same where there is such a word, and one of the cells is open.
+    // Looks at a word, and takes what its seeds reach, where there is such a word and one of the cells is open.
     fn reach(&mut self, ground: &Ground<'_>, word: usize, seeds: u64) -> Result<(), AllocError>
         requires ground { IsGround ground.now }
         requires sound { IsSound ground.now self.old }

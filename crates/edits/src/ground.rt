@@ -106,7 +106,7 @@ impl Ground<'_> {
         bits
     }
 
-    // The same where the layer ends among them, or before.
+    // Which of the 64 numbers from one on have the fill's value, where the layer ends among them, or before.
     fn equal_in_last(&self, first: usize) -> u64
         ensures { (i : ℕ) → i < 64 → nat_eq (bit_at result i) 1 ≡ is_value (slice_get self.now.tiles.now (first + i)) self.now.value }
     {

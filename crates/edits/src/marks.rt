@@ -43,7 +43,7 @@ impl Marks {
         Ok(Marks { words })
     }
 
-    /// The same marks once more.
+    /// A copy of the marks.
     pub(crate) fn copied(&self, alloc: Global) -> Result<Marks, AllocError>
         ensures { IfOk result (λ marks. marks.words.items ≡ self.now.words.items) }
     {

@@ -48,7 +48,7 @@ fn are_pixels(pixels: Option<i32>, by: i64) -> bool
     i64::from(-MAX_PIXELS) <= moved && moved <= i64::from(MAX_PIXELS)
 }
 
-// Whether an object stays within its limits.
+// Whether a shift leaves the place of an object within its limits.
 fn stays(object: &Object, shift: &Shift) -> bool
     requires right { IsShift shift.now.right }
     requires down { IsShift shift.now.down }
@@ -57,7 +57,7 @@ fn stays(object: &Object, shift: &Shift) -> bool
     are_pixels(object.placing.x, shift.right) && are_pixels(object.placing.y, shift.down)
 }
 
-// Whether each object of a list does.
+// Whether a shift leaves each object of a list within its limits.
 fn each_stays(objects: &Chain<Object>, shift: &Shift) -> bool
     requires right { IsShift shift.now.right }
     requires down { IsShift shift.now.down }
@@ -66,7 +66,7 @@ fn each_stays(objects: &Chain<Object>, shift: &Shift) -> bool
     objects.iter().all(|object| stays(object, shift))
 }
 
-// Whether each object of a layer does.
+// Whether a shift leaves each object of a layer within its limits.
 fn all_stay(body: &Body, shift: &Shift) -> bool
     requires right { IsShift shift.now.right }
     requires down { IsShift shift.now.down }
@@ -80,7 +80,8 @@ fn all_stay(body: &Body, shift: &Shift) -> bool
     }
 }
 
-// Whether each object of some layers does, and of those that stand in them, in as many groups as there is room for.
+// Whether a shift leaves within its limits each object of some layers, and of those that stand in them in as many groups as
+// there is room for.
 #[cycle(stay)]
 fn layers_stay(layers: &Chain<Layer>, shift: &Shift, room: usize) -> bool
     requires right { IsShift shift.now.right }
@@ -95,7 +96,7 @@ fn layers_stay(layers: &Chain<Layer>, shift: &Shift, room: usize) -> bool
     true
 }
 
-// The same of one layer, and those that stand in it.
+// Whether a shift leaves within its limits each object of one layer, and of those that stand in it.
 #[cycle(stay)]
 fn layer_stays(layer: &Layer, shift: &Shift, room: usize) -> bool
     requires right { IsShift shift.now.right }
@@ -114,7 +115,7 @@ fn layer_stays(layer: &Layer, shift: &Shift, room: usize) -> bool
     }
 }
 
-// Whether each object of a map does.
+// Whether a shift leaves each object of a map within its limits.
 fn objects_stay(parts: &MapParts, shift: &Shift) -> bool
     requires right { IsShift shift.now.right }
     requires down { IsShift shift.now.down }
@@ -164,7 +165,8 @@ fn push_cells(
     Ok(())
 }
 
-// Adds those of each tile layer of some layers, and of those that stand in them, in as many groups as there is room for.
+// Adds the cells of some layers, and of those that stand in them in as many groups as there is room for, in a map of the new
+// size.
 #[cycle(push)]
 fn push_layers(
     alloc: Global,
@@ -185,7 +187,7 @@ fn push_layers(
     Ok(())
 }
 
-// The same for one layer, and those that stand in it.
+// Adds the cells of one layer, and of those that stand in it, in a map of the new size.
 #[cycle(push)]
 fn push_layer(
     alloc: Global,

@@ -15,7 +15,8 @@ use Rattle.map_model.proofs.NewMaps.{new_layer-IsLayer}
 use Rattle.command_api.specs.Making.{Makes}
 use Rattle.command_api.proofs.Links.{link_made}
 use Rattle.edits.specs.LayerEdits.{with_last, next_layer, after_add}
-use Rattle.layer_commands.specs.Changes.{add_change, add_names}
+use Rattle.layer_commands.specs.Changes.{add_change}
+use Rattle.layer_commands.specs.Names.{add_names}
 
 new_layer-id : (kind : LayerKind) (id : ℕ) (name : List ℕ) (size : ℕ) → (new_layer kind id name size).id ≡ id
 new_layer-id kinds.Tile id name size = refl

@@ -17,7 +17,8 @@ use Rattle.map_model.proofs.Places.{layer_place-there}
 use Rattle.command_api.specs.Exchange.{IsExchanged}
 use Rattle.command_api.specs.Making.{Makes}
 use Rattle.edits.specs.LayerEdits.{put_in, with_layer_moved, after_move}
-use Rattle.layer_commands.specs.Changes.{CanBeMoved, move_exchange, move_change, move_names}
+use Rattle.layer_commands.specs.Changes.{CanBeMoved, move_exchange, move_change}
+use Rattle.layer_commands.specs.Names.{move_names}
 use Rattle.layer_commands.proofs.Siblings.{siblings-get, siblings-with, siblings-two}
 
 -- ---- the layers of a parent

@@ -1,5 +1,5 @@
 -- What each command is and does.
-use Rattle.std.specs.Prelude.{◌≡◌, false, None, IsSome, codes}
+use Rattle.std.specs.Prelude.{◌≡◌, false, None, IsSome}
 use Rattle.map_model.specs.declared.parts.MapParts.{MapParts}
 use Rattle.map_model.specs.declared.place.LayerPlace.{LayerPlace}
 use Rattle.map_model.specs.Canvas.{with_canvas, IsCanvasOf}
@@ -7,7 +7,7 @@ use Rattle.map_model.specs.Layers.{layer_at}
 use Rattle.map_model.specs.Lens.{of_layer, name, visible}
 use Rattle.map_model.specs.Slot.{layer_slot, next_layer_slot}
 use Rattle.map_model.specs.WellFormed.{IsWellFormed}
-use Rattle.command_api.specs.Law.{Change, Names, untagged, Never, WhenEqual}
+use Rattle.command_api.specs.Law.{Change}
 use Rattle.command_api.specs.Exchange.{Exchange, change_of}
 use Rattle.command_api.specs.Swap.{swap}
 use Rattle.command_api.specs.Link.{link}
@@ -19,19 +19,14 @@ use Rattle.layer_commands.specs.declared.resize.ResizeMap.{ResizeMap}
 use Rattle.layer_commands.specs.declared.show.ShowLayer.{ShowLayer}
 use Rattle.map_model.specs.Document.{with_map}
 use Rattle.edits.specs.LayerEdits.{with_layer_moved}
+use Rattle.layer_commands.specs.Names.{rename_names, show_names, add_names, remove_names, move_names, resize_names}
 
 -- ---- parts of a layer that are exchanged
-abbrev pub rename_names : Names
-rename_names = untagged (codes "Rename Layer") (codes "rename layer") WhenEqual
-
 abbrev pub rename_exchange : RenameLayer → Exchange
 rename_exchange c = swap rename_names (of_layer c.layer name) c.is_same c.name
 
 abbrev pub rename_change : RenameLayer → Change
 rename_change c = change_of (rename_exchange c)
-
-abbrev pub show_names : Names
-show_names = untagged (codes "Show Layer") (codes "show layer") WhenEqual
 
 abbrev pub show_exchange : ShowLayer → Exchange
 show_exchange c = swap show_names (of_layer c.layer visible) c.is_same c.visible
@@ -40,17 +35,11 @@ abbrev pub show_change : ShowLayer → Change
 show_change c = change_of (show_exchange c)
 
 -- ---- layers that are put in and taken out
-abbrev pub add_names : Names
-add_names = untagged (codes "Add Layer") (codes "add layer") Never
-
 abbrev pub add_exchange : AddLayer → Exchange
 add_exchange c = link add_names (next_layer_slot c.id) c.layer
 
 abbrev pub add_change : AddLayer → Change
 add_change c = change_of (add_exchange c)
-
-abbrev pub remove_names : Names
-remove_names = untagged (codes "Remove Layer") (codes "remove layer") Never
 
 abbrev pub remove_exchange : RemoveLayer → Exchange
 remove_exchange c = link remove_names (layer_slot c.place) c.layer
@@ -67,9 +56,6 @@ pub record CanBeMoved (from to : LayerPlace) (m : MapParts) : Type 0 where
   pub before : IsWellFormed m
   pub after : IsWellFormed (with_layer_moved from to m)
 
-abbrev pub move_names : Names
-move_names = untagged (codes "Move Layer") (codes "move layer") Never
-
 -- the two places change places too
 abbrev pub move_exchange : MoveLayer → Exchange
 move_exchange c = record {
@@ -84,9 +70,6 @@ abbrev pub move_change : MoveLayer → Change
 move_change c = change_of (move_exchange c)
 
 -- ---- resize
-abbrev pub resize_names : Names
-resize_names = untagged (codes "Resize Map") (codes "resize map") Never
-
 -- the document and the canvas change places
 abbrev pub resize_exchange : ResizeMap → Exchange
 resize_exchange c = record {

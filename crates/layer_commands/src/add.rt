@@ -2,7 +2,8 @@ ghost use Rattle.std.specs.Prelude.{◌≡◌, Some, IfOk, IfErr, refl};
 ghost use Rattle.map_model.specs.NewMap.{new_layer};
 ghost use Rattle.command_api.specs.Making.{IsRefusalOf, Makes};
 ghost use Rattle.edits.specs.LayerEdits.{after_add};
-ghost use Rattle.layer_commands.specs.Changes.{add_change, add_exchange, add_names};
+ghost use Rattle.layer_commands.specs.Changes.{add_change, add_exchange};
+ghost use Rattle.layer_commands.specs.Names.{add_names};
 
 use command_api::{Exchange, Label, Lone};
 use edits::EditFault;

@@ -1,7 +1,8 @@
 ghost use Rattle.std.specs.Prelude.{◌≡◌, Err, IfOk, IfErr, refl};
 ghost use Rattle.command_api.specs.Making.{Makes};
 ghost use Rattle.edits.specs.LayerEdits.{after_move};
-ghost use Rattle.layer_commands.specs.Changes.{move_change, move_exchange, move_names};
+ghost use Rattle.layer_commands.specs.Changes.{move_change, move_exchange};
+ghost use Rattle.layer_commands.specs.Names.{move_names};
 
 use command_api::{Exchange, Label, Lone};
 use edits::EditFault;

@@ -1,7 +1,8 @@
 ghost use Rattle.std.specs.Prelude.{◌≡◌, Err, IfOk, IfErr, refl};
 ghost use Rattle.command_api.specs.Making.{Makes};
 ghost use Rattle.edits.specs.LayerEdits.{after_remove};
-ghost use Rattle.layer_commands.specs.Changes.{remove_change, remove_exchange, remove_names};
+ghost use Rattle.layer_commands.specs.Changes.{remove_change, remove_exchange};
+ghost use Rattle.layer_commands.specs.Names.{remove_names};
 
 use command_api::{Exchange, Label, Lone};
 use edits::EditFault;

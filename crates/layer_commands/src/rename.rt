@@ -1,7 +1,8 @@
 ghost use Rattle.std.specs.Prelude.{IfOk, IfErr, refl};
 ghost use Rattle.command_api.specs.Making.{IsRefusalOf, Makes};
 ghost use Rattle.edits.specs.LayerEdits.{after_rename};
-ghost use Rattle.layer_commands.specs.Changes.{rename_change, rename_exchange, rename_names};
+ghost use Rattle.layer_commands.specs.Changes.{rename_change, rename_exchange};
+ghost use Rattle.layer_commands.specs.Names.{rename_names};
 
 use command_api::{Exchange, Label, Lone};
 use edits::EditFault;

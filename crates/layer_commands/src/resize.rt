@@ -1,7 +1,8 @@
 ghost use Rattle.std.specs.Prelude.{IfOk, IfErr, refl};
 ghost use Rattle.command_api.specs.Making.{IsRefusalOf, Makes};
 ghost use Rattle.edits.specs.Resizing.{after_resize, IsDistance};
-ghost use Rattle.layer_commands.specs.Changes.{resize_change, resize_exchange, resize_names};
+ghost use Rattle.layer_commands.specs.Changes.{resize_change, resize_exchange};
+ghost use Rattle.layer_commands.specs.Names.{resize_names};
 
 use command_api::{Exchange, Label, Lone};
 use edits::{EditFault, resized_cells};

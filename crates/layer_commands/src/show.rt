@@ -1,7 +1,8 @@
 ghost use Rattle.std.specs.Prelude.{◌≡◌, Err, IfOk, IfErr, refl};
 ghost use Rattle.command_api.specs.Making.{Makes};
 ghost use Rattle.edits.specs.LayerEdits.{after_show};
-ghost use Rattle.layer_commands.specs.Changes.{show_change, show_exchange, show_names};
+ghost use Rattle.layer_commands.specs.Changes.{show_change, show_exchange};
+ghost use Rattle.layer_commands.specs.Names.{show_names};
 
 use command_api::{Exchange, Label, Lone};
 use edits::EditFault;

@@ -1,6 +1,7 @@
 -- A command of a test, which changes nothing. With a number of turns it is free, and over once none is left.
 use Rattle.std.specs.Prelude.{ℕ, [], Option, Some, None, Bool, false, nat_eq}
-use Rattle.command_api.specs.Law.{Change, Vanishing, Never, Free, untagged}
+use Rattle.command_api.specs.Law.{Change}
+use Rattle.command_api.specs.Names.{Vanishing, Never, Free, untagged}
 
 -- without a number of turns it never vanishes, and with one it is free
 abbrev pub fading_vanishing : Option ℕ → Vanishing

@@ -1,6 +1,6 @@
 // A document that is closed drops what its steps own.
 ghost use Rattle.std.specs.Prelude.{◌≡◌, [], false, IfOk, refl};
-ghost use Rattle.command_api.specs.Law.{untagged, Never};
+ghost use Rattle.command_api.specs.Names.{untagged, Never};
 ghost use Rattle.library_tests.specs.Still.{still};
 ghost use Rattle.map_model.specs.Document.{DocumentParts};
 ghost use Rattle.undo_group.specs.Stacks.{AreHeld};

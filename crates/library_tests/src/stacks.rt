@@ -1,7 +1,7 @@
 // Of a stack, what no clause says: which boxes are dropped and turned, and what a refused push leaves.
 
 ghost use Rattle.std.specs.Prelude.{◌≡◌, [], true, false, refl};
-ghost use Rattle.command_api.specs.Law.{untagged, Never, WhenEqual};
+ghost use Rattle.command_api.specs.Names.{untagged, Never, WhenEqual};
 ghost use Rattle.library_tests.specs.Still.{still};
 ghost use Rattle.undo_stack.specs.History.{current};
 ghost use Rattle.undo_stack.specs.Stacks.{history, Holds};

@@ -3,7 +3,8 @@ use Rattle.std.proofs.Common.{◌≡◌, ℕ, ◌≤◌, List, ◌++◌, [], len
 use Rattle.std.specs.Prelude.{unwrap_or}
 use Rattle.std.specs.Io.KnownBytes.{Consumes, Keeps, prepend_known}
 use Rattle.std.proofs.lemmas.List.Elements.{All-append}
-use Rattle.lines.specs.Lines.{Reading, input_left, HasNoNewline, StopsInLine, CameWithLast, AsksInNeed}
+use Rattle.lines.specs.Lines.{HasNoNewline}
+use Rattle.lines.specs.Reading.{Reading, input_left, StopsInLine, CameWithLast, AsksInNeed}
 
 -- a call that gave bytes, and one that failed
 pub came_given : (old more : List ℕ) (before after : Option (List ℕ)) (n : ℕ) → HasNoNewline old → length more ≡ n → Consumes before after more → CameWithLast (prepend_known old before) after n

@@ -7,7 +7,8 @@ use Rattle.std.proofs.lemmas.List.{append-nil, length-append, take_all, drop_all
 use Rattle.std.proofs.lemmas.Bool.{ne_eqb}
 use Rattle.std.proofs.lemmas.List.Elements.{recursion_from_All, All-append, All-contains, Contains-append_right}
 use Rattle.lines.specs.declared.reader.Found.TheVariants.{Line, TooLong}
-use Rattle.lines.specs.Lines.{joined, last_line, LinesAreCut, lines_of, SameInput, FindsLine, HasNoNewline, SkipsLine, StopsInLine}
+use Rattle.lines.specs.Lines.{joined, last_line, LinesAreCut, lines_of, HasNoNewline}
+use Rattle.lines.specs.Reading.{SameInput, FindsLine, SkipsLine, StopsInLine}
 
 abbrev IsOther : ℕ → Type 0
 IsOther b = b ≢ 10

@@ -6,7 +6,8 @@ use Rattle.memchr.specs.Find.{NoneBefore, Nowhere, Passes, is_byte}
 use Rattle.std.proofs.lemmas.List.{get_or-take, length-take}
 use Rattle.std.proofs.lemmas.List.Sums.{position_or_len_is, fails_before_first, passes_at_first, split_at_first}
 use Rattle.std.proofs.lemmas.List.Folds.{prefix_len-append}
-use Rattle.lines.specs.Lines.{HasNoNewline, first_newline}
+use Rattle.lines.specs.Lines.{HasNoNewline}
+use Rattle.lines.specs.Reading.{first_newline}
 
 pub first_of_none : (bs : List ℕ) → HasNoNewline bs → first_newline bs ≡ length bs
 first_of_none bs h = position_or_len_is (λ b. eqb b 10) bs (length bs) 0 (omega arith) (λ k l. ne_eqb (get_or bs k 0) 10 (h k 0 l)) (λ l. absurd (omega (arith, l)))

@@ -3,7 +3,7 @@ use Rattle.std.proofs.Common.{◌≡◌, ℕ, ◌+◌, ◌-◌, ◌≤◌, List,
 use Rattle.std.proofs.Common.{Option, Some, None, append_assoc}
 use Rattle.std.proofs.lemmas.List.{drop-drop, take-take, drop-take, take-append-drop, length-take, length-drop}
 use Rattle.std.specs.Io.KnownBytes.{Consumes, Keeps, prepend_known}
-use Rattle.lines.specs.Lines.{SameInput}
+use Rattle.lines.specs.Reading.{SameInput}
 
 -- the prefix of a range
 pub range_prefix : (xs : List ℕ) (i j n : ℕ) → i + n ≤ j → slice_range xs i (i + n) ≡ take n (slice_range xs i j)

@@ -1,7 +1,8 @@
 ghost use Rattle.std.specs.Prelude.{◌≡◌, ◌+◌, ◌-◌, ◌^◌, ◌↔◌, ◌<◌, ◌≤◌, false, [], ◌∷◌, ◌++◌, length, IsTrue, IfOk, OnOk, OnErr, IfSome, IfNone, Ok, Some, None, vec_len, slice_range, take, drop};
 ghost use Rattle.std.specs.Bool.{OnTrue, OnFalse};
 ghost use Rattle.std.specs.Io.KnownBytes.{IsAtEnd, Consumes, Keeps};
-ghost use Rattle.lines.specs.Lines.{Reading, fresh, budget, HasLine, first_newline, input_left, SameInput, FindsLine, HasNoNewline, SkipsLine, StopsInLine, AsksInNeed, SameCalls, HasFailed};
+ghost use Rattle.lines.specs.Lines.{HasNoNewline};
+ghost use Rattle.lines.specs.Reading.{Reading, fresh, budget, HasLine, first_newline, input_left, SameInput, FindsLine, SkipsLine, StopsInLine, AsksInNeed, SameCalls, HasFailed};
 
 use memchr::memchr;
 use std::alloc::{AllocError, Global};
@@ -180,7 +181,7 @@ impl LineReader {
         // A fault comes only where a call of `read` failed, or at the bound.
         ensures fault { OnErr result (self.new.calls < 2 ^ 32 → HasFailed self.old self.new) }
 
-        // It comes within a line: no whole line is held, and at most a beginning of the line is gone.
+        // At a fault no whole line is held, and at most a beginning of the next line is gone.
         ensures within_line { OnErr result (HasNoNewline self.new.pending) }
         ensures unfinished { OnErr result (StopsInLine (input_left self.old (R.remaining reader.old))
             (input_left self.new (R.remaining reader.new))) }

@@ -86,7 +86,7 @@ fn seek<T>(before: &mut LinkedList<T>, after: &mut LinkedList<T>, at: usize)
     }
 }
 
-// The same, where links have to be moved.
+// Moves links between the two lists, where `before` has not `at` of them yet.
 #[inline(never)]
 fn walk<T>(before: &mut LinkedList<T>, after: &mut LinkedList<T>, at: usize)
     requires place { at ≤ length before.old + length after.old }

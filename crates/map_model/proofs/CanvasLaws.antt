@@ -14,7 +14,8 @@ use Rattle.map_model.specs.declared.parts.Object.{Object}
 use Rattle.map_model.specs.declared.parts.MapParts.{MapParts}
 use Rattle.std.specs.FinSet as set
 use Rattle.region.specs.Cells.{cell_cmp}
-use Rattle.map_model.specs.Canvas.{with_lists, lists_in, lists_of, tile_layers, object_moved, body_on, layer_on, layers_on, map_on, with_canvas, canvas_back, IsShift, AreCells, MayBeMoved, BodyMayBeMoved, MayBeDrawn, IsCanvasOf}
+use Rattle.map_model.specs.Canvas.{with_lists, lists_in, lists_of, tile_layers, body_on, layer_on, layers_on, map_on, with_canvas, canvas_back, IsShift, AreCells, MayBeMoved, BodyMayBeMoved, MayBeDrawn, IsCanvasOf}
+use Rattle.map_model.specs.Objects.{object_moved}
 use Rattle.map_model.specs.Document.{DocumentParts, IsDocument}
 use Rattle.map_model.specs.Groups.{all_drawn}
 use Rattle.map_model.specs.Keeping.{body_names, layer_level, object_level}

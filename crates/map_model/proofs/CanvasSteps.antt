@@ -9,7 +9,8 @@ use Rattle.map_model.specs.declared.parts.Body.TheVariants.{Tiles, Objects, Othe
 use Rattle.map_model.specs.declared.parts.Layer.{Layer}
 use Rattle.map_model.specs.declared.parts.Object.{Object}
 use Rattle.map_model.specs.declared.parts.Placing.{Placing}
-use Rattle.map_model.specs.Canvas.{BodyMayBeMoved, MayBeDrawn, body_on, each_on, layers_on, lists_after, lists_in, lists_left, lists_of, lists_under, object_moved, one_on, placing_moved, with_lists}
+use Rattle.map_model.specs.Canvas.{BodyMayBeMoved, MayBeDrawn, body_on, each_on, layers_on, lists_after, lists_in, lists_left, lists_of, lists_under, one_on, with_lists}
+use Rattle.map_model.specs.Objects.{object_moved, placing_moved}
 use Rattle.map_model.specs.Groups.{body_with_layers, drawn, group_in, inside, layer_with_layers, tree}
 use Rattle.map_model.specs.Keeping.{inner_level, layer_level}
 use Rattle.map_model.specs.Lists.{Each, or_empty}

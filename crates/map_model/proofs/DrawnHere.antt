@@ -34,7 +34,7 @@ IsDrawnIn-group (suc room) ls ks at k l e some g h level distinct =
     let place = position-held l.id (suc room) level ls at k e held distinct in
     (first_some-at (find_one l.id (suc room)) ls at k place e).0 ∙ one
 
--- the same of what is found in the group, as f gives its layer
+-- what is found in the group of a layer is drawn in the layers where that one stands; f gives its layer
 pub IsDrawnIn-inside : {X : Type 0} (room : ℕ) (ls ks : List Layer) (at : ℕ) (k : Layer) (f : X → Layer) (found : Option X) → slice_get ls at ≡ Some k → room ≢ 0 → group_of k ≡ Some ks
     → IfSome found (λ x. IsDrawnIn (room - 1) ks (f x)) → IfSome found (λ x. IsDrawnIn room ls (f x))
 IsDrawnIn-inside room ls ks at k f None e some g h = tt

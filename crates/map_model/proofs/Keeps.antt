@@ -14,12 +14,12 @@ use Rattle.std.specs.FinSet as set
 use Rattle.region.specs.Cells.{cell_cmp}
 use Rattle.map_model.specs.Document.{IsSelectionOf}
 use Rattle.map_model.specs.Lists.{Each, or_empty}
-use Rattle.map_model.specs.Bodies.{IsTiles, tiles_of, body_with_tiles}
+use Rattle.map_model.specs.Bodies.{IsTiles, tiles_of}
+use Rattle.map_model.specs.Lookups.{body_with_tiles, layer_of, HasTiles, tiles_of_layer, tiles_in, layer_with_tiles, IsWithin}
 use Rattle.map_model.specs.CellEdits.{IsBelow}
 use Rattle.map_model.specs.Groups.{all_drawn, bare, change_among, drawn, group_in, group_of, inside, layer_with_layers, tree}
 use Rattle.map_model.specs.Keeping.{body_names, deepest_level, inner_level, layer_level}
 use Rattle.map_model.specs.Layers.{layer_at, layer_with_name, layer_with_visible, siblings_of, with_next_ids, with_siblings, without_layer_at}
-use Rattle.map_model.specs.Lookups.{layer_of, HasTiles, tiles_of_layer, tiles_in, layer_with_tiles, IsWithin}
 use Rattle.map_model.specs.Properties.{level_by, level_of}
 use Rattle.map_model.specs.WellFormed.{IsId, AreIds, IsTileValue, IsBody, IsDrawn, IsLayer, AreDrawn, AreLayers, IsWellFormed, ids_of, object_ids_in, object_ids_of, object_ids}
 use Rattle.map_model.proofs.GroupBodies.{IsLayer-with, IsLayer-without, bare-with, group_of-with, object_ids-with}

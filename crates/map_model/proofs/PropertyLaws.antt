@@ -35,7 +35,7 @@ map-then : {A B : Type 0} (f : A → B) (o : Option A) → option_map f o ≡ op
 map-then f None = refl
 map-then f (Some a) = refl
 
--- the same of an object's place
+-- f of an object, by its layer and its place there
 map-then_placed : {V : Type 0} (f : Object → V) (at : ℕ) (o : Option Layer)
     → option_map f (option_and_then (λ os. slice_get os at) (option_and_then objects_of o))
     ≡ option_and_then (λ l. option_and_then (λ os. option_and_then (λ b. Some (f b)) (slice_get os at)) (objects_of l)) o

@@ -136,7 +136,7 @@ pub changed_by : (id room : ℕ) (f : Layer → Layer) (old new : List Layer) (l
 changed_by id room f old new layer left found is same =
     is ∙ change_among-along id (λ own. left) f room old (λ k e. let here : layer ≡ k = cc (found, e) in same ∙ ap f here)
 
--- the same where an item that was put in tells what was left
+-- what was left there is f of the layer and of an item that was put in
 pub changed_with : {X : Type 0} (id room : ℕ) (f : X → Layer → Layer) (item : Option X) (old new : List Layer) (layer left : Layer) → layer_among id room old ≡ Some layer
     → new ≡ change_among id room (λ own. left) old → IsSomeAnd item (λ x. left ≡ f x layer) → IsSomeAnd item (λ x. new ≡ change_among id room (f x) old)
 changed_with id room f None old new layer left found is h = h

@@ -5,8 +5,8 @@ use Rattle.map_model.specs.declared.parts.Body.{Body}
 use Rattle.map_model.specs.declared.parts.Body.TheVariants.{Tiles, Objects, Other, Group'}
 use Rattle.map_model.specs.declared.parts.Layer.{Layer}
 use Rattle.map_model.specs.declared.parts.MapParts.{MapParts}
-use Rattle.map_model.specs.Bodies.{IsTiles, tiles_of, body_with_tiles}
-use Rattle.map_model.specs.Lookups.{layer_of, HasTiles, tiles_of_layer, tiles_in, layer_with_tiles, with_tiles}
+use Rattle.map_model.specs.Bodies.{IsTiles, tiles_of}
+use Rattle.map_model.specs.Lookups.{body_with_tiles, layer_of, HasTiles, tiles_of_layer, tiles_in, layer_with_tiles, with_tiles}
 use Rattle.map_model.proofs.TreeChanges.{layer_among-change_among, change_among-change_among, change_among-along, change_among-same}
 
 -- ---- bodies

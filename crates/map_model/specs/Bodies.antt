@@ -23,10 +23,3 @@ tile_at (Tiles e cells) number = slice_get cells number
 tile_at (Objects os) number = None
 tile_at Other number = None
 tile_at (Group' s r) number = None
-
--- a tile layer with f of its values; another layer as it is
-abbrev pub body_with_tiles : (List ℕ → List ℕ) → Body → Body
-body_with_tiles f (Tiles e cells) = Tiles e (f cells)
-body_with_tiles f (Objects os) = Objects os
-body_with_tiles f Other = Other
-body_with_tiles f (Group' s r) = Group' s r

@@ -1,7 +1,6 @@
 -- Canvases: what a map is drawn on. A map changes places with one when it is resized.
-use Rattle.std.specs.Prelude.{◌≡◌, ℕ, zero, suc, ◌+◌, ◌*◌, ℤ, ◌+ℤ◌, neg_ℤ, ◌≤ℤ◌, List, [], ◌∷◌, ◌++◌, length, map, take, drop, slice_set, slice_index_or, IfSome}
+use Rattle.std.specs.Prelude.{◌≡◌, ℕ, zero, suc, ◌+◌, ◌*◌, ℤ, neg_ℤ, ◌≤ℤ◌, List, [], ◌∷◌, ◌++◌, length, map, take, drop, slice_set, slice_index_or, IfSome}
 use Rattle.std.specs.List.{flat_map}
-use Rattle.std.specs.Option.{option_map}
 use Rattle.map_model.specs.declared.canvas.Canvas.{Canvas}
 use Rattle.map_model.specs.declared.limits.TheConstants.{MAX_GROUPS, MAX_SHIFT}
 use Rattle.map_model.specs.declared.parts.Body.{Body}
@@ -9,12 +8,11 @@ use Rattle.map_model.specs.declared.parts.Body.TheVariants.{Tiles, Objects, Othe
 use Rattle.map_model.specs.declared.parts.Layer.{Layer}
 use Rattle.map_model.specs.declared.parts.MapParts.{MapParts}
 use Rattle.map_model.specs.declared.parts.Object.{Object}
-use Rattle.map_model.specs.declared.parts.Placing.{Placing}
 use Rattle.map_model.specs.Document.{DocumentParts, LiesIn}
 use Rattle.map_model.specs.Groups.{all_drawn, layer_with_layers, tree}
 use Rattle.map_model.specs.Keeping.{layer_level}
 use Rattle.map_model.specs.Lists.{Each}
-use Rattle.map_model.specs.Objects.{objects_in}
+use Rattle.map_model.specs.Objects.{objects_in, placing_moved, object_moved}
 use Rattle.map_model.specs.WellFormed.{IsSize, IsTileValue, IsPlacing}
 
 -- ---- the cells of tile layers
@@ -35,14 +33,6 @@ lists_under room l = flat_map lists_of (tree room layer_level l)
 -- the cells of each tile layer, in drawing order
 abbrev pub tile_layers : MapParts → List (List ℕ)
 tile_layers m = flat_map lists_of (all_drawn m.layers)
-
--- ---- objects that are moved
--- an object's numbers, moved by so many pixels to the right and down; a number that is absent stays so
-abbrev pub placing_moved : ℤ → ℤ → Placing → Placing
-placing_moved right down p = record p { x = option_map (λ x. x +ℤ right) p.x; y = option_map (λ y. y +ℤ down) p.y }
-
-abbrev pub object_moved : ℤ → ℤ → Object → Object
-object_moved right down o = record o { placing = placing_moved right down o.placing }
 
 -- ---- a document on a canvas
 -- a body behind so many tile layers: a tile layer has the canvas's cells of that number, and objects are moved by its pixels

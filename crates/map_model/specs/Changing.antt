@@ -14,7 +14,7 @@ pub record ChangesLayer {F R : Type 0} (g : Once F (MutBor Layer × Unit {0}) (R
   pub call : FnOnceReturnsAtMut g f layer r left
   pub is : new ≡ change_among id room (λ own. left) old
 
--- the same, of the layers that stand in a group
+-- the layer with the id, among those that stand in a group, is changed by one call of f, which gives r
 pub record ChangesInside {F R : Type 0} (g : Once F (MutBor Layer × Unit {0}) (R × (MutBor Layer × Unit {0}))) (f : F) (id room : ℕ) (old : Body) (r : R) (new : Body) : Type 0 where
   pub layer : Layer
   pub left : Layer

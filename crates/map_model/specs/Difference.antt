@@ -8,7 +8,7 @@ use Rattle.map_model.specs.Lookups.{tiles_in}
 abbrev pub edit_at : ℕ → ℕ → ℕ → ℕ → CellEdit
 edit_at width number before after = record { x = number % width; y = number / width; before = before; after = after }
 
--- the same, where the value changes
+-- the change of the cell with a number, where its value changes
 abbrev pub change_at : ℕ → ℕ → ℕ → ℕ → List CellEdit
 change_at width number before after = if nat_eq before after then [] else edit_at width number before after ∷ []
 

@@ -55,7 +55,7 @@ unfoldable pub tree : ℕ → ℕ → Layer → List (ℕ × Layer)
 tree zero level l = (level, bare l) ∷ []
 tree (suc room) level l = (level, bare l) ∷ flat_map (tree room (inner_level level)) (inside l)
 
--- the same of each layer of a list
+-- the layers of a list at this level, and behind each those that stand in it, each with its level and without those in it
 abbrev pub drawn : ℕ → ℕ → List Layer → List (ℕ × Layer)
 drawn room level ls = flat_map (tree room level) ls
 
@@ -73,7 +73,7 @@ unfoldable pub find_one : ℕ → ℕ → Layer → Option Layer
 find_one id zero l = if has_id id l then Some l else None
 find_one id (suc room) l = if has_id id l then Some l else first_some (find_one id room) (inside l)
 
--- the same of a list
+-- the first layer with the id, of the layers of a list and those that stand in them
 abbrev pub layer_among : ℕ → ℕ → List Layer → Option Layer
 layer_among id room ls = first_some (find_one id room) ls
 
@@ -86,6 +86,6 @@ unfoldable pub change_one : ℕ → ℕ → (Layer → Layer) → Layer → Laye
 change_one id zero f l = if has_id id l then f l else l
 change_one id (suc room) f l = if has_id id l then f l else layer_with_layers (change_first (holds id room) (change_one id room f)) l
 
--- the same of a list
+-- the layers of a list with f of the first layer with the id, among them or in one of them, in its place
 abbrev pub change_among : ℕ → ℕ → (Layer → Layer) → List Layer → List Layer
 change_among id room f ls = change_first (holds id room) (change_one id room f) ls

@@ -1,5 +1,5 @@
 -- Objects: where they stand, and layers with others.
-use Rattle.std.specs.Prelude.{ℕ, ◌≤◌, List, Bool, nat_eq, length, Option, Some, None, IsSomeAnd, option_and_then, slice_get, position}
+use Rattle.std.specs.Prelude.{ℕ, ◌≤◌, List, Bool, nat_eq, length, Option, Some, None, IsSomeAnd, option_and_then, slice_get, position, ℤ, ◌+ℤ◌}
 use Rattle.std.specs.Option.{option_map}
 use Rattle.std.specs.List.{insert, remove}
 use Rattle.map_model.specs.declared.parts.Body.{Body}
@@ -100,3 +100,11 @@ object_placing o = o.placing
 
 abbrev pub object_with_placing : Placing → Object → Object
 object_with_placing placing o = record o { placing = placing }
+
+-- ---- objects that are moved
+-- an object's numbers, moved by so many pixels to the right and down; a number that is absent stays so
+abbrev pub placing_moved : ℤ → ℤ → Placing → Placing
+placing_moved right down p = record p { x = option_map (λ x. x +ℤ right) p.x; y = option_map (λ y. y +ℤ down) p.y }
+
+abbrev pub object_moved : ℤ → ℤ → Object → Object
+object_moved right down o = record o { placing = placing_moved right down o.placing }

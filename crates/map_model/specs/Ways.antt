@@ -13,7 +13,7 @@ LeadsFrom id room [] l = l.id ≡ id
 LeadsFrom id zero (at ∷ way) l = ⊥
 LeadsFrom id (suc room) (at ∷ way) l = (l.id ≢ id) × IsSomeAnd (group_of l) (λ ls. (position (holds id room) ls ≡ Some at) × IsSomeAnd (slice_get ls at) (LeadsFrom id room way))
 
--- the same from a list of layers
+-- the places lead from a list of layers to the layer with the id: the first is a place in the list
 abbrev pub IsWay : ℕ → ℕ → List ℕ → List Layer → Type 0
 IsWay id room [] ls = ⊥
 IsWay id room (at ∷ way) ls = (position (holds id room) ls ≡ Some at) × IsSomeAnd (slice_get ls at) (LeadsFrom id room way)
@@ -23,7 +23,7 @@ unfoldable pub ArrivesAt : ℕ → List ℕ → Layer → Type 0
 ArrivesAt id [] l = l.id ≡ id
 ArrivesAt id (at ∷ way) l = IsSomeAnd (group_of l) (λ ls. IsSomeAnd (slice_get ls at) (ArrivesAt id way))
 
--- the same from a list of layers
+-- the places lead from a list of layers to one with the id, be it the first one or not
 abbrev pub ArrivesIn : ℕ → List ℕ → List Layer → Type 0
 ArrivesIn id [] ls = ⊥
 ArrivesIn id (at ∷ way) ls = IsSomeAnd (slice_get ls at) (ArrivesAt id way)

@@ -144,7 +144,7 @@ pub record AreDrawn (size next_layer next_object : ℕ) (ds : List (ℕ × Layer
   pub layer_ids : AreIds next_layer (flat_map ids_of ds)
   pub object_ids : AreIds next_object (flat_map object_ids_of ds)
 
--- the same of layers and those that stand in them
+-- layers, and those that stand in them, of a map of so many cells and with these next ids
 abbrev pub AreLayers : ℕ → ℕ → ℕ → List Layer → Type 0
 AreLayers size next_layer next_object ls = AreDrawn size next_layer next_object (all_drawn ls)
 

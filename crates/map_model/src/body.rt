@@ -1,6 +1,7 @@
 // The values of a layer's body.
 ghost use Rattle.std.specs.Prelude.{◌≡◌, ◌<◌, ◌↔◌, IsTrue, is_some, IfSome, length};
-ghost use Rattle.map_model.specs.Bodies.{IsTiles, tiles_of, tile_at, body_with_tiles};
+ghost use Rattle.map_model.specs.Bodies.{IsTiles, tiles_of, tile_at};
+ghost use Rattle.map_model.specs.Lookups.{body_with_tiles};
 ghost use Rattle.map_model.specs.CellEdits.{HaveRange, IsBelow, put_values, with_value};
 ghost use Rattle.map_model.specs.Lists.{Each};
 

@@ -2,7 +2,8 @@
 ghost use Rattle.std.specs.Prelude.{◌≡◌, ◌+◌, ◌+ℤ◌, ◌^◌, ◌<◌, ◌≤◌, Some, IfSome, length, map, slice_get, slice_set};
 ghost use Rattle.std.specs.List.{flat_map};
 ghost use Rattle.std.specs.Option.{option_map};
-ghost use Rattle.map_model.specs.Canvas.{body_on, layers_on, lists_after, lists_in, lists_left, lists_of, lists_under, object_moved, one_on, placing_moved, with_lists, BodyMayBeMoved, MayBeDrawn, MayBeMoved};
+ghost use Rattle.map_model.specs.Canvas.{body_on, layers_on, lists_after, lists_in, lists_left, lists_of, lists_under, one_on, with_lists, BodyMayBeMoved, MayBeDrawn, MayBeMoved};
+ghost use Rattle.map_model.specs.Objects.{object_moved, placing_moved};
 ghost use Rattle.map_model.specs.Groups.{body_with_layers, drawn, group_in, tree};
 ghost use Rattle.map_model.specs.Keeping.{layer_level};
 ghost use Rattle.map_model.specs.Lists.{Each, or_empty};
@@ -104,8 +105,8 @@ fn move_objects(objects: &mut Chain<Object>, right: i64, down: i64)
 }
 
 impl Body {
-    // Puts a body behind so many tile layers on a canvas, which gets its cells. The answer is behind how many tile layers
-    // the next body stands.
+    // Puts a body on a canvas, which gets its cells. So many tile layers stand before it; the answer is how many stand before
+    // the next body.
     fn exchange(&mut self, canvas: &mut Canvas, number: usize) -> usize
         requires room { number + length (lists_in self.old) ≤ length canvas.old.layers }
         requires objects { BodyMayBeMoved canvas.old.right canvas.old.down self.old }
@@ -128,8 +129,8 @@ impl Body {
     }
 }
 
-/// Puts layers behind so many tile layers on a canvas, which gets their cells, and so those that stand in them, in as many
-/// groups as there is room for. The answer is behind how many tile layers the next layer stands.
+/// Puts layers on a canvas, which gets their cells, and so those that stand in them, in as many groups as there is room for.
+/// So many tile layers stand before them; the answer is how many stand before the next layer.
 #[cycle(exchange)]
 pub fn exchange_layers(
     layers: &mut Chain<Layer>,
@@ -150,7 +151,7 @@ pub fn exchange_layers(
     number
 }
 
-// The same for one layer, and those that stand in it.
+// Exchanges the cells and moves the objects of one layer, and of those that stand in it.
 #[cycle(exchange)]
 fn exchange_layer(layer: &mut Layer, canvas: &mut Canvas, number: usize, room: usize) -> usize
     requires count { number + length (lists_under room layer.old) ≤ length canvas.old.layers }
@@ -166,7 +167,7 @@ fn exchange_layer(layer: &mut Layer, canvas: &mut Canvas, number: usize, room: u
     exchange_inside(&mut layer.body, canvas, number, room - 1)
 }
 
-// The same for those that stand in a layer.
+// Exchanges the cells and moves the objects of the layers that stand in a layer.
 #[cycle(exchange)]
 fn exchange_inside(body: &mut Body, canvas: &mut Canvas, number: usize, room: usize) -> usize
     requires count { number + length (flat_map lists_of (drawn room layer_level (or_empty (group_in body.old)))) ≤ length canvas.old.layers }

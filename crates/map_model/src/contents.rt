@@ -110,7 +110,7 @@ fn put_one(values: &mut [Gid], width: usize, edit: CellEdit, side: Side)
     values[at] = edit.value(side);
 }
 
-// The same for the cells of a list, one by one.
+// Sets the cells of a list to their values on a side, one by one.
 fn put_each(values: &mut [Gid], width: usize, edits: &[CellEdit], side: Side)
     requires { Each (IsBelow width (length values.old)) edits.now }
     ensures values { values.new ≡ put_values width side edits.now values.old }
@@ -123,7 +123,8 @@ fn put_each(values: &mut [Gid], width: usize, edits: &[CellEdit], side: Side)
     }
 }
 
-// The same for a long list: four cells in each round, which makes what a round costs beside them small.
+// Sets the cells of a long list to their values on a side: four cells in each round, which makes what a round costs beside
+// them small.
 fn put_all(values: &mut [Gid], width: usize, edits: &[CellEdit], side: Side)
     requires { Each (IsBelow width (length values.old)) edits.now }
     ensures values { values.new ≡ put_values width side edits.now values.old }

@@ -1,4 +1,36 @@
 // Layers in groups: where one stands, and how it is reached and changed.
+//
+// A walk looks at layer after layer. A way is the places that lead to a layer, from group to group. In each list one place
+// stands "here": that which was last changed or gone to.
+//
+// | Name           | Starts from           | Gives                                     | May walk       |
+// |----------------|-----------------------|-------------------------------------------|----------------|
+// | find_in        | a list                | the layer with an id                      | yes            |
+// | find_under     | a layer               | the layer with an id: it or one in it     | yes            |
+// | find_way       | a list                | the way to the layer with an id           | yes            |
+// | find_way_from  | a layer               | the way to the layer with an id           | yes            |
+// | find_way_here  | a list                | that way, if it leads by what stands here | no             |
+// | place_in       | a list and its parent | the parent and place of the layer         | yes            |
+// | place_within   | the groups of a list  | the parent and place of the layer         | yes            |
+// | own_place      | a list                | the place of the layer in that list       | the list alone |
+// | place_here     | a list                | that place, if the layer stands here      | no             |
+// | count_in       | a list                | how many layers, those in groups too      | all            |
+// | count_under    | a layer               | it, and how many stand in it              | all            |
+// | change_layer   | a map's layers        | the layer with an id, changed             | if not here    |
+// | change_found   | a map's layers        | the layer with an id, changed             | if not here    |
+// | change_along   | a list and a way      | the layer at its end, changed             | no             |
+// | change_inside  | a body and a way      | the layer at its end, changed             | no             |
+// | changed        | the layer             | the layer, changed                        | no             |
+//
+// In `here.rt`:
+//
+// | find_here      | a list                | the layer with an id, if it stands here   | no             |
+// | innermost_here | a list                | the innermost layer that stands here      | no             |
+// | find_layer     | a map's layers        | the layer with an id                      | if not here    |
+// | seek_layer_in  | a map's layers        | nothing; goes to the layer                | if not here    |
+// | walk_to        | a map's layers        | nothing; goes to the layer                | yes            |
+// | go_along       | a list and a way      | nothing; goes along the way               | no             |
+// | go_inside      | a body and a way      | nothing; goes along the way               | no             |
 ghost use Rattle.std.specs.Prelude.{◌≡◌, ◌^◌, ◌<◌, ◌≤◌, ◌+◌, [], Some, IfSome, IsFalse, IsSome, IsSomeAnd, IsTrue, is_some, length, option_and_then, position, slice_get};
 ghost use Rattle.std.specs.Fn.{FnOnceReturnsAtMut, FnOnceTakesAtMut};
 ghost use Rattle.std.specs.Option.{option_copied};
@@ -215,7 +247,7 @@ fn changed<R, F: FnOnce(&mut Layer) -> R>(layer: &mut Layer, change: F) -> R
     change(layer)
 }
 
-// The same from the layers that stand in a group.
+// Changes the layer to which a way leads, from the layers that stand in a group.
 #[cycle(change)]
 fn change_inside<R, F: FnOnce(&mut Layer) -> R>(
     body: &mut Body,

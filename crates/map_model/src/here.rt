@@ -61,7 +61,7 @@ pub fn seek_layer_in(layers: &mut Chain<Layer>, id: u32)
     }
 }
 
-// The same by a walk.
+// Goes to the layer with an id by a walk, where there is one. No layer changes.
 #[inline(never)]
 fn walk_to(layers: &mut Chain<Layer>, id: u32)
     ensures { layers.new ≡ layers.old }
@@ -84,7 +84,7 @@ fn go_along(layers: &mut Chain<Layer>, way: &[usize])
     }
 }
 
-// The same among the layers of a group.
+// Goes from place to place among the layers of a group, as far as there are such places. No layer changes.
 #[cycle(go)]
 fn go_inside(body: &mut Body, way: &[usize])
     ensures { body.new ≡ body.old }

@@ -159,7 +159,7 @@ pub fn find_in_layers(layers: &Chain<Layer>, id: u32, room: usize) -> Option<(Ob
     None
 }
 
-// The same, in a layer and those that stand in it.
+// The object with an id, behind its place, in a layer and those that stand in it.
 #[cycle(found)]
 fn find_under(layer: &Layer, id: u32, room: usize) -> Option<(ObjectPlace, &Object)>
     ensures { option_map (λ found. (found.0, found.1.now)) result ≡ first_some (found_in_layer id) (tree room layer_level layer.now) }

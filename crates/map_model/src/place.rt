@@ -2,8 +2,7 @@ ghost use Rattle.std.specs.Prelude.{◌≡◌};
 ghost use Rattle.map_model.specs.Layers.{sibling_place};
 ghost use Rattle.map_model.specs.Objects.{sibling_object_place};
 
-/// Where a layer stands: the id of the group in which it stands, and none where it stands in no group; and how many layers
-/// stand before it there.
+/// Where a layer stands: the id of its group, or none if it stands in no group; and how many layers stand before it there.
 #[derive(Clone, Copy, PartialEq, Eq, Debug)]
 pub struct LayerPlace {
     pub parent: Option<u32>,
@@ -11,7 +10,7 @@ pub struct LayerPlace {
 }
 
 impl LayerPlace {
-    /// The place of which so many layers stand before it, among those that stand where this one stands.
+    /// The place in the same group that has `at` layers before it.
     pub fn sibling(self, at: usize) -> LayerPlace
         ensures { result ≡ sibling_place self at }
     {
@@ -30,7 +29,7 @@ pub struct ObjectPlace {
 }
 
 impl ObjectPlace {
-    /// The place of which so many objects stand before it, in the same layer.
+    /// The place in the same layer that has `at` objects before it.
     pub fn sibling(self, at: usize) -> ObjectPlace
         ensures { result ≡ sibling_object_place self at }
     {

@@ -34,7 +34,7 @@ fn lend_of_object(body: &mut Body, at: usize) -> &mut Chain<Property>
     }
 }
 
-// Puts a property in at a place among those of the object at a place of an object layer.
+// Puts a property in at a place. Its owner is the object with a number in an object layer.
 fn insert_of_object(body: &mut Body, object: usize, at: usize, property: Loose<Property>)
     requires { IsSomeAnd (option_and_then (λ os. slice_get os object) (objects_in body.old))
         (λ o. (at ≤ length o.properties) × (length o.properties ≤ MAX_PROPERTIES)) }
@@ -43,7 +43,7 @@ fn insert_of_object(body: &mut Body, object: usize, at: usize, property: Loose<P
     lend_of_object(body, object).insert(at, property);
 }
 
-// Takes the property at a place among those of the object at a place of an object layer out.
+// Takes the property at a place out. Its owner is the object with a number in an object layer.
 fn take_of_object(body: &mut Body, object: usize, at: usize) -> Loose<Property>
     requires { IsSomeAnd (option_and_then (λ os. slice_get os object) (objects_in body.old)) (λ o. at < length o.properties) }
     ensures property { result ≡ option_and_then (λ o. slice_get o.properties at) (option_and_then (λ os. slice_get os object) (objects_in body.old)) }
@@ -52,8 +52,8 @@ fn take_of_object(body: &mut Body, object: usize, at: usize) -> Loose<Property>
     lend_of_object(body, object).take(at)
 }
 
-// Gives the property at a place among those of the object at a place of an object layer another type and value, and hands
-// the old ones back.
+// Gives the property at a place another type and value, and hands the old ones back. Its owner is the object with a number in
+// an object layer.
 fn replace_of_object(body: &mut Body, object: usize, at: usize, setting: Setting) -> Setting
     requires { IsSomeAnd (option_and_then (λ os. slice_get os object) (objects_in body.old)) (λ o. at < length o.properties) }
     ensures given { option_map setting_of (option_and_then (λ o. slice_get o.properties at) (option_and_then (λ os. slice_get os object) (objects_in body.old))) ≡ Some result }

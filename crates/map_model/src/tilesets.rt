@@ -54,7 +54,7 @@ impl Map {
     }
 }
 
-// Of a first id above this one, where the end so far is one, and another, the lower one.
+// The end so far, or the first id of a tileset if that is nearer: lower, but above this one.
 fn nearer_end(first_id: u32, end: u32, tileset: &Tileset) -> u32
     ensures { result ≡ nearer first_id end tileset.now }
 {
@@ -127,7 +127,7 @@ fn is_in_layers(layers: &Chain<Layer>, low: u32, end: u32, room: usize) -> bool
     false
 }
 
-// The same of a layer and those that stand in it.
+// Whether the base of a value in a layer, or in one that stands in it, is not below `low`, and below `end`.
 #[cycle(uses)]
 fn is_in_layer(layer: &Layer, low: u32, end: u32, room: usize) -> bool
     ensures { result ≡ list_any (λ d. list_any (is_between low end) (values_of d)) (tree room layer_level layer.now) }

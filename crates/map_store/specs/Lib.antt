@@ -1,3 +1,4 @@
 pub mod Files
 pub mod Storing
 pub mod Stored
+pub mod Fuse

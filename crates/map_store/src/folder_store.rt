@@ -68,7 +68,7 @@ impl LoadError {
     }
 }
 
-// Makes room behind an offset, but for no more bytes than the longest file has and one more.
+// Makes room behind an offset, up to one byte more than the longest file has.
 fn make_room(bytes: &mut Vec<u8>, offset: usize) -> Result<(), LoadError>
     requires within { offset ≤ vec_len bytes.old }
     requires limit { vec_len bytes.old ≤ LONGEST + 1 }
@@ -119,7 +119,7 @@ fn read_behind<F: Read>(
     }
 }
 
-// Reads to the end. So many bytes are looked for; where they come, room was taken once.
+// Reads to the end. If the file has the size that is expected, room is taken once.
 fn read_whole<F: Read>(alloc: Global, file: &mut F, size: usize) -> Result<Vec<u8>, LoadError>
     requires { size ≤ LONGEST }
     ensures whole { IfOk result (λ bytes. Consumes (F.remaining file.old) (F.remaining file.new) bytes.items
@@ -143,7 +143,7 @@ fn read_whole<F: Read>(alloc: Global, file: &mut F, size: usize) -> Result<Vec<u
     Err(LoadError::TooLong)
 }
 
-// The access bits of the file that stands at a path. Where nothing stands there, or what is no file, as a link, there are none.
+// The access bits of the file at a path. There are none if nothing is there, or what is there is no file, as a link.
 fn access_of<R: Files>(rt: &R, path: &str) -> io::Result<Option<u32>> {
     match fs::symlink_metadata(rt, path) {
         Ok(metadata) if metadata.is_file() => Ok(Some(metadata.mode() & ACCESS_BITS)),

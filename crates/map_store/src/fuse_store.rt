@@ -1,4 +1,5 @@
-ghost use Rattle.map_store.specs.Files.{FuseParts, fuse_code, HasBurned, HasFailed};
+ghost use Rattle.map_store.specs.Files.{HasFailed};
+ghost use Rattle.map_store.specs.Fuse.{FuseParts, fuse_code, HasBurned};
 ghost use Rattle.map_store.specs.Stored.{files_of};
 
 use crate::map_store::{MapStore, StoreFault};

@@ -24,7 +24,8 @@ use Rattle.command_api.specs.Link.{FitsLink}
 use Rattle.command_api.specs.Making.{Makes}
 use Rattle.command_api.proofs.Links.{link_made}
 use Rattle.edits.specs.ObjectEdits.{is_object_size, objects_or_fault, placing_of, after_add_object}
-use Rattle.object_commands.specs.Changes.{add_object_names, add_object_change}
+use Rattle.object_commands.specs.Changes.{add_object_change}
+use Rattle.object_commands.specs.Names.{add_object_names}
 use Rattle.object_commands.proofs.Placements.{placing_of-IsPlacing}
 
 -- ---- the place behind the last object

@@ -18,7 +18,7 @@ use Rattle.map_model.proofs.FoundLaws.{found-get, found-update}
 use Rattle.map_model.proofs.LensLaws.{of_object-get, update-put}
 use Rattle.map_model.proofs.StayPut.{placing_with_id-keeps, placing_with_id-laws}
 use Rattle.command_api.specs.declared.ids.TheConstants.{MOVE_ID}
-use Rattle.command_api.specs.Law.{WhenEqual}
+use Rattle.command_api.specs.Names.{WhenEqual}
 use Rattle.command_api.specs.Making.{Makes}
 use Rattle.command_api.specs.Swap.{FitsShown}
 use Rattle.command_api.specs.Tag.{OfObject}

@@ -1,5 +1,5 @@
 -- What each command is and does.
-use Rattle.std.specs.Prelude.{◌≡◌, ℕ, Bool, Some, codes}
+use Rattle.std.specs.Prelude.{◌≡◌, ℕ, Bool, Some}
 use Rattle.map_model.specs.declared.parts.Placing.{Placing}
 use Rattle.map_model.specs.declared.place.ObjectPlace.{ObjectPlace}
 use Rattle.map_model.specs.Document.{DocumentParts}
@@ -7,9 +7,8 @@ use Rattle.map_model.specs.Objects.{object_place}
 use Rattle.map_model.specs.Lens.{placing_with_id}
 use Rattle.map_model.specs.Slot.{object_slot, next_object_slot}
 use Rattle.map_model.specs.WellFormed.{IsPlacing}
-use Rattle.command_api.specs.declared.ids.TheConstants.{MOVE_ID}
-use Rattle.command_api.specs.Law.{Change, Names, untagged, Never, WhenEqual}
-use Rattle.command_api.specs.Tag.{OfObject}
+use Rattle.command_api.specs.Law.{Change}
+use Rattle.command_api.specs.Names.{Names}
 use Rattle.command_api.specs.Exchange.{Exchange, change_of}
 use Rattle.command_api.specs.Swap.{swap_shown}
 use Rattle.command_api.specs.Link.{link}
@@ -18,19 +17,14 @@ use Rattle.object_commands.specs.declared.remove.RemoveObject.{RemoveObject}
 use Rattle.object_commands.specs.declared.place.PlacingKind.{PlacingKind}
 use Rattle.object_commands.specs.declared.place.PlacingKind.TheVariants.{Move, Resize}
 use Rattle.object_commands.specs.declared.place.PlaceObject.{PlaceObject}
+use Rattle.object_commands.specs.Names.{add_object_names, remove_object_names, move_object_names, resize_object_names}
 
 -- ---- objects that are put in and taken out
-abbrev pub add_object_names : Names
-add_object_names = untagged (codes "Add Object") (codes "add object") Never
-
 abbrev pub add_object_exchange : AddObject → Exchange
 add_object_exchange c = link add_object_names (next_object_slot c.layer c.id) c.object
 
 abbrev pub add_object_change : AddObject → Change
 add_object_change c = change_of (add_object_exchange c)
-
-abbrev pub remove_object_names : Names
-remove_object_names = untagged (codes "Remove Object") (codes "remove object") Never
 
 abbrev pub remove_object_exchange : RemoveObject → Exchange
 remove_object_exchange c = link remove_object_names (object_slot c.place) c.object
@@ -39,19 +33,6 @@ abbrev pub remove_object_change : RemoveObject → Change
 remove_object_change c = change_of (remove_object_exchange c)
 
 -- ---- objects that are moved and resized
--- what a move of the object with an id is called
-abbrev pub move_object_names : ℕ → Bool → Names
-move_object_names id follows = record {
-  text = codes "Move Object";
-  action = codes "move object";
-  tag = Some (record { kind = MOVE_ID; subject = OfObject id });
-  vanishing = WhenEqual;
-  follows = follows;
-}
-
-abbrev pub resize_object_names : Names
-resize_object_names = untagged (codes "Resize Object") (codes "resize object") WhenEqual
-
 -- a resize has no tag and follows nothing
 abbrev pub place_object_names : PlacingKind → ℕ → Bool → Names
 place_object_names Move id follows = move_object_names id follows

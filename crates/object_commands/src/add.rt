@@ -4,7 +4,8 @@ ghost use Rattle.map_model.specs.Lookups.{layer_of};
 ghost use Rattle.map_model.specs.WellFormed.{IsPixels};
 ghost use Rattle.command_api.specs.Making.{IsRefusalOf, Makes};
 ghost use Rattle.edits.specs.ObjectEdits.{after_add_object, is_object_size, objects_or_fault, placing_of};
-ghost use Rattle.object_commands.specs.Changes.{add_object_change, add_object_exchange, add_object_names};
+ghost use Rattle.object_commands.specs.Changes.{add_object_change, add_object_exchange};
+ghost use Rattle.object_commands.specs.Names.{add_object_names};
 
 use crate::size::sizes;
 use command_api::{Exchange, Label, Lone};

@@ -4,7 +4,8 @@ ghost use Rattle.command_api.specs.declared.ids.TheConstants.{MOVE_ID};
 ghost use Rattle.command_api.specs.Making.{Makes};
 ghost use Rattle.command_api.specs.Tag.{OfObject};
 ghost use Rattle.edits.specs.ObjectEdits.{after_move_object, after_resize_object};
-ghost use Rattle.object_commands.specs.Changes.{move_object_names, place_object_change, place_object_exchange, resize_object_names};
+ghost use Rattle.object_commands.specs.Changes.{place_object_change, place_object_exchange};
+ghost use Rattle.object_commands.specs.Names.{move_object_names, resize_object_names};
 
 use crate::held_placing::HeldPlacing;
 use crate::size::sizes;

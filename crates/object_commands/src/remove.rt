@@ -1,7 +1,8 @@
 ghost use Rattle.std.specs.Prelude.{◌≡◌, Err, IfOk, IfErr, refl};
 ghost use Rattle.command_api.specs.Making.{Makes};
 ghost use Rattle.edits.specs.ObjectEdits.{after_remove_object};
-ghost use Rattle.object_commands.specs.Changes.{remove_object_change, remove_object_exchange, remove_object_names};
+ghost use Rattle.object_commands.specs.Changes.{remove_object_change, remove_object_exchange};
+ghost use Rattle.object_commands.specs.Names.{remove_object_names};
 
 use command_api::{Exchange, Label, Lone};
 use edits::EditFault;

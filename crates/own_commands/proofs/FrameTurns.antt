@@ -18,7 +18,8 @@ use Rattle.command_api.specs.Making.{Makes}
 use Rattle.command_api.specs.Offers.{FitsCells}
 use Rattle.command_api.specs.Tag.{Subject, OfLayer, OfObject, OfName, Tag}
 use Rattle.paint_commands.specs.declared.paint.PaintKind.TheVariants.{Stamp}
-use Rattle.paint_commands.specs.Painting.{side_of, stamp_names}
+use Rattle.paint_commands.specs.Painting.{side_of}
+use Rattle.paint_commands.specs.Names.{stamp_names}
 use Rattle.paint_commands.proofs.Paints.{difference-settled, paint_made}
 use Rattle.paint_commands.proofs.Merges.{merged-undone, merged-IsDifference, merged-AreInRowOrder}
 use Rattle.own_commands.specs.declared.frame.Frame.{Frame}

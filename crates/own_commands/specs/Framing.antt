@@ -5,7 +5,8 @@ use Rattle.map_model.specs.Document.{painted}
 use Rattle.edits.specs.declared.area.Area.{Area}
 use Rattle.edits.specs.Blocks.{ValueBlock}
 use Rattle.command_api.specs.Exchange.{Exchange, change_of}
-use Rattle.command_api.specs.Law.{Change, Names, WhenEqual}
+use Rattle.command_api.specs.Law.{Change}
+use Rattle.command_api.specs.Names.{Names, WhenEqual}
 use Rattle.command_api.specs.Tag.{OfLayer}
 use Rattle.paint_commands.specs.Painting.{IsDifference, side_of}
 use Rattle.own_commands.specs.declared.frame.TheConstants.{FRAME_ID}

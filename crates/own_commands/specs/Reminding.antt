@@ -1,6 +1,7 @@
 -- What a reminder is.
 use Rattle.std.specs.Prelude.{codes, nat_eq, string_bytes}
-use Rattle.command_api.specs.Law.{Change, Free, untagged}
+use Rattle.command_api.specs.Law.{Change}
+use Rattle.command_api.specs.Names.{Free, untagged}
 use Rattle.own_commands.specs.declared.reminder.Reminder.{Reminder}
 
 -- a free command that leaves each document as it is, and is obsolete once no turn is left

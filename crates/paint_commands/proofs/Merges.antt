@@ -14,7 +14,7 @@ use Rattle.edits.proofs.Merged.{joined-difference_in}
 use Rattle.edits.proofs.RowOrder.{difference-AreInRowOrder}
 use Rattle.edits.proofs.Turns.{with_edits-back}
 use Rattle.command_api.specs.Exchange.{FitsTurn}
-use Rattle.command_api.specs.Law.{WhenEqual}
+use Rattle.command_api.specs.Names.{WhenEqual}
 use Rattle.command_api.specs.Offers.{FitsCells}
 use Rattle.command_api.specs.Tag.{Subject, OfLayer, OfObject, OfName, Tag}
 use Rattle.paint_commands.specs.declared.paint.PaintCommand.{PaintCommand}

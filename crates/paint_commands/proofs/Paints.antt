@@ -18,7 +18,7 @@ use Rattle.edits.specs.Painting.{IsPainted}
 use Rattle.edits.proofs.Differences.{length-each_at}
 use Rattle.edits.proofs.Turns.{with_edits-after, with_edits-before, with_edits-again, with_edits-none, difference_in-same, difference_in-within}
 use Rattle.command_api.specs.declared.fault.EditFault.{EditFault}
-use Rattle.command_api.specs.Law.{Names, WhenEqual}
+use Rattle.command_api.specs.Names.{Names, WhenEqual}
 use Rattle.command_api.specs.Making.{Makes}
 use Rattle.paint_commands.specs.declared.paint.PaintKind.{PaintKind}
 use Rattle.paint_commands.specs.Painting.{side_of, difference_by, IsDifference, new_paint, paint_change, paint_names}

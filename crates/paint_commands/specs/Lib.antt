@@ -1,2 +1,3 @@
 pub mod Painting
 pub mod Selection
+pub mod Names

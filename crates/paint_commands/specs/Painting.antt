@@ -1,5 +1,5 @@
 -- What a paint command is and does.
-use Rattle.std.specs.Prelude.{◌≡◌, ℕ, List, Some, Bool, true, false, codes, length, nat_eq}
+use Rattle.std.specs.Prelude.{◌≡◌, ℕ, List, Some, Bool, true, false, length, nat_eq}
 use Rattle.map_model.specs.declared.edit.CellEdit.{CellEdit}
 use Rattle.map_model.specs.declared.edit.Side.{Side}
 use Rattle.map_model.specs.declared.edit.Side.TheVariants.{Before, After}
@@ -10,36 +10,12 @@ use Rattle.map_model.specs.WellFormed.{IsWellFormed}
 use Rattle.edits.specs.declared.change.CellChange.{CellChange}
 use Rattle.map_model.specs.Difference.{difference_in}
 use Rattle.command_api.specs.Exchange.{Exchange, change_of}
-use Rattle.command_api.specs.Law.{Change, Names, WhenEqual, untagged}
-use Rattle.command_api.specs.Tag.{OfLayer}
-use Rattle.command_api.specs.declared.ids.TheConstants.{STAMP_ID, ERASE_ID}
+use Rattle.command_api.specs.Law.{Change}
+use Rattle.command_api.specs.Names.{Names}
 use Rattle.paint_commands.specs.declared.paint.PaintCommand.{PaintCommand}
 use Rattle.paint_commands.specs.declared.paint.PaintKind.{PaintKind}
 use Rattle.paint_commands.specs.declared.paint.PaintKind.TheVariants.{Stamp, Erase, Fill}
-
--- what a stamp on a layer is called
-abbrev pub stamp_names : ℕ → Bool → Names
-stamp_names layer follows = record {
-  text = codes "Stamp";
-  action = codes "stamp tiles";
-  tag = Some (record { kind = STAMP_ID; subject = OfLayer layer });
-  vanishing = WhenEqual;
-  follows = follows;
-}
-
--- what an erase on a layer is called
-abbrev pub erase_names : ℕ → Bool → Names
-erase_names layer follows = record {
-  text = codes "Erase";
-  action = codes "erase tiles";
-  tag = Some (record { kind = ERASE_ID; subject = OfLayer layer });
-  vanishing = WhenEqual;
-  follows = follows;
-}
-
--- what a fill is called
-abbrev pub fill_names : Names
-fill_names = untagged (codes "Fill") (codes "fill area") WhenEqual
+use Rattle.paint_commands.specs.Names.{stamp_names, erase_names, fill_names}
 
 -- what a paint of this kind is called; a fill has no tag and follows nothing
 abbrev pub paint_names : PaintKind → ℕ → Bool → Names

@@ -1,14 +1,11 @@
 -- What a select command is and does.
-use Rattle.std.specs.Prelude.{codes}
 use Rattle.map_model.specs.Document.{IsSelectionOf}
 use Rattle.map_model.specs.Lens.{selection}
 use Rattle.command_api.specs.Exchange.{Exchange, change_of}
-use Rattle.command_api.specs.Law.{Change, Names, WhenEqual, untagged}
+use Rattle.command_api.specs.Law.{Change}
 use Rattle.command_api.specs.Swap.{swap_where}
 use Rattle.paint_commands.specs.declared.select.SelectCommand.{SelectCommand}
-
-abbrev pub select_names : Names
-select_names = untagged (codes "Select") (codes "change selection") WhenEqual
+use Rattle.paint_commands.specs.Names.{select_names}
 
 -- the selection and the one that is held, which lies within the map, change places
 abbrev pub select_exchange : SelectCommand → Exchange

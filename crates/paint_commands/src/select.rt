@@ -1,7 +1,8 @@
 ghost use Rattle.std.specs.Prelude.{IfOk, IfErr, refl};
 ghost use Rattle.command_api.specs.Making.{IsRefusalOf, Makes};
 ghost use Rattle.edits.specs.Selecting.{after_select};
-ghost use Rattle.paint_commands.specs.Selection.{select_change, select_exchange, select_names};
+ghost use Rattle.paint_commands.specs.Selection.{select_change, select_exchange};
+ghost use Rattle.paint_commands.specs.Names.{select_names};
 
 use command_api::{Exchange, Label, Lone};
 use edits::{EditFault, Selecting, selected};

@@ -33,7 +33,8 @@ use Rattle.edits.specs.PropertyEdits.{after_set_property, owner_or_fault}
 use Rattle.property_commands.specs.declared.set.PropertySet.{PropertySet}
 use Rattle.property_commands.specs.declared.set.SetKind.{SetKind}
 use Rattle.property_commands.specs.declared.set.SetKind.TheVariants.{Replace, Add}
-use Rattle.property_commands.specs.PropertyChanges.{AllowsSetting, property_set_change, set_kind_exchange, set_property_names}
+use Rattle.property_commands.specs.PropertyChanges.{AllowsSetting, property_set_change, set_kind_exchange}
+use Rattle.property_commands.specs.Names.{set_property_names}
 use Rattle.property_commands.proofs.Settings.{setting_named-get, setting-put}
 
 -- the type and the value at a place, as a part reads them

@@ -24,7 +24,7 @@ use Rattle.command_api.specs.declared.ids.TheConstants.{SET_ID}
 use Rattle.command_api.specs.declared.offer.Offer.{Offer}
 use Rattle.command_api.specs.declared.offer.Offer.TheVariants.{Value}
 use Rattle.command_api.specs.Exchange.{FitsTurn, IsExchanged, change_of}
-use Rattle.command_api.specs.Law.{Names, WhenEqual}
+use Rattle.command_api.specs.Names.{Names, WhenEqual}
 use Rattle.command_api.specs.Link.{link, turned_link}
 use Rattle.command_api.specs.Offers.{FitsNew, FitsPut, FitsSetting, IsMerged, IsOfferOf, offer_undone, setting_undone}
 use Rattle.command_api.specs.Swap.{FitsShown}
@@ -34,7 +34,8 @@ use Rattle.command_api.proofs.Swaps.{shown_merged, shown_offered}
 use Rattle.property_commands.specs.declared.set.PropertySet.{PropertySet}
 use Rattle.property_commands.specs.declared.set.SetKind.{SetKind}
 use Rattle.property_commands.specs.declared.set.SetKind.TheVariants.{Replace, Add}
-use Rattle.property_commands.specs.PropertyChanges.{AllowsSetting, FitsNewLink, IsKindFor, IsNewAt, before_of, new_link, property_set_change, set_kind_exchange, set_property_names}
+use Rattle.property_commands.specs.PropertyChanges.{AllowsSetting, FitsNewLink, IsKindFor, IsNewAt, before_of, new_link, property_set_change, set_kind_exchange}
+use Rattle.property_commands.specs.Names.{set_property_names}
 
 -- ---- a property that is there
 module _ (owner : Owner) (name : List ℕ) (place : OwnerPlace) (at : ℕ) (d : DocumentParts) (stands : setting_place owner name d ≡ Some (place, at)) where

@@ -16,7 +16,8 @@ use Rattle.map_model.proofs.TilesetChanges.{insert_tileset-keeps, remove_tileset
 use Rattle.command_api.specs.Making.{Makes}
 use Rattle.command_api.proofs.Links.{link_made}
 use Rattle.edits.specs.TilesetEdits.{is_above, after_add_tileset, after_remove_tileset}
-use Rattle.property_commands.specs.TilesetChanges.{add_tileset_names, add_tileset_change, remove_tileset_names, remove_tileset_change}
+use Rattle.property_commands.specs.TilesetChanges.{add_tileset_change, remove_tileset_change}
+use Rattle.property_commands.specs.Names.{add_tileset_names, remove_tileset_names}
 
 below : (first : ℕ) (ts : List Tileset) → is_above first ts ≡ true → Each (λ t. t.first_id < first) ts
 below first [] h = tt

@@ -1,2 +1,3 @@
 pub mod PropertyChanges
 pub mod TilesetChanges
+pub mod Names

@@ -1,5 +1,5 @@
 -- What each command of properties is and does.
-use Rattle.std.specs.Prelude.{◌≡◌, ◌↔◌, ℕ, List, length, Bool, false, Option, Some, None, is_none, IsSomeAnd, IsTrue, codes}
+use Rattle.std.specs.Prelude.{◌≡◌, ◌↔◌, ℕ, List, length, Bool, false, Option, Some, None, is_none, IsSomeAnd, IsTrue}
 use Rattle.map_model.specs.declared.owner.Owner.{Owner}
 use Rattle.map_model.specs.declared.parts.Property.{Property}
 use Rattle.map_model.specs.declared.place.OwnerPlace.{OwnerPlace}
@@ -8,28 +8,19 @@ use Rattle.map_model.specs.Document.{DocumentParts, with_map}
 use Rattle.map_model.specs.Given.{given_setting}
 use Rattle.map_model.specs.Properties.{IsSetting, new_property, owner_place, properties_of, property_at, property_place, without_property_at}
 use Rattle.map_model.specs.PropertyLenses.{property_slot, setting_named, setting_place}
-use Rattle.command_api.specs.declared.ids.TheConstants.{SET_ID}
-use Rattle.command_api.specs.Law.{Change, Names, untagged, Never, WhenEqual}
+use Rattle.command_api.specs.Law.{Change}
+use Rattle.command_api.specs.Names.{Names}
 use Rattle.command_api.specs.Exchange.{Exchange, change_of}
 use Rattle.command_api.specs.Swap.{swap_shown}
 use Rattle.command_api.specs.Link.{link, linked, FitsLink}
-use Rattle.command_api.specs.Tag.{OfName}
 use Rattle.property_commands.specs.declared.remove.RemoveProperty.{RemoveProperty}
 use Rattle.property_commands.specs.declared.set.PropertySet.{PropertySet}
 use Rattle.property_commands.specs.declared.set.SetProperty.{SetProperty}
 use Rattle.property_commands.specs.declared.set.SetKind.{SetKind}
 use Rattle.property_commands.specs.declared.set.SetKind.TheVariants.{Replace, Add}
+use Rattle.property_commands.specs.Names.{set_property_names, remove_property_names}
 
 -- ---- set
-abbrev pub set_property_names : Owner → List ℕ → Bool → Names
-set_property_names owner name follows = record {
-  text = codes "Set Property";
-  action = codes "set property";
-  tag = Some (record { kind = SET_ID; subject = OfName owner name });
-  vanishing = WhenEqual;
-  follows = follows;
-}
-
 -- the owner's property with the name stands at the place, and may have the setting
 pub record AllowsSetting (owner : Owner) (name : List ℕ) (place : OwnerPlace) (at : ℕ) (d : DocumentParts) (s : Setting) : Type 0 where
   pub stands : setting_place owner name d ≡ Some (place, at)
@@ -83,15 +74,12 @@ abbrev pub before_of : SetKind → Option Setting
 before_of (Replace setting is_made is_same) = Some setting
 before_of (Add property) = None
 
--- the same kind of setting, for another one that is given: one that replaces is the same where it holds that one
+-- a kind of setting as it is for another setting that is given: one that replaces is the same where it holds that one
 abbrev pub IsKindFor : Setting → SetKind → SetKind → Type 0
 IsKindFor s (Replace setting is_made is_same) kind = (told : Bool) × ((kind ≡ Replace setting is_made told) × (IsTrue told ↔ setting ≡ s))
 IsKindFor s (Add property) kind = kind ≡ Add property
 
 -- ---- remove
-abbrev pub remove_property_names : Names
-remove_property_names = untagged (codes "Remove Property") (codes "remove property") Never
-
 abbrev pub remove_property_exchange : RemoveProperty → Exchange
 remove_property_exchange c = link remove_property_names (property_slot c.owner c.at) c.property
 

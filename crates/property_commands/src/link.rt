@@ -3,7 +3,7 @@ ghost use Rattle.std.specs.Prelude.{◌≡◌};
 ghost use Rattle.map_model.specs.PropertyLenses.{property_slot};
 ghost use Rattle.map_model.specs.Slot.{tileset_slot};
 ghost use Rattle.command_api.specs.Exchange.{IsExchanged};
-ghost use Rattle.command_api.specs.Law.{Names};
+ghost use Rattle.command_api.specs.Names.{Names};
 ghost use Rattle.command_api.specs.Link.{FitsLink, link, turned_link};
 
 use link_chain::Loose;

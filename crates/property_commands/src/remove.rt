@@ -1,7 +1,8 @@
 ghost use Rattle.std.specs.Prelude.{◌≡◌, Err, IfOk, IfErr, refl};
 ghost use Rattle.command_api.specs.Making.{Makes};
 ghost use Rattle.edits.specs.PropertyEdits.{after_remove_property};
-ghost use Rattle.property_commands.specs.PropertyChanges.{remove_property_change, remove_property_exchange, remove_property_names};
+ghost use Rattle.property_commands.specs.PropertyChanges.{remove_property_change, remove_property_exchange};
+ghost use Rattle.property_commands.specs.Names.{remove_property_names};
 
 use crate::link::exchange_property;
 use crate::owners::place_of;

@@ -10,7 +10,8 @@ ghost use Rattle.command_api.specs.Making.{IsRefusalOf, Makes};
 ghost use Rattle.command_api.specs.Offers.{IsOfferOf};
 ghost use Rattle.command_api.specs.Tag.{OfName};
 ghost use Rattle.edits.specs.PropertyEdits.{after_set_property};
-ghost use Rattle.property_commands.specs.PropertyChanges.{IsKindFor, before_of, property_set_change, property_set_exchange, set_property_change, set_property_exchange, set_property_names};
+ghost use Rattle.property_commands.specs.PropertyChanges.{IsKindFor, before_of, property_set_change, property_set_exchange, set_property_change, set_property_exchange};
+ghost use Rattle.property_commands.specs.Names.{set_property_names};
 
 use crate::link::exchange_property;
 use crate::owners::place_of;

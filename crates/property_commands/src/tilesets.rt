@@ -2,7 +2,8 @@ ghost use Rattle.std.specs.Prelude.{◌≡◌, Some, Err, IfOk, IfErr, refl};
 ghost use Rattle.map_model.specs.NewMap.{external_tileset};
 ghost use Rattle.command_api.specs.Making.{IsRefusalOf, Makes};
 ghost use Rattle.edits.specs.TilesetEdits.{after_add_tileset, after_remove_tileset, is_above};
-ghost use Rattle.property_commands.specs.TilesetChanges.{add_tileset_change, add_tileset_exchange, add_tileset_names, remove_tileset_change, remove_tileset_exchange, remove_tileset_names};
+ghost use Rattle.property_commands.specs.TilesetChanges.{add_tileset_change, add_tileset_exchange, remove_tileset_change, remove_tileset_exchange};
+ghost use Rattle.property_commands.specs.Names.{add_tileset_names, remove_tileset_names};
 
 use crate::link::exchange_tileset;
 use command_api::{Exchange, Label, Lone};

@@ -23,7 +23,7 @@ pub record IsMovedColumn (column : ℕ) (by : ℤ) (limit r : ℕ) : Type 0 wher
   pub behind : (k : ℕ) → k < limit → r ≤ k → (pos column +ℤ by) ≤ℤ pos k
   pub before : (k : ℕ) → k < r → pos k <ℤ (pos column +ℤ by)
 
--- the same of a move that was written as 32 bits and read back
+-- a moved column, by a move that was written as 32 bits and read back
 pub read_back : (column : ℕ) (by : ℤ) (limit r : ℕ) → SFits w32 by → IsMovedColumn column (to_z w32 (of_z w32 by)) limit r → IsMovedColumn column by limit r
 read_back column by limit r f h = subst (λ (z : ℤ). IsMovedColumn column z limit r) (to_z-of_z w32 by f) h
 

@@ -71,6 +71,6 @@ in_run_at r (negsuc x) y = false
 abbrev pub in_moved_run : Run → ℤ → ℤ → ℕ → ℕ → ℕ × ℕ → Bool
 in_moved_run r dx dy w h q = (nat_lt q.0 w && nat_lt q.1 h) && in_run_at r (pos q.0 -ℤ dx) (pos q.1 -ℤ dy)
 
--- the same of one of several runs
+-- whether a cell lies within a width and a height, and moving it back gives a cell of one of the runs
 abbrev pub in_moved_runs : List Run → ℤ → ℤ → ℕ → ℕ → ℕ × ℕ → Bool
 in_moved_runs rs dx dy w h q = list_any (λ r. in_moved_run r dx dy w h q) rs

@@ -7,8 +7,8 @@ use crate::runs::Run;
 use crate::stored::StoredRun;
 
 impl StoredRun {
-    // The run moved by `dx` columns and `dy` rows, as far as it then lies in the first `w` columns and
-    // the first `h` rows.
+    // The run, moved by `dx` columns and `dy` rows, and cut to the first `w` columns and the first `h`
+    // rows.
     pub(crate) fn moved(self, dx: i32, dy: i32, w: u32, h: u32) -> Option<StoredRun>
         requires run { IsRun self }
         requires columns { w ≤ 4096 }

@@ -19,7 +19,7 @@ pub(crate) fn split_ended(runs: &[StoredRun], x: u32, y: u32) -> (&[StoredRun], 
     runs.split_at(at)
 }
 
-// The same, for runs of which often none or one ends before the cell.
+// The runs that end before a cell, and the others, where often none or one ends before the cell.
 #[inline(always)]
 fn split_near(runs: &[StoredRun], x: u32, y: u32) -> (&[StoredRun], &[StoredRun])
     requires { IsMaximalRuns runs.now }
@@ -34,8 +34,8 @@ fn split_near(runs: &[StoredRun], x: u32, y: u32) -> (&[StoredRun], &[StoredRun]
     split_far(runs, x, y)
 }
 
-// The same, for runs of which few end before the cell: it takes a number of steps that grows with the logarithm of
-// how many do.
+// The runs that end before a cell, and the others, where few end before the cell: it takes a number of steps that grows
+// with the logarithm of how many end before it.
 #[inline(never)]
 fn split_far(runs: &[StoredRun], x: u32, y: u32) -> (&[StoredRun], &[StoredRun])
     requires { IsMaximalRuns runs.now }
@@ -136,7 +136,7 @@ fn push_runs(out: &mut Vec<StoredRun>, runs: &[StoredRun])
     }
 }
 
-// What runs have before another run, to which the first of them lasts.
+// The part before another run of the first of some runs. That first run lasts to the other one.
 #[inline(always)]
 fn first_before(runs: &[StoredRun], other: StoredRun) -> Option<StoredRun>
     requires runs { IsMaximalRuns runs.now }
@@ -181,7 +181,7 @@ fn push_before<'a>(
     rest
 }
 
-// Gives what a run has apart from others, and answers the others without some that end before the run does.
+// Adds what a run has apart from others, and gives the others without some that end before the run does.
 #[inline(always)]
 fn push_gaps<'a>(
     out: &mut Vec<StoredRun>,

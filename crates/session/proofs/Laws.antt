@@ -120,7 +120,7 @@ line_says bytes =
 pub read_is_spelled : ReadIsSpelled
 read_is_spelled bytes line e = subst (λ r. IfOk r (λ l. Says bytes l × CanBeSpelled l)) e (line_says bytes)
 
--- the same of what code returned
+-- a line that code returned is one that the bytes say, and it can be spelled
 pub given_says : (bytes : List ℕ) (result : Result Line LineFault) → Gives (λ x. x) result (line_of bytes) → IfOk result (Says bytes)
 given_says bytes (Ok line) e = (read_is_spelled bytes line e).0
 given_says bytes (Err f) e = tt

@@ -61,7 +61,7 @@ pub enum Line<'a> {
         height: u32,
         follows: bool,
     },
-    /// A cell and those around it with its value, as far as they hang together, get this value.
+    /// The cell (`x`, `y`) gets this value, and so does each cell that is joined to it over cells of its own value.
     Fill {
         layer: u32,
         x: i32,

@@ -230,7 +230,7 @@ fn rare_command<'a>(name: &str, fields: &mut Fields<'a>) -> Result<Line<'a>, Lin
 fn command<'a>(name: &str, fields: &mut Fields<'a>) -> Result<Line<'a>, LineFault>
     ensures { Gives (λ x. x) result (read line_form (name.now ∷ words_left fields.old.rest)) }
 {
-    // Those of most lines first: the words are compared one after the other.
+    // The words of most lines stand first, since they are compared one after the other.
     match name {
         "stamp" | "stamp+" => stamp(name == "stamp+", fields),
         "undo" => bare(Line::Undo, fields),

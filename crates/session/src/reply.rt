@@ -10,7 +10,7 @@ use itoa::Buffer;
 use map_model::MapText;
 use tile_id::Gid;
 
-/// Why a line was refused. It changed nothing, but that a `save` which the store failed may have changed its file.
+/// Why a line was refused. The line changed nothing; only a `save` that the store failed may have changed its file.
 #[derive(Clone, Copy, Debug, PartialEq, Eq)]
 pub enum Refusal {
     /// The line says nothing.

@@ -8,7 +8,8 @@ use Rattle.std.proofs.lemmas.List.Elements.{All-append, All-nil, All-cons}
 use Rattle.std.proofs.lemmas.Grind.{flat_map-append}
 use Rattle.lines.specs.declared.reader.Found.{Found}
 use Rattle.lines.specs.declared.reader.Found.TheVariants as found
-use Rattle.lines.specs.Lines.{lines_of, FindsLine, HasNoNewline, StopsInLine}
+use Rattle.lines.specs.Lines.{lines_of, HasNoNewline}
+use Rattle.lines.specs.Reading.{FindsLine, StopsInLine}
 use Rattle.session.specs.declared.limits.TheConstants.{MAX_LINE}
 use Rattle.session.specs.declared.line.LineFault.TheVariants.{TooLong}
 use Rattle.session.specs.declared.reply.Refusal.{Refusal}
@@ -18,7 +19,8 @@ use Rattle.session.specs.Grammar.{line_of}
 use Rattle.session.specs.Replies.{refusal_of}
 use Rattle.editor.specs.Machine.{Workspace}
 use Rattle.editor.specs.Steps.{StepIn}
-use Rattle.session_run.specs.Runs.{Run, Progress, Goes, StepFound, TakesBeginning, AreClean, IsAccepted, RunsAll, RunsSome, RunsToRead, RunsToRefused, RunsToUnsaved, RunsToWrite, output, reply_line}
+use Rattle.session_run.specs.Runs.{Run, Progress, TakesBeginning, AreClean, IsAccepted, RunsAll, RunsSome, RunsToRead, RunsToRefused, RunsToUnsaved, RunsToWrite, output, reply_line}
+use Rattle.session_run.specs.WithinRuns.{Goes, StepFound}
 use Rattle.session_run.proofs.Appending.{appends_more, appends_nothing}
 
 pub too_long : (long : List ℕ) → 2 ^ 16 ≤ length long → line_of long ≡ Err TooLong

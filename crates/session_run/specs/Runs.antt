@@ -1,10 +1,7 @@
 -- Whole runs of the machine.
-use Rattle.std.specs.Prelude.{◌≡◌, ℕ, ◌^◌, ◌≤◌, Bool, IsTrue, List, [], ◌∷◌, ◌++◌, All, length, Option, None, Some, ⊤, option_to_list}
+use Rattle.std.specs.Prelude.{◌≡◌, ℕ, Bool, IsTrue, List, [], ◌∷◌, ◌++◌, All, length, Option, None, Some, option_to_list}
 use Rattle.std.specs.List.{flat_map}
 use Rattle.std.specs.Io.KnownBytes.{Appends}
-use Rattle.command_api.specs.Law.{Change, IsSame}
-use Rattle.lines.specs.declared.reader.Found.{Found}
-use Rattle.lines.specs.declared.reader.Found.TheVariants as found
 use Rattle.lines.specs.Lines.{lines_of, HasNoNewline}
 use Rattle.session.specs.declared.reply.Reply.{Reply}
 use Rattle.session.specs.declared.reply.Refusal.{Refusal}
@@ -12,10 +9,8 @@ use Rattle.session.specs.declared.reply.Reply.TheVariants.{Refused}
 use Rattle.session.specs.Replies.{refusal_of, reply_text}
 use Rattle.undo_stack.specs.History.{is_clean}
 use Rattle.undo_group.specs.Groups.{OpenDocument}
-use Rattle.editor.specs.declared.planned.Edit.{Edit}
 use Rattle.editor.specs.Machine.{Machine, Workspace, workspace}
 use Rattle.map_store.specs.Files.{StoreParts}
-use Rattle.editor.specs.Planning.{edit_change}
 use Rattle.editor.specs.Steps.{StepIn}
 
 -- what may be replied to lines, one after another, and where they lead
@@ -123,23 +118,3 @@ pub record RunsToRefused (strict : Bool) (start : Workspace) (input : List ℕ) 
   pub now : Machine
   pub step : StepIn line mid (Some (Refused refusal)) (workspace now stored)
   pub reply : Appends written after (reply_line (Refused refusal))
-
--- ---- within a run
--- where the input is known, some lines of it were handled, and those of `left` are left
-abbrev pub Goes : Bool → Workspace → Option (List ℕ) → Option (List ℕ) → Workspace → Option (List ℕ) → Option (List ℕ) → ℕ → ℕ → Type 0
-Goes strict start None left now before after lines replied = ⊤
-Goes strict start (Some input) None now before after lines replied = ⊥
-Goes strict start (Some input) (Some left) now before after lines replied = Progress strict start input (lines_of left) now before after lines replied
-
--- a fact on the bytes of the line that was found; of a long one only its length is known
-abbrev pub OfFound : Found → List ℕ → (List ℕ → Type 0) → Type 0
-OfFound found.Line line P = P line
-OfFound found.TooLong line P = (long : List ℕ) → 2 ^ 16 ≤ length long → P long
-
--- the command that an edit was put into, where there is one, does what the edit does
-abbrev pub PutsSame : {C : Type 0} → (C → Change) → Edit → Option C → Type 0
-PutsSame change edit None = ⊤
-PutsSame change edit (Some command) = IsSame (edit_change edit) (change command)
-
-abbrev pub StepFound : Found → List ℕ → Workspace → Option Reply → Workspace → Type 0
-StepFound found line old reply new = OfFound found line (λ bytes. StepIn bytes old reply new)

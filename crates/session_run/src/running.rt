@@ -5,7 +5,8 @@ ghost use Rattle.editor.specs.Editors.{IsSound, machine_of};
 ghost use Rattle.editor.specs.Machine.{started_machine, workspace};
 ghost use Rattle.editor.specs.Steps.{Step, StepIn};
 ghost use Rattle.session.specs.Spelling.{CanBeSpelled};
-ghost use Rattle.session_run.specs.Runs.{PutsSame, RunsAll, RunsSome, RunsToRead, RunsToRefused, RunsToUnsaved, RunsToWrite, StepFound};
+ghost use Rattle.session_run.specs.Runs.{RunsAll, RunsSome, RunsToRead, RunsToRefused, RunsToUnsaved, RunsToWrite};
+ghost use Rattle.session_run.specs.WithinRuns.{PutsSame, StepFound};
 
 use crate::strict::{Report, end_refused, ending, ends_unsaved};
 use crate::writing::{flush_if, write_reply};
@@ -38,7 +39,7 @@ pub enum RunFault {
     /// There was no memory for the line buffer. Nothing was read or written.
     #[error("no memory")]
     Memory,
-    /// A line of a strict run was refused. It and the lines before are done, and no later one is. All replies were written.
+    /// A line of a strict run was refused. That line and those before it are done, and no later one is. All replies were written.
     #[error("line refused")]
     Refused,
     /// A strict run has read its whole input, and not each document is clean. All replies were written.

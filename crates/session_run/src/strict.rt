@@ -32,7 +32,7 @@ pub trait Report {
     fn unsaved(&self, document: &str, unsaved: Unsaved);
 }
 
-// The refusal that ends a run: that of a line in a strict run, where it was refused.
+// The refusal that ends a run: that of a line, if it was refused and the run is strict.
 #[inline(always)]
 pub fn ending<T>(strict: Option<&T>, refusal: Option<Refusal>) -> Option<Refusal>
     ensures some { IfSome result (λ own. refusal ≡ Some own) }

@@ -66,7 +66,7 @@ entry_passes c id t Q x e no_groups named reads first same_x key passes =
     ] in
     first_passes (λ v. PassesArg c id v.now) Q x.vals.items t all reads first
 
--- the same of the first value that an id has
+-- what the first value that an id has is, where the command has no groups
 value_passes : (c : Command) (f : Found) (id t : List ℕ) (Q : List ℕ → Type 0) → groups_of c ≡ [] → (id ≡ [] → ⊥) → ValuesPass c f
     → ((v : Bor (List ℕ)) → PassesArg c id v.now → Q v.now) → first_value f id ≡ Some t → Q t
 value_passes c f id t Q no_groups named values reads given = go (matched_of f id) refl given

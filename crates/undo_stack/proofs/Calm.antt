@@ -4,7 +4,8 @@ use Rattle.std.specs.List.{All, remove}
 use Rattle.std.proofs.lemmas.List.{take-set, take-append-drop}
 use Rattle.std.proofs.lemmas.List.Elements.{All-nil, All-cons, All-head, All-tail, All-same, All-get_or, All-append, All-push, All-take, All-drop, All-map, All-weaker}
 use Rattle.map_model.specs.Document.{DocumentParts}
-use Rattle.command_api.specs.Law.{Change, IsSame, Names, is_free}
+use Rattle.command_api.specs.Law.{Change, IsSame}
+use Rattle.command_api.specs.Names.{Names, is_free}
 use Rattle.undo_stack.specs.History.{Step}
 use Rattle.undo_stack.specs.Pushing.{without_last}
 use Rattle.undo_stack.specs.Calm.{IsLive, AreLive, NoneFree}

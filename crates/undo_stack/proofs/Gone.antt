@@ -5,7 +5,8 @@ use Rattle.std.proofs.lemmas.List.Edits.{length-remove}
 use Rattle.std.proofs.lemmas.List.Elements.{All-append, All-drop, All-take}
 use Rattle.std.specs.List.{remove}
 use Rattle.map_model.specs.Document.{DocumentParts}
-use Rattle.command_api.specs.Law.{Change, is_free}
+use Rattle.command_api.specs.Law.{Change}
+use Rattle.command_api.specs.Names.{is_free}
 use Rattle.undo_stack.specs.History.{Step, History, step_named, last_after}
 use Rattle.undo_stack.specs.Pushing.{up_to}
 use Rattle.undo_stack.specs.Calm.{is_gone, IsGone, NoneFree}

@@ -5,7 +5,8 @@ use Rattle.std.specs.Option.{option_eq}
 use Rattle.std.proofs.lemmas.List.{length-append, length-drop, length-take-le, take_all}
 use Rattle.std.proofs.lemmas.List.Elements.{All-nil, All-drop, All-push, All-set, All-take}
 use Rattle.map_model.specs.Document.{DocumentParts}
-use Rattle.command_api.specs.Law.{Change, IsSame, IsLawful, IsRedone, is_free}
+use Rattle.command_api.specs.Law.{Change, IsSame, IsLawful, IsRedone}
+use Rattle.command_api.specs.Names.{is_free}
 use Rattle.undo_stack.specs.History.{step_named, History, current}
 use Rattle.undo_stack.specs.Pushing.{cut, limited_to, lowered, up_to, with_added, Merges, step_of, IsPushed, next_of}
 use Rattle.undo_stack.specs.Sequence.{FitsDown, IsMoved}

@@ -7,7 +7,8 @@ use Rattle.std.proofs.lemmas.Option.{slice_get_cases}
 use Rattle.std.specs.Vec.{with_item}
 use Rattle.std.proofs.lemmas.Grind.{take-set_at}
 use Rattle.map_model.specs.Document.{DocumentParts}
-use Rattle.command_api.specs.Law.{Change, IsSettled, Names}
+use Rattle.command_api.specs.Law.{Change}
+use Rattle.command_api.specs.Names.{IsSettled, Names}
 use Rattle.undo_stack.specs.History.{Step, step_named, Open, History, current, last_after}
 use Rattle.undo_stack.specs.Pushing.{cut, step_of, with_added, without_last, last_step, led_to, target, before_target, vanishing_of, IsUnclean, Merges, Vanishes, with_innermost, next_of, IsPushed}
 use Rattle.undo_stack.specs.Sequence.{before, steps_down, FitsDown}

@@ -4,7 +4,8 @@ use Rattle.std.specs.Prelude.{Result}
 use Rattle.std.proofs.lemmas.List.{take_all, drop-set-lt}
 use Rattle.std.proofs.lemmas.Grind.{take-set_at}
 use Rattle.map_model.specs.Document.{DocumentParts}
-use Rattle.command_api.specs.Law.{Change, IsSame, IsLawful, IsSettled}
+use Rattle.command_api.specs.Law.{Change, IsSame, IsLawful}
+use Rattle.command_api.specs.Names.{IsSettled}
 use Rattle.undo_stack.specs.History.{Step, step_named, last_after}
 use Rattle.undo_stack.specs.Pushing.{without_last, last_step, led_to, vanishing_of}
 use Rattle.undo_stack.specs.Sequence.{before, steps_down, FitsDown, FitsUp, IsMoved}

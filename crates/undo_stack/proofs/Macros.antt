@@ -1,7 +1,8 @@
 -- Levels that open and close, seen on a stack's entries.
 use Rattle.std.proofs.Common.{◌≡◌, ℕ, List, [], ◌∷◌, ◌++◌, Option, refl, sym, ◌∙◌, ap, Ok}
 use Rattle.map_model.specs.Document.{DocumentParts}
-use Rattle.command_api.specs.Law.{Change, untagged, Never}
+use Rattle.command_api.specs.Law.{Change}
+use Rattle.command_api.specs.Names.{untagged, Never}
 use Rattle.undo_stack.specs.History.{step_named, Open, History, current}
 use Rattle.undo_stack.specs.Pushing.{cut, cut_in, with_added}
 use Rattle.undo_stack.specs.Macros.{step_of_level, end_answer_in, ended_in, begun}

@@ -3,7 +3,8 @@ use Rattle.std.proofs.Common.{◌≡◌, ℕ, ◌+◌, ◌-◌, ◌<◌, ◌≤�
 use Rattle.std.specs.Prelude.{if◌then◌else◌}
 use Rattle.std.proofs.lemmas.List.{append-nil, length-take-le, length-drop, take_all, drop_all, length-append, map-append}
 use Rattle.map_model.specs.Document.{DocumentParts}
-use Rattle.command_api.specs.Law.{Change, IsLawful, IsSettled, Vanishing, Never, WhenEqual, Free, IsRedone}
+use Rattle.command_api.specs.Law.{Change, IsLawful, IsRedone}
+use Rattle.command_api.specs.Names.{IsSettled, Vanishing, Never, WhenEqual, Free}
 use Rattle.undo_stack.specs.History.{Step, step_named, History, last_after, current}
 use Rattle.undo_stack.specs.Pushing.{step_of, up_to, lowered, limited_to, with_added, dropped, cut, Merges, IsPushed}
 use Rattle.undo_stack.specs.Sequence.{before, steps_down, FitsDown}

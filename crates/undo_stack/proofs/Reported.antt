@@ -3,7 +3,8 @@ use Rattle.std.proofs.Common.{◌≡◌, ℕ, ◌+◌, ◌-◌, ◌<◌, ◌≤�
 use Rattle.std.proofs.lemmas.List.{drop_all, drop-append-le, get_or-set_same, length-drop, length-reverse, length-take, length-take-le, reverse-append, take-set}
 use Rattle.std.proofs.lemmas.List.Elements.{All-append, All-cons, All-drop, All-head, All-nil, All-tail, All-take}
 use Rattle.map_model.specs.Document.{DocumentParts}
-use Rattle.command_api.specs.Law.{Change, IsRedone, IsUndone, Names, is_free}
+use Rattle.command_api.specs.Law.{Change, IsRedone, IsUndone}
+use Rattle.command_api.specs.Names.{Names, is_free}
 use Rattle.undo_stack.specs.Calm.{NoneFree, is_gone}
 use Rattle.undo_stack.specs.Entries.{entry_change}
 use Rattle.undo_stack.specs.Held.{IsDroppedAt, IsSetAt, RedoesNext, StepsDown, StepsUp, UndoesLast, history_at}

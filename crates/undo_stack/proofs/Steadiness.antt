@@ -1,7 +1,8 @@
 -- No call brings a step of a free command into a history, but a push of that command.
 use Rattle.std.proofs.Common.{◌≡◌, ℕ, ◌+◌, ◌-◌, ◌≤◌, List, [], ◌∷◌, ◌++◌, Bool, true, false, take, drop, length, map, min, Ok, Err, zero, suc, refl, arith}
 use Rattle.map_model.specs.Document.{DocumentParts}
-use Rattle.command_api.specs.Law.{Change, is_free}
+use Rattle.command_api.specs.Law.{Change}
+use Rattle.command_api.specs.Names.{is_free}
 use Rattle.undo_stack.specs.Entries.{entry_change}
 use Rattle.undo_stack.specs.History.{Step, Open, History, new_history, innermost}
 use Rattle.undo_stack.specs.Pushing.{cut, without_last, led_to, limited_to, without_target, with_target_at, with_added, next_of, IsPushed}

@@ -81,7 +81,7 @@ text_open f d es n at clean limit l ls h =
     let p = λ (y : Entry _). (entry_change f y).names.text in
     sym (rw (texts-closed f (start_of f (l ∷ ls) d) es n) (slice_get-append_at (map p es) l.text at (h ∙ sym (length-map es p))))
 
--- the same by what is the first of a stack's levels
+-- the text of an open macro, by what is the first of a stack's levels
 pub text_first : {C : Type 0} (f : C → Change) (d : DocumentParts) (es : List (Entry C)) (n at : ℕ) (clean : Option ℕ) (limit : ℕ) (ls : List (Level C)) (v : Level C) → Some v ≡ slice_get ls 0 → at ≡ length es → Some (inner_of v).text ≡ text_at (history_of f d es n clean limit (map inner_of ls)) at
 text_first f d es n at clean limit [] v h k = absurd (let bad : Some v ≡ None = h in let worse : ⊥ = cc in worse)
 text_first f d es n at clean limit (l ∷ ls) v h k =

@@ -2,7 +2,8 @@
 use Rattle.std.proofs.Common.{◌≡◌, ℕ, ◌+◌, ◌-◌, ◌<◌, ◌≤◌, List, [], ◌∷◌, Option, Some, None, Bool, true, false, length, min, slice_get, inl, inr, Ok, Err, zero, suc, refl, sym, ◌∙◌, ap, subst, arith}
 use Rattle.std.proofs.lemmas.List.Edits.{length-remove}
 use Rattle.map_model.specs.Document.{DocumentParts}
-use Rattle.command_api.specs.Law.{Change, IsLawful, IsSettled, Vanishing, Never, WhenEqual, Free, is_free}
+use Rattle.command_api.specs.Law.{Change, IsLawful}
+use Rattle.command_api.specs.Names.{IsSettled, Vanishing, Never, WhenEqual, Free, is_free}
 use Rattle.undo_stack.specs.History.{Step, History}
 use Rattle.undo_stack.specs.Moving.{positioned, StepsBack, StepsOn, GoesTo}
 use Rattle.undo_stack.specs.Calm.{IsGone}

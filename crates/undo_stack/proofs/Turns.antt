@@ -74,7 +74,7 @@ redone_named f t a xs ys d e r = record { document = r.document; fits = r.fits; 
 pub undone_named : {B : Type 0} (f : B → Change) (t a : List ℕ) (xs ys : List B) (d e : DocumentParts) → IsUndone (sequence_change [] [] f xs) (sequence_change [] [] f ys) d e → IsUndone (sequence_change t a f xs) (sequence_change t a f ys) d e
 undone_named f t a xs ys d e r = record { document = r.document; fits = r.fits; back = r.back; names = refl }
 
--- the same by the number above the change
+-- the change right below a number fits, and undoing it leads to the number before
 pub fits_below : {B : Type 0} (f : B → Change) (xs : List B) (v : B) (i : ℕ) (d : DocumentParts) → 0 < i → i ≤ length xs → v ≡ get_or xs (i - 1) v → FitsDown f (take i xs) d → (f v).fits_undo d
 fits_below f xs v i d p q k =
     let same : i - 1 + 1 ≡ i = omega arith in

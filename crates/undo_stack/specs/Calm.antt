@@ -2,7 +2,8 @@
 use Rattle.std.specs.Prelude.{◌≡◌, List, Bool, true, false, ◌&&◌}
 use Rattle.std.specs.List.{All}
 use Rattle.map_model.specs.Document.{DocumentParts}
-use Rattle.command_api.specs.Law.{Change, is_free}
+use Rattle.command_api.specs.Law.{Change}
+use Rattle.command_api.specs.Names.{is_free}
 use Rattle.undo_stack.specs.Entries.{entry_change}
 use Rattle.undo_stack.specs.declared.entry.Entry.{Entry}
 

@@ -53,7 +53,7 @@ pub record IsHeldBut {C : Type 0} (f : C → Change) (d : DocumentParts) (es : L
 abbrev pub IsHeld : {C : Type 0} → (C → Change) → DocumentParts → Sequence C → Type 0
 IsHeld f d q = IsHeldBut f d q.entries.items q
 
--- the same, where the target just took a command in and is not looked at
+-- the sequence is held, but its target just took a command in and is not looked at
 abbrev pub IsHeldToLast : {C : Type 0} → (C → Change) → DocumentParts → Sequence C → Type 0
 IsHeldToLast f d q = IsHeldBut f d (without_last q.entries.items) q
 
@@ -83,7 +83,7 @@ pub record IsSettledAt {C : Type 0} (f : C → Change) (d : DocumentParts) (q p 
   pub settled : SettlesTarget d (reports f (target_in q)) (history_at f d q) (history_at f d p)
   pub nesting : sequence_nesting p.entries.items ≤ sequence_nesting q.entries.items
 
--- the same, where the entry at a number was just turned and is not looked at
+-- the sequence is held, but the entry at a number was just turned and is not looked at
 abbrev pub IsHeldButAt : {C : Type 0} → (C → Change) → DocumentParts → ℕ → Sequence C → Type 0
 IsHeldButAt f d at q = IsHeldBut f d (remove q.entries.items at) q
 
@@ -116,7 +116,8 @@ pub record RedoesNext {C : Type 0} (f : C → Change) (d : DocumentParts) (q : S
   pub put : IsSetAt q.index before after q p
   pub redone : IsRedone (entry_change f before) (entry_change f after) d e
 
--- the same, and its step goes as its command reports
+-- undoing the entry below the index, which led to d, made p of the sequence q, and e of the document. Its step goes as its
+-- command reports
 pub record StepsDown {C : Type 0} (f : C → Change) (d : DocumentParts) (q : Sequence C) (e : DocumentParts) (p : Sequence C) : Type 0 where
   pub entry : Entry C
   pub was : entry ≡ get_or q.entries.items (q.index - 1) entry
@@ -125,6 +126,8 @@ pub record StepsDown {C : Type 0} (f : C → Change) (d : DocumentParts) (q : Se
   pub index : p.index ≡ q.index - 1
   pub rest : take (q.index - 1) p.entries.items ≡ take (q.index - 1) q.entries.items
 
+-- redoing the entry above the index, at d, made p of the sequence q, and e of the document. Its step goes as its command
+-- reports
 pub record StepsUp {C : Type 0} (f : C → Change) (d : DocumentParts) (q : Sequence C) (e : DocumentParts) (p : Sequence C) : Type 0 where
   pub entry : Entry C
   pub was : entry ≡ get_or q.entries.items q.index entry

@@ -1,7 +1,7 @@
 -- Histories: whole documents with their names, and a position among them. Nothing here turns a document back.
 use Rattle.std.specs.Prelude.{ℕ, ◌+◌, ◌==◌, List, [], ◌∷◌, Option, Some, None, Bool, false, take, length}
 use Rattle.map_model.specs.Document.{DocumentParts}
-use Rattle.command_api.specs.Law.{Names}
+use Rattle.command_api.specs.Names.{Names}
 
 -- a step: the names of its command, and the document after it
 pub record Step : Type 0 where

@@ -5,7 +5,7 @@
 -- end: where no level is open, it is refused. Else the innermost level closes, and a step with its two texts and its last
 -- document is added as that of an edit is, also where the level has no inner steps.
 use Rattle.std.specs.Prelude.{◌≡◌, ℕ, List, [], ◌∷◌, ◌++◌, length, nat_lt, Bool, true, false, ◌⊎◌, Ok, Err}
-use Rattle.command_api.specs.Law.{untagged, Never}
+use Rattle.command_api.specs.Names.{untagged, Never}
 use Rattle.undo_stack.specs.History.{Step, step_named, Open, History, last_after, innermost, current}
 use Rattle.undo_stack.specs.Pushing.{cut, without_last, with_added}
 use Rattle.undo_stack.specs.Moving.{Answer, Leads}

@@ -1,7 +1,8 @@
 -- What the merge of a pushed edit makes of a change, a sequence, a history and a stack.
 use Rattle.std.specs.Prelude.{◌≡◌, ◌<◌, List, [], ◌∷◌, Some, None, Bool, true, false, Result, Ok, Err, length}
 use Rattle.map_model.specs.Document.{DocumentParts}
-use Rattle.command_api.specs.Law.{Change, IsSame, IsSettled}
+use Rattle.command_api.specs.Law.{Change, IsSame}
+use Rattle.command_api.specs.Names.{IsSettled}
 use Rattle.undo_stack.specs.History.{Step, step_named, Open, History, last_after, innermost}
 use Rattle.undo_stack.specs.Pushing.{cut, without_last, last_step, led_to, target, before_target, vanishing_of, Continues, Vanishes, without_target, next_of}
 use Rattle.undo_stack.specs.Sequence.{before, steps_down, FitsDown}
@@ -39,7 +40,7 @@ abbrev pub left_of : Bool → List Step → List Step
 left_of true ss = without_last ss
 left_of false ss = ss
 
--- ys is the sequence xs, which led to d, without its last thing where that is gone, as it is where it is obsolete
+-- ys is the sequence xs, which led to d; its last change is gone where that is obsolete
 pub record SettlesSequence {B : Type 0} (f : B → Change) (gone : Bool) (xs : List B) (d : DocumentParts) (ys : List B) : Type 0 where
   pub gone_where : IsSettled (vanishing_of (last_step (steps_down f xs d))) gone (last_after (before f xs d) (without_last (steps_down f xs d))) d
   pub sequence : IsAltered f (left_of gone) xs d ys d
@@ -54,12 +55,12 @@ abbrev pub settled_to : Bool → History → History
 settled_to true h = without_target h.levels h
 settled_to false h = h
 
--- n is the history h, which led to d, without its target where that is gone, as it is where it is obsolete
+-- n is the history h, which led to d; its target is gone where that is obsolete
 pub record SettlesTarget (d : DocumentParts) (gone : Bool) (h n : History) : Type 0 where
   pub gone_where : IsSettled (vanishing_of (target h)) gone (before_target h) d
   pub next : n ≡ settled_to gone h
 
--- the edit s, which is not merged into the history h, makes of it the history n, and is gone there or not
+-- the edit s is not merged into the history h, and makes of it the history n; `gone` says whether its step has vanished
 pub record IsEntered (gone : Bool) (h : History) (s : Step) (n : History) : Type 0 where
   pub gone_where : Vanishes false gone (cut h) s
   pub next : n ≡ next_of false gone s (cut h)

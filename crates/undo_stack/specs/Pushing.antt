@@ -10,7 +10,8 @@
 -- Where the two documents of 1 or 2 are equal, a free t or edit may go too: it does where its command says so (Reporting).
 use Rattle.std.specs.Prelude.{◌≡◌, ℕ, ◌+◌, ◌-◌, List, [], ◌∷◌, ◌++◌, Option, Some, None, take, drop, length, Bool, true, false, leb, if◌then◌else◌, ◌↔◌, zero, suc}
 use Rattle.map_model.specs.Document.{DocumentParts}
-use Rattle.command_api.specs.Law.{Change, Vanishing, Never, IsSettled}
+use Rattle.command_api.specs.Law.{Change}
+use Rattle.command_api.specs.Names.{Vanishing, Never, IsSettled}
 use Rattle.undo_stack.specs.History.{Step, step_named, Open, History, last_after, document_at, innermost, current}
 
 -- the step of an edit that is made on the document d
@@ -51,7 +52,7 @@ without_last [] = []
 without_last (s ∷ []) = []
 without_last (s ∷ t ∷ ss) = s ∷ without_last (t ∷ ss)
 
--- the same steps, with d as the document of the last one
+-- the steps, with d as the document of the last one
 abbrev pub led_to : DocumentParts → List Step → List Step
 led_to d [] = []
 led_to d (s ∷ []) = record s { after = d } ∷ []

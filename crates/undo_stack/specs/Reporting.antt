@@ -6,7 +6,8 @@
 -- Of a turn only the step of a free command may go: exactly where the command reports, after its turn, that it is obsolete.
 use Rattle.std.specs.Prelude.{◌≡◌, ◌↔◌, ◌+◌, ◌-◌, ℕ, List, [], ◌∷◌, take, drop, reverse, Option, Some, None, Bool, true, false, Result, Ok, Err}
 use Rattle.map_model.specs.Document.{DocumentParts}
-use Rattle.command_api.specs.Law.{Change, IsRedone, IsUndone, is_free}
+use Rattle.command_api.specs.Law.{Change, IsRedone, IsUndone}
+use Rattle.command_api.specs.Names.{is_free}
 use Rattle.undo_stack.specs.History.{History, current}
 use Rattle.undo_stack.specs.Pushing.{step_of, cut, Merges, next_of}
 use Rattle.undo_stack.specs.Entries.{entry_change}
@@ -35,7 +36,7 @@ pub record HasTakenIn {C : Type 0} (f : C → Change) (c : C) (d : DocumentParts
   pub is : w ≡ Some newer
   pub joined : IsJoined (entry_change f older) (entry_change f newer) (f c) d
 
--- the same where a merge is done
+-- where a merge is done, the entry v took the command c in, which led to d, and is w now
 abbrev pub TakesIn : {E C : Type 0} → (C → Change) → C → DocumentParts → Option (Entry C) → Result Bool E → Option (Entry C) → Type 0
 TakesIn f c d v (Ok true) w = HasTakenIn f c d v w
 TakesIn f c d v (Ok false) w = Unit {0}

@@ -2,7 +2,8 @@
 -- A sequence is a list of things x, of which f x is the change.
 use Rattle.std.specs.Prelude.{◌≡◌, ℕ, List, [], ◌∷◌, ◌++◌, take, drop, length, false}
 use Rattle.map_model.specs.Document.{DocumentParts}
-use Rattle.command_api.specs.Law.{Change, untagged, Never}
+use Rattle.command_api.specs.Law.{Change}
+use Rattle.command_api.specs.Names.{untagged, Never}
 use Rattle.undo_stack.specs.History.{Step, step_named}
 
 -- the document before a sequence that led to d

@@ -3,7 +3,8 @@
 use Rattle.std.specs.Prelude.{◌≡◌, ℕ, ◌+◌, ◌<◌, ◌≤◌, Bool, true, List, [], ◌∷◌, ◌++◌, Option, None, length, map}
 use Rattle.std.specs.VecDeque.{deque_capacity}
 use Rattle.map_model.specs.Document.{DocumentParts}
-use Rattle.command_api.specs.Law.{Change, untagged, Never}
+use Rattle.command_api.specs.Law.{Change}
+use Rattle.command_api.specs.Names.{untagged, Never}
 use Rattle.undo_stack.specs.History.{History}
 use Rattle.undo_stack.specs.Calm.{AreLive}
 use Rattle.undo_stack.specs.Entries.{entry_change, is_macro, nesting}

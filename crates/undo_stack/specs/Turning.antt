@@ -5,7 +5,7 @@
 -- stays, whatever is in it.
 use Rattle.std.specs.Prelude.{◌≡◌, ℕ, ◌+◌, ◌-◌, min, length, Option, Some, None, Ok, Err, zero, suc, true, false, ◌⊎◌, List, [], ◌∷◌, slice_get}
 use Rattle.std.specs.List.{remove}
-use Rattle.command_api.specs.Law.{is_free}
+use Rattle.command_api.specs.Names.{is_free}
 use Rattle.undo_stack.specs.History.{Step, History, document_at}
 use Rattle.undo_stack.specs.Pushing.{up_to}
 use Rattle.undo_stack.specs.Moving.{Answer, undo_answer, redo_answer, goto_answer, positioned}
@@ -61,7 +61,7 @@ pub record Redoes (h : History) (answer : Answer) (n : History) : Type 0 where
   pub answered : answer ≡ redo_answer h
   pub leads : LeadsSo TurnsOn answer h n
 
--- set index: so many steps back, or on, that the position would be i, or that of the last step, if none of them went
+-- set index: as many steps back, or on, as would lead to the position i, or to the last one, if none of them went
 pub record SetsIndex (i : ℕ) (h : History) (answer : Answer) (n : History) : Type 0 where
   pub answered : answer ≡ goto_answer h
   pub leads : LeadsSo (TurnsTo i) answer h n

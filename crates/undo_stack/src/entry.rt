@@ -1,5 +1,6 @@
 ghost use Rattle.std.specs.Prelude.{◌≡◌, ◌≤◌, [], true, false, length, take, drop, map};
-ghost use Rattle.command_api.specs.Law.{IsRedone, IsUndone, IsLawful, is_free};
+ghost use Rattle.command_api.specs.Law.{IsRedone, IsUndone, IsLawful};
+ghost use Rattle.command_api.specs.Names.{is_free};
 ghost use Rattle.command_api.specs.Offers.{IsOfferOf};
 ghost use Rattle.undo_stack.specs.Calm.{is_gone, IsGone, IsLive};
 ghost use Rattle.undo_stack.specs.Entries.{entry_change, is_macro, nesting};
@@ -235,7 +236,7 @@ pub fn redo_up<C: Command>(
     }
 }
 
-/// The same as `undo_down`, of entries that need not lie in one sequence.
+/// Turns back the entries of a deque from the number `to` up to `from`, last to first.
 pub fn undo_each<C: Command>(
     entries: &mut VecDeque<Entry<C>>,
     document: &mut Document,
@@ -256,7 +257,7 @@ pub fn undo_each<C: Command>(
     }
 }
 
-/// The same as `redo_up`, of entries that need not lie in one sequence.
+/// Makes the entries of a deque from the number `from` up to `to` again, first to last.
 pub fn redo_each<C: Command>(
     entries: &mut VecDeque<Entry<C>>,
     document: &mut Document,

@@ -1,7 +1,7 @@
 ghost use Rattle.std.specs.Prelude.{◌≡◌, ◌≤◌, ◌<◌, ◌+◌, ◌-◌, [], length, take, drop, IfOk, IfErr, Some, false, max};
 ghost use Rattle.std.specs.VecDeque.{deque_capacity};
 ghost use Rattle.map_model.specs.Document.{DocumentParts};
-ghost use Rattle.command_api.specs.Law.{is_free};
+ghost use Rattle.command_api.specs.Names.{is_free};
 ghost use Rattle.command_api.specs.Offers.{IsOfferOf};
 ghost use Rattle.undo_stack.specs.History.{current, step_named};
 ghost use Rattle.undo_stack.specs.Pushing.{IsPushed, step_of, up_to, lowered, with_added};
@@ -122,7 +122,7 @@ impl<C: Command> Sequence<C> {
         self.merge_offered(alloc, command, &command.offer(), document)
     }
 
-    // The same with the offer that the command makes.
+    // The target takes a command in by the offer that the command makes.
     #[inline(always)]
     fn merge_offered(
         &mut self,
@@ -144,7 +144,7 @@ impl<C: Command> Sequence<C> {
         self.merge_into(alloc, command, offer, document)
     }
 
-    // The same where the offer has something.
+    // The entry below the index takes a command in by an offer that has something.
     fn merge_into(
         &mut self,
         alloc: Global,

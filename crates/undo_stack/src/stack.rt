@@ -196,7 +196,7 @@ impl<C: Command> Stack<C> {
         }
     }
 
-    // The same at a number behind the entries.
+    // Whether the step with this number, which stands behind the entries, is an open macro.
     fn is_open_macro(&self, at: usize) -> Option<bool>
         requires { length self.now.sequences.steps.entries.items ≤ at }
         ensures { result ≡ slice_get (macros self.now) at }

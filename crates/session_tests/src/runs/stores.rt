@@ -152,7 +152,7 @@ fn each_call_for_two_documents_may_fail(rt: HostRuntime) -> Result<(), Fail> {
     Ok(())
 }
 
-/// The end of what is told where a file was saved, or not.
+/// Whether what is told ends with the file exactly if one was saved.
 fn ends_with_file(told: &str, is_saved: bool) -> bool {
     told.ends_with(MAP) == is_saved
 }

@@ -1,5 +1,5 @@
 use Rattle.std.proofs.Common.{◌≡◌, ◌++◌, map, take, drop}
-use Rattle.map_model.specs.Canvas.{object_moved}
+use Rattle.map_model.specs.Objects.{object_moved}
 use Rattle.map_model.proofs.canvas.move_objects.Given as goal
 
 abbrev pub invariant-loop-at : goal.invariant-loop-at

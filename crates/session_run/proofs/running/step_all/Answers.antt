@@ -1,5 +1,5 @@
 use Rattle.std.proofs.Common.{◌<◌, refl, sym, subst, ◌∙◌, arith}
-use Rattle.lines.specs.Lines.{budget}
+use Rattle.lines.specs.Reading.{budget}
 use Rattle.undo_group.specs.Groups.{GroupParts}
 use Rattle.session_run.specs.Runs.{AreClean}
 use Rattle.session_run.proofs.Progress.{goes_replied, goes_quiet, goes_unwritten, goes_keeps, goes_all, goes_read, goes_refused, goes_unflushed, goes_unsaved, keeps_appends, refusal_of-Some, written_TakesBeginning}

@@ -1,9 +1,9 @@
 use Rattle.std.proofs.Common.{◌+◌, ◌^◌, ◌≤◌, IsTrue, is_some}
 use Rattle.std.specs.Io.KnownBytes.{IsAtEnd}
-use Rattle.lines.specs.Lines.{budget, input_left}
+use Rattle.lines.specs.Reading.{budget, input_left}
 use Rattle.editor.specs.Editors.{IsSound, machine_of}
 use Rattle.editor.specs.Machine.{workspace}
-use Rattle.session_run.specs.Runs.{Goes}
+use Rattle.session_run.specs.WithinRuns.{Goes}
 use Rattle.session_run.proofs.running.step_all.Given as goal
 
 abbrev pub invariant-session : goal.invariant-session

@@ -2,7 +2,7 @@ use Rattle.std.proofs.Common.{rules}
 use Rattle.std.proofs.lemmas.Int.{to_z-of_z}
 use mir.Syntax.{w32}
 use mir.Val.{SFits}
-use Rattle.object_commands.specs.Changes.{add_object_names}
+use Rattle.object_commands.specs.Names.{add_object_names}
 use Rattle.editor.specs.declared.planned.Edit.TheVariants.{AddObject}
 use Rattle.editor.proofs.Edits.{mapped-PlansEdit}
 use Rattle.editor.proofs.planning.edit_plans.plan_add_object.Goals as goal

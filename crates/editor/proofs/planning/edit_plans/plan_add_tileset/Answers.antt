@@ -1,4 +1,4 @@
-use Rattle.property_commands.specs.TilesetChanges.{add_tileset_names}
+use Rattle.property_commands.specs.Names.{add_tileset_names}
 use Rattle.editor.specs.declared.planned.Edit.TheVariants.{AddTileset}
 use Rattle.editor.proofs.Edits.{mapped-PlansEdit}
 use Rattle.editor.proofs.planning.edit_plans.plan_add_tileset.Goals as goal

@@ -2,7 +2,7 @@ use Rattle.std.proofs.Common.{rules}
 use Rattle.std.proofs.lemmas.Int.{to_z-of_z}
 use mir.Syntax.{w32}
 use mir.Val.{SFits}
-use Rattle.object_commands.specs.Changes.{move_object_names}
+use Rattle.object_commands.specs.Names.{move_object_names}
 use Rattle.editor.specs.declared.planned.Edit.TheVariants.{PlaceObject}
 use Rattle.editor.proofs.Edits.{exact-PlansEdit}
 use Rattle.editor.proofs.planning.edit_plans.plan_move_object.Goals as goal

@@ -1,4 +1,4 @@
-use Rattle.property_commands.specs.PropertyChanges.{remove_property_names}
+use Rattle.property_commands.specs.Names.{remove_property_names}
 use Rattle.editor.specs.declared.planned.Edit.TheVariants.{RemoveProperty}
 use Rattle.editor.proofs.Edits.{exact-PlansEdit}
 use Rattle.editor.proofs.planning.edit_plans.plan_remove_property.Goals as goal

@@ -1,4 +1,4 @@
-use Rattle.layer_commands.specs.Changes.{rename_names}
+use Rattle.layer_commands.specs.Names.{rename_names}
 use Rattle.editor.specs.declared.planned.Edit.TheVariants.{RenameLayer}
 use Rattle.editor.proofs.Edits.{mapped-PlansEdit}
 use Rattle.editor.proofs.planning.edit_plans.plan_rename_layer.Goals as goal

@@ -2,7 +2,7 @@ use Rattle.std.proofs.Common.{rules}
 use Rattle.std.proofs.lemmas.Int.{to_z-of_z}
 use mir.Syntax.{w32}
 use mir.Val.{SFits}
-use Rattle.layer_commands.specs.Changes.{resize_names}
+use Rattle.layer_commands.specs.Names.{resize_names}
 use Rattle.editor.specs.declared.planned.Edit.TheVariants.{ResizeMap}
 use Rattle.editor.proofs.Edits.{mapped-PlansEdit}
 use Rattle.editor.proofs.planning.edit_plans.plan_resize.Goals as goal

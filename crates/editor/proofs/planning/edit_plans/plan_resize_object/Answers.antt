@@ -1,4 +1,4 @@
-use Rattle.object_commands.specs.Changes.{resize_object_names}
+use Rattle.object_commands.specs.Names.{resize_object_names}
 use Rattle.editor.specs.declared.planned.Edit.TheVariants.{PlaceObject}
 use Rattle.editor.proofs.Edits.{exact-PlansEdit}
 use Rattle.editor.proofs.planning.edit_plans.plan_resize_object.Goals as goal

@@ -2,7 +2,7 @@ use Rattle.std.proofs.Common.{rules}
 use Rattle.std.proofs.lemmas.Int.{to_z-of_z}
 use mir.Syntax.{w32}
 use mir.Val.{SFits}
-use Rattle.paint_commands.specs.Painting.{stamp_names}
+use Rattle.paint_commands.specs.Names.{stamp_names}
 use Rattle.editor.specs.declared.planned.Edit.TheVariants.{Paint}
 use Rattle.editor.proofs.Edits.{mapped-PlansEdit, stamp-IsBlock}
 use Rattle.editor.proofs.planning.edit_plans.plan_stamp.Goals as goal

@@ -1,5 +1,5 @@
 use Rattle.std.proofs.Common.{◌≡◌, ◌+◌, ◌-◌, ◌^◌, ◌≤◌, length, arith, slice_range, sym, ap, ◌∙◌, inl}
-use Rattle.lines.specs.Lines.{first_newline}
+use Rattle.lines.specs.Reading.{first_newline}
 use Rattle.lines.proofs.Newlines.{first_moved, first_filled}
 use Rattle.std.proofs.lemmas.List.{with_items_is}
 use Rattle.lines.proofs.reader.LineReader.fill.Goals as goal

@@ -1,6 +1,7 @@
 use Rattle.std.proofs.Common.{◌≡◌, ◌-◌, ◌^◌, ◌≤◌, IsTrue}
 use Rattle.std.specs.Io.KnownBytes.{IsAtEnd}
-use Rattle.lines.specs.Lines.{input_left, SameInput, HasNoNewline, budget, AsksInNeed}
+use Rattle.lines.specs.Lines.{HasNoNewline}
+use Rattle.lines.specs.Reading.{input_left, SameInput, budget, AsksInNeed}
 use Rattle.lines.proofs.reader.LineReader.read_on.Given as goal
 
 abbrev pub invariant-loop-self : goal.invariant-loop-self

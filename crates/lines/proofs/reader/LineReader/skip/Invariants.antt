@@ -1,6 +1,6 @@
 use Rattle.std.proofs.Common.{◌≡◌, ◌-◌, ◌*◌, ◌^◌, ◌<◌, ◌≤◌, IsTrue}
 use Rattle.std.specs.Io.KnownBytes.{IsAtEnd}
-use Rattle.lines.specs.Lines.{input_left, StopsInLine, budget, AsksInNeed}
+use Rattle.lines.specs.Reading.{input_left, StopsInLine, budget, AsksInNeed}
 use Rattle.lines.proofs.reader.LineReader.skip.Given as goal
 
 abbrev pub invariant-loop-self : goal.invariant-loop-self

@@ -1,5 +1,5 @@
 use Rattle.std.proofs.Common.{sym, ap}
-use Rattle.command_api.specs.Law.{is_free}
+use Rattle.command_api.specs.Names.{is_free}
 use Rattle.object_commands.proofs.Placements.{place_object-WhenEqual}
 use Rattle.object_commands.proofs.place.PlaceObjectCommand.is_free.Goals as goal
 

@@ -1,7 +1,7 @@
 use Rattle.std.proofs.Common.{refl, ap}
 use Rattle.edits.specs.Stamping.{after_erase}
 use Rattle.paint_commands.specs.declared.paint.PaintKind.TheVariants.{Erase}
-use Rattle.paint_commands.specs.Painting.{erase_names}
+use Rattle.paint_commands.specs.Names.{erase_names}
 use Rattle.paint_commands.proofs.Paints.{paint_made}
 use Rattle.paint_commands.proofs.paint.PaintCommand.erase.Goals as goal
 

@@ -2,7 +2,7 @@ use Rattle.std.proofs.Common.{refl, false, rules}
 use Rattle.edits.specs.Filling.{after_fill}
 use Rattle.edits.specs.Painting.{IsPainted}
 use Rattle.paint_commands.specs.declared.paint.PaintKind.TheVariants.{Fill}
-use Rattle.paint_commands.specs.Painting.{fill_names}
+use Rattle.paint_commands.specs.Names.{fill_names}
 use Rattle.paint_commands.proofs.Paints.{paint_made}
 use Rattle.paint_commands.proofs.paint.PaintCommand.fill.Goals as goal
 

@@ -2,7 +2,7 @@ use Rattle.std.proofs.Common.{refl, ap}
 use Rattle.edits.specs.Blocks.{block_of}
 use Rattle.edits.specs.Stamping.{after_stamp}
 use Rattle.paint_commands.specs.declared.paint.PaintKind.TheVariants.{Stamp}
-use Rattle.paint_commands.specs.Painting.{stamp_names}
+use Rattle.paint_commands.specs.Names.{stamp_names}
 use Rattle.paint_commands.proofs.Paints.{paint_made}
 use Rattle.paint_commands.proofs.paint.PaintCommand.stamp.Goals as goal
 

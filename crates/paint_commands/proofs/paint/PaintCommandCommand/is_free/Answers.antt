@@ -1,5 +1,5 @@
 use Rattle.std.proofs.Common.{sym, ap}
-use Rattle.command_api.specs.Law.{is_free}
+use Rattle.command_api.specs.Names.{is_free}
 use Rattle.paint_commands.proofs.Merges.{paint-WhenEqual}
 use Rattle.paint_commands.proofs.paint.PaintCommandCommand.is_free.Goals as goal
 

@@ -1,4 +1,4 @@
-use Rattle.property_commands.specs.PropertyChanges.{remove_property_names}
+use Rattle.property_commands.specs.Names.{remove_property_names}
 use Rattle.property_commands.proofs.remove.RemovePropertyExchange.exchange.Goals as goal
 
 pub returns : goal.returns

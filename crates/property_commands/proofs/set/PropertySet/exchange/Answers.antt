@@ -2,7 +2,8 @@ use Rattle.std.proofs.Common.{◌∙◌}
 use Rattle.map_model.specs.Given.{given_setting}
 use Rattle.map_model.proofs.StayPut.{setting_named-laws}
 use Rattle.command_api.proofs.Swaps.{shown_swapped}
-use Rattle.property_commands.specs.PropertyChanges.{AllowsSetting, set_property_names}
+use Rattle.property_commands.specs.PropertyChanges.{AllowsSetting}
+use Rattle.property_commands.specs.Names.{set_property_names}
 use Rattle.property_commands.proofs.PropertyMaking.{setting_at-get}
 use Rattle.property_commands.proofs.Settings.{set-there, setting_named-get, setting-put, AllowsSetting-put, new_link-turned}
 use Rattle.property_commands.proofs.set.PropertySet.exchange.Goals as goal

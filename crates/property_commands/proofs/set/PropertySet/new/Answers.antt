@@ -6,7 +6,8 @@ use Rattle.edits.specs.PropertyEdits.{after_set_property, owner_or_fault}
 use Rattle.command_api.specs.Making.{Makes}
 use Rattle.property_commands.specs.declared.set.PropertySet.{PropertySet}
 use Rattle.property_commands.specs.declared.set.SetKind.TheVariants.{Replace, Add}
-use Rattle.property_commands.specs.PropertyChanges.{property_set_change, set_property_names}
+use Rattle.property_commands.specs.PropertyChanges.{property_set_change}
+use Rattle.property_commands.specs.Names.{set_property_names}
 use Rattle.property_commands.proofs.PropertyMaking.{made-as, replace-made, add-made}
 use Rattle.property_commands.proofs.set.PropertySet.new.Goals as goal
 

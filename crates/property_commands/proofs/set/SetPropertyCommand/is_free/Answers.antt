@@ -1,5 +1,5 @@
 use Rattle.std.proofs.Common.{sym, ap}
-use Rattle.command_api.specs.Law.{Names, is_free}
+use Rattle.command_api.specs.Names.{Names, is_free}
 use Rattle.property_commands.proofs.Settings.{set-names}
 use Rattle.property_commands.proofs.set.SetPropertyCommand.is_free.Goals as goal
 

@@ -2,7 +2,7 @@ use Rattle.std.proofs.Common.{refl, sym, ap, ◌∙◌, subst}
 use Rattle.std.specs.Option.{option_copied}
 use Rattle.map_model.specs.declared.setting.Setting.{Setting}
 use Rattle.command_api.specs.declared.ids.TheConstants.{SET_ID}
-use Rattle.command_api.specs.Law.{Names}
+use Rattle.command_api.specs.Names.{Names}
 use Rattle.command_api.specs.Offers.{FitsSetting}
 use Rattle.command_api.proofs.Tags.{OfName-same}
 use Rattle.property_commands.proofs.Settings.{set-merged, set-names}

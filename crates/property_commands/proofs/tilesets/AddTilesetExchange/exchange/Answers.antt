@@ -1,4 +1,4 @@
-use Rattle.property_commands.specs.TilesetChanges.{add_tileset_names}
+use Rattle.property_commands.specs.Names.{add_tileset_names}
 use Rattle.property_commands.proofs.tilesets.AddTilesetExchange.exchange.Goals as goal
 
 pub returns : goal.returns

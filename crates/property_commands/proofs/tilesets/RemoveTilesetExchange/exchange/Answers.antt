@@ -1,4 +1,4 @@
-use Rattle.property_commands.specs.TilesetChanges.{remove_tileset_names}
+use Rattle.property_commands.specs.Names.{remove_tileset_names}
 use Rattle.property_commands.proofs.tilesets.RemoveTilesetExchange.exchange.Goals as goal
 
 pub returns : goal.returns

@@ -1,6 +1,7 @@
 use Rattle.std.proofs.Common.{◌+◌, ◌∙◌, Box, Global, List, ap, map, subst, sym}
 use Rattle.std.specs.Box.{with_value}
-use Rattle.command_api.specs.Law.{Change, untagged, Never}
+use Rattle.command_api.specs.Law.{Change}
+use Rattle.command_api.specs.Names.{untagged, Never}
 use Rattle.undo_stack.specs.Entries.{entry_change, greatest, nesting}
 use Rattle.undo_stack.specs.Sequence.{before}
 use Rattle.undo_stack.specs.declared.entry.Entry.{Entry}
