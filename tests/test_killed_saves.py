@@ -1,30 +1,28 @@
-#!/usr/bin/env python3
-"""Kills the program at each step of a save, and makes each call of a save on files fail, over files of several modes.
-
-  .ci/killed_saves [PROGRAM]     the program that `rt ci` has built, or another one
-
-However a save ends, the file under its name is the old one or the new one, whole, and has the old one's mode; no file has a
-wider mode meanwhile, and the next save of that name takes away what is left beside it. A save that fails is answered so,
-and leaves the document as it was. It runs as the user nobody where it would otherwise run as root, whom no permission stops.
-
-interpose_saves.c, which stands before the program's C library, kills and makes calls fail.
-"""
+"""Kills the program at each step of a save, and makes each call of a save on files fail, over files of several modes. However a
+save ends, the file under its name is the old one or the new one, whole, and has the old one's mode; no file has a wider mode
+meanwhile, and the next save of that name takes away what is left beside it. A save that fails is answered so, and leaves the
+document as it was. It runs as the user nobody where it would otherwise run as root, whom no permission stops.
+native/interpose_saves.c kills and makes calls fail."""
 import errno
 import os
 import shutil
 import signal
 import stat
 import subprocess
-import sys
 import tempfile
 from dataclasses import dataclass
 from pathlib import Path
 
-from session_files import NOBODY, PROGRAM, TOP, build_library, can_lose_rights
+from lib.cases import CORES, check_each, passed
+from lib.native import interposed
+from lib.places import SESSION_MAPS, TILE_EDITOR
+from lib.refusals import refusal
+from lib.rights import NOBODY, can_lose_rights
+from lib.sessions import joined
 
-MAPS = TOP / 'sessions' / 'maps'
-OLD = (MAPS / 'two_cells.tmj').read_bytes()
-EMPTY = (MAPS / 'town.tmj').read_bytes()
+IS_LONG = True
+OLD = (SESSION_MAPS / 'two_cells.tmj').read_bytes()
+EMPTY = (SESSION_MAPS / 'town.tmj').read_bytes()
 # The map with its first cell stamped, which is one digit for another.
 NEW = EMPTY.replace(b'"data":[0,', b'"data":[5,')
 NAME, BESIDE, FAR = 'm.tmj', '.m.tmj.new', 'far'
@@ -35,7 +33,7 @@ EDITS = [b'new town 4 3 16 16 town.tsj', b'stamp 1 0 0 1 5', b'save m.tmj']
 SESSION = [*EDITS, b'status', b'undo', b'redo', b'list']
 EDITED = [b'ok 0/0 clean 0', b'ok 1/1 dirty 0']
 SAVED = [*EDITED, b'saved m.tmj 389', b'ok 1/1 clean 0', b'ok 0/1 dirty 0', b'ok 1/1 clean 0', b'docs *town']
-NOT_SAVED = [*EDITED, b'no 51 store failed', b'ok 1/1 dirty 0', b'ok 0/1 clean 0', b'ok 1/1 dirty 0', b'docs *town']
+NOT_SAVED = [*EDITED, refusal(51).encode(), b'ok 1/1 dirty 0', b'ok 0/1 clean 0', b'ok 1/1 dirty 0', b'docs *town']
 NEXT_SESSION = [b'new town 4 3 16 16 town.tsj', b'save m.tmj', b'status']
 NEXT_SAVED = [b'ok 0/0 clean 0', b'saved m.tmj 389', b'ok 0/0 clean 0']
 
@@ -52,7 +50,7 @@ class Fault(Exception):
 @dataclass(frozen=True)
 class Place:
     """What stands under the name before a save, and the mask of the program."""
-    title: str
+    name: str
     mode: int = None
     mask: int = 0o022
     is_link: bool = False
@@ -129,20 +127,19 @@ def in_words(found):
 class Saver:
     """The program with the library that stops saves before it, in a folder of its own."""
 
-    def __init__(self, top, program):
+    def __init__(self, top):
         self.top, self.folder = top, top / 'maps'
         self.program, self.library = top / 'program', top / 'interpose_saves.so'
         self.user = NOBODY if os.getuid() == 0 and can_lose_rights() else None
-        self.runs = 0
         top.chmod(0o755)
-        shutil.copy(program, self.program)
-        build_library('interpose_saves.c', self.library)
+        shutil.copy(TILE_EDITOR, self.program)
+        shutil.copy(interposed('interpose_saves.c'), self.library)
 
     def heard(self, place, session, env):
         """What the program does with a session."""
-        self.runs += 1
+        passed()
         words = [self.program, '--folder', 'maps']
-        return subprocess.run(words, input=b''.join(line + b'\n' for line in session), capture_output=True, timeout=60, cwd=self.top,
+        return subprocess.run(words, input=joined(session), capture_output=True, timeout=60, cwd=self.top,
                               env=env, umask=place.mask, user=self.user, group=self.user)
 
     def stopped(self, place, at=0, by='kill', stops_all=False):
@@ -230,30 +227,25 @@ def stops_of(calls):
             yield f'all calls from {at}, {name}, give EIO', see_failed, (at, errno.EIO, True)
 
 
-def faults_of_place(saver, place):
+def faults_in(saver, place):
     """What is wrong in saves over a place."""
     try:
         calls = see_saved(saver, place)
     except Fault as fault:
-        return [f'{place.title}: {fault}']
-    faults = []
+        yield str(fault)
+        return
     for title, see, arguments in stops_of(calls):
         try:
             see(saver, place, *arguments)
         except Fault as fault:
-            faults.append(f'{place.title}, {title}: {fault}')
-    return faults
+            yield f'{title}: {fault}'
 
 
-def main():
-    program = Path(sys.argv[1]).resolve() if len(sys.argv) > 1 else PROGRAM
+def fault_of(place):
     with tempfile.TemporaryDirectory() as top:
-        saver = Saver(Path(top), program)
-        faults = [fault for place in PLACES for fault in faults_of_place(saver, place)]
-        print(*faults[:20], sep='\n', end='\n' if faults else '')
-        print(f'saves over {len(PLACES)} kinds of files stopped at each call, in {saver.runs} runs, {len(faults)} faults')
-    raise SystemExit(bool(faults))
+        return '\n    '.join(faults_in(Saver(Path(top)), place)) or None
 
 
-if __name__ == '__main__':
-    main()
+def test_saves_that_are_stopped():
+    """Each kind of file is a case, and each run of the program a check besides."""
+    check_each(PLACES, fault_of, CORES)

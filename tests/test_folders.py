@@ -1,24 +1,22 @@
-#!/usr/bin/env python3
-"""Runs the program on folders that are not as they should be, or have more in them than maps.
-
-  .ci/folders [PROGRAM]     the program that `rt ci` has built, or another one
-
-Each case makes a folder, hands the program a session, and looks at its replies and at what stands in the folder then. A case
-on permissions runs as the user nobody where it would otherwise run as root, whom no permission stops.
-"""
+"""Runs the program on folders that are not as they should be, or have more in them than maps: missing ones, pipes, links, files
+that are too long, a full disk, and permissions. Each case is a function that prepares a folder, and gives rows of a session
+with its replies, and what must stand in the folder then. A case on permissions runs as the user nobody where it would
+otherwise run as root, whom no permission stops."""
 import os
 import resource
 import shutil
 import stat
 import subprocess
-import sys
 import tempfile
 from pathlib import Path
 
-from session_files import NOBODY, PROGRAM, TOP, can_lose_rights, fault_of_reasons, fault_of_replies, row_of
+from lib.cases import Case, check_each, skip, unlike
+from lib.places import SESSION_MAPS, TILE_EDITOR
+from lib.rights import NOBODY, can_lose_rights
+from lib.sessions import fault_of_reasons, fault_of_replies, joined, row_of
 
-MAP = (TOP / 'sessions' / 'maps' / 'two_cells.tmj').read_bytes()
-NEW = (TOP / 'sessions' / 'maps' / 'town.tmj').read_bytes()
+MAP = (SESSION_MAPS / 'two_cells.tmj').read_bytes()
+NEW = (SESSION_MAPS / 'town.tmj').read_bytes()
 LONGEST = 67_108_864
 
 OPEN_AND_SAVE = ['open m m.tmj => ok 0/0 clean 0', 'save m.tmj => saved m.tmj 384', 'status => ok 0/0 clean 0']
@@ -181,7 +179,7 @@ def unsearchable(folder):
     return NOT_OPENED + NOT_SAVED, {'m.tmj': MAP}
 
 
-CASES = [missing, file_for_folder, folder_for_file, full_folder_for_file, pipe, device, full, too_long, longest, longest_map, empty,
+FOLDERS = [missing, file_for_folder, folder_for_file, full_folder_for_file, pipe, device, full, too_long, longest, longest_map, empty,
          left_behind, left_behind_and_opened, folder_left_behind, pipe_left_behind, link_left_behind,
          link, hard_link, link_to_nothing, link_to_itself]
 ON_PERMISSIONS = [unreadable, unwritable, unsearchable]
@@ -205,10 +203,6 @@ REASONS = {
 ROOM = 386
 
 
-def joined(rows):
-    return b''.join(row + b'\n' for row in rows)
-
-
 def access(path):
     """Who may read and write a file, where one stands at a path, no link is followed, and it may be looked for there."""
     try:
@@ -229,7 +223,7 @@ def found(path):
     return 'pipe' if path.exists() else None
 
 
-def reasons_of(case, errors):
+def reasons_of(errors):
     """Standard error but what it says of the folder at the start, and that, if there is such a line."""
     first, _, rest = errors.partition(b'\n')
     if not first.startswith(b'tile_editor: ') or b'/maps: ' not in first:
@@ -237,54 +231,65 @@ def reasons_of(case, errors):
     return rest, first.partition(b'/maps: ')[2]
 
 
-def fault_of_case(program, case):
-    """What is wrong in a case, or None."""
-    user = NOBODY if case in ON_PERMISSIONS and os.getuid() == 0 else None
+def cases_of(prepares):
+    return [Case(prepare.__doc__, prepare, None) for prepare in prepares]
+
+
+def ran(prepare, top, lines, user):
+    """What the program does with a session in a folder. A write past the limit is to be refused, and not to end the program, so
+    the signal for it stays as this program has it."""
+    limit = (lambda: resource.setrlimit(resource.RLIMIT_FSIZE, (ROOM, ROOM))) if prepare is full else None
+    return subprocess.run([top / 'program', '--folder', top / 'maps'], input=joined(lines), capture_output=True, timeout=60, cwd=top,
+                          user=user, group=user, preexec_fn=limit, restore_signals=False)
+
+
+def fault_of_errors(prepare, replies, errors):
+    """What is wrong with standard error, or None."""
+    reasons, missing_folder = reasons_of(errors)
+    if missing_folder != MISSING_FOLDERS.get(prepare):
+        return f'of the folder: {unlike(MISSING_FOLDERS.get(prepare), missing_folder)}'
+    if fault := fault_of_reasons(replies, reasons):
+        return fault
+    is_told = prepare not in REASONS or REASONS[prepare] in reasons
+    return None if is_told else f'standard error: wanted {REASONS[prepare]!r}, came {reasons!r}'
+
+
+def fault_in(case, top, user=None):
+    """What is wrong in a case whose folder is made in another one, or None."""
+    prepare, folder = case.given, top / 'maps'
+    folder.mkdir()
+    shutil.copy(TILE_EDITOR, top / 'program')
+    rows, wanted = prepare(folder)
+    for path in [top, folder, folder / 'm.tmj'] if user else []:
+        os.chown(path, user, user)
+    access_before = access(folder / 'm.tmj')
+    lines, replies = zip(*(row_of(row.encode()) for row in rows))
+    done = ran(prepare, top, lines, user)
+    if done.returncode != 0:
+        return f'exit status {done.returncode}, {done.stderr.decode()}'
+    if fault := fault_of_errors(prepare, joined(replies), done.stderr):
+        return fault
+    if folder.is_dir():
+        folder.chmod(0o755)
+    access_after = access(folder / 'm.tmj')
+    if None not in (access_before, access_after):
+        if access_before != access_after:
+            return f'the mode is {access_after:o} in place of {access_before:o}'
+        (folder / 'm.tmj').chmod(0o644)
+    return fault_of_replies(joined(lines), joined(replies), done.stdout) or unlike(wanted, found(folder))
+
+
+def fault_of(case, user=None):
     with tempfile.TemporaryDirectory() as top:
-        top = Path(top)
-        folder, copy = top / 'maps', top / 'program'
-        folder.mkdir()
-        shutil.copy(program, copy)
-        rows, wanted = case(folder)
-        for path in [top, folder, folder / 'm.tmj'] if user else []:
-            os.chown(path, user, user)
-        access_before = access(folder / 'm.tmj')
-        lines, replies = zip(*(row_of(row.encode()) for row in rows))
-        limit = (lambda: resource.setrlimit(resource.RLIMIT_FSIZE, (ROOM, ROOM))) if case is full else None
-        # A write past the limit is to be refused, and not to end the program, so the signal for it stays as this program has it.
-        done = subprocess.run([copy, '--folder', folder], input=joined(lines), capture_output=True, timeout=60, cwd=top, user=user,
-                              group=user, preexec_fn=limit, restore_signals=False)
-        if done.returncode != 0:
-            return f'exit status {done.returncode}, {done.stderr.decode()}'
-        reasons, missing_folder = reasons_of(case, done.stderr)
-        if missing_folder != MISSING_FOLDERS.get(case):
-            return f'the folder: {missing_folder!r}'
-        if fault := fault_of_reasons(joined(replies), reasons):
-            return fault
-        if case in REASONS and REASONS[case] not in reasons:
-            return f'standard error {reasons!r}'
-        if folder.is_dir():
-            folder.chmod(0o755)
-        access_after = access(folder / 'm.tmj')
-        if None not in (access_before, access_after):
-            if access_before != access_after:
-                return f'the mode is {access_after:o} in place of {access_before:o}'
-            (folder / 'm.tmj').chmod(0o644)
-        fault = fault_of_replies(joined(replies), done.stdout)
-        return fault or (None if found(folder) == wanted else f'the folder has {str(found(folder))[:300]}')
+        return fault_in(case, Path(top), user)
 
 
-def main():
-    program = Path(sys.argv[1]).resolve() if len(sys.argv) > 1 else PROGRAM
-    cases = CASES + (ON_PERMISSIONS if can_lose_rights() else [])
-    faults = {case: fault_of_case(program, case) for case in cases}
-    for case, fault in faults.items():
-        if fault:
-            print(f'{case.__doc__} {fault}')
-    failed = sum(fault is not None for fault in faults.values())
-    print(f'{len(faults) - failed} passed, {failed} failed, {len(CASES + ON_PERMISSIONS) - len(cases)} left out')
-    raise SystemExit(failed > 0)
+def test_folders():
+    check_each(cases_of(FOLDERS), fault_of)
 
 
-if __name__ == '__main__':
-    main()
+def test_permissions():
+    if not can_lose_rights():
+        skip('root can be no other user here')
+    user = NOBODY if os.getuid() == 0 else None
+    check_each(cases_of(ON_PERMISSIONS), lambda case: fault_of(case, user))

@@ -1,26 +1,21 @@
-#!/usr/bin/env python3
 """Runs the program on the largest maps that it takes: each cell of 1,048,576 set, the map saved, opened, resized and turned back;
-a layer in base64; a selection of many runs; and each list filled to its limit and past it.
-
-  .ci/large_maps [PROGRAM]     the program that `rt ci` has built, or another one
-
-No contract refuses a program that gives up above some size, so none of these may meet want of memory or leave anything out. The
-maps, the replies and the files are computed here, by the rules of docs/session-lines.md and docs/map-files.md. Each save must
-be synced before it takes the old file's place, which interpose.c sees.
-"""
-import base64
+a layer in base64; a selection of many runs; and each list filled to its limit and past it. No contract refuses a program that
+gives up above some size, so none of these may meet want of memory or leave anything out. The maps, the replies and the files
+are computed here, by the rules of docs/session-lines.md and docs/map-files.md. Each save must be synced before it takes the
+old file's place, which native/interpose.c sees."""
 import itertools
 import json
 import random
-import struct
-import sys
-from pathlib import Path
 
-from session_files import PROGRAM, Script, fault_of_replies, heard, interposed, text_of
+from lib.cases import check_each
+from lib.maps import map_of, packed, property_of, text_of, thing, things, tile_reply, tiles
+from lib.native import interposed
+from lib.refusals import refusal
+from lib.sessions import Run, fault_of_replies, heard
 
+IS_LONG = True
 SIDE = 1024
 ROWS_OF_STAMP = 4
-FLAGS = [(0x80000000, 'h'), (0x40000000, 'v'), (0x20000000, 'd'), (0x10000000, 'r')]
 
 
 class Grid:
@@ -55,48 +50,29 @@ def varied_grid():
     return Grid(SIDE, SIDE, [varied(x, y) for y in range(SIDE) for x in range(SIDE)])
 
 
-def tile_layer(grid):
-    return {'data': grid.values, 'height': grid.height, 'id': 1, 'name': 'Tile Layer 1', 'opacity': 1, 'type': 'tilelayer',
-            'visible': True, 'width': grid.width, 'x': 0, 'y': 0}
+def layer_with(grid):
+    return tiles(1, grid.width, grid.height, name='Tile Layer 1', data=grid.values)
 
 
-def map_of(grid, **others):
-    """The members of a map with one tile layer and one tileset, as the editor makes it, but for the others."""
-    tree = {'height': grid.height, 'infinite': False, 'layers': [tile_layer(grid)], 'nextlayerid': 2, 'nextobjectid': 1,
-            'orientation': 'orthogonal', 'renderorder': 'right-down', 'tileheight': 16, 'tilesets': [{'firstgid': 1, 'source': 't.tsj'}],
-            'tilewidth': 16, 'type': 'map', 'version': '1.10', 'width': grid.width}
-    tree.update(others)
-    return tree
+def map_with(grid, *layers, **members):
+    """A map of the sizes of a grid with these layers, or one with its values, as the editor makes it but for other members."""
+    return map_of(*(layers or [layer_with(grid)]), **{'width': grid.width, 'height': grid.height, 'nextlayerid': 2, 'nextobjectid': 1, **members})
 
 
-class LargeScript(Script):
-    """A run with many lines."""
-
-    def say_all(self, rows):
-        """Many lines at once, as pairs of a line and its reply."""
-        lines, replies = zip(*rows)
-        self.session += '\n'.join((*lines, '')).encode()
-        self.replies += '\n'.join((*replies, '')).encode()
+class LargeRun(Run):
+    """A run that looks at many cells."""
 
     def look(self, grid):
         """Looks at the corners of a layer, and at cells all over it."""
         chosen = random.Random(1)
         places = [(x, y) for x in (0, grid.width - 1) for y in (0, grid.height - 1)]
         places += [(chosen.randrange(grid.width), chosen.randrange(grid.height)) for _ in range(2000)]
-        self.say_all((f'tile 1 {x} {y}', look_reply(grid.at(x, y))) for x, y in places)
-
-
-def look_reply(value):
-    """What `tile` answers where the one tileset begins at 1."""
-    if value == 0:
-        return 'tile 0'
-    flags = ''.join(letter if value & bit else '-' for bit, letter in FLAGS)
-    return f'tile {value} {flags} 1 {value % 0x10000000 - 1}'
+        self.say_all((f'tile 1 {x} {y}', tile_reply(grid.at(x, y))) for x, y in places)
 
 
 def all_cells():
     """Each cell of a map is set; it is saved, opened, made wide and high, and turned back each time."""
-    run, grid = LargeScript('all cells'), varied_grid()
+    run, grid = LargeRun('all cells'), varied_grid()
     run.say(f'new big {SIDE} {SIDE} 16 16 t.tsj', 'ok 0/0 clean 0')
     count = SIDE // ROWS_OF_STAMP
     for at in range(count):
@@ -104,18 +80,18 @@ def all_cells():
         values = ','.join(map(str, grid.values[first:first + ROWS_OF_STAMP * SIDE]))
         run.say(f'stamp 1 0 {at * ROWS_OF_STAMP} {SIDE} {values}', f'ok {at + 1}/{at + 1} dirty 0')
     run.look(grid)
-    whole = text_of(map_of(grid))
+    whole = text_of(map_with(grid))
     run.save('big.tmj', whole)
     run.say('open again big.tmj', 'ok 0/0 clean 0')
     run.look(grid)
     run.save('again.tmj', whole)
-    run.say('resize 4096 257 0 0', 'no 39 out of range')
-    run.say('resize 4097 1 0 0', 'no 39 out of range')
+    run.say('resize 4096 257 0 0', refusal(39))
+    run.say('resize 4097 1 0 0', refusal(39))
     for name, size in [('wide', (4096, 256, 1500, -3)), ('high', (256, 4096, -5, 2000))]:
         changed = grid.resized(*size)
         run.say('resize {} {} {} {}'.format(*size), 'ok 1/1 dirty 0')
         run.look(changed)
-        run.save(f'{name}.tmj', text_of(map_of(changed)))
+        run.save(f'{name}.tmj', text_of(map_with(changed)))
         run.say('undo', 'ok 0/1 dirty 0')
         run.look(grid)
         run.save(f'back_from_{name}.tmj', whole)
@@ -127,14 +103,13 @@ def all_cells():
 
 def in_base64(grid):
     """A layer whose data is the text of its values, four bytes each, the lowest first."""
-    data = base64.b64encode(struct.pack(f'<{len(grid.values)}I', *grid.values)).decode()
-    return tile_layer(grid) | {'data': data, 'encoding': 'base64'}
+    return layer_with(grid) | {'data': packed(grid.values), 'encoding': 'base64'}
 
 
 def base64_cells():
     """A layer in base64 is opened, saved, stamped and saved."""
-    run, grid = LargeScript('base64'), varied_grid()
-    first = text_of(map_of(grid, layers=[in_base64(grid)]))
+    run, grid = LargeRun('base64'), varied_grid()
+    first = text_of(map_with(grid, in_base64(grid)))
     run.put('m.tmj', first)
     stamped = grid.with_cell(700, 1023, 4242)
     run.say('open m m.tmj', 'ok 0/0 clean 0')
@@ -143,13 +118,13 @@ def base64_cells():
     run.say('stamp 1 700 1023 1 4242', 'ok 1/1 dirty 0')
     run.look(stamped)
     run.say('tile 1 700 1023', 'tile 4242 ---- 1 4241')
-    run.save('stamped.tmj', text_of(map_of(grid, layers=[in_base64(stamped)])))
+    run.save('stamped.tmj', text_of(map_with(grid, in_base64(stamped))))
     return run
 
 
 def many_runs():
     """A selection of 131,072 runs, with each second column: what is outside it stays, and it goes along with the map."""
-    run, side = LargeScript('many runs'), 512
+    run, side = LargeRun('many runs'), 512
     whole = [x + y + 1 for y in range(side) for x in range(side)]
     run.say(f'new runs {side} {side} 16 16 t.tsj', 'ok 0/0 clean 0')
     counted = itertools.count(1)
@@ -165,7 +140,7 @@ def many_runs():
     edit(f'erase 1 0 0 {side} {side}')
     kept = Grid(side, side, [0 if place % side % 2 == 0 else value for place, value in enumerate(whole)])
     run.look(kept)
-    run.save('columns.tmj', text_of(map_of(kept)))
+    run.save('columns.tmj', text_of(map_with(kept)))
     edit(f'resize {side} {side} 1 1')
     moved = kept.resized(side, side, 1, 1)
     run.look(moved)
@@ -177,7 +152,7 @@ def many_runs():
     count = next(counted) - 1
     run.say(f'stamp 1 0 0 {side} ' + ','.join(['7'] * 16 * side), f'ok {count}/{count} dirty 0')
     run.look(Grid(side, side, stamped))
-    run.save('stamped.tmj', text_of(map_of(Grid(side, side, stamped))))
+    run.save('stamped.tmj', text_of(map_with(Grid(side, side, stamped))))
     run.say('goto 32', f'ok 32/{count} dirty 0')
     run.look(Grid(side, side, whole))
     return run
@@ -189,24 +164,21 @@ def values_of(i):
             ('color', f'#{i:06x}', f'#{i:06x}'), ('file', f'f{i}.png', f'f{i}.png'), ('object', str(i), i)][i % 7]
 
 
-def property_of(name, i):
+def property_at(name, i):
     kind, _, value = values_of(i)
-    return {'name': name, 'type': kind, 'value': value}
+    return property_of(name, kind, value)
 
 
 def object_of(i):
-    return {'height': i % 50, 'id': i, 'name': f'thing {i}', 'properties': [property_of(f'of{i}', i)], 'rotation': 0, 'type': '',
-            'visible': True, 'width': 3 * i, 'x': 16 * i, 'y': -i}
+    return thing(i, x=16 * i, y=-i, width=3 * i, height=i % 50, properties=[property_at(f'of{i}', i)])
 
 
 def full_map():
     """The map of `full_lists`."""
-    things = {'draworder': 'topdown', 'id': 2, 'name': 'Things', 'objects': [object_of(i) for i in range(1, 4097)], 'opacity': 1,
-              'type': 'objectgroup', 'visible': True, 'x': 0, 'y': 0}
-    grid = Grid(2, 2, [0] * 4)
+    grid, layer = Grid(2, 2, [0] * 4), things(2, *(object_of(i) for i in range(1, 4097)), name='Things')
     tilesets = [{'firstgid': 1, 'source': 't.tsj'}] + [{'firstgid': 10 * i, 'source': f't{i}.tsj'} for i in range(1, 256)]
-    return map_of(grid, layers=[tile_layer(grid), things], nextlayerid=3, nextobjectid=4097, tilesets=tilesets,
-                  properties=[property_of(f'p{i}', i) for i in range(1, 257)])
+    return map_with(grid, layer_with(grid), layer, nextlayerid=3, nextobjectid=4097, tilesets=tilesets,
+                    properties=[property_at(f'p{i}', i) for i in range(1, 257)])
 
 
 def lines_of_lists():
@@ -228,18 +200,18 @@ def lines_of_lists():
 
 def full_lists():
     """Each list gets as many entries as it may have, and one more is refused; the map is saved, opened and saved again."""
-    run, text = LargeScript('full lists'), text_of(full_map())
+    run, text = LargeRun('full lists'), text_of(full_map())
     run.say('new full 2 2 16 16 t.tsj', 'ok 0/0 clean 0')
     run.say('layer add object Things', 'ok 1/1 dirty 0')
     counted = itertools.count(2)
     for line, fits in lines_of_lists():
         count = next(counted) if fits else None
-        run.say(line, f'ok {count}/{count} dirty 0' if fits else 'no 40 too many')
+        run.say(line, f'ok {count}/{count} dirty 0' if fits else refusal(40))
     run.save('full.tmj', text)
     run.say('open again full.tmj', 'ok 0/0 clean 0')
     run.save('again.tmj', text)
     for line in ['object add 2 0 0 8 8 more', 'prop set map more int 1', 'tileset add 3000 more.tsj']:
-        run.say(line, 'no 40 too many')
+        run.say(line, refusal(40))
     run.say('object remove 1', 'ok 1/1 dirty 0')
     run.say('undo', 'ok 0/1 clean 0')
     run.save('back.tmj', text)
@@ -280,28 +252,25 @@ def fault_of_maps(wanted, given):
             return f'{name}: {fault}'
 
 
-def fault_of_run(program, library, run):
+def fault_of(run):
     """What is wrong in a run, or None."""
-    env = {'LD_PRELOAD': library, 'READ_STEP': '65536'}
-    done, files = heard(program, run.session, run.before, run.options, env)
+    done, files = heard(run.session, run.before, run.options, {'LD_PRELOAD': interposed(), 'READ_STEP': '65536'})
     if done.returncode != 0 or done.stderr:
         return f'exit status {done.returncode}, {done.stderr.decode()[:300]}'
-    return fault_of_replies(run.replies, done.stdout) or fault_of_maps(run.after, files)
+    return fault_of_replies(run.session, run.replies, done.stdout) or fault_of_maps(run.after, files)
 
 
-def main():
-    program = Path(sys.argv[1]).resolve() if len(sys.argv) > 1 else PROGRAM
-    failed = 0
-    with interposed() as library:
-        runs = [all_cells(), base64_cells(), many_runs(), full_lists()]
-        for run in runs:
-            fault = fault_of_run(program, library, run)
-            failed += fault is not None
-            if fault:
-                print(f'{run.name}: {fault}')
-    print(f'{len(runs) - failed} passed, {failed} failed')
-    raise SystemExit(failed > 0)
+def test_each_cell_set():
+    check_each([all_cells()], fault_of)
 
 
-if __name__ == '__main__':
-    main()
+def test_cells_in_base64():
+    check_each([base64_cells()], fault_of)
+
+
+def test_a_selection_of_many_runs():
+    check_each([many_runs()], fault_of)
+
+
+def test_lists_at_their_limits():
+    check_each([full_lists()], fault_of)

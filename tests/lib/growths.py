@@ -1,14 +1,20 @@
 """Runs the program with its growths of memory counted, or with one of them refused, and says what is wrong where one was.
-interpose.c, which stands before the program's C library, counts and refuses."""
+native/interpose.c, which stands before the program's C library, counts and refuses."""
 import functools
 import re
-import sys
-from collections import Counter
 
-from session_files import fault_of_files, heard
+from lib.native import interposed
+from lib.places import IN_MEMORY
+from lib.refusals import refusal
+from lib.sessions import fault_of_files, heard, joined
 
-REFUSED = b'no 90 no memory'
+REFUSED = refusal(90).encode()
 TAKES_NONE = re.compile(rb'(undo|redo|goto|end|limit|clean|dirty|clear|status|use|close|discard|tile)( |$)')
+
+
+def refusing(growth):
+    """The environment in which a growth is refused, or none for 0."""
+    return {'LD_PRELOAD': interposed(), 'REFUSED_GROWTH': str(growth)}
 
 
 def count_of(what, done):
@@ -20,13 +26,12 @@ class Refuser:
     """The program with the library before it, the files that a session finds, and the words of its command line beside the
     folder."""
 
-    def __init__(self, program, library, before, options=()):
-        self.program, self.library, self.before, self.options = program, library, before, options
+    def __init__(self, before, options=()):
+        self.before, self.options = before, options
 
     def heard(self, lines, growth=0):
         """What the program does with lines and the files that it leaves, with one growth refused, or none for 0."""
-        env = {'LD_PRELOAD': self.library, 'REFUSED_GROWTH': str(growth)}
-        return heard(self.program, b''.join(line + b'\n' for line in lines), self.before, self.options, env)
+        return heard(joined(lines), self.before, self.options, refusing(growth), IN_MEMORY)
 
     def count(self, what, lines):
         """How many growths, bytes or writes a session of these lines asks for."""
@@ -46,8 +51,8 @@ class Session:
         self.answered = [at for at, line in enumerate(lines) if line.strip(b' ') and not line.startswith(b'#')]
         done, _ = refuser.heard(lines)
         self.replies, self.growths = done.stdout.split(b'\n')[:-1], count_of(b'growths', done)
-        if len(self.replies) != len(self.answered) or REFUSED in self.replies:
-            sys.exit(f'{name}: not each line has a reply of its own')
+        is_right = len(self.replies) == len(self.answered) and REFUSED not in self.replies
+        assert is_right, f'{name}: not each line has a reply of its own'
 
     @functools.cache
     def without(self, at):
@@ -61,24 +66,21 @@ class Session:
         done, files = self.refuser.heard(self.lines, growth)
         if done.returncode == 1:
             is_right = not done.stdout and b'tile_editor: no memory\n' in done.stderr and files == self.refuser.before
-            return None if is_right else self.fail(growth, 'not the end for want of memory')
+            self.see(is_right, growth, f'not the end for want of memory, but {done.stdout[-200:]!r}, {done.stderr[-200:]!r}')
+            return None
         given = done.stdout.split(b'\n')[:-1]
-        if done.returncode != 0 or given.count(REFUSED) != 1:
-            self.fail(growth, f'status {done.returncode}, {given.count(REFUSED)} lines without memory')
+        self.see(done.returncode == 0 and given.count(REFUSED) == 1, growth,
+                 f'status {done.returncode}, {given.count(REFUSED)} lines without memory')
         reply = given.index(REFUSED)
         at = self.answered[reply]
-        if TAKES_NONE.match(self.lines[at]):
-            self.fail(growth, f'no memory for {self.lines[at]!r}, which takes none')
+        line = self.lines[at]
+        self.see(not TAKES_NONE.match(line), growth, f'no memory for {line!r}, which takes none')
         replies, files_without = self.without(at)
-        if given[:reply] != self.replies[:reply] or given[:reply] + given[reply + 1:] != replies:
-            self.fail(growth, f'another reply beside {self.lines[at]!r}')
-        if fault := fault_of_files(files_without, files):
-            self.fail(growth, fault)
+        is_right = given[:reply] == self.replies[:reply] and given[:reply] + given[reply + 1:] == replies
+        self.see(is_right, growth, f'another reply beside {line!r}')
+        fault = fault_of_files(files_without, files)
+        self.see(not fault, growth, fault)
         return at
 
-    def fail(self, growth, fault):
-        sys.exit(f'{self.name}: with growth {growth} refused: {fault}')
-
-    def refuse_each(self):
-        """How often each place of a line had no memory, and None the whole run, where each growth is refused in turn."""
-        return Counter(self.refused_at(growth) for growth in range(1, self.growths + 1))
+    def see(self, is_right, growth, fault):
+        assert is_right, f'{self.name}: with growth {growth} refused: {fault}'
