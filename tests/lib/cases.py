@@ -23,6 +23,8 @@ MOST_FAULTS, MOST_SHOWN = 20, 400
 
 _passed = 0
 _counts = threading.Lock()
+# What `check_in_processes` hands on to its processes.
+_shared = None
 
 
 @dataclass(frozen=True)
@@ -75,12 +77,29 @@ def in_processes(function, items, chunk=1):
 def check_each(cases, fault_of, workers=1):
     """Looks at each case, several at once where there are workers, counts them, and fails with all that are at fault."""
     cases = list(cases)
-    assert cases, 'there are no cases'
     if workers == 1:
         faults = list(map(fault_of, cases))
     else:
         with ThreadPoolExecutor(workers) as pool:
             faults = list(pool.map(fault_of, cases))
+    see_faults(cases, faults)
+
+
+def check_in_processes(cases, fault_of):
+    """The same in processes, for what takes this process's time. The function counts no checks of its own there."""
+    global _shared
+    _shared = list(cases), fault_of
+    see_faults(_shared[0], in_processes(fault_at, range(len(_shared[0]))))
+
+
+def fault_at(place):
+    cases, fault_of = _shared
+    return fault_of(cases[place])
+
+
+def see_faults(cases, faults):
+    """Counts the cases that have no fault, and fails with the others."""
+    assert cases, 'there are no cases'
     wrong = [told(case, fault) for case, fault in zip(cases, faults) if fault]
     passed(len(cases) - len(wrong))
     fail_with(wrong)

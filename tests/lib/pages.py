@@ -1,5 +1,5 @@
-"""Reads the pages of the repository: their links, the files that they name, their commands, and their transcripts, of which each is
-run as it stands on the page.
+"""Reads the pages of the repository: their links, the files that they name, their commands, and their transcripts, of which each
+is run as it stands on the page.
 
 A table whose first two columns are Line and Reply is a transcript. It is run over a copy of the example maps, in a new map of 4 by 3 cells
 where it opens none. Where it needs more, a comment in front of it says so, with a line for each:
@@ -20,20 +20,21 @@ import subprocess
 import tempfile
 from pathlib import Path
 
-from session_files import TOP, files_in
+from lib.places import EXAMPLE_MAPS, TOP, files_in
 
 ROW = re.compile(r'(?<!\\)\|')
 CODE = re.compile(r'`([^`]+)`')
 COMMENT = re.compile(r'<!-- transcript\n(.*?)-->', re.DOTALL)
 LINK = re.compile(r'\]\(([^)\s]+)\)')
 # A path of the repository, in text or as code.
-NAMED = re.compile(r'(?<![\w./-])((?:docs|crates|examples|sessions|include|lib|bin|python|\.ci)/[\w./*-]*[\w/*])')
+NAMED = re.compile(r'(?<![\w./-])((?:docs|crates|examples|sessions|include|lib|bin|python|tests|tools|\.ci)/[\w./*-]*[\w/*])')
 # A file of a crate, on that crate's page.
 OF_CRATE = re.compile(r'`((?:src|specs|proofs|must-fail)/[\w./]+)`')
 # What stands in parentheses, with code in it or not.
 ASIDE = re.compile(r'\((?:[^()`]|`[^`]*`)*\)')
 # The first words of commands that are run.
-COMMANDS = ('cc', 'cp', 'mkdir', 'rm', 'pip', 'python3', 'PYTHONPATH=python', './tile_editor', 'bin/tile_editor', './map_report', 'bin/map_report', 'examples/build.sh', '/tmp/maps/fence')
+COMMANDS = ('cc', 'cp', 'mkdir', 'rm', 'pip', 'python3', 'PYTHONPATH=python', './tile_editor', 'bin/tile_editor', './map_report',
+            'bin/map_report', 'examples/build.sh', 'tests/run', '/tmp/maps/fence')
 NEW_MAP = 'new town 4 3 16 16 town.tsj'
 
 
@@ -154,7 +155,7 @@ class Transcript:
         """How the program's replies differ from those of the page, or None."""
         with tempfile.TemporaryDirectory() as top:
             folder = Path(top) / 'maps'
-            shutil.copytree(TOP / 'examples' / 'maps', folder)
+            shutil.copytree(EXAMPLE_MAPS, folder)
             for name, path in self.files.items():
                 shutil.copy(path, folder / name)
             return self.fault_in(program, folder)[0]
@@ -181,7 +182,8 @@ def code_of(cell):
 
 def pages():
     """All pages of the repository."""
-    paths = [TOP / 'README.md', TOP / 'CONTRIBUTING.md', *TOP.glob('docs/**/*.md'), *TOP.glob('examples/**/*.md'), *TOP.glob('sessions/*.md'), *TOP.glob('crates/*/README.md')]
+    folders = ('docs/**/*.md', 'examples/**/*.md', 'sessions/*.md', 'tests/**/*.md', 'crates/*/README.md')
+    paths = [*TOP.glob('*.md'), *(path for folder in folders for path in TOP.glob(folder))]
     return [Page(path) for path in sorted(paths)]
 
 
@@ -209,8 +211,9 @@ class Clone:
         script = ''.join(f'{command}\nstatus=$?; echo "{mark}"; (exit $status)\n' for command in commands)
         script = script.replace('/tmp/maps', str(self.maps)) + 'exit $status\n'
         words = ['bash', '-c', script]
-        done = subprocess.run(words, stdin=subprocess.DEVNULL, stdout=subprocess.PIPE, stderr=subprocess.STDOUT, cwd=self.folder, timeout=120,
-                              env={**os.environ, 'PYTHONDONTWRITEBYTECODE': '1', 'PIP_TARGET': self.top.name + '/installed', 'PIP_NO_INDEX': '1'})
+        env = {**os.environ, 'PYTHONDONTWRITEBYTECODE': '1', 'PIP_TARGET': self.top.name + '/installed', 'PIP_NO_INDEX': '1'}
+        done = subprocess.run(words, stdin=subprocess.DEVNULL, stdout=subprocess.PIPE, stderr=subprocess.STDOUT, cwd=self.folder,
+                              timeout=120, env=env)
         told = done.stdout.decode().replace(str(self.maps), '/tmp/maps').split(mark + '\n')
         return [text.rstrip('\n') for text in told[:-1]], done.returncode
 

@@ -1,45 +1,27 @@
-#!/usr/bin/env python3
-"""Reports good maps and maps with faults by the program `map_report`, and compares each line with the one that the rules of docs/map-files.md give.
-
-Each map with a fault is a good one with some members changed or taken out; a table says which, and what the line must be. A second table has the
-members that the reader knows, and what each must be: each of them is taken out, where it must be there, and gets each kind of wrong value. Then
-come texts that are no JSON, the listings of the example maps, files that can't be read, and command lines.
-
-  .ci/reports [PROGRAM]     the program that `rt ci` has built, or another one
-"""
-import base64
+"""Reports good maps and maps with faults by the program `map_report`, and compares each line with the one that the rules of
+docs/map-files.md give. Each map with a fault is a good one with some members changed or taken out; a table says which, and
+what the line must be. A second table has the members that the reader knows, and what each must be: each of them is taken out,
+where it must be there, and gets each kind of wrong value. Then come texts that are no JSON, the listings of the example maps,
+files that can't be read, and command lines."""
 import copy
 import json
 import re
-import struct
 import subprocess
-import sys
 import tempfile
 from pathlib import Path
 
-from session_files import TOP
+from lib.cases import CORES, Case, check_each, unlike
+from lib.maps import cells_of, packed, property_of
+from lib.places import MAP_REPORT, example_maps
+from lib.refusals import refusal
 
-PROGRAM = TOP / 'crates' / 'map_report' / 'out' / 'map_report'
-WORDS = {
-    60: 'not JSON', 61: 'fraction', 62: 'member missing', 63: 'member of another kind', 64: 'infinite', 65: 'compressed',
-    66: 'bad data', 67: 'id used twice', 68: 'over a limit', 69: 'not a map',
-}
 ABSENT = object()
 SHOWN = 40
 NEXT, FIRST, PIXELS, VALUES = 2147483647, 268435455, 1000000000, 4294967295
 
 
-def packed(values):
-    """Cells in base64."""
-    return base64.b64encode(struct.pack(f'<{len(values)}I', *values)).decode()
-
-
 def tile_layer(number, **members):
     return {'type': 'tilelayer', 'id': number, 'name': f'Tiles {number}', 'visible': True, 'width': 4, 'height': 3, 'data': [0, 1] * 6, **members}
-
-
-def property_of(name, kind, value):
-    return {'name': name, 'type': kind, 'value': value}
 
 
 GOOD = {
@@ -114,22 +96,20 @@ def shown(value):
     return json.dumps(value)
 
 
-def refusal(code, tree, place):
+def report_of_fault(code, tree, place):
     """The line of a map that is refused for what stands at a place."""
-    return f'no {code} {WORDS[code]}: {place or "the root"} is {shown(value_at(tree, place))}'
+    return f'{refusal(code)}: {place or "the root"} is {shown(value_at(tree, place))}'
 
 
-class Case:
-    """A file, and what may be reported of it behind its name."""
-
-    def __init__(self, name, data, *lines):
-        self.name, self.data, self.lines = name, data, lines
+def report(name, data, *lines):
+    """A file, and what may be reported of it behind its name: one of these lines."""
+    return Case(name, data, lines)
 
 
 def fault(code, place, changes):
     """The good map with some changes, which is refused for what stands at a place."""
     tree = changed(changes)
-    return Case(f'{code} at {place}, {changes}', json.dumps(tree).encode(), refusal(code, tree, place))
+    return report(f'{code} at {place}, {changes}', json.dumps(tree).encode(), report_of_fault(code, tree, place))
 
 
 # ---- the members that the reader knows
@@ -272,15 +252,15 @@ def faults_with_names():
     for name, step in (('a.b', '["a.b"]'), ('', '[""]'), ('x' * 41, '["' + 'x' * 40 + '"...]'), ('é', '["é"]'), ('a-b_1', '.a-b_1')):
         tree = changed({})
         tree['layers'][0][name] = 0.5
-        yield Case(f'61 behind {name!r}', json.dumps(tree).encode(), f'no 61 fraction: layers[0]{step} is 0.5')
+        yield report(f'61 behind {name!r}', json.dumps(tree).encode(), f'{refusal(61)}: layers[0]{step} is 0.5')
 
 
 def faults_of_roots():
     """Trees that are no object."""
     for tree in ([], [1, 2], 'map', None, True, 7):
-        yield Case(f'69 at {tree}', json.dumps(tree).encode(), refusal(69, tree, ''))
-    yield Case('61 in an array', b'[1, [2.5]]', 'no 61 fraction: [1][0] is 2.5')
-    yield Case('61 as the root', b'2.5', 'no 61 fraction: the root is 2.5')
+        yield report(f'69 at {tree}', json.dumps(tree).encode(), report_of_fault(69, tree, ''))
+    yield report('61 in an array', b'[1, [2.5]]', f'{refusal(61)}: [1][0] is 2.5')
+    yield report('61 as the root', b'2.5', f'{refusal(61)}: the root is 2.5')
 
 
 def faults_of_texts():
@@ -289,7 +269,7 @@ def faults_of_texts():
     rows = [(b'{\n  "height": ]\n}', (2, 13), (3, 1)), (b'{"a":1', (1, 6)), (b'', (1, 0)), (b'[1,\n2,\n\n]', (4, 1)), (b'["\xff"]', (1, 3)),
             (b'<?xml version="1.0"?>\n<map/>', (1, 1), (1, 2)), (b'[' * 200, (1, 128), (1, 129))]
     for data, *places in rows:
-        yield Case(f'60 in {data[:20]}', data, *(f'no 60 not JSON: line {line}, column {column}' for line, column in places))
+        yield report(f'60 in {data[:20]}', data, *(f'{refusal(60)}: line {line}, column {column}' for line, column in places))
 
 
 # ---- what is in a map that is read
@@ -309,14 +289,6 @@ def lines_of_object(item, indent):
     name = f" {json.dumps(item['name'], ensure_ascii=False)}" if 'name' in item else ''
     yield f"{indent}object {item['id']}{name} at {item.get('x', 0)}, {item.get('y', 0)}"
     yield from lines_of_properties(item, indent + '  ')
-
-
-def cells_of(layer):
-    """The values of a tile layer."""
-    if layer.get('encoding') != 'base64':
-        return layer['data']
-    data = base64.b64decode(layer['data'])
-    return struct.unpack(f'<{len(data) // 4}I', data)
 
 
 def lines_of_layer(layer, indent):
@@ -351,92 +323,86 @@ def good_maps():
                {'layers[0].compression': ABSENT, 'layers[0].encoding': ABSENT, 'properties[1].type': 'of two words', 'properties[0].value': [1, {'b': None}]}]
     for change in changes:
         tree = changed(change)
-        yield Case(f'read with {change}', json.dumps(tree).encode(), listing(tree))
+        yield report(f'read with {change}', json.dumps(tree).encode(), listing(tree))
 
 
 EXAMPLES = {
-    'infinite.tmj': 'no 64 infinite: infinite is true',
-    'opacity_half.tmj': 'no 61 fraction: layers[0].opacity is 0.5',
-    'zlib.tmj': 'no 65 compressed: layers[0].compression is "zlib"',
+    'infinite.tmj': f'{refusal(64)}: infinite is true',
+    'opacity_half.tmj': f'{refusal(61)}: layers[0].opacity is 0.5',
+    'zlib.tmj': f'{refusal(65)}: layers[0].compression is "zlib"',
 }
 
 
-def example_maps():
-    for file in sorted((TOP / 'examples' / 'maps').glob('*.tmj')):
-        data = file.read_bytes()
-        yield Case(file.name, data, EXAMPLES.get(file.name) or listing(json.loads(data)))
+def reports_of_examples():
+    for name, data in example_maps().items():
+        yield report(name, data, EXAMPLES.get(name) or listing(json.loads(data)))
 
 
 # ---- runs
 
-def run(program, folder, *words):
+def came_of(folder, *words):
     """The status and the texts of a run in a folder."""
-    done = subprocess.run([program, *words], cwd=folder, stdin=subprocess.DEVNULL, capture_output=True, timeout=300)
+    done = subprocess.run([MAP_REPORT, *words], cwd=folder, stdin=subprocess.DEVNULL, capture_output=True, timeout=300)
     return done.returncode, done.stdout.decode(), done.stderr.decode()
 
 
-def fault_of_case(program, folder, case):
+def fault_of(case):
     """What is wrong in the report of one file, or None."""
-    (folder / 'map.tmj').write_bytes(case.data)
-    wanted = [(1 if line.startswith('no ') else 0, f'map.tmj: {line}\n', '') for line in case.lines]
-    given = run(program, folder, 'map.tmj')
-    return None if given in wanted else f'{case.name}: {given}, wanted {wanted}'
+    with tempfile.TemporaryDirectory() as folder:
+        (Path(folder) / 'map.tmj').write_bytes(case.given)
+        came = came_of(folder, 'map.tmj')
+    wanted = [(1 if line.startswith('no ') else 0, f'map.tmj: {line}\n', '') for line in case.wanted]
+    return None if came in wanted else unlike(wanted, came)
 
 
-def fault_of_files(program, folder):
-    """What is wrong in the report of several files, of which some can't be read."""
-    (folder / 'good.tmj').write_text(json.dumps(GOOD))
-    (folder / 'bad.tmj').write_text(json.dumps(changed({DOOR + '.x': 12.5})))
-    (folder / 'folder').mkdir()
-    good, bad = f'good.tmj: {listing(GOOD)}\n', f'bad.tmj: no 61 fraction: {DOOR}.x is 12.5\n'
+def test_members_at_fault():
+    check_each(faults_of_members(), fault_of, CORES)
+
+
+def test_faults_in_their_order():
+    check_each((fault(*row) for row in TABLE), fault_of, CORES)
+
+
+def test_what_is_no_map():
+    check_each([*faults_with_names(), *faults_of_roots(), *faults_of_texts()], fault_of, CORES)
+
+
+def test_maps_that_are_read():
+    check_each([*good_maps(), *reports_of_examples()], fault_of, CORES)
+
+
+def test_several_files():
+    """Some of them can't be read."""
+    good, bad = f'good.tmj: {listing(GOOD)}\n', f'bad.tmj: {refusal(61)}: {DOOR}.x is 12.5\n'
     rows = [(['good.tmj', 'good.tmj'], (0, good + good, '')), (['good.tmj', 'bad.tmj', 'good.tmj'], (1, good + bad + good, '')),
             (['none.tmj', 'good.tmj'], (1, good, 'none.tmj: No such file or directory (os error 2)\n')),
             (['folder'], (1, '', 'folder: Is a directory (os error 21)\n'))]
-    for words, wanted in rows:
-        given = run(program, folder, *words)
-        if given != wanted:
-            return f'{words}: {given}, wanted {wanted}'
-    return None
+    with tempfile.TemporaryDirectory() as top:
+        folder = Path(top)
+        (folder / 'good.tmj').write_text(json.dumps(GOOD))
+        (folder / 'bad.tmj').write_text(json.dumps(changed({DOOR + '.x': 12.5})))
+        (folder / 'folder').mkdir()
+        check_each([Case(' '.join(words), words, wanted) for words, wanted in rows],
+                   lambda case: unlike(case.wanted, came_of(folder, *case.given)))
 
 
-def fault_of_command_lines(program, folder):
-    """What is wrong in the status of a command line, and in the first line that it writes."""
+def fault_of_words(case):
+    """What is wrong in the status of a command line, and in the first lines that it writes."""
+    with tempfile.TemporaryDirectory() as folder:
+        status, output, error = came_of(folder, *case.given)
+    return unlike(case.wanted, (status, output.partition('\n')[0], error.partition('\n')[0]))
+
+
+def test_command_lines():
     about = 'Says what is in maps that Tiled saved as JSON, or why the editor refuses them and at which place.'
-    rows = [(['--help'], 0, about, ''), (['--version'], 0, 'map_report 0.1.0', ''), (['--frob'], 2, '', "error: unexpected argument '--frob' found"),
+    rows = [(['--help'], 0, about, ''), (['--frob'], 2, '', "error: unexpected argument '--frob' found"),
             ([], 2, '', 'error: the following required arguments were not provided:'), (['--table'], 0, '', ''),
             (['--table', 'x.tmj'], 2, '', "error: the argument '--table' cannot be used with '[FILE]...'")]
-    for words, *wanted in rows:
-        status, output, error = run(program, folder, *words)
-        given = [status, output.partition('\n')[0], error.partition('\n')[0]]
-        if given != wanted:
-            return f'{words}: {given}, wanted {wanted}'
-    status, output, _ = run(program, folder, '--help')
-    exits = [line.strip() for line in output.split('\n') if re.match(r'  [012]  ', line)]
-    return None if len(exits) == 3 else f'--help names the statuses {exits}'
+    check_each([Case(f'words {words}', words, tuple(wanted)) for words, *wanted in rows], fault_of_words)
 
 
-def cases():
-    yield from faults_of_members()
-    yield from (fault(*row) for row in TABLE)
-    yield from faults_with_names()
-    yield from faults_of_roots()
-    yield from faults_of_texts()
-    yield from good_maps()
-    yield from example_maps()
-
-
-def main():
-    program = Path(sys.argv[1]).resolve() if len(sys.argv) > 1 else PROGRAM
+def test_the_help_names_each_status():
     with tempfile.TemporaryDirectory() as folder:
-        folder = Path(folder)
-        found = [fault_of_case(program, folder, case) for case in cases()]
-        found += [fault_of_files(program, folder), fault_of_command_lines(program, folder)]
-    wrong = [text for text in found if text]
-    for text in wrong:
-        print(text[:600])
-    print(f'{len(found) - len(wrong)} passed, {len(wrong)} failed')
-    raise SystemExit(len(wrong) > 0)
-
-
-if __name__ == '__main__':
-    main()
+        _, output, _ = came_of(folder, '--help')
+    exits = [line.strip() for line in output.split('\n') if re.match(r'  [012]  ', line)]
+    assert len(exits) == 3, f'--help names the statuses {exits}'
