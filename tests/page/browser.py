@@ -1,5 +1,7 @@
-"""Chromium without a window, the page in it, and the pixels that it shows, for `.ci/page`."""
+"""Chromium without a window, the page in it, the hand on it, and the pixels that it shows."""
+import atexit
 import base64
+import functools
 import http.client
 import json
 import os
@@ -9,21 +11,23 @@ import time
 import urllib.parse
 from pathlib import Path
 
+from lib.places import TOP
 from selenium import webdriver
 from selenium.webdriver.chrome.service import Service
 from selenium.webdriver.common.action_chains import ActionChains
 from selenium.webdriver.common.by import By
 from selenium.webdriver.common.keys import Keys
 
-TOP = Path(__file__).resolve().parent.parent
 # How many seconds a thing may take that the page must show at last: other steps may take the processors.
 WAIT = 60
 
 
+@functools.cache
 def browser():
-    """Chromium by its driver. It keeps what the page logs, and lets the page write on the clipboard."""
+    """Chromium by its driver, one for all tests of a step. It keeps what the page logs."""
     flags = webdriver.ChromeOptions()
-    for flag in ('--headless=new', '--disable-gpu', '--disable-dev-shm-usage', '--window-size=1320,1040', '--force-device-scale-factor=1'):
+    for flag in ('--headless=new', '--disable-gpu', '--disable-dev-shm-usage', '--window-size=1320,1040',
+                 '--force-device-scale-factor=1'):
         flags.add_argument(flag)
     if os.getuid() == 0:
         # Chromium has no sandbox for root.
@@ -31,6 +35,7 @@ def browser():
     flags.binary_location = shutil.which('chromium')
     flags.set_capability('goog:loggingPrefs', {'browser': 'ALL'})
     started = webdriver.Chrome(service=Service(shutil.which('chromedriver')), options=flags)
+    atexit.register(started.quit)
     started.set_window_size(1320, 1040)
     return started
 
@@ -94,8 +99,8 @@ class Server:
 class Page:
     """A tab of the browser with the page in it, and the hand on it."""
 
-    def __init__(self, driver, server):
-        self.driver, self.server = driver, server
+    def __init__(self, server):
+        self.driver, self.server = browser(), server
         self.open()
 
     def open(self, address=None):
@@ -246,5 +251,5 @@ class Page:
         return [[int(each) for each in place] for place in self.js(code, [list(cell) for cell in cells], *pixel)]
 
     def log(self):
-        """What the browser has logged as errors."""
+        """What the browser has logged as errors since it was asked last."""
         return [each for each in self.driver.get_log('browser') if each['level'] == 'SEVERE']
