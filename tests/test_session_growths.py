@@ -17,9 +17,7 @@ IS_LONG = True
 def runs_to_refuse():
     """The session of `rt ci`, the examples over the maps beside them, and the marked sessions."""
     for file in [TOP / 'crates' / 'tile_editor' / 'stdin', *sorted(EXAMPLES.glob('*.session'))]:
-        run = Run(file.name, example_maps())
-        run.session = file.read_bytes()
-        yield run
+        yield Run(file.name, example_maps(), file.read_bytes())
     yield from (run for run in all_runs() if run.refuses_growths)
 
 

@@ -20,18 +20,29 @@ class Run:
     """One run of the program: the words of its command line beside the folder, the bytes that it hears and those that it
     replies, and the files of its folder by their names, as they are before it and after it."""
 
-    def __init__(self, name, before=()):
+    def __init__(self, name, before=(), session=b''):
         self.name = name
-        self.session, self.replies = b'', b''
+        self._session, self._replies = bytearray(session), bytearray()
         self.before, self.after = dict(before), dict(before)
         self.has_last_newline = True
         self.refuses_growths = False
         self.options = []
 
+    @property
+    def session(self):
+        return bytes(self._session)
+
+    @property
+    def replies(self):
+        return bytes(self._replies)
+
     def add(self, rows, count=1):
         """Adds rows of a session file, pairs of a line and its reply or None, so many times."""
-        self.session += times([spelled(line) for line, _ in rows], count)
-        self.replies += times([spelled(reply) for _, reply in rows if reply is not None], count)
+        self._session += times([spelled(line) for line, _ in rows], count)
+        self._replies += times([spelled(reply) for _, reply in rows if reply is not None], count)
+
+    def cut_last_newline(self):
+        del self._session[len(self._session.rstrip(b'\n')):]
 
     def put(self, name, data):
         """A file of the folder before the run."""
@@ -44,8 +55,8 @@ class Run:
     def say_all(self, rows):
         """Many lines at once, as pairs of a line and its reply."""
         lines, replies = zip(*rows)
-        self.session += '\n'.join((*lines, '')).encode()
-        self.replies += ''.join(f'{reply}\n' for reply in replies if reply is not None).encode()
+        self._session += '\n'.join((*lines, '')).encode()
+        self._replies += ''.join(f'{reply}\n' for reply in replies if reply is not None).encode()
 
     def save(self, name, text):
         """A save of the active document, whose map has this text."""
@@ -109,7 +120,7 @@ class Reader:
             self.read(row)
         for run in self.runs:
             if not run.has_last_newline:
-                run.session = run.session.rstrip(b'\n')
+                run.cut_last_newline()
 
     def read(self, row):
         if row.startswith(b'=== '):
