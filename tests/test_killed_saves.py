@@ -20,7 +20,6 @@ from lib.refusals import refusal
 from lib.rights import NOBODY, can_lose_rights
 from lib.sessions import joined
 
-IS_LONG = True
 OLD = (SESSION_MAPS / 'two_cells.tmj').read_bytes()
 EMPTY = (SESSION_MAPS / 'town.tmj').read_bytes()
 # The map with its first cell stamped, which is one digit for another.

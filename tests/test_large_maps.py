@@ -13,7 +13,6 @@ from lib.native import interposed
 from lib.refusals import refusal
 from lib.sessions import Run, fault_of_replies, heard
 
-IS_LONG = True
 SIDE = 1024
 ROWS_OF_STAMP = 4
 

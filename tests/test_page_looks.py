@@ -7,6 +7,7 @@ from page.bench import (Bench, GROUND, Tiles, choose, colours_now, corner_of, fr
 from page.browser import ActionChains, pixels
 
 NEEDS_BROWSER = True
+IS_LONG = True
 # The colour of the object that is chosen.
 CHOSEN = (0xff, 0xd3, 0x4d)
 

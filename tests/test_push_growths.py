@@ -11,7 +11,6 @@ of a macro nor a refused beginning may grow memory."""
 from lib.cases import CORES, Case, check_each, passed
 from lib.growths import Refuser, Session
 
-IS_LONG = True
 REFUSER = Refuser({})
 # A document with something of each kind to edit.
 BEGUN = [b'new town 4 3 16 16 town.tsj', b'stamp 1 0 0 4 1,2,3,4', b'layer add object Things', b'object add 2 0 0 8 8 door',

@@ -47,13 +47,13 @@ class Page:
         self.text = path.read_text()
 
     def links(self):
-        """The files that links lead to, from the folder of the page, and those that the text names, from the top. Commands may name
-        files that they make."""
+        """The files that links lead to, from the folder of the page, and those that the text names, from the top. Commands may
+        name files that they make, and NAME stands for any name."""
         for link in LINK.findall(self.text):
             if '://' not in link and not link.startswith('#'):
                 yield self.path.parent / link.split('#')[0]
         for name in NAMED.findall(re.sub(r'^    .*$', '', self.text, flags=re.MULTILINE)):
-            if '/out/' not in name:
+            if '/out/' not in name and 'NAME' not in name:
                 yield TOP / name
 
     def files_of_crate(self):
