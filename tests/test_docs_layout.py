@@ -1,5 +1,6 @@
-"""Sees how the pages are laid out: each line of a page has at most 100 characters, but for rows of tables, lines of fenced
-blocks, and lines that are one link or one address; and each row of a table has as many cells as its head."""
+"""Sees how the pages are laid out: each line of a page has at most 100 characters, but for rows of
+tables, lines of fenced blocks, and lines that are one link or one address; and each row of a table
+has as many cells as its head."""
 import re
 import subprocess
 
@@ -15,7 +16,9 @@ ONE_LINK = re.compile(r'\s*(?:[-*] |\d+\. )?(?:!?\[[^\]]*\]\([^)]*\)|<?https?://
 def tracked():
     """The pages that git tracks; all that there are where this is no clone."""
     listed = subprocess.run(['git', 'ls-files', '*.md'], cwd=TOP, capture_output=True, text=True)
-    names = listed.stdout.splitlines() or [str(path.relative_to(TOP)) for path in TOP.rglob('*.md') if '/out/' not in str(path)]
+    names = listed.stdout.splitlines() or [
+        str(path.relative_to(TOP)) for path in TOP.rglob('*.md') if '/out/' not in str(path)
+    ]
     return [Page(TOP / name) for name in names if (TOP / name).exists()]
 
 
@@ -34,8 +37,11 @@ def is_row(line):
 
 
 def fault_of_widths(page):
-    wide = [f'line {number}: {len(line)} characters: {line[:60]}..' for number, line in text_lines(page)
-            if len(line) > MOST and not is_row(line) and not ONE_LINK.fullmatch(line)]
+    wide = [
+        f'line {number}: {len(line)} characters: {line[:60]}..'
+        for number, line in text_lines(page)
+        if len(line) > MOST and not is_row(line) and not ONE_LINK.fullmatch(line)
+    ]
     return '\n    '.join(wide) or None
 
 

@@ -1,5 +1,6 @@
-"""Runs the script `examples/build.sh` over a copy of the example maps: with lines that are all accepted; with a line that is
-refused, behind which nothing may be saved; and with an option, which it must hand on."""
+"""Runs the script `examples/build.sh` over a copy of the example maps: with lines that are all
+accepted; with a line that is refused, behind which nothing may be saved; and with an option, which
+it must hand on."""
 import shutil
 import subprocess
 import tempfile
@@ -23,7 +24,12 @@ def maps():
 
 def built(session, folder, *options):
     """The status of the script, and what it tells."""
-    done = subprocess.run([EXAMPLES / 'build.sh', session, folder, *options], stdout=subprocess.PIPE, stderr=subprocess.STDOUT, text=True)
+    done = subprocess.run(
+        [EXAMPLES / 'build.sh', session, folder, *options],
+        stdout=subprocess.PIPE,
+        stderr=subprocess.STDOUT,
+        text=True,
+    )
     return done.returncode, done.stdout
 
 
@@ -40,9 +46,14 @@ def test_lines_that_are_accepted():
 
 def test_a_line_that_is_refused():
     with maps() as (folder, session):
-        lines = (EXAMPLES / 'walls.session').read_text().replace('\nstamp 1 7 1', '\nstamp 9 7 1', 1)
+        lines = (
+            (EXAMPLES / 'walls.session').read_text().replace('\nstamp 1 7 1', '\nstamp 9 7 1', 1)
+        )
         session.write_text(lines)
-        see((3, f'tile_editor: line 8: stamp 9 7 1 1 10,10,10,10,10: {refusal(30)}\n'), built(session, folder))
+        see(
+            (3, f'tile_editor: line 8: stamp 9 7 1 1 10,10,10,10,10: {refusal(30)}\n'),
+            built(session, folder),
+        )
         see(files_in(EXAMPLE_MAPS), files_in(folder))
 
 

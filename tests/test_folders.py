@@ -1,7 +1,8 @@
-"""Runs the program on folders that are not as they should be, or have more in them than maps: missing ones, pipes, links, files
-that are too long, a full disk, and permissions. Each case is a function that prepares a folder, and gives rows of a session
-with its replies, and what must stand in the folder then. A case on permissions runs as the user nobody where it would
-otherwise run as root, whom no permission stops."""
+"""Runs the program on folders that are not as they should be, or have more in them than maps:
+missing ones, pipes, links, files that are too long, a full disk, and permissions. Each case is a
+function that prepares a folder, and gives rows of a session with its replies, and what must stand
+in the folder then. A case on permissions runs as the user nobody where it would otherwise run as
+root, whom no permission stops."""
 import os
 import resource
 import shutil
@@ -19,10 +20,24 @@ MAP = (SESSION_MAPS / 'two_cells.tmj').read_bytes()
 NEW = (SESSION_MAPS / 'town.tmj').read_bytes()
 LONGEST = 67_108_864
 
-OPEN_AND_SAVE = ['open m m.tmj => ok 0/0 clean 0', 'save m.tmj => saved m.tmj 384', 'status => ok 0/0 clean 0']
-NEW_AND_SAVE = ['new town 4 3 16 16 town.tsj => ok 0/0 clean 0', 'save m.tmj => saved m.tmj 389', 'open m m.tmj => ok 0/0 clean 0']
-NOT_SAVED = ['new town 4 3 16 16 town.tsj => ok 0/0 clean 0', 'stamp 1 0 0 1 5 => ok 1/1 dirty 0',
-             'save m.tmj => no 51 store failed', 'status => ok 1/1 dirty 0', 'undo => ok 0/1 clean 0', 'list => docs *town']
+OPEN_AND_SAVE = [
+    'open m m.tmj => ok 0/0 clean 0',
+    'save m.tmj => saved m.tmj 384',
+    'status => ok 0/0 clean 0',
+]
+NEW_AND_SAVE = [
+    'new town 4 3 16 16 town.tsj => ok 0/0 clean 0',
+    'save m.tmj => saved m.tmj 389',
+    'open m m.tmj => ok 0/0 clean 0',
+]
+NOT_SAVED = [
+    'new town 4 3 16 16 town.tsj => ok 0/0 clean 0',
+    'stamp 1 0 0 1 5 => ok 1/1 dirty 0',
+    'save m.tmj => no 51 store failed',
+    'status => ok 1/1 dirty 0',
+    'undo => ok 0/1 clean 0',
+    'list => docs *town',
+]
 NOT_OPENED = ['open m m.tmj => no 51 store failed', 'list => docs', 'status => ok none clean']
 
 
@@ -85,7 +100,8 @@ def empty(folder):
 
 
 def left_behind(folder):
-    """A file that a run left behind when it was killed in a save of this map, and one of another map."""
+    """A file that a run left behind when it was killed in a save of this map, and one of another
+    map."""
     (folder / 'm.tmj').write_bytes(MAP)
     (folder / '.m.tmj.new').write_bytes(NEW[:100])
     (folder / '.n.tmj.new').write_bytes(NEW[:100])
@@ -111,7 +127,8 @@ def pipe_left_behind(folder):
 
 
 def link_left_behind(folder):
-    """A symbolic link where a save makes its new file: it is removed, and what it leads to stays."""
+    """A symbolic link where a save makes its new file: it is removed, and what it leads to
+    stays."""
     (folder / 'far').write_bytes(MAP)
     (folder / '.m.tmj.new').symlink_to('far')
     return NEW_AND_SAVE, {'far': MAP, 'm.tmj': NEW}
@@ -124,10 +141,17 @@ def device(folder):
 
 
 def full(folder):
-    """No room for a whole file: a save that fails in the middle leaves the old file, and a shorter one is saved."""
+    """No room for a whole file: a save that fails in the middle leaves the old file, and a shorter
+    one is saved."""
     (folder / 'm.tmj').write_bytes(MAP)
-    rows = ['open m m.tmj => ok 0/0 clean 0', 'stamp 1 0 0 1 3 => ok 1/1 dirty 0', 'undo => ok 0/1 clean 0',
-            'save n.tmj => saved n.tmj 384', 'use town => ok 0/1 clean 0', 'save n.tmj => no 51 store failed']
+    rows = [
+        'open m m.tmj => ok 0/0 clean 0',
+        'stamp 1 0 0 1 3 => ok 1/1 dirty 0',
+        'undo => ok 0/1 clean 0',
+        'save n.tmj => saved n.tmj 384',
+        'use town => ok 0/1 clean 0',
+        'save n.tmj => no 51 store failed',
+    ]
     return NOT_SAVED + rows, {'m.tmj': MAP, 'n.tmj': MAP}
 
 
@@ -135,8 +159,16 @@ def link(folder):
     """A symbolic link to a map: a save puts a file in its place."""
     (folder / 'far').write_bytes(MAP)
     (folder / 'm.tmj').symlink_to('far')
-    rows = ['open m m.tmj => ok 0/0 clean 0', 'tile 1 0 0 => tile 1 ---- 1 0', 'stamp 1 0 0 1 3 => ok 1/1 dirty 0', 'undo => ok 0/1 clean 0']
-    return [*rows, 'save m.tmj => saved m.tmj 384', 'open far far => ok 0/0 clean 0'], {'far': MAP, 'm.tmj': MAP}
+    rows = [
+        'open m m.tmj => ok 0/0 clean 0',
+        'tile 1 0 0 => tile 1 ---- 1 0',
+        'stamp 1 0 0 1 3 => ok 1/1 dirty 0',
+        'undo => ok 0/1 clean 0',
+    ]
+    return [*rows, 'save m.tmj => saved m.tmj 384', 'open far far => ok 0/0 clean 0'], {
+        'far': MAP,
+        'm.tmj': MAP,
+    }
 
 
 def hard_link(folder):
@@ -147,7 +179,8 @@ def hard_link(folder):
 
 
 def link_to_nothing(folder):
-    """A symbolic link that leads nowhere: a save puts a file in its place, and makes none at its end."""
+    """A symbolic link that leads nowhere: a save puts a file in its place, and makes none at its
+    end."""
     (folder / 'm.tmj').symlink_to('far')
     return ['open m m.tmj => no 50 no such file', *NEW_AND_SAVE], {'m.tmj': NEW}
 
@@ -159,7 +192,8 @@ def link_to_itself(folder):
 
 
 def unreadable(folder):
-    """A map that may not be read: it is replaced, since the folder may be written, and stays one that may not be read."""
+    """A map that may not be read: it is replaced, since the folder may be written, and stays one
+    that may not be read."""
     (folder / 'm.tmj').write_bytes(MAP)
     (folder / 'm.tmj').chmod(0)
     return NOT_OPENED + NEW_AND_SAVE[:-1] + ['open m m.tmj => no 51 store failed'], {'m.tmj': NEW}
@@ -169,7 +203,9 @@ def unwritable(folder):
     """A folder that may not be written: its maps are opened."""
     (folder / 'm.tmj').write_bytes(MAP)
     folder.chmod(0o555)
-    return ['open m m.tmj => ok 0/0 clean 0', 'discard m => ok none clean', *NOT_SAVED], {'m.tmj': MAP}
+    return ['open m m.tmj => ok 0/0 clean 0', 'discard m => ok none clean', *NOT_SAVED], {
+        'm.tmj': MAP
+    }
 
 
 def unsearchable(folder):
@@ -179,9 +215,28 @@ def unsearchable(folder):
     return NOT_OPENED + NOT_SAVED, {'m.tmj': MAP}
 
 
-FOLDERS = [missing, file_for_folder, folder_for_file, full_folder_for_file, pipe, device, full, too_long, longest, longest_map, empty,
-         left_behind, left_behind_and_opened, folder_left_behind, pipe_left_behind, link_left_behind,
-         link, hard_link, link_to_nothing, link_to_itself]
+FOLDERS = [
+    missing,
+    file_for_folder,
+    folder_for_file,
+    full_folder_for_file,
+    pipe,
+    device,
+    full,
+    too_long,
+    longest,
+    longest_map,
+    empty,
+    left_behind,
+    left_behind_and_opened,
+    folder_left_behind,
+    pipe_left_behind,
+    link_left_behind,
+    link,
+    hard_link,
+    link_to_nothing,
+    link_to_itself,
+]
 ON_PERMISSIONS = [unreadable, unwritable, unsearchable]
 # What standard error says at the start.
 MISSING_FOLDERS = {missing: b'No such file or directory', file_for_folder: b'Not a directory'}
@@ -199,12 +254,14 @@ REASONS = {
     unwritable: b'/m.tmj: Permission denied\n',
     unsearchable: b'/m.tmj: Permission denied\n',
 }
-# A file of the program may have no more bytes than this in the case `full`: MAP has fewer, and NEW has more.
+# A file of the program may have no more bytes than this in the case `full`: MAP has fewer, and NEW
+# has more.
 ROOM = 386
 
 
 def access(path):
-    """Who may read and write a file, where one stands at a path, no link is followed, and it may be looked for there."""
+    """Who may read and write a file, where one stands at a path, no link is followed, and it may be
+    looked for there."""
     try:
         mode = path.lstat().st_mode
     except OSError:
@@ -213,7 +270,8 @@ def access(path):
 
 
 def found(path):
-    """What stands at a path: a file's bytes, what stands in a folder by its names, what else it is, or None."""
+    """What stands at a path: a file's bytes, what stands in a folder by its names, what else it is,
+    or None."""
     if path.is_symlink():
         return 'link'
     if path.is_dir():
@@ -224,7 +282,8 @@ def found(path):
 
 
 def reasons_of(errors):
-    """Standard error but what it says of the folder at the start, and that, if there is such a line."""
+    """Standard error but what it says of the folder at the start, and that, if there is such a
+    line."""
     first, _, rest = errors.partition(b'\n')
     if not first.startswith(b'tile_editor: ') or b'/maps: ' not in first:
         return errors, None
@@ -236,11 +295,24 @@ def cases_of(prepares):
 
 
 def ran(prepare, top, lines, user):
-    """What the program does with a session in a folder. A write past the limit is to be refused, and not to end the program, so
-    the signal for it stays as this program has it."""
-    limit = (lambda: resource.setrlimit(resource.RLIMIT_FSIZE, (ROOM, ROOM))) if prepare is full else None
-    return subprocess.run([top / 'program', '--folder', top / 'maps'], input=joined(lines), capture_output=True, timeout=60, cwd=top,
-                          user=user, group=user, preexec_fn=limit, restore_signals=False)
+    """What the program does with a session in a folder. A write past the limit is to be refused,
+    and not to end the program, so the signal for it stays as this program has it."""
+    limit = (
+        (lambda: resource.setrlimit(resource.RLIMIT_FSIZE, (ROOM, ROOM)))
+        if prepare is full
+        else None
+    )
+    return subprocess.run(
+        [top / 'program', '--folder', top / 'maps'],
+        input=joined(lines),
+        capture_output=True,
+        timeout=60,
+        cwd=top,
+        user=user,
+        group=user,
+        preexec_fn=limit,
+        restore_signals=False,
+    )
 
 
 def fault_of_errors(prepare, replies, errors):
@@ -276,7 +348,9 @@ def fault_in(case, top, user=None):
         if access_before != access_after:
             return f'the mode is {access_after:o} in place of {access_before:o}'
         (folder / 'm.tmj').chmod(0o644)
-    return fault_of_replies(joined(lines), joined(replies), done.stdout) or unlike(wanted, found(folder))
+    return fault_of_replies(joined(lines), joined(replies), done.stdout) or unlike(
+        wanted, found(folder)
+    )
 
 
 def fault_of(case, user=None):

@@ -1,7 +1,8 @@
-"""Kills the program at each step of a save, and makes each call of a save on files fail, over files of several modes. However a
-save ends, the file under its name is the old one or the new one, whole, and has the old one's mode; no file has a wider mode
-meanwhile, and the next save of that name takes away what is left beside it. A save that fails is answered so, and leaves the
-document as it was. It runs as the user nobody where it would otherwise run as root, whom no permission stops.
+"""Kills the program at each step of a save, and makes each call of a save on files fail, over files
+of several modes. However a save ends, the file under its name is the old one or the new one, whole,
+and has the old one's mode; no file has a wider mode meanwhile, and the next save of that name takes
+away what is left beside it. A save that fails is answered so, and leaves the document as it was. It
+runs as the user nobody where it would otherwise run as root, whom no permission stops.
 native/interpose_saves.c kills and makes calls fail."""
 import errno
 import os
@@ -31,13 +32,28 @@ ACCESS = 0o777
 EDITS = [b'new town 4 3 16 16 town.tsj', b'stamp 1 0 0 1 5', b'save m.tmj']
 SESSION = [*EDITS, b'status', b'undo', b'redo', b'list']
 EDITED = [b'ok 0/0 clean 0', b'ok 1/1 dirty 0']
-SAVED = [*EDITED, b'saved m.tmj 389', b'ok 1/1 clean 0', b'ok 0/1 dirty 0', b'ok 1/1 clean 0', b'docs *town']
-NOT_SAVED = [*EDITED, refusal(51).encode(), b'ok 1/1 dirty 0', b'ok 0/1 clean 0', b'ok 1/1 dirty 0', b'docs *town']
+SAVED = [
+    *EDITED,
+    b'saved m.tmj 389',
+    b'ok 1/1 clean 0',
+    b'ok 0/1 dirty 0',
+    b'ok 1/1 clean 0',
+    b'docs *town',
+]
+NOT_SAVED = [
+    *EDITED,
+    refusal(51).encode(),
+    b'ok 1/1 dirty 0',
+    b'ok 0/1 clean 0',
+    b'ok 1/1 dirty 0',
+    b'docs *town',
+]
 NEXT_SESSION = [b'new town 4 3 16 16 town.tsj', b'save m.tmj', b'status']
 NEXT_SAVED = [b'ok 0/0 clean 0', b'saved m.tmj 389', b'ok 0/0 clean 0']
 
 ERRORS = [errno.EIO, errno.ENOSPC, errno.EACCES]
-# The steps that every save has, and those whose failure loses nothing: there was no file left behind, and the file is synced.
+# The steps that every save has, and those whose failure loses nothing: there was no file left
+# behind, and the file is synced.
 NEEDED = ['open', 'write', 'fsync', 'rename']
 HARMLESS = ['unlink', 'close', 'reply']
 
@@ -49,6 +65,7 @@ class Fault(Exception):
 @dataclass(frozen=True)
 class Place:
     """What stands under the name before a save, and the mask of the program."""
+
     name: str
     mode: int = None
     mask: int = 0o022
@@ -75,7 +92,8 @@ class Place:
         return {**file, NAME: FAR} if self.is_link else file
 
     def new_mode(self):
-        """The mode of the file that a save makes: the access bits of the file that stood there, else those of any new file."""
+        """The mode of the file that a save makes: the access bits of the file that stood there,
+        else those of any new file."""
         return 0o666 & ~self.mask if self.mode is None or self.is_link else self.mode & ACCESS
 
     def after(self, data):
@@ -92,7 +110,10 @@ class Place:
 PLACES = [
     Place('no file'),
     Place('no file, and a mask of 077', mask=0o077),
-    *(Place(f'a file of mode {mode:o}', mode) for mode in (0o644, 0o600, 0o640, 0o444, 0o666, 0o755, 0o000)),
+    *(
+        Place(f'a file of mode {mode:o}', mode)
+        for mode in (0o644, 0o600, 0o640, 0o444, 0o666, 0o755, 0o000)
+    ),
     Place('a file of mode 664, and a mask of 077', 0o664, 0o077),
     Place('a file of mode 604, and no mask', 0o604, 0o000),
     Place('a file of mode 4755', 0o4755),
@@ -102,7 +123,8 @@ PLACES = [
 
 
 def entry(path):
-    """What stands at a path: where a link leads, or a file's mode and bytes. A file that may not be read is opened for that long."""
+    """What stands at a path: where a link leads, or a file's mode and bytes. A file that may not be
+    read is opened for that long."""
     if path.is_symlink():
         return os.readlink(path)
     mode = stat.S_IMODE(path.lstat().st_mode)
@@ -119,7 +141,10 @@ def entries(folder):
 
 def in_words(found):
     """What stands in a folder, to be printed."""
-    words = {name: f'{it[0]:o} {it[1][:40]!r}.. of {len(it[1])}' if isinstance(it, tuple) else it for name, it in found.items()}
+    words = {
+        name: f'{it[0]:o} {it[1][:40]!r}.. of {len(it[1])}' if isinstance(it, tuple) else it
+        for name, it in found.items()
+    }
     return f'the folder has {words}'
 
 
@@ -138,13 +163,28 @@ class Saver:
         """What the program does with a session."""
         passed()
         words = [self.program, '--folder', 'maps']
-        return subprocess.run(words, input=joined(session), capture_output=True, timeout=60, cwd=self.top,
-                              env=env, umask=place.mask, user=self.user, group=self.user)
+        return subprocess.run(
+            words,
+            input=joined(session),
+            capture_output=True,
+            timeout=60,
+            cwd=self.top,
+            env=env,
+            umask=place.mask,
+            user=self.user,
+            group=self.user,
+        )
 
     def stopped(self, place, at=0, by='kill', stops_all=False):
-        """What the program does over a place with a save that is stopped at a call, and the names of the calls up to its end."""
+        """What the program does over a place with a save that is stopped at a call, and the names
+        of the calls up to its end."""
         place.make(self.folder, self.user)
-        env = {'LD_PRELOAD': str(self.library), 'STOP_AT': str(at), 'STOP_BY': str(by), **({'STOP_ALL': '1'} if stops_all else {})}
+        env = {
+            'LD_PRELOAD': str(self.library),
+            'STOP_AT': str(at),
+            'STOP_BY': str(by),
+            **({'STOP_ALL': '1'} if stops_all else {}),
+        }
         done = self.heard(place, SESSION, env)
         calls = done.stderr.decode().rpartition('calls:')[2].split()
         return done, calls
@@ -160,9 +200,12 @@ class Saver:
 
 
 def see_folder(place, found, may_be_old, may_be_new, may_have_rest):
-    """Sees that what stands in a folder is old or new, as it may be, and that the mode of what is beside it is no wider."""
+    """Sees that what stands in a folder is old or new, as it may be, and that the mode of what is
+    beside it is no wider."""
     rest = found.pop(BESIDE, None)
-    if not (may_be_old and found == place.before()) and not (may_be_new and found == place.after(NEW)):
+    if not (may_be_old and found == place.before()) and not (
+        may_be_new and found == place.after(NEW)
+    ):
         raise Fault(in_words(found))
     if rest is None:
         return
@@ -170,7 +213,9 @@ def see_folder(place, found, may_be_old, may_be_new, may_have_rest):
     if not may_have_rest:
         raise Fault(f'{BESIDE} is left')
     if mode & ~place.new_mode():
-        raise Fault(f'{BESIDE} has the mode {mode:o}, and is to have no more than {place.new_mode():o}')
+        raise Fault(
+            f'{BESIDE} has the mode {mode:o}, and is to have no more than {place.new_mode():o}'
+        )
     if not NEW.startswith(data):
         raise Fault(f'{BESIDE} has {data[:80]!r}')
 
@@ -184,7 +229,11 @@ def see_saved(saver, place):
     missing = [name for name in NEEDED if name not in calls]
     if missing or calls[-1] != 'reply':
         raise Fault(f'no {missing} seen among {calls}')
-    last_write, sync, rename = len(calls) - calls[::-1].index('write') - 1, calls.index('fsync'), calls.index('rename')
+    last_write, sync, rename = (
+        len(calls) - calls[::-1].index('write') - 1,
+        calls.index('fsync'),
+        calls.index('rename'),
+    )
     if not last_write < sync < rename:
         raise Fault(f'not synced between the last write and the rename: {calls}')
     return calls
@@ -215,13 +264,18 @@ def see_failed(saver, place, at, error, stops_all):
 
 
 def stops_of(calls):
-    """Each way to stop a save of these calls: words for it, the call that sees it, and what that is passed."""
+    """Each way to stop a save of these calls: words for it, the call that sees it, and what that is
+    passed."""
     for at, name in enumerate(calls, 1):
         yield f'killed before call {at}, {name}', see_killed, (at, 'kill')
         if name == 'write':
             yield f'killed in call {at}, {name}', see_killed, (at, 'half')
         for error in ERRORS if name != 'reply' else []:
-            yield f'call {at}, {name}, gives {errno.errorcode[error]}', see_failed, (at, error, False)
+            yield f'call {at}, {name}, gives {errno.errorcode[error]}', see_failed, (
+                at,
+                error,
+                False,
+            )
         if name not in ('close', 'reply'):
             yield f'all calls from {at}, {name}, give EIO', see_failed, (at, errno.EIO, True)
 

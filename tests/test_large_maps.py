@@ -1,8 +1,9 @@
-"""Runs the program on the largest maps that it takes: each cell of 1,048,576 set, the map saved, opened, resized and turned back;
-a layer in base64; a selection of many runs; and each list filled to its limit and past it. No contract refuses a program that
-gives up above some size, so none of these may meet want of memory or leave anything out. The maps, the replies and the files
-are computed here, by the rules of docs/session-lines.md and docs/map-files.md. Each save must be synced before it takes the
-old file's place, which native/interpose.c sees."""
+"""Runs the program on the largest maps that it takes: each cell of 1,048,576 set, the map saved,
+opened, resized and turned back; a layer in base64; a selection of many runs; and each list filled
+to its limit and past it. No contract refuses a program that gives up above some size, so none of
+these may meet want of memory or leave anything out. The maps, the replies and the files are
+computed here, by the rules of docs/session-lines.md and docs/map-files.md. Each save must be synced
+before it takes the old file's place, which native/interpose.c sees."""
 import itertools
 import json
 import random
@@ -24,25 +25,36 @@ class Grid:
         self.width, self.height, self.values = width, height, values
 
     def row(self, y):
-        return self.values[y * self.width:(y + 1) * self.width]
+        return self.values[y * self.width : (y + 1) * self.width]
 
     def at(self, x, y):
         return self.values[y * self.width + x]
 
     def with_cell(self, x, y, value):
         place = y * self.width + x
-        return Grid(self.width, self.height, self.values[:place] + [value] + self.values[place + 1:])
+        return Grid(
+            self.width, self.height, self.values[:place] + [value] + self.values[place + 1 :]
+        )
 
     def resized(self, width, height, right, down):
-        """The cell at x, y of the new one is that at x - right, y - down of this one, and empty where that lies outside."""
+        """The cell at x, y of the new one is that at x - right, y - down of this one, and empty
+        where that lies outside."""
+
         def value(x, y):
             return self.at(x, y) if 0 <= x < self.width and 0 <= y < self.height else 0
-        return Grid(width, height, [value(x - right, y - down) for y in range(height) for x in range(width)])
+
+        return Grid(
+            width, height, [value(x - right, y - down) for y in range(height) for x in range(width)]
+        )
 
 
 def varied(x, y):
     """A value that tells the cells apart, with flags in some."""
-    return (1 + (7 * x + 13 * y + x * y) % 99_991) | (0x80000000 if (x + y) % 17 == 0 else 0) | (0x20000000 if x % 19 == 3 else 0)
+    return (
+        (1 + (7 * x + 13 * y + x * y) % 99_991)
+        | (0x80000000 if (x + y) % 17 == 0 else 0)
+        | (0x20000000 if x % 19 == 3 else 0)
+    )
 
 
 def varied_grid():
@@ -54,8 +66,18 @@ def layer_with(grid):
 
 
 def map_with(grid, *layers, **members):
-    """A map of the sizes of a grid with these layers, or one with its values, as the editor makes it but for other members."""
-    return map_of(*(layers or [layer_with(grid)]), **{'width': grid.width, 'height': grid.height, 'nextlayerid': 2, 'nextobjectid': 1, **members})
+    """A map of the sizes of a grid with these layers, or one with its values, as the editor makes
+    it but for other members."""
+    return map_of(
+        *(layers or [layer_with(grid)]),
+        **{
+            'width': grid.width,
+            'height': grid.height,
+            'nextlayerid': 2,
+            'nextobjectid': 1,
+            **members,
+        },
+    )
 
 
 class LargeRun(Run):
@@ -65,18 +87,21 @@ class LargeRun(Run):
         """Looks at the corners of a layer, and at cells all over it."""
         chosen = random.Random(1)
         places = [(x, y) for x in (0, grid.width - 1) for y in (0, grid.height - 1)]
-        places += [(chosen.randrange(grid.width), chosen.randrange(grid.height)) for _ in range(2000)]
+        places += [
+            (chosen.randrange(grid.width), chosen.randrange(grid.height)) for _ in range(2000)
+        ]
         self.say_all((f'tile 1 {x} {y}', tile_reply(grid.at(x, y))) for x, y in places)
 
 
 def all_cells():
-    """Each cell of a map is set; it is saved, opened, made wide and high, and turned back each time."""
+    """Each cell of a map is set; it is saved, opened, made wide and high, and turned back each
+    time."""
     run, grid = LargeRun('all cells'), varied_grid()
     run.say(f'new big {SIDE} {SIDE} 16 16 t.tsj', 'ok 0/0 clean 0')
     count = SIDE // ROWS_OF_STAMP
     for at in range(count):
         first = at * ROWS_OF_STAMP * SIDE
-        values = ','.join(map(str, grid.values[first:first + ROWS_OF_STAMP * SIDE]))
+        values = ','.join(map(str, grid.values[first : first + ROWS_OF_STAMP * SIDE]))
         run.say(f'stamp 1 0 {at * ROWS_OF_STAMP} {SIDE} {values}', f'ok {at + 1}/{at + 1} dirty 0')
     run.look(grid)
     whole = text_of(map_with(grid))
@@ -122,7 +147,8 @@ def base64_cells():
 
 
 def many_runs():
-    """A selection of 131,072 runs, with each second column: what is outside it stays, and it goes along with the map."""
+    """A selection of 131,072 runs, with each second column: what is outside it stays, and it goes
+    along with the map."""
     run, side = LargeRun('many runs'), 512
     whole = [x + y + 1 for y in range(side) for x in range(side)]
     run.say(f'new runs {side} {side} 16 16 t.tsj', 'ok 0/0 clean 0')
@@ -133,11 +159,13 @@ def many_runs():
         run.say(line, f'ok {count}/{count} dirty 0')
 
     for y in range(0, side, 16):
-        edit(f'stamp 1 0 {y} {side} ' + ','.join(map(str, whole[y * side:(y + 16) * side])))
+        edit(f'stamp 1 0 {y} {side} ' + ','.join(map(str, whole[y * side : (y + 16) * side])))
     for x in range(0, side, 2):
         edit(f'select add {x} 0 1 {side}')
     edit(f'erase 1 0 0 {side} {side}')
-    kept = Grid(side, side, [0 if place % side % 2 == 0 else value for place, value in enumerate(whole)])
+    kept = Grid(
+        side, side, [0 if place % side % 2 == 0 else value for place, value in enumerate(whole)]
+    )
     run.look(kept)
     run.save('columns.tmj', text_of(map_with(kept)))
     edit(f'resize {side} {side} 1 1')
@@ -147,7 +175,10 @@ def many_runs():
     # The selection has the odd columns now, and lacks the upper half.
     for y in range(side // 2, side, 16):
         edit(f'stamp 1 0 {y} {side} ' + ','.join(['7'] * 16 * side))
-    stamped = [7 if place % side % 2 == 1 and place // side >= side // 2 else value for place, value in enumerate(moved.values)]
+    stamped = [
+        7 if place % side % 2 == 1 and place // side >= side // 2 else value
+        for place, value in enumerate(moved.values)
+    ]
     count = next(counted) - 1
     run.say(f'stamp 1 0 0 {side} ' + ','.join(['7'] * 16 * side), f'ok {count}/{count} dirty 0')
     run.look(Grid(side, side, stamped))
@@ -159,8 +190,15 @@ def many_runs():
 
 def values_of(i):
     """The type of the i-th property, its value as a line has it, and its value in JSON."""
-    return [('int', str(-i), -i), ('string', f'text {i}', f'text {i}'), ('bool', 'true', True), ('bool', 'false', False),
-            ('color', f'#{i:06x}', f'#{i:06x}'), ('file', f'f{i}.png', f'f{i}.png'), ('object', str(i), i)][i % 7]
+    return [
+        ('int', str(-i), -i),
+        ('string', f'text {i}', f'text {i}'),
+        ('bool', 'true', True),
+        ('bool', 'false', False),
+        ('color', f'#{i:06x}', f'#{i:06x}'),
+        ('file', f'f{i}.png', f'f{i}.png'),
+        ('object', str(i), i),
+    ][i % 7]
 
 
 def property_at(name, i):
@@ -169,15 +207,28 @@ def property_at(name, i):
 
 
 def object_of(i):
-    return thing(i, x=16 * i, y=-i, width=3 * i, height=i % 50, properties=[property_at(f'of{i}', i)])
+    return thing(
+        i, x=16 * i, y=-i, width=3 * i, height=i % 50, properties=[property_at(f'of{i}', i)]
+    )
 
 
 def full_map():
     """The map of `full_lists`."""
-    grid, layer = Grid(2, 2, [0] * 4), things(2, *(object_of(i) for i in range(1, 4097)), name='Things')
-    tilesets = [{'firstgid': 1, 'source': 't.tsj'}] + [{'firstgid': 10 * i, 'source': f't{i}.tsj'} for i in range(1, 256)]
-    return map_with(grid, layer_with(grid), layer, nextlayerid=3, nextobjectid=4097, tilesets=tilesets,
-                    properties=[property_at(f'p{i}', i) for i in range(1, 257)])
+    grid, layer = Grid(2, 2, [0] * 4), things(
+        2, *(object_of(i) for i in range(1, 4097)), name='Things'
+    )
+    tilesets = [{'firstgid': 1, 'source': 't.tsj'}] + [
+        {'firstgid': 10 * i, 'source': f't{i}.tsj'} for i in range(1, 256)
+    ]
+    return map_with(
+        grid,
+        layer_with(grid),
+        layer,
+        nextlayerid=3,
+        nextobjectid=4097,
+        tilesets=tilesets,
+        properties=[property_at(f'p{i}', i) for i in range(1, 257)],
+    )
 
 
 def lines_of_lists():
@@ -198,7 +249,8 @@ def lines_of_lists():
 
 
 def full_lists():
-    """Each list gets as many entries as it may have, and one more is refused; the map is saved, opened and saved again."""
+    """Each list gets as many entries as it may have, and one more is refused; the map is saved,
+    opened and saved again."""
     run, text = LargeRun('full lists'), text_of(full_map())
     run.say('new full 2 2 16 16 t.tsj', 'ok 0/0 clean 0')
     run.say('layer add object Things', 'ok 1/1 dirty 0')
@@ -209,7 +261,11 @@ def full_lists():
     run.save('full.tmj', text)
     run.say('open again full.tmj', 'ok 0/0 clean 0')
     run.save('again.tmj', text)
-    for line in ['object add 2 0 0 8 8 more', 'prop set map more int 1', 'tileset add 3000 more.tsj']:
+    for line in [
+        'object add 2 0 0 8 8 more',
+        'prop set map more int 1',
+        'tileset add 3000 more.tsj',
+    ]:
         run.say(line, refusal(40))
     run.say('object remove 1', 'ok 1/1 dirty 0')
     run.say('undo', 'ok 0/1 clean 0')
@@ -232,7 +288,9 @@ def fault_of_text(wanted, given):
     if wanted == given:
         return None
     try:
-        pairs = itertools.zip_longest(entries_of(json.loads(wanted)), entries_of(json.loads(given)), fillvalue='nothing')
+        pairs = itertools.zip_longest(
+            entries_of(json.loads(wanted)), entries_of(json.loads(given)), fillvalue='nothing'
+        )
         differing = next((pair for pair in pairs if pair[0] != pair[1]), None)
     except ValueError:
         return f'no JSON, of {len(given)} bytes and not {len(wanted)}'
@@ -253,10 +311,14 @@ def fault_of_maps(wanted, given):
 
 def fault_of(run):
     """What is wrong in a run, or None."""
-    done, files = heard(run.session, run.before, run.options, {'LD_PRELOAD': interposed(), 'READ_STEP': '65536'})
+    done, files = heard(
+        run.session, run.before, run.options, {'LD_PRELOAD': interposed(), 'READ_STEP': '65536'}
+    )
     if done.returncode != 0 or done.stderr:
         return f'exit status {done.returncode}, {done.stderr.decode()[:300]}'
-    return fault_of_replies(run.session, run.replies, done.stdout) or fault_of_maps(run.after, files)
+    return fault_of_replies(run.session, run.replies, done.stdout) or fault_of_maps(
+        run.after, files
+    )
 
 
 def test_each_cell_set():

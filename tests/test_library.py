@@ -1,6 +1,6 @@
-"""Tries the library in `lib/`: the calls of Python and of C on their edges, on random bytes, and under the sanitizers of the C
-compiler; the examples in both languages, which make the same map; and the package's forms of lines, which are those of the
-program's help."""
+"""Tries the library in `lib/`: the calls of Python and of C on their edges, on random bytes, and
+under the sanitizers of the C compiler; the examples in both languages, which make the same map; and
+the package's forms of lines, which are those of the program's help."""
 import copy
 import os
 import pickle
@@ -33,7 +33,8 @@ def raises(kind, call, *words):
 
 
 def test_editors_that_are_closed_or_forked():
-    """An editor can't be copied or pickled; a closed one, and one in a forked process, hears nothing."""
+    """An editor can't be copied or pickled; a closed one, and one in a forked process, hears
+    nothing."""
     editor = Editor(limit=5)
     raises(TypeError, copy.copy, editor)
     raises(TypeError, copy.deepcopy, editor)
@@ -84,10 +85,15 @@ def test_files_that_are_saved():
         assert editor.step('status').split(' ')[2] == 'clean'
         file = Path(top) / 'a.tmj'
         file.chmod(0o640)
-        assert editor.save_file('a.tmj').startswith('saved a.tmj ') and file.stat().st_mode & 0o777 == 0o640
+        assert (
+            editor.save_file('a.tmj').startswith('saved a.tmj ')
+            and file.stat().st_mode & 0o777 == 0o640
+        )
         assert raises(Refused, editor.open_file, 'a.tmj').code == 11
         assert editor.open_file('a.tmj', 'b').startswith('ok')
-        assert sorted(os.listdir(top)) == ['a.tmj', 'folder.tmj', 'pipe.tmj'] and editor.files() == []
+        assert (
+            sorted(os.listdir(top)) == ['a.tmj', 'folder.tmj', 'pipe.tmj'] and editor.files() == []
+        )
         editor.step('begin M')
         assert raises(Refused, editor.save_file, 'a.tmj').code == 20
         assert raises(Refused, editor.step, 'stamp').forms == FORMS['stamp']
@@ -104,17 +110,26 @@ def test_what_no_line_tells():
         raises(KeyError, editor.layer_id, 'Walls')
         editor.open_map('groups', (EXAMPLE_MAPS / 'groups.tmj').read_bytes())
         drawn = list(layers_in(editor.map()['layers']))
-        assert any('layers' in layer for layer in drawn) and len(drawn) > len(editor.map()['layers'])
+        assert any('layers' in layer for layer in drawn) and len(drawn) > len(
+            editor.map()['layers']
+        )
         for layer in drawn:
             first = next(each for each in drawn if each['name'] == layer['name'])
             assert editor.layer_id(layer['name']) == first['id']
         objects = [each for layer in drawn for each in layer.get('objects', ())]
         for each in objects:
-            assert editor.object_id(each['name']) == next(other for other in objects if other['name'] == each['name'])['id']
+            assert (
+                editor.object_id(each['name'])
+                == next(other for other in objects if other['name'] == each['name'])['id']
+            )
         editor.step('use a')
         editor.step('select replace 1 1 2 2')
         assert editor.selection() == [(1, 1, 2), (2, 1, 2)]
-        assert editor.clean_index() == 0 and editor.is_macro(0) is False and editor.is_macro(99) is None
+        assert (
+            editor.clean_index() == 0
+            and editor.is_macro(0) is False
+            and editor.is_macro(99) is None
+        )
         raises(ValueError, editor.put_file, '../a', b'')
 
 
@@ -133,7 +148,11 @@ def test_threads():
             each.start()
         for each in work:
             each.join()
-        assert len(replies) == 8000 and set(reply[:5] for reply in replies) <= {b'ok 1/', b'ok 0/', b'no 21'}
+        assert len(replies) == 8000 and set(reply[:5] for reply in replies) <= {
+            b'ok 1/',
+            b'ok 0/',
+            b'no 21',
+        }
 
 
 def test_random_bytes():
@@ -148,9 +167,12 @@ def test_random_bytes():
 
 # ---- C
 
+
 def ran(program, *words):
     """Runs a program in C; what it finds wrong it says on standard error."""
-    done = subprocess.run([program, *words], cwd=TOP, stdout=subprocess.DEVNULL, stderr=subprocess.PIPE, text=True)
+    done = subprocess.run(
+        [program, *words], cwd=TOP, stdout=subprocess.DEVNULL, stderr=subprocess.PIPE, text=True
+    )
     assert done.returncode == 0, f'{words}: status {done.returncode}: {done.stderr[-2000:]}'
     passed()
 
@@ -173,11 +195,22 @@ def test_examples_in_c_and_python():
 
 # ---- forms
 
+
 def test_forms_of_the_package():
-    """They are those of the program's help. Those of `prop set` name each type, and the help names none."""
+    """They are those of the program's help. Those of `prop set` name each type, and the help names
+    none."""
     given = [form for forms in FORMS.values() for each in forms for form in spread(each)]
     typed = [form for form in given if form.startswith('prop set ')]
-    assert {form.split(' ')[4] for form in typed} == {'string', 'file', 'int', 'bool', 'color', 'object'}, typed
+    assert {form.split(' ')[4] for form in typed} == {
+        'string',
+        'file',
+        'int',
+        'bool',
+        'color',
+        'object',
+    }, typed
     fault = unlike(sorted({*HELP} - {'prop set OWNER KEY TYPE VALUE'}), sorted({*given} - {*typed}))
     assert not fault, fault
-    assert all(form.split(' ')[0].rstrip('+') == word for word, forms in FORMS.items() for form in forms)
+    assert all(
+        form.split(' ')[0].rstrip('+') == word for word, forms in FORMS.items() for form in forms
+    )

@@ -1,5 +1,5 @@
-"""Runs the session files of `sessions/`, those without options, through the Python package and the library in `lib/`: they must
-give the replies and the files that stand there."""
+"""Runs the session files of `sessions/`, those without options, through the Python package and the
+library in `lib/`: they must give the replies and the files that stand there."""
 import sys
 
 from lib.cases import check_in_processes

@@ -1,7 +1,8 @@
-"""Refuses each growth of memory in turn while `map_report --table` reads a map and writes it, and while `map_report` reports a
-file. Whichever growth is refused, the answer is either that there is no memory or the ordinary one; or the program ends with
-status 1, where the memory that it wants for itself is refused, and what it has written by then is right. The line of a map
-that is refused may lack the place. native/interpose.c refuses the growths."""
+"""Refuses each growth of memory in turn while `map_report --table` reads a map and writes it, and
+while `map_report` reports a file. Whichever growth is refused, the answer is either that there is
+no memory or the ordinary one; or the program ends with status 1, where the memory that it wants for
+itself is refused, and what it has written by then is right. The line of a map that is refused may
+lack the place. native/interpose.c refuses the growths."""
 import subprocess
 
 from lib.cases import CORES, Case, check_each, passed
@@ -10,13 +11,30 @@ from lib.places import MAP_REPORT, TOP
 from lib.refusals import refusal
 
 MAPS = TOP / 'crates' / 'map_report' / 'data' / 'maps'
-READ = ['layers', 'base64', 'flips', 'objects', 'properties', 'image_layer', 'two_tilesets', 'groups', 'house']
+READ = [
+    'layers',
+    'base64',
+    'flips',
+    'objects',
+    'properties',
+    'image_layer',
+    'two_tilesets',
+    'groups',
+    'house',
+]
 REPORTED = ['layers', 'groups', 'properties', 'infinite', 'opacity_half', 'zlib']
 
 
 def told(word, lines, growth=0):
     """What the program does with a word and some lines, with one growth refused, or none for 0."""
-    return subprocess.run([MAP_REPORT, word], input=lines, capture_output=True, timeout=60, env=refusing(growth), cwd=MAPS)
+    return subprocess.run(
+        [MAP_REPORT, word],
+        input=lines,
+        capture_output=True,
+        timeout=60,
+        env=refusing(growth),
+        cwd=MAPS,
+    )
 
 
 def fault_with(growth, done):
@@ -24,7 +42,8 @@ def fault_with(growth, done):
 
 
 def fault_of_table(case):
-    """What is wrong where each growth of the reading and the writing of a map is refused, or None."""
+    """What is wrong where each growth of the reading and the writing of a map is refused, or
+    None."""
     rows = b'load %s %s.tmj\nread %s\n' % ((case.given.encode(),) * 3)
     done = told('--table', rows)
     front, arrow, text = done.stdout.partition(b' => ')
@@ -57,7 +76,11 @@ def fault_of_report(case):
     for growth in range(1, growths + 1):
         came = told(file, b'', growth)
         is_full = (came.returncode, came.stdout) == (done.returncode, done.stdout)
-        if not is_full and (came.returncode != 1 or came.stdout not in short and not done.stdout.startswith(came.stdout)):
+        if not is_full and (
+            came.returncode != 1
+            or came.stdout not in short
+            and not done.stdout.startswith(came.stdout)
+        ):
             return fault_with(growth, came)
     passed(growths)
     return None
@@ -68,4 +91,6 @@ def test_maps_that_are_read_and_written():
 
 
 def test_maps_that_are_reported():
-    check_each([Case(name, f'{name}.tmj', refusal(90)) for name in REPORTED], fault_of_report, CORES)
+    check_each(
+        [Case(name, f'{name}.tmj', refusal(90)) for name in REPORTED], fault_of_report, CORES
+    )

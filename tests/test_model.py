@@ -1,7 +1,8 @@
-"""Compares the plain model of the editor, by which other steps tell what must come, with the session files, whose replies were
-written by the rules: it must give the same replies and leave the same files. Lines that the model does not read are left out,
-those that are refused for how they are spelled, and maps that are refused or can't be written; and so are long sessions and
-large maps, for which it is slow."""
+"""Compares the plain model of the editor, by which other steps tell what must come, with the
+session files, whose replies were written by the rules: it must give the same replies and leave the
+same files. Lines that the model does not read are left out, those that are refused for how they are
+spelled, and maps that are refused or can't be written; and so are long sessions and large maps, for
+which it is slow."""
 import re
 
 from lib.cases import check_in_processes
@@ -25,4 +26,11 @@ def fault_of(run):
 
 
 def test_replies_of_sessions():
-    check_in_processes([run for run in all_runs() if len(run.session) <= LONGEST and not MAKES_LARGE.search(run.session)], fault_of)
+    check_in_processes(
+        [
+            run
+            for run in all_runs()
+            if len(run.session) <= LONGEST and not MAKES_LARGE.search(run.session)
+        ],
+        fault_of,
+    )

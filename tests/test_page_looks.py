@@ -1,19 +1,35 @@
-"""Looks at what the page to draw on shows, by its pixels in Chromium: the example maps as their tilesets have them, hidden layers,
-flips, tiles of other sizes than a cell as Tiled draws them, the grid, the selection, objects and their names, and the palette."""
+"""Looks at what the page to draw on shows, by its pixels in Chromium: the example maps as their
+tilesets have them, hidden layers, flips, tiles of other sizes than a cell as Tiled draws them, the
+grid, the selection, objects and their names, and the palette."""
 from lib.cases import passed
 from page import tiles
-from page.bench import (Bench, GROUND, Tiles, choose, colours_now, corner_of, free_places, layer_of, middle_of,
-                        object_of, points_at, see_colours, spelled, standing)
+from page.bench import (
+    Bench,
+    GROUND,
+    Tiles,
+    choose,
+    colours_now,
+    corner_of,
+    free_places,
+    layer_of,
+    middle_of,
+    object_of,
+    points_at,
+    see_colours,
+    spelled,
+    standing,
+)
 from page.browser import ActionChains, pixels
 
 NEEDS_BROWSER = True
 IS_LONG = True
 # The colour of the object that is chosen.
-CHOSEN = (0xff, 0xd3, 0x4d)
+CHOSEN = (0xFF, 0xD3, 0x4D)
 
 
 def test_seen():
-    """The town is drawn as its tilesets have it; a hidden layer goes, and so does a group; all comes back."""
+    """The town is drawn as its tilesets have it; a hidden layer goes, and so does a group; all
+    comes back."""
     with Bench() as page:
         places = list(free_places(page.server.map(), 3))
         see_colours(page, places)
@@ -37,12 +53,24 @@ def test_flips():
 
 
 def test_tilesets():
-    """The example maps, with tilesets in `.tsx` and `.tsj` files and in the map, with cells in base64, and with groups."""
-    names = ('two_tilesets.tmj', 'house.tmj', 'base64.tmj', 'groups.tmj', 'image_layer.tmj', 'town.tmj')
+    """The example maps, with tilesets in `.tsx` and `.tsj` files and in the map, with cells in
+    base64, and with groups."""
+    names = (
+        'two_tilesets.tmj',
+        'house.tmj',
+        'base64.tmj',
+        'groups.tmj',
+        'image_layer.tmj',
+        'town.tmj',
+    )
     with Bench(*names) as page:
         for name in names:
             page.click(f'.tab[data-document="{name[:-4]}"]')
-            places = [place for place in free_places(page.server.map()) if name != 'town.tmj' or place[0] % 4 == 0]
+            places = [
+                place
+                for place in free_places(page.server.map())
+                if name != 'town.tmj' or place[0] % 4 == 0
+            ]
             assert places
             for pixel in ((5, 9), (12, 3)):
                 see_colours(page, places, pixel)
@@ -62,7 +90,9 @@ def test_colours_without_image():
 def test_grid():
     """The grid darkens the edges of the cells, and goes by its key and comes by its button."""
     with Bench() as page:
-        points = points_at(page, [(16 * x, 16 * y + 8) for x, y in ((3, 20), (9, 21), (20, 4), (30, 27))])
+        points = points_at(
+            page, [(16 * x, 16 * y + 8) for x, y in ((3, 20), (9, 21), (20, 4), (30, 27))]
+        )
         seen = page.colours(points)
         page.ctrl('g')
         bare = page.colours(points)
@@ -80,7 +110,10 @@ def test_selection_seen():
         page.keys('r')
         page.drag([(3, 3), (5, 4)])
         after = page.colours(points)
-        assert all(before[at] != after[at] for at in (0, 1)) and before[2:] == after[2:], (before, after)
+        assert all(before[at] != after[at] for at in (0, 1)) and before[2:] == after[2:], (
+            before,
+            after,
+        )
         page.ctrl('z')
         assert page.colours(points) == before
 
@@ -91,11 +124,16 @@ def frame_of(thing):
 
 
 def test_objects_seen():
-    """An object is a frame with a name; while it is dragged the page draws it where the hand is, and sends its one line at the end."""
+    """An object is a frame with a name; while it is dragged the page draws it where the hand is,
+    and sends its one line at the end."""
     with Bench() as page:
-        number = next(each['id'] for each in layer_of(page, 'Places')['objects'] if each['name'] == 'Inn')
+        number = next(
+            each['id'] for each in layer_of(page, 'Places')['objects'] if each['name'] == 'Inn'
+        )
         was, scale = object_of(page, number), corner_of(page)[2]
-        points = points_at(page, frame_of(was) + frame_of({**was, 'x': was['x'] + 40, 'y': was['y'] + 24}))
+        points = points_at(
+            page, frame_of(was) + frame_of({**was, 'x': was['x'] + 40, 'y': was['y'] + 24})
+        )
         shown = page.colours(points)
         page.click(f'#layers li[data-layer="{choose(page, "Places")}"] .eye')
         bare = page.colours(points)
@@ -113,12 +151,17 @@ def test_objects_seen():
         page.settle()
         way = colours_now(page, points)
         assert way[:2] == bare[:2] and way[2] == CHOSEN and way[3] != bare[3], (way, bare)
-        assert [line for line in spelled(page) if line.startswith('object')] == [] and object_of(page, number) == was
+        assert [line for line in spelled(page) if line.startswith('object')] == [] and object_of(
+            page, number
+        ) == was
         chain = ActionChains(page.driver, duration=30)
         chain.w3c_actions.pointer_action.pointer_up(button=0)
         chain.perform()
         page.settle()
-        assert spelled(page)[-1] == f"object move {number} {was['x'] + 40} {was['y'] + 24}" and standing(page)[0] == 1
+        assert (
+            spelled(page)[-1] == f"object move {number} {was['x'] + 40} {was['y'] + 24}"
+            and standing(page)[0] == 1
+        )
         assert page.colours(points) == way
 
 
@@ -129,8 +172,13 @@ def test_palette():
         wanted = {(at % 8, at // 8): tiles.colour(at + 1, 8, 8) for at in range(32)}
         solid = {place: colour[:3] for place, colour in wanted.items() if colour[3] == 255}
         code = 'const pen = document.getElementById("palette").getContext("2d"); return arguments[0].map(([x, y]) => [...pen.getImageData(x, y, 1, 1).data])'
-        seen = [tuple(each[:3]) for each in page.js(code, [(32 * x + 17, 32 * y + 17) for x, y in solid])]
-        assert seen == list(solid.values()) and len(set(seen)) > 5, [each for each in zip(solid, seen, solid.values()) if each[1] != each[2]]
+        seen = [
+            tuple(each[:3])
+            for each in page.js(code, [(32 * x + 17, 32 * y + 17) for x, y in solid])
+        ]
+        assert seen == list(solid.values()) and len(set(seen)) > 5, [
+            each for each in zip(solid, seen, solid.values()) if each[1] != each[2]
+        ]
 
 
 def test_tiles_as_tiled():
@@ -139,12 +187,23 @@ def test_tiles_as_tiled():
     with bench as page:
         tiles.put_map(bench.folder)
         page.say('open sizes sizes.tmj')
-        page.js('const {view} = roskevad; view.scale = 1; view.originX = view.originY = 40; view.redraw()')
+        page.js(
+            'const {view} = roskevad; view.scale = 1; view.originX = view.originY = 40; view.redraw()'
+        )
         page.settle()
         wide, high = tiles.WIDTH * tiles.SIDE, tiles.HEIGHT * tiles.SIDE
-        seen = page.js('return [...roskevad.view.pen.getImageData(40, 40, ...arguments).data]', wide, high)
+        seen = page.js(
+            'return [...roskevad.view.pen.getImageData(40, 40, ...arguments).data]', wide, high
+        )
         points = [(x, y) for y in range(high) for x in range(wide)]
-        wanted = [each[:3] if each[3] else GROUND for each in pixels(page.driver, tiles.PICTURE.read_bytes(), points)]
-        unlike = [point for at, point in enumerate(points) if tuple(seen[4 * at:4 * at + 3]) != wanted[at]]
+        wanted = [
+            each[:3] if each[3] else GROUND
+            for each in pixels(page.driver, tiles.PICTURE.read_bytes(), points)
+        ]
+        unlike = [
+            point
+            for at, point in enumerate(points)
+            if tuple(seen[4 * at : 4 * at + 3]) != wanted[at]
+        ]
         assert not unlike and len(set(wanted)) > 5, unlike[:5]
         passed(len(points))

@@ -1,12 +1,13 @@
-"""Draws 40 strokes by chance on the page in Chromium: each is one step or none, an undo gives back the map before it, and the page
-has the map that the editor has."""
+"""Draws 40 strokes by chance on the page in Chromium: each is one step or none, an undo gives back
+the map before it, and the page has the map that the editor has."""
 import random
 
 from lib.cases import passed
-from page.bench import Bench, choose, spelled, standing
+from page.bench import Bench, spelled, standing
 
 NEEDS_BROWSER = True
 IS_LONG = True
+STROKES = 40
 
 
 def random_stamp(numbers):
@@ -18,8 +19,8 @@ def random_stamp(numbers):
 
 
 def random_way(numbers):
-    """A way of the hand over a map of 10 by 8 cells, and a little beside it. Some go straight out of the map: a stamp of two tiles may
-    then give back all that it changed, and go on."""
+    """A way of the hand over a map of 10 by 8 cells, and a little beside it. Some go straight out
+    of the map: a stamp of two tiles may then give back all that it changed, and go on."""
     if numbers.random() < 0.4:
         x, y, goal = numbers.randrange(10), numbers.randrange(8), numbers.choice([-1, 11])
         return [(x, y), (goal, y), (goal, (y + 1) % 8), (numbers.randrange(10), (y + 1) % 8)]
@@ -30,30 +31,62 @@ def random_way(numbers):
     return way
 
 
+LINES_BETWEEN = [
+    'select none',
+    'select replace 2 2 5 4',
+    'select add 0 0 4 3',
+    'clean',
+    'undo',
+    'begin M',
+    'end',
+]
+
+
+def tell_server(page, line):
+    page.server.lines(line)
+    page.settle()
+
+
+def take_tool(page, numbers):
+    """Takes a tool, a size of the brush and a stamp by chance."""
+    page.js(
+        'roskevad.tools.choose(arguments[0]); roskevad.bench.brushSize = arguments[1];'
+        'roskevad.bench.takeStamp(arguments[2])',
+        numbers.choice(['brush', 'brush', 'eraser']),
+        numbers.choice([1, 1, 2, 3]),
+        random_stamp(numbers),
+    )
+
+
+def draw(page, numbers):
+    """Draws a stroke: it is one step or none, and an undo gives back the map before it. Gives
+    whether the map has changed, and whether a step vanished on the way."""
+    before, (index, _), lines = page.server.map(), standing(page), len(spelled(page))
+    page.stroke(random_way(numbers))
+    now, after, depth = page.server.map(), standing(page)[0], page.server.state()['depth']
+    said = spelled(page)[lines:]
+    assert page.js('return [...roskevad.editor.map.layers[0].cells]') == now['layers'][0]['data']
+    assert depth or after == index + (now != before), (said, index, after)
+    if not depth and now != before:
+        page.server.lines('undo')
+        assert page.server.map() == before, said
+        page.server.lines('redo')
+    page.settle()
+    return now != before, sum(line.startswith(('stamp ', 'erase ')) for line in said) > 1
+
+
 def test_random_strokes():
-    """Strokes by chance: each is one step or none, an undo gives back the map before it, and the page has the map that the editor has."""
-    numbers, stamps, vanished = random.Random(20261125), 0, 0
+    numbers, came = random.Random(20261125), []
     with Bench(empty=True) as page:
         page.say('new a 10 8 16 16 tiles.tsx')
-        page.server.lines('stamp 1 0 0 10 ' + ','.join(str(numbers.choice([1, 2])) for _ in range(80)))
-        page.settle()
-        for _ in range(40):
+        tell_server(
+            page, 'stamp 1 0 0 10 ' + ','.join(str(numbers.choice([1, 2])) for _ in range(80))
+        )
+        for _ in range(STROKES):
             if numbers.random() < 0.3:
-                page.server.lines(numbers.choice(['select none', 'select replace 2 2 5 4', 'select add 0 0 4 3', 'clean', 'undo', 'begin M', 'end']))
-                page.settle()
-            page.js('roskevad.tools.choose(arguments[0]); roskevad.bench.brushSize = arguments[1]; roskevad.bench.takeStamp(arguments[2])',
-                    numbers.choice(['brush', 'brush', 'eraser']), numbers.choice([1, 1, 2, 3]), random_stamp(numbers))
-            before, (index, _), lines = page.server.map(), standing(page), len(spelled(page))
-            page.stroke(random_way(numbers))
-            now, after, depth = page.server.map(), standing(page)[0], page.server.state()['depth']
-            assert page.js('return [...roskevad.editor.map.layers[0].cells]') == now['layers'][0]['data']
-            stamps += now != before
-            vanished += sum(line.startswith(('stamp ', 'erase ')) for line in spelled(page)[lines:]) > 1
-            assert depth or after == index + (now != before), (spelled(page)[lines:], index, after)
-            if not depth and now != before:
-                page.server.lines('undo')
-                assert page.server.map() == before, spelled(page)[lines:]
-                page.server.lines('redo')
-            page.settle()
-    passed(40)
-    assert stamps and vanished, f'{stamps} steps, {vanished} of which vanished on their way'
+                tell_server(page, numbers.choice(LINES_BETWEEN))
+            take_tool(page, numbers)
+            came.append(draw(page, numbers))
+            passed()
+    steps, vanished = map(sum, zip(*came))
+    assert steps and vanished, f'{steps} steps, {vanished} of which vanished on their way'

@@ -1,6 +1,6 @@
-"""Asks the server of the page, `./tile_page`, over raw sockets for what it must give and what it must refuse: addresses, keys,
-hosts, methods, bodies, files of the folder, many and slow connections; the wheel of the package, which serves the page from
-elsewhere; and command lines."""
+"""Asks the server of the page, `./tile_page`, over raw sockets for what it must give and what it
+must refuse: addresses, keys, hosts, methods, bodies, files of the folder, many and slow
+connections; the wheel of the package, which serves the page from elsewhere; and command lines."""
 import json
 import os
 import re
@@ -15,7 +15,7 @@ import urllib.request
 import zipfile
 from pathlib import Path
 
-from lib.cases import Case, check_each, passed, unlike
+from lib.cases import Case, check_each, unlike
 from lib.places import EXAMPLE_MAPS, TOP
 from page.door import Door, opened, read_answer
 
@@ -27,9 +27,14 @@ TOWN = b'new town 4 3 16 16 town.tsj\nstamp 1 1 1 2 5,6\n# quiet\nundo\nnope\n'
 
 
 def test_address():
-    """The address stands alone on the first line, and the server answers at no other address of the machine."""
+    """The address stands alone on the first line, and the server answers at no other address of the
+    machine."""
     with opened() as (door, _):
-        door.want('the address', re.fullmatch(r'http://127\.0\.0\.1:[0-9]+/\?key=[0-9a-f]{32}\n', door.address), door.address)
+        door.want(
+            'the address',
+            re.fullmatch(r'http://127\.0\.0\.1:[0-9]+/\?key=[0-9a-f]{32}\n', door.address),
+            door.address,
+        )
         try:
             socket.create_connection(('127.0.0.2', door.port), timeout=10).close()
             is_refused = False
@@ -41,32 +46,71 @@ def test_address():
 def test_page_and_headers():
     with opened() as (door, _):
         got = door.ask('GET', f'/?{door.query}')
-        door.want('the page', got[0] == 200 and b'text/html' in got[1] and b'<canvas' in got[2], got[:2])
+        door.want(
+            'the page', got[0] == 200 and b'text/html' in got[1] and b'<canvas' in got[2], got[:2]
+        )
         for answer in (got, door.ask('GET', '/'), door.ask('GET', f'/state?{door.query}')):
             head = answer[1].lower()
-            door.want('the headers', b'referrer-policy: no-referrer' in head and b'cache-control: no-store' in head, head)
+            door.want(
+                'the headers',
+                b'referrer-policy: no-referrer' in head and b'cache-control: no-store' in head,
+                head,
+            )
 
 
 def test_lines_that_are_heard():
     """Lines in one request, with `stop` and with `after`; the map and the session."""
     with opened() as (door, _):
         got = door.ask('POST', door.lines, TOWN)
-        door.want('lines are heard', got[2] == b'ok 0/0 clean 0\nok 1/1 dirty 0\nok 0/1 clean 0\nno 3 unknown command\n', got)
-        door.want('another connection has the same editor', door.ask('POST', door.lines, b'status')[2] == b'ok 0/1 clean 0\n')
+        door.want(
+            'lines are heard',
+            got[2] == b'ok 0/0 clean 0\nok 1/1 dirty 0\nok 0/1 clean 0\nno 3 unknown command\n',
+            got,
+        )
+        door.want(
+            'another connection has the same editor',
+            door.ask('POST', door.lines, b'status')[2] == b'ok 0/1 clean 0\n',
+        )
         door.want('no body is no line', door.ask('POST', door.lines)[::2] == (200, b''))
-        door.want('localhost', door.status('POST', door.lines, b'status\n', host=f'localhost:{door.port}') == 200)
-        door.want('this site', door.status('POST', door.lines, b'status\n', extra=f'origin: http://127.0.0.1:{door.port}\r\n') == 200)
+        door.want(
+            'localhost',
+            door.status('POST', door.lines, b'status\n', host=f'localhost:{door.port}') == 200,
+        )
+        door.want(
+            'this site',
+            door.status(
+                'POST', door.lines, b'status\n', extra=f'origin: http://127.0.0.1:{door.port}\r\n'
+            )
+            == 200,
+        )
         got = door.ask('GET', f'/map?{door.query}')
-        door.want('the map is what show says', b'map ' + got[2] + b'\n' == door.ask('POST', door.lines, b'show\n')[2], got)
-        door.want('the session', door.ask('GET', f'/session?{door.query}')[2] == b'new town 4 3 16 16 town.tsj\nstamp 1 1 1 2 5,6\nundo\n')
+        door.want(
+            'the map is what show says',
+            b'map ' + got[2] + b'\n' == door.ask('POST', door.lines, b'show\n')[2],
+            got,
+        )
+        door.want(
+            'the session',
+            door.ask('GET', f'/session?{door.query}')[2]
+            == b'new town 4 3 16 16 town.tsj\nstamp 1 1 1 2 5,6\nundo\n',
+        )
         got = door.ask('POST', f'{door.lines}&stop', b'nope\nredo\n')
-        door.want('with stop none is heard behind a refusal', got[2] == b'no 3 unknown command\n', got)
+        door.want(
+            'with stop none is heard behind a refusal', got[2] == b'no 3 unknown command\n', got
+        )
         got = door.ask('POST', f'{door.lines}&after=0', b'redo\n')
-        door.want('with another count of changes none is heard', got[2] == b'' and b'Roskevad-Heard: 0' in got[1], got)
+        door.want(
+            'with another count of changes none is heard',
+            got[2] == b'' and b'Roskevad-Heard: 0' in got[1],
+            got,
+        )
 
 
 def see_nothing_done(door):
-    door.want('what was refused did nothing', door.ask('POST', door.lines, b'status\n')[2] == b'ok 0/1 clean 0\n')
+    door.want(
+        'what was refused did nothing',
+        door.ask('POST', door.lines, b'status\n')[2] == b'ok 0/1 clean 0\n',
+    )
 
 
 def test_requests_of_others():
@@ -83,8 +127,12 @@ def test_requests_of_others():
             'another host': door.status('POST', door.lines, undo, host=f'evil.example:{door.port}'),
             'another port': door.status('POST', door.lines, undo, host='127.0.0.1:1'),
             'two hosts': door.status('POST', door.lines, undo, extra='host: evil.example\r\n'),
-            'another site': door.status('POST', door.lines, undo, extra='origin: http://evil.example\r\n'),
-            'a site that is hidden': door.status('POST', door.lines, undo, extra='origin: null\r\n'),
+            'another site': door.status(
+                'POST', door.lines, undo, extra='origin: http://evil.example\r\n'
+            ),
+            'a site that is hidden': door.status(
+                'POST', door.lines, undo, extra='origin: null\r\n'
+            ),
         }
         door.want('403', set(refusals.values()) == {403}, refusals)
         with door.connect() as link:
@@ -97,16 +145,43 @@ def test_requests_that_are_wrong():
     """Paths, methods, targets and lengths."""
     with opened() as (door, _):
         door.ask('POST', door.lines, TOWN)
-        for path in ('/other', '/static/none.js', '/static/..%2fserver.py', '/static/index.html', '/lines/', '/map/x', '/tiles/'):
+        for path in (
+            '/other',
+            '/static/none.js',
+            '/static/..%2fserver.py',
+            '/static/index.html',
+            '/lines/',
+            '/map/x',
+            '/tiles/',
+        ):
             got = door.status('GET', f'{path}?{door.query}')
             door.want('404', got == 404, (path, got))
-        for method, path in (('POST', '/'), ('GET', '/lines'), ('DELETE', '/lines'), ('HEAD', '/'), ('POST', '/map'), ('PUT', '/state'), ('POST', '/tiles/tiles.png')):
-            got = door.status(method, f'{path}?{door.query}', b'undo\n' if method == 'POST' else b'')
+        for method, path in (
+            ('POST', '/'),
+            ('GET', '/lines'),
+            ('DELETE', '/lines'),
+            ('HEAD', '/'),
+            ('POST', '/map'),
+            ('PUT', '/state'),
+            ('POST', '/tiles/tiles.png'),
+        ):
+            got = door.status(
+                method, f'{path}?{door.query}', b'undo\n' if method == 'POST' else b''
+            )
             door.want('405', got == 405, (method, path, got))
         door.want('400 for what is no HTTP', door.status('\x01', door.lines) == 400)
-        door.want('400 for a target that is no path', door.status('GET', f'http://127.0.0.1:{door.port}/?{door.query}') == 400)
-        door.want('400 for a length that is none', door.ask('POST', door.lines, extra='content-length: -1\r\n')[0] == 400)
-        door.want('411 for pieces', door.ask('POST', door.lines, extra='transfer-encoding: chunked\r\n')[0] == 411)
+        door.want(
+            '400 for a target that is no path',
+            door.status('GET', f'http://127.0.0.1:{door.port}/?{door.query}') == 400,
+        )
+        door.want(
+            '400 for a length that is none',
+            door.ask('POST', door.lines, extra='content-length: -1\r\n')[0] == 400,
+        )
+        door.want(
+            '411 for pieces',
+            door.ask('POST', door.lines, extra='transfer-encoding: chunked\r\n')[0] == 411,
+        )
         see_nothing_done(door)
 
 
@@ -117,15 +192,29 @@ def test_bodies():
         door.want('413 above 1 MiB, 20 times', got == [413] * 20, got)
         began = time.monotonic()
         got = door.ask('POST', door.lines, extra=f'content-length: {LONGEST + 1}\r\n')[0]
-        door.want('413 for a body that is only said to be so long, and no wait for it', got == 413 and time.monotonic() - began < SILENCE / 2)
-        got = door.ask('POST', door.lines, extra=f'expect: 100-continue\r\ncontent-length: {LONGEST + 1}\r\n')[0]
+        door.want(
+            '413 for a body that is only said to be so long, and no wait for it',
+            got == 413 and time.monotonic() - began < SILENCE / 2,
+        )
+        got = door.ask(
+            'POST', door.lines, extra=f'expect: 100-continue\r\ncontent-length: {LONGEST + 1}\r\n'
+        )[0]
         door.want('413 and not 100 for a body that is announced', got == 413, got)
-        door.want('1 MiB is heard', door.ask('POST', door.lines, b'# quiet\n' * 131072)[::2] == (200, b''))
+        door.want(
+            '1 MiB is heard', door.ask('POST', door.lines, b'# quiet\n' * 131072)[::2] == (200, b'')
+        )
         with door.connect() as link:
-            link.sendall(door.request('POST', door.lines, b'redo\n') + door.request('POST', door.lines, b'undo\n'))
+            link.sendall(
+                door.request('POST', door.lines, b'redo\n')
+                + door.request('POST', door.lines, b'undo\n')
+            )
             first = read_answer(link)
             second = read_answer(link, first[3])
-            door.want('two requests in one piece', (first[2], second[2]) == (b'ok 1/1 dirty 0\n', b'ok 0/1 clean 0\n'), (first, second))
+            door.want(
+                'two requests in one piece',
+                (first[2], second[2]) == (b'ok 1/1 dirty 0\n', b'ok 0/1 clean 0\n'),
+                (first, second),
+            )
         with door.connect() as link:
             for byte in door.request('POST', door.lines, b'status\n'):
                 link.sendall(bytes([byte]))
@@ -134,11 +223,17 @@ def test_bodies():
 
 # ---- many connections, and slow ones
 
+
 def ask_for_long_answer(door):
-    """Asks for an answer that is longer than what a socket takes at once, and reads it late, and for longer than a silent connection stands,
-    while other things are asked. Gives what waits for it."""
+    """Asks for an answer that is longer than what a socket takes at once, and reads it late, and
+    for longer than a silent connection stands, while other things are asked. Gives what waits for
+    it."""
     link, answers = door.connect(), []
-    link.sendall(door.request('POST', door.lines, b'new big 1024 1024 16 16 big.tsj\nfill 1 0 0 7\n' + b'show\n' * 20))
+    link.sendall(
+        door.request(
+            'POST', door.lines, b'new big 1024 1024 16 16 big.tsj\nfill 1 0 0 7\n' + b'show\n' * 20
+        )
+    )
     while b'*big' not in door.ask('POST', door.lines, b'list\n')[2]:
         time.sleep(0.05)
 
@@ -152,7 +247,11 @@ def ask_for_long_answer(door):
     def wait():
         reading.join()
         link.close()
-        door.want('a long answer', [(got[0], got[2].count(b'\n')) for got in answers] == [(200, 22)], [(got[0], len(got[2])) for got in answers])
+        door.want(
+            'a long answer',
+            [(got[0], got[2].count(b'\n')) for got in answers] == [(200, 22)],
+            [(got[0], len(got[2])) for got in answers],
+        )
 
     reading = threading.Thread(target=read)
     reading.start()
@@ -163,7 +262,10 @@ def see_many(door):
     many = [door.connect() for _ in range(100)]
     for link in many:
         link.sendall(door.request('POST', door.lines, b'list\n'))
-    door.want('100 connections at once', [read_answer(link)[2] for link in many] == [b'docs town *big\n'] * 100)
+    door.want(
+        '100 connections at once',
+        [read_answer(link)[2] for link in many] == [b'docs town *big\n'] * 100,
+    )
     for link in many:
         link.close()
 
@@ -173,20 +275,41 @@ def see_state(door):
     said = 'new state 4 3 16 16 town.tsj|begin Two|stamp 1 0 0 1 5|erase 1 0 0 1 1|end|select replace 1 1 2 1|begin Open|stamp 1 0 0 1 5'
     door.ask('POST', door.lines, said.replace('|', '\n').encode())
     state = door.state()
-    told = {name: state[name] for name in ('active', 'index', 'count', 'depth', 'isClean', 'cleanIndex', 'selection')}
-    wanted = {'active': 'state', 'index': 2, 'count': 3, 'depth': 1, 'isClean': False, 'cleanIndex': 0, 'selection': [[1, 1, 2]]}
+    told = {
+        name: state[name]
+        for name in ('active', 'index', 'count', 'depth', 'isClean', 'cleanIndex', 'selection')
+    }
+    wanted = {
+        'active': 'state',
+        'index': 2,
+        'count': 3,
+        'depth': 1,
+        'isClean': False,
+        'cleanIndex': 0,
+        'selection': [[1, 1, 2]],
+    }
     door.want('how it stands', told == wanted, told)
     steps = [(step['text'], step['isMacro']) for step in state['steps']]
     door.want('the steps', steps[:2] == [('Two', True), ('Select', False)], steps)
     documents = [(each['name'], each['isActive'], each['isClean']) for each in state['documents']]
-    door.want('the documents', documents[-1] == ('state', True, False) and len([each for each in documents if each[1]]) == 1, documents)
+    door.want(
+        'the documents',
+        documents[-1] == ('state', True, False)
+        and len([each for each in documents if each[1]]) == 1,
+        documents,
+    )
     lines = [(line, reply) for _, line, reply in state['lines']]
-    door.want('the lines', lines[-2:] == [('begin Open', 'ok 2/3 dirty 1'), ('stamp 1 0 0 1 5', 'ok 2/3 dirty 1')], lines[-2:])
+    door.want(
+        'the lines',
+        lines[-2:] == [('begin Open', 'ok 2/3 dirty 1'), ('stamp 1 0 0 1 5', 'ok 2/3 dirty 1')],
+        lines[-2:],
+    )
     door.ask('POST', door.lines, b'discard state\nuse town\n')
 
 
 def see_threads(door):
-    """Requests of eight threads at once: the lines of one stand together, and who looks meanwhile sees a whole state."""
+    """Requests of eight threads at once: the lines of one stand together, and who looks meanwhile
+    sees a whole state."""
     door.ask('POST', door.lines, b'use town\ngoto 0\n')
     replies, states = [], []
 
@@ -200,8 +323,16 @@ def see_threads(door):
         each.start()
     for each in work:
         each.join()
-    door.want('lines of one request stand together', set(replies) == {b'ok 1/1 dirty 0\nok 1/1 dirty 0\nok 0/1 clean 0\n'} and len(replies) == 320, set(replies))
-    told = {(state['active'], state['index'], state['count'], len(state['documents'])) for state in states}
+    door.want(
+        'lines of one request stand together',
+        set(replies) == {b'ok 1/1 dirty 0\nok 1/1 dirty 0\nok 0/1 clean 0\n'}
+        and len(replies) == 320,
+        set(replies),
+    )
+    told = {
+        (state['active'], state['index'], state['count'], len(state['documents']))
+        for state in states
+    }
     door.want('a state is one between requests', told == {('town', 0, 1, 2)}, told)
 
 
@@ -214,10 +345,14 @@ def test_many_and_slow_connections():
         see_state(door)
         see_threads(door)
         wait_for_long_answer()
-        door.want('silent connections end', [link.recv(1) for link in door.silent] == [b''] * len(door.silent))
+        door.want(
+            'silent connections end',
+            [link.recv(1) for link in door.silent] == [b''] * len(door.silent),
+        )
 
 
 # ---- files
+
 
 def test_images_and_tilesets():
     """Images and tilesets of the folder, and nothing else of the machine."""
@@ -233,11 +368,28 @@ def test_images_and_tilesets():
         def told(name):
             return door.ask('GET', f'/tiles/{name}?{door.query}')[::2]
 
-        door.want('an image', told('tiles.png') == (200, b'image') and told('in/walls.tsx') == (200, b'<tileset/>'))
-        for name in ('../secret.png', '..%2fsecret.png', 'in/../../secret.png', '%2fetc/passwd', str(folder.parent / 'secret.png'), 'link.png',
-                     'pipe.png', 'notes.txt', 'in', 'none.png', 'a%00.png', '.'):
+        door.want(
+            'an image',
+            told('tiles.png') == (200, b'image') and told('in/walls.tsx') == (200, b'<tileset/>'),
+        )
+        for name in (
+            '../secret.png',
+            '..%2fsecret.png',
+            'in/../../secret.png',
+            '%2fetc/passwd',
+            str(folder.parent / 'secret.png'),
+            'link.png',
+            'pipe.png',
+            'notes.txt',
+            'in',
+            'none.png',
+            'a%00.png',
+            '.',
+        ):
             got = told(name)
-            door.want('404 for what is no tileset or image of the folder', got[0] == 404, (name, got))
+            door.want(
+                '404 for what is no tileset or image of the folder', got[0] == 404, (name, got)
+            )
 
 
 def test_files_of_the_folder():
@@ -248,7 +400,13 @@ def test_files_of_the_folder():
         said = b'open a pipe.tmj\nopen a none.tmj\nopen a ../a.tmj\nsave ../a.tmj\nsave a.tmj\nopen a a.tmj\nopen a a.tmj\n'
         got = door.ask('POST', door.lines, said)[2].split(b'\n')
         wanted = [b'no 51 store failed', b'no 50 no such file', b'no 4 bad word', b'no 4 bad word']
-        door.want('files', got[:4] == wanted and got[4].startswith(b'saved a.tmj ') and got[5:] == [b'ok 0/0 clean 0', b'no 11 name taken', b''], got)
+        door.want(
+            'files',
+            got[:4] == wanted
+            and got[4].startswith(b'saved a.tmj ')
+            and got[5:] == [b'ok 0/0 clean 0', b'no 11 name taken', b''],
+            got,
+        )
 
 
 def wheel_in(folder):
@@ -286,10 +444,13 @@ def test_the_wheel_has_the_page():
 
 # ---- command lines
 
+
 def fault_of_words(case):
     done = subprocess.run([TOP / 'tile_page', *case.given], capture_output=True, timeout=20)
     status, told = case.wanted
-    return unlike((status, b''), (done.returncode, done.stdout)) or (None if told in done.stderr else unlike(told, done.stderr))
+    return unlike((status, b''), (done.returncode, done.stdout)) or (
+        None if told in done.stderr else unlike(told, done.stderr)
+    )
 
 
 def test_command_lines_that_are_refused():
@@ -308,7 +469,13 @@ def test_command_lines_that_are_refused():
             ([folder / 'none.tmj'], 1, b'no 50 no such file'),
             ([folder / 'broken.tmj'], 1, b'no 60 not JSON'),
         ]
-        check_each([Case(' '.join(map(str, words)), words, (status, told)) for words, status, told in rows], fault_of_words)
+        check_each(
+            [
+                Case(' '.join(map(str, words)), words, (status, told))
+                for words, status, told in rows
+            ],
+            fault_of_words,
+        )
 
 
 def test_which_folder_and_documents():
@@ -322,14 +489,23 @@ def test_which_folder_and_documents():
             keys.add(door.query)
         finally:
             door.end()
-        return unlike(case.wanted, (Path(state['folder']), [each['name'] for each in state['documents']]))
+        return unlike(
+            case.wanted, (Path(state['folder']), [each['name'] for each in state['documents']])
+        )
 
     town, layers = EXAMPLE_MAPS / 'town.tmj', EXAMPLE_MAPS / 'layers.tmj'
     with tempfile.TemporaryDirectory() as folder:
-        check_each([
-            Case('no words', [], (Path.cwd(), [])),
-            Case('two maps', [town, layers], (EXAMPLE_MAPS, ['town', 'layers'])),
-            Case('a folder and a map', ['--folder', EXAMPLE_MAPS, layers], (EXAMPLE_MAPS, ['layers'])),
-            Case('a folder', ['--folder', folder], (Path(folder).resolve(), [])),
-        ], fault_of)
+        check_each(
+            [
+                Case('no words', [], (Path.cwd(), [])),
+                Case('two maps', [town, layers], (EXAMPLE_MAPS, ['town', 'layers'])),
+                Case(
+                    'a folder and a map',
+                    ['--folder', EXAMPLE_MAPS, layers],
+                    (EXAMPLE_MAPS, ['layers']),
+                ),
+                Case('a folder', ['--folder', folder], (Path(folder).resolve(), [])),
+            ],
+            fault_of,
+        )
     assert len(keys) == 4, keys

@@ -1,8 +1,20 @@
-"""Edits layers, groups, objects, properties and the map's size on the page in Chromium, by mouse, keys and dialogs: each edit is
-the line that it must be, and is seen."""
+"""Edits layers, groups, objects, properties and the map's size on the page in Chromium, by mouse,
+keys and dialogs: each edit is the line that it must be, and is seen."""
 from lib.maps import layers_in
-from page.bench import (Bench, cell, choose, corner_of, free_places, layer_of, middle_of, object_of, see_colours,
-                        spelled, standing, take_tile)
+from page.bench import (
+    Bench,
+    cell,
+    choose,
+    corner_of,
+    free_places,
+    layer_of,
+    middle_of,
+    object_of,
+    see_colours,
+    spelled,
+    standing,
+    take_tile,
+)
 from page.browser import ActionChains, Keys
 from selenium.webdriver.common.actions.wheel_input import ScrollOrigin
 from selenium.webdriver.support.ui import Select
@@ -12,27 +24,40 @@ IS_LONG = True
 
 
 def test_objects():
-    """An object is dragged, with one line; set by the table; a new one is drawn, named and deleted."""
+    """An object is dragged, with one line; set by the table; a new one is drawn, named and
+    deleted."""
     with Bench() as page:
-        number = next(o['id'] for layer in layers_in(page.server.map()['layers']) for o in layer.get('objects', ()) if o['name'] == 'Inn')
+        number = next(
+            o['id']
+            for layer in layers_in(page.server.map()['layers'])
+            for o in layer.get('objects', ())
+            if o['name'] == 'Inn'
+        )
         was, scale = object_of(page, number), page.js('return roskevad.view.scale')
         page.keys('s')
         x, y = middle_of(page, number)
         page.drag_points([[x, y], [x + 30, y + 9], [x + 40, y + 20]])
         moved = object_of(page, number)
-        assert spelled(page) == [f"object move {number} {round(was['x'] + 40 / scale)} {round(was['y'] + 20 / scale)}"], spelled(page)
+        assert spelled(page) == [
+            f"object move {number} {round(was['x'] + 40 / scale)} {round(was['y'] + 20 / scale)}"
+        ], spelled(page)
         x, y = middle_of(page, number)
         page.drag_points([[x, y], [x + 3, y], [x - 25, y - 3]], Keys.CONTROL)
         assert object_of(page, number)['x'] % 16 == 0 and object_of(page, number)['x'] < moved['x']
         page.click('#of-object')
         page.type_into('#properties input[data-key=" width"]', 48)
-        assert object_of(page, number)['width'] == 48 and spelled(page)[-1].startswith(f'object resize {number} 48 ')
+        assert object_of(page, number)['width'] == 48 and spelled(page)[-1].startswith(
+            f'object resize {number} 48 '
+        )
         count = standing(page)[1]
         page.keys('i')
         page.drag([(20, 5), (22, 6)])
         page.fill_in(name='gate to the east')
         layer = page.js('return roskevad.bench.layerId')
-        assert spelled(page)[-1] == f'object add {layer} 320 80 48 32 gate to the east' and standing(page)[1] == count + 1
+        assert (
+            spelled(page)[-1] == f'object add {layer} 320 80 48 32 gate to the east'
+            and standing(page)[1] == count + 1
+        )
         page.keys('s')
         page.drag([(21, 5)])
         page.keys(Keys.DELETE)
@@ -45,15 +70,23 @@ def test_layers():
         page.click('#add-tile-layer')
         page.fill_in(name='Clouds over all')
         number = layer_of(page, 'Clouds over all')['id']
-        assert page.js('return roskevad.bench.layerId') == number and page.texts('#layers .name')[0] == 'Clouds over all'
+        assert (
+            page.js('return roskevad.bench.layerId') == number
+            and page.texts('#layers .name')[0] == 'Clouds over all'
+        )
         page.drag([(1, 1)])
         assert cell(page, number, 1, 1) != 0
         page.click('#layer-down')
         place = len(page.server.map()['layers']) - 2
-        assert spelled(page)[-1] == f'layer move {number} {place}' and page.texts('#layers .name')[0] != 'Clouds over all'
+        assert (
+            spelled(page)[-1] == f'layer move {number} {place}'
+            and page.texts('#layers .name')[0] != 'Clouds over all'
+        )
         page.click('#layer-up')
         page.click('#layer-up')
-        assert 'out of range' in page.bubble() and page.texts('#layers .name')[0] == 'Clouds over all'
+        assert (
+            'out of range' in page.bubble() and page.texts('#layers .name')[0] == 'Clouds over all'
+        )
         page.click('#rename-layer')
         page.fill_in(name='Mist')
         assert layer_of(page, 'Mist')['id'] == number
@@ -65,13 +98,18 @@ def test_layers():
 
 
 def test_groups():
-    """A group stands in the tree above its layers; it is moved, and removed with all that is in it; a layer in it is drawn on."""
+    """A group stands in the tree above its layers; it is moved, and removed with all that is in it;
+    a layer in it is drawn on."""
     with Bench() as page:
         houses = layer_of(page, 'Houses')
         inside = len(list(layers_in(houses['layers'])))
         shown = page.texts('#layers .name')
         at = shown.index('Houses')
-        assert set(shown[at + 1:at + 1 + inside]) == {layer['name'] for layer in layers_in(houses['layers'])} and shown[-1] == 'Ground'
+        assert (
+            set(shown[at + 1 : at + 1 + inside])
+            == {layer['name'] for layer in layers_in(houses['layers'])}
+            and shown[-1] == 'Ground'
+        )
         number = choose(page, 'Cottages')
         take_tile(page, (3, 1))
         page.drag([(2, 2), (5, 2)])
@@ -83,7 +121,10 @@ def test_groups():
         page.drag([(2, 2)])
         assert 'layer of another kind' in page.bubble()
         page.click('#layer-down')
-        assert page.server.map()['layers'][0]['id'] == houses['id'] and page.texts('#layers .name')[-1] != 'Ground'
+        assert (
+            page.server.map()['layers'][0]['id'] == houses['id']
+            and page.texts('#layers .name')[-1] != 'Ground'
+        )
         see_colours(page, list(free_places(page.server.map(), 9)))
         page.click('#remove-layer')
         assert len(page.texts('#layers li')) == len(shown) - 1 - inside
@@ -115,18 +156,36 @@ def test_properties():
 
 def test_kinds_of_properties():
     """Each kind of property is set by its row."""
-    values = {'string': 'two words', 'int': '-5', 'bool': 'true', 'color': '#ff8800', 'file': 'wind.ogg', 'object': '2'}
+    values = {
+        'string': 'two words',
+        'int': '-5',
+        'bool': 'true',
+        'color': '#ff8800',
+        'file': 'wind.ogg',
+        'object': '2',
+    }
     with Bench() as page:
         for kind, value in values.items():
             page.find('#new-name').send_keys(f'a_{kind}')
             Select(page.find('#new-type')).select_by_visible_text(kind)
             page.find('#new-value').send_keys(value)
             page.click('#add-property')
-        assert spelled(page) == [f'prop set map a_{kind} {kind} {value}' for kind, value in values.items()]
-        told = {each['name']: (each['type'], each['value']) for each in page.server.map()['properties']}
-        assert told['a_int'] == ('int', -5) and told['a_bool'] == ('bool', True) and told['a_color'] == ('color', '#ff8800')
+        assert spelled(page) == [
+            f'prop set map a_{kind} {kind} {value}' for kind, value in values.items()
+        ]
+        told = {
+            each['name']: (each['type'], each['value']) for each in page.server.map()['properties']
+        }
+        assert (
+            told['a_int'] == ('int', -5)
+            and told['a_bool'] == ('bool', True)
+            and told['a_color'] == ('color', '#ff8800')
+        )
         page.type_into('#properties input[data-key="a_int"]', 'many')
-        assert 'bad word' in page.bubble() and page.find('#properties input[data-key="a_int"]').get_attribute('value') == '-5'
+        assert (
+            'bad word' in page.bubble()
+            and page.find('#properties input[data-key="a_int"]').get_attribute('value') == '-5'
+        )
 
 
 def test_resize():
@@ -140,26 +199,45 @@ def test_resize():
 
 
 def test_moving():
-    """The wheel makes the map larger and smaller where the hand is; the middle button moves it; only what is seen is drawn."""
+    """The wheel makes the map larger and smaller where the hand is; the middle button moves it;
+    only what is seen is drawn."""
     with Bench() as page:
         hand = page.point((10, 10))
         scales = [page.js('return roskevad.view.scale')]
         for turn in (100, -100, -100, -100):
-            ActionChains(page.driver).scroll_from_origin(ScrollOrigin.from_viewport(*hand), 0, turn).perform()
-            page.wait(lambda: page.js('return roskevad.view.scale') != scales[-1], 'the wheel changes the scale')
+            ActionChains(page.driver).scroll_from_origin(
+                ScrollOrigin.from_viewport(*hand), 0, turn
+            ).perform()
+            page.wait(
+                lambda: page.js('return roskevad.view.scale') != scales[-1],
+                'the wheel changes the scale',
+            )
             page.settle()
             scales.append(page.js('return roskevad.view.scale'))
         after = page.point((10, 10))
-        assert scales[1] < scales[0] == scales[2] < scales[3] < scales[4] and abs(after[0] - hand[0]) < 24 and abs(after[1] - hand[1]) < 24, scales
+        assert (
+            scales[1] < scales[0] == scales[2] < scales[3] < scales[4]
+            and abs(after[0] - hand[0]) < 24
+            and abs(after[1] - hand[1]) < 24
+        ), scales
         page.drag_points([hand, [hand[0] + 30, hand[1] + 17]], button=1)
         moved = page.point((10, 10))
         assert [moved[0] - after[0], moved[1] - after[1]] == [30, 17] and not spelled(page)
-        see_colours(page, [(x, y) for x, y in free_places(page.server.map(), 2) if 8 < x < 16 and 8 < y < 14])
+        see_colours(
+            page,
+            [(x, y) for x, y in free_places(page.server.map(), 2) if 8 < x < 16 and 8 < y < 14],
+        )
         for way in ((-160, 90), (70, -200), (40, 60)):
             page.drag_points([[800, 500], [800 + way[0], 500 + way[1]]], button=1)
-        box = page.js('const box = roskevad.view.box.getBoundingClientRect(); return [box.left, box.top, box.right, box.bottom]')
+        box = page.js(
+            'const box = roskevad.view.box.getBoundingClientRect(); return [box.left, box.top, box.right, box.bottom]'
+        )
         cells = list(free_places(page.server.map()))
-        seen = [each for each, (x, y) in zip(cells, page.places(cells, (5, 9))) if box[0] < x - 2 < box[2] - 4 and box[1] < y - 2 < box[3] - 4]
+        seen = [
+            each
+            for each, (x, y) in zip(cells, page.places(cells, (5, 9)))
+            if box[0] < x - 2 < box[2] - 4 and box[1] < y - 2 < box[3] - 4
+        ]
         see_colours(page, seen)
         page.click('#fit')
         page.click('#grid')
@@ -167,13 +245,16 @@ def test_moving():
 
 
 def test_keys():
-    """Keys that choose and move: all cells and none, Delete, the scale, and the space bar with the hand."""
+    """Keys that choose and move: all cells and none, Delete, the scale, and the space bar with the
+    hand."""
     with Bench() as page:
         ground = choose(page, 'Ground')
         page.ctrl('a')
         assert len(page.js('return roskevad.editor.map.runs')) == 30
         page.keys(Keys.DELETE)
-        assert spelled(page) == ['select replace 0 0 40 30', f'erase {ground} 0 0 40 30'] and set(layer_of(page, 'Ground')['data']) == {0}
+        assert spelled(page) == ['select replace 0 0 40 30', f'erase {ground} 0 0 40 30'] and set(
+            layer_of(page, 'Ground')['data']
+        ) == {0}
         page.ctrl('z')
         page.ctrl('a', Keys.SHIFT)
         assert page.js('return roskevad.editor.map.runs') == []

@@ -1,5 +1,5 @@
-"""Works with documents on the page in Chromium: steps, macros, files, refusals, the box of lines, a session that is copied, the page
-loaded anew, two tabs on one editor, and a server that ends."""
+"""Works with documents on the page in Chromium: steps, macros, files, refusals, the box of lines, a
+session that is copied, the page loaded anew, two tabs on one editor, and a server that ends."""
 import shutil
 import subprocess
 from pathlib import Path
@@ -29,7 +29,11 @@ def test_turns():
         page.ctrl('y')
         assert standing(page) == (3, 3)
         page.click('#steps li[data-place="1"]')
-        assert standing(page) == (1, 3) and spelled(page)[-1] == 'goto 1' and cell(page, ground, 5, 20) != 6
+        assert (
+            standing(page) == (1, 3)
+            and spelled(page)[-1] == 'goto 1'
+            and cell(page, ground, 5, 20) != 6
+        )
         assert page.find('#steps li.now').get_attribute('data-place') == '1'
         assert len(page.texts('#steps li.undone')) == 2
         page.click('#undo')
@@ -49,12 +53,19 @@ def test_macro():
         page.drag([(3, 20), (6, 20)])
         page.drag([(3, 22), (6, 22)])
         state = page.server.state()
-        assert state['depth'] == 1 and 'End macro' in page.find('#macro').text, (state['depth'], spelled(page))
+        assert state['depth'] == 1 and 'End macro' in page.find('#macro').text, (
+            state['depth'],
+            spelled(page),
+        )
         page.open()
-        assert 'End macro' in page.find('#macro').text, 'a page that is loaded anew knows the open macro'
+        assert (
+            'End macro' in page.find('#macro').text
+        ), 'a page that is loaded anew knows the open macro'
         page.click('#macro')
         state = page.server.state()
-        assert state['depth'] == 0 and [(step['text'], step['isMacro']) for step in state['steps']] == [('Fence', True)]
+        assert state['depth'] == 0 and [
+            (step['text'], step['isMacro']) for step in state['steps']
+        ] == [('Fence', True)]
         assert page.texts('#steps li .kind')[-1] == 'macro'
 
 
@@ -100,14 +111,24 @@ def test_files():
 def test_refusals():
     """A refusal is said in words where the hand is, and nothing changes."""
     with Bench() as page:
-        things = next(layer['name'] for layer in layers_in(page.server.map()['layers']) if layer['type'] == 'objectgroup')
+        things = next(
+            layer['name']
+            for layer in layers_in(page.server.map()['layers'])
+            if layer['type'] == 'objectgroup'
+        )
         choose(page, things)
         before, count = page.server.map(), standing(page)
         page.keys('b')
         page.drag([(3, 20), (9, 20)])
-        place = page.js('const box = document.getElementById("bubble").getBoundingClientRect(); return [box.left, box.top]')
+        place = page.js(
+            'const box = document.getElementById("bubble").getBoundingClientRect(); return [box.left, box.top]'
+        )
         hand = page.point((3, 20))
-        assert 'layer of another kind' in page.bubble() and abs(place[0] - hand[0]) < 160 and abs(place[1] - hand[1]) < 60, (place, hand)
+        assert (
+            'layer of another kind' in page.bubble()
+            and abs(place[0] - hand[0]) < 160
+            and abs(place[1] - hand[1]) < 60
+        ), (place, hand)
         choose(page, 'Ground')
         page.js('roskevad.bench.takeStamp({width: 1, height: 1, values: [0x0fffffff]})')
         page.js('roskevad.editor.map.data.tilesets.length')
@@ -126,7 +147,10 @@ def test_box():
         page.wait(lambda: box.get_attribute('value') in ('undo', 'undo '), 'the word is completed')
         box.clear()
         box.send_keys('open x lay', Keys.TAB)
-        page.wait(lambda: box.get_attribute('value').strip() == 'open x layers.tmj', 'the file is completed')
+        page.wait(
+            lambda: box.get_attribute('value').strip() == 'open x layers.tmj',
+            'the file is completed',
+        )
         box.send_keys(Keys.BACKSPACE, Keys.ENTER)
         page.settle()
         box.send_keys('status', Keys.ENTER, Keys.ARROW_UP, Keys.ARROW_UP)
@@ -140,18 +164,28 @@ def played(bench, session, before):
     """The folder behind a session that `tile_editor` plays over files as they were."""
     folder = Path(bench.top.name) / 'played'
     shutil.copytree(before, folder)
-    done = subprocess.run([BIN / 'tile_editor', '--folder', folder, *bench.options], input=session, capture_output=True, timeout=60)
+    done = subprocess.run(
+        [BIN / 'tile_editor', '--folder', folder, *bench.options],
+        input=session,
+        capture_output=True,
+        timeout=60,
+    )
     assert done.returncode == 0 and b'\nno ' not in b'\n' + done.stdout, done.stdout[-300:]
     return folder
 
 
 def test_session():
-    """'Copy as session' is played by the program to the same file: strokes, macros, undone steps, refused lines, another document
-    between them, a limit, and a save in the middle."""
+    """'Copy as session' is played by the program to the same file: strokes, macros, undone steps,
+    refused lines, another document between them, a limit, and a save in the middle."""
     bench = Bench(limit=6)
     with bench as page:
-        page.driver.execute_cdp_cmd('Browser.grantPermissions', {'origin': page.server.address.split('/?')[0],
-                                                            'permissions': ['clipboardReadWrite', 'clipboardSanitizedWrite']})
+        page.driver.execute_cdp_cmd(
+            'Browser.grantPermissions',
+            {
+                'origin': page.server.address.split('/?')[0],
+                'permissions': ['clipboardReadWrite', 'clipboardSanitizedWrite'],
+            },
+        )
         choose(page, 'Ground')
         take_tile(page, (3, 1))
         for y in (20, 21, 22):
@@ -168,11 +202,21 @@ def test_session():
         page.click('.tab[data-document="town"]')
         page.keys('e')
         page.drag([(12, 20), (12, 25)])
-        for line in ('prop set map mood string calm', 'undo', 'redo', 'resize 41 30 0 0', 'save end.tmj'):
+        for line in (
+            'prop set map mood string calm',
+            'undo',
+            'redo',
+            'resize 41 30 0 0',
+            'save end.tmj',
+        ):
             page.say(line)
         page.click('#copy')
         session = page.js('return navigator.clipboard.readText()')
-        assert session.encode() == page.server.session() and 'frob' not in session and 'other' not in session
+        assert (
+            session.encode() == page.server.session()
+            and 'frob' not in session
+            and 'other' not in session
+        )
         folder = played(bench, session.encode(), EXAMPLE_MAPS)
         for name in ('end.tmj', 'town.tmj'):
             assert (folder / name).read_bytes() == (bench.folder / name).read_bytes()
@@ -188,9 +232,14 @@ def other_tab(page):
 
 
 def test_loaded_anew():
-    """In the middle of work the page is loaded anew: it shows the same documents, steps, selection, open macro and lines."""
+    """In the middle of work the page is loaded anew: it shows the same documents, steps, selection,
+    open macro and lines."""
+
     def seen(page):
-        return [page.texts(css) for css in ('#steps li', '.tab', '#layers li', '#lines li', '#standing', '#macro')]
+        return [
+            page.texts(css)
+            for css in ('#steps li', '.tab', '#layers li', '#lines li', '#standing', '#macro')
+        ]
 
     with Bench('town.tmj', 'layers.tmj') as page:
         page.click('.tab[data-document="town"]')
@@ -208,15 +257,20 @@ def test_loaded_anew():
         page.driver.refresh()
         page.open()
         assert seen(page) == before, (seen(page), before)
-        assert page.js('return roskevad.editor.map.runs') == runs and cell(page, ground, 4, 21) == 12
+        assert (
+            page.js('return roskevad.editor.map.runs') == runs and cell(page, ground, 4, 21) == 12
+        )
         choose(page, 'Ground')
         page.drag([(3, 22), (5, 22)])
         page.click('#macro')
-        assert standing(page)[1] == page.server.state()['count'] and page.server.state()['depth'] == 0
+        assert (
+            standing(page)[1] == page.server.state()['count'] and page.server.state()['depth'] == 0
+        )
 
 
 def test_two_tabs():
-    """Two tabs have one editor: each sees what the other does, and a stroke never joins one of the other tab."""
+    """Two tabs have one editor: each sees what the other does, and a stroke never joins one of the
+    other tab."""
     with Bench() as page:
         ground = choose(page, 'Ground')
         take_tile(page, (3, 1))
@@ -231,11 +285,16 @@ def test_two_tabs():
         see_colours(page, [(4, 20), (4, 21)])
         page.drag([(3, 22), (6, 22)])
         assert standing(page) == (3, 3), spelled(page)
-        # The other tab draws in the middle of this one's stroke: the lines of this stroke that come behind begin a step of their own.
-        page.js('''const hand = (kind, [x, y]) => document.getElementById("view").dispatchEvent(
+        # The other tab draws in the middle of this one's stroke: the lines of this stroke that come
+        # behind begin a step of their own.
+        page.js(
+            '''const hand = (kind, [x, y]) => document.getElementById("view").dispatchEvent(
                      new PointerEvent(kind, {clientX: x, clientY: y, button: 0, pointerId: 7, bubbles: true}));
                    document.getElementById("view").setPointerCapture = () => {};
-                   globalThis.hand = hand; hand("pointerdown", arguments[0]); hand("pointermove", arguments[1]);''', page.point((3, 24)), page.point((4, 24)))
+                   globalThis.hand = hand; hand("pointerdown", arguments[0]); hand("pointermove", arguments[1]);''',
+            page.point((3, 24)),
+            page.point((4, 24)),
+        )
         page.settle()
         page.server.lines(f'stamp {ground} 20 24 1 6')
         for x in (6, 7):
@@ -255,7 +314,8 @@ def test_two_tabs():
 
 
 def test_server_that_ends():
-    """Where the server is gone the page says so, and sends nothing; behind a new start its new address works."""
+    """Where the server is gone the page says so, and sends nothing; behind a new start its new
+    address works."""
     bench = Bench()
     with bench as page:
         choose(page, 'Ground')
@@ -263,21 +323,38 @@ def test_server_that_ends():
         page.drag([(3, 20), (6, 20)])
         page.ctrl('s')
         bench.server.end()
-        page.wait(lambda: 'has ended' in page.find('#gone').text, 'the page says that the server is gone')
-        lines, asked = page.texts('#lines li'), page.js('return performance.getEntriesByType("resource").length')
+        page.wait(
+            lambda: 'has ended' in page.find('#gone').text, 'the page says that the server is gone'
+        )
+        lines, asked = page.texts('#lines li'), page.js(
+            'return performance.getEntriesByType("resource").length'
+        )
         hand = page.point((3, 22))
-        page.js('''document.getElementById("view").setPointerCapture = () => {};
+        page.js(
+            '''document.getElementById("view").setPointerCapture = () => {};
                    document.getElementById("view").dispatchEvent(new PointerEvent("pointerdown",
-                     {clientX: arguments[0], clientY: arguments[1], button: 0, pointerId: 7, bubbles: true}))''', *hand)
+                     {clientX: arguments[0], clientY: arguments[1], button: 0, pointerId: 7, bubbles: true}))''',
+            *hand,
+        )
         page.find('#layer-up').click()
         page.find('#line').send_keys('undo', Keys.ENTER)
         page.wait(lambda: 'ended' in page.bubble(), 'the hand is told')
         page.js('return new Promise(done => setTimeout(done, 1500))')
-        assert page.texts('#lines li') == lines and page.js('return performance.getEntriesByType("resource").length') == asked
+        assert (
+            page.texts('#lines li') == lines
+            and page.js('return performance.getEntriesByType("resource").length') == asked
+        )
         page.driver.get_log('browser')
-        bench.server = page.server = Server(bench.folder, '--port', str(bench.server.parts.port), str(bench.folder / 'town.tmj'))
+        bench.server = page.server = Server(
+            bench.folder, '--port', str(bench.server.parts.port), str(bench.folder / 'town.tmj')
+        )
         page.find('#try-again').click()
-        page.wait(lambda: 'Another server' in page.find('#gone').text, 'the page says that another server is there')
+        page.wait(
+            lambda: 'Another server' in page.find('#gone').text,
+            'the page says that another server is there',
+        )
         page.driver.get_log('browser')
         page.open()
-        assert cells_with(page, 'Ground', 12) >= {(x, 20) for x in range(3, 7)} and standing(page) == (0, 0)
+        assert cells_with(page, 'Ground', 12) >= {(x, 20) for x in range(3, 7)} and standing(
+            page
+        ) == (0, 0)

@@ -1,5 +1,6 @@
-"""Compares the maps that `rt ci` reads with those of the examples: a program that it runs is given the files of its own crate
-alone. Besides, the pictures of the tiles must be those that their script draws."""
+"""Compares the maps that `rt ci` reads with those of the examples: a program that it runs is given
+the files of its own crate alone. Besides, the pictures of the tiles must be those that their script
+draws."""
 import subprocess
 import sys
 
@@ -12,9 +13,16 @@ OF_EXAMPLES = ('.png', '.tsx', '.tsj', 'README.md')
 
 
 def test_maps_of_the_gate():
-    maps = {name: data for name, data in files_in(EXAMPLE_MAPS).items() if not name.endswith(OF_EXAMPLES)}
+    maps = {
+        name: data
+        for name, data in files_in(EXAMPLE_MAPS).items()
+        if not name.endswith(OF_EXAMPLES)
+    }
     own = {name: data for name, data in files_in(OWN).items() if not name.endswith(OF_EXAMPLES)}
-    check_each([Case(name, name, maps.get(name)) for name in sorted({*maps, *own})], lambda case: unlike(case.wanted, own.get(case.given)))
+    check_each(
+        [Case(name, name, maps.get(name)) for name in sorted({*maps, *own})],
+        lambda case: unlike(case.wanted, own.get(case.given)),
+    )
 
 
 def test_pictures_of_the_tiles():

@@ -1,5 +1,6 @@
-"""Compares the programs in `bin/`, which `./tile_editor` and `./map_report` run, with those that `rt ci` has proved and built,
-byte for byte. If a program has changed, look at the change and copy it: `cp crates/NAME/out/NAME bin/NAME`."""
+"""Compares the programs in `bin/`, which `./tile_editor` and `./map_report` run, with those that
+`rt ci` has proved and built, byte for byte. If a program has changed, look at the change and copy
+it: `cp crates/NAME/out/NAME bin/NAME`."""
 from lib.cases import Case, check_each, skip
 from lib.places import BIN, TOP, built
 
@@ -8,7 +9,11 @@ PROGRAMS = ('tile_editor', 'map_report')
 
 def fault_of(case):
     is_same = case.given.read_bytes() == case.wanted.read_bytes()
-    return None if is_same else f'it is not the program that was proved: cp {case.wanted.relative_to(TOP)} bin/{case.name}'
+    return (
+        None
+        if is_same
+        else f'it is not the program that was proved: cp {case.wanted.relative_to(TOP)} bin/{case.name}'
+    )
 
 
 def test_programs():

@@ -1,7 +1,8 @@
-"""Opens each example map, stamps a cell, turns it back, and saves; then makes the stamp again, and saves that. In a second run
-each object of the map is moved, all moves are turned back, and then made again. What `show` gives, and what stands in each
-file, must be the text that the map has by the rules of writing: all of its members, with the version 1.10, in byte order of
-their names, without white space. A map that can't be read is refused."""
+"""Opens each example map, stamps a cell, turns it back, and saves; then makes the stamp again, and
+saves that. In a second run each object of the map is moved, all moves are turned back, and then
+made again. What `show` gives, and what stands in each file, must be the text that the map has by
+the rules of writing: all of its members, with the version 1.10, in byte order of their names,
+without white space. A map that can't be read is refused."""
 from lib.cases import CORES, check_each
 from lib.maps import objects_in
 from lib.model import Play
@@ -11,7 +12,8 @@ from lib.sessions import Run, fault_of_run
 
 # The maps that can't be read, with their refusals.
 REFUSED = {'infinite.tmj': 64, 'opacity_half.tmj': 61, 'zlib.tmj': 65}
-# A layer with cells, a cell of it, and a value that every map has a tileset for and none has in that cell.
+# A layer with cells, a cell of it, and a value that every map has a tileset for and none has in
+# that cell.
 STAMP = 'stamp 1 6 4 1 29'
 
 
@@ -24,8 +26,21 @@ def refused_run(name, maps):
 def saving_run(name, maps):
     """Saves a map before a stamp and behind it, and opens both again."""
     run = Play(name, maps)
-    run.hear(f'open m {name}', STAMP, 'undo', 'show', 'save first.tmj', 'redo', 'show', 'save second.tmj', 'status',
-             'open again first.tmj', 'show', 'open third second.tmj', 'show')
+    run.hear(
+        f'open m {name}',
+        STAMP,
+        'undo',
+        'show',
+        'save first.tmj',
+        'redo',
+        'show',
+        'save second.tmj',
+        'status',
+        'open again first.tmj',
+        'show',
+        'open third second.tmj',
+        'show',
+    )
     return run
 
 
@@ -42,11 +57,19 @@ def moving_run(name, maps):
 
 
 def test_maps_that_are_saved():
-    check_each([saving_run(name, example_maps()) for name in example_maps() if name not in REFUSED], fault_of_run, CORES)
+    check_each(
+        [saving_run(name, example_maps()) for name in example_maps() if name not in REFUSED],
+        fault_of_run,
+        CORES,
+    )
 
 
 def test_objects_that_are_moved():
-    check_each([moving_run(name, example_maps()) for name in example_maps() if name not in REFUSED], fault_of_run, CORES)
+    check_each(
+        [moving_run(name, example_maps()) for name in example_maps() if name not in REFUSED],
+        fault_of_run,
+        CORES,
+    )
 
 
 def test_maps_that_are_refused():

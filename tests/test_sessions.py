@@ -1,6 +1,7 @@
-"""Runs the program on the session files of `sessions/`: its replies must be those that stand beside the lines, and the files
-that it leaves those that are named. Each session is run a second time with its bytes given one at a time, or 997 where it is
-large, which native/interpose.c does; it also tells of a save that is not synced before it takes the old file's place."""
+"""Runs the program on the session files of `sessions/`: its replies must be those that stand beside
+the lines, and the files that it leaves those that are named. Each session is run a second time with
+its bytes given one at a time, or 997 where it is large, which native/interpose.c does; it also
+tells of a save that is not synced before it takes the old file's place."""
 from lib.cases import CORES, check_each
 from lib.native import interposed
 from lib.sessions import all_runs, fault_of_run

@@ -1,6 +1,6 @@
-"""Sees what the program does where the system gives it no more memory, and that the library gives back what it takes: a map
-that takes more memory than there is is refused, and the program goes on; 1,000 maps that one editor opens and saves take no
-more memory than 300."""
+"""Sees what the program does where the system gives it no more memory, and that the library gives
+back what it takes: a map that takes more memory than there is is refused, and the program goes on;
+1,000 maps that one editor opens and saves take no more memory than 300."""
 import resource
 import subprocess
 import sys
@@ -23,14 +23,26 @@ SHORT = 64_000_000
 def test_a_map_that_takes_too_much():
     town = (SESSION_MAPS / 'town.tmj').read_bytes()
     _, heavy, _ = HEAVY_TEXTS[-1]
-    rows = [('new town 4 3 16 16 town.tsj', 'ok 0/0 clean 0'), ('open m heavy.tmj', refusal(90)), ('list', 'docs *town'),
-            ('open t town.tmj', 'ok 0/0 clean 0')]
+    rows = [
+        ('new town 4 3 16 16 town.tsj', 'ok 0/0 clean 0'),
+        ('open m heavy.tmj', refusal(90)),
+        ('list', 'docs *town'),
+        ('open t town.tmj', 'ok 0/0 clean 0'),
+    ]
     with tempfile.TemporaryDirectory() as folder:
         (Path(folder) / 'heavy.tmj').write_bytes(with_kept(town, heavy))
         (Path(folder) / 'town.tmj').write_bytes(town)
-        done = subprocess.run([TILE_EDITOR, '--folder', folder], input=''.join(f'{line}\n' for line, _ in rows), text=True,
-                              capture_output=True, timeout=60, preexec_fn=lambda: resource.setrlimit(resource.RLIMIT_AS, (SHORT, SHORT)))
-    fault = unlike((0, [reply for _, reply in rows]), (done.returncode, done.stdout.split('\n')[:-1]))
+        done = subprocess.run(
+            [TILE_EDITOR, '--folder', folder],
+            input=''.join(f'{line}\n' for line, _ in rows),
+            text=True,
+            capture_output=True,
+            timeout=60,
+            preexec_fn=lambda: resource.setrlimit(resource.RLIMIT_AS, (SHORT, SHORT)),
+        )
+    fault = unlike(
+        (0, [reply for _, reply in rows]), (done.returncode, done.stdout.split('\n')[:-1])
+    )
     assert not fault, f'with {SHORT} bytes of memory: {fault}'
 
 

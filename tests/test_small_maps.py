@@ -1,6 +1,7 @@
-"""Runs the program on 400 small random maps beside the plain model of tests/lib/model.py, which keeps whole maps and a set of
-selected cells. Each map gets 30 selections, fills, stamps, erases and resizes, most of them partly outside it. No line tells
-which cells are selected; so behind each select and each resize a stamp over the whole map shows them, and is undone."""
+"""Runs the program on 400 small random maps beside the plain model of tests/lib/model.py, which
+keeps whole maps and a set of selected cells. Each map gets 30 selections, fills, stamps, erases and
+resizes, most of them partly outside it. No line tells which cells are selected; so behind each
+select and each resize a stamp over the whole map shows them, and is undone."""
 import random
 
 from lib.model import Play
@@ -26,11 +27,18 @@ class Drawing(Play):
 
     def area(self):
         chosen = self.chosen
-        return chosen.randint(-3, 7), chosen.randint(-3, 6), chosen.randint(0, 8), chosen.randint(0, 7)
+        return (
+            chosen.randint(-3, 7),
+            chosen.randint(-3, 6),
+            chosen.randint(0, 8),
+            chosen.randint(0, 7),
+        )
 
     def edit(self):
         chosen = self.chosen
-        kind = chosen.choice(('select', 'select', 'fill', 'fill', 'stamp', 'stamp', 'erase', 'resize'))
+        kind = chosen.choice(
+            ('select', 'select', 'fill', 'fill', 'stamp', 'stamp', 'erase', 'resize')
+        )
         self.hear(getattr(self, kind)())
         if kind in ('select', 'resize'):
             self.look_at_selection()

@@ -1,6 +1,7 @@
-"""Runs the tutorials of `docs/tutorials` over copies of the example maps: what each command prints, and the reply to each line,
-must be what stands on the page; the lines must be those of the session file; and the maps that are saved must be what plain
-edits of the example maps' trees make of them."""
+"""Runs the tutorials of `docs/tutorials` over copies of the example maps: what each command prints,
+and the reply to each line, must be what stands on the page; the lines must be those of the session
+file; and the maps that are saved must be what plain edits of the example maps' trees make of
+them."""
 import json
 import shutil
 import tempfile
@@ -30,23 +31,42 @@ def put(tree, number, x, y, rows):
     """Puts rows of values into a layer."""
     for down, row in enumerate(rows):
         at = (y + down) * tree['width'] + x
-        find_layer(tree, number)['data'][at:at + len(row)] = row
+        find_layer(tree, number)['data'][at : at + len(row)] = row
 
 
 def add_object(tree, layer, name, place, *properties):
     """Adds an object with properties."""
     number = tree['nextobjectid']
     x, y, width, height = place
-    layer['objects'].append(thing(number, name=name, x=x, y=y, width=width, height=height, properties=list(properties)))
+    layer['objects'].append(
+        thing(number, name=name, x=x, y=y, width=width, height=height, properties=list(properties))
+    )
     tree['nextobjectid'] = number + 1
 
 
 def with_house():
     """The town with a house in the place of some cells."""
     tree = town()
-    put(tree, 10, 23, 2, [[25, 26, 26, 26, 28, 27], [25, 26, 26, 26, 26, 27], [25, 26, 26, 26, 26, 27], [10, 11, 12, 10, 11, 10]])
+    put(
+        tree,
+        10,
+        23,
+        2,
+        [
+            [25, 26, 26, 26, 28, 27],
+            [25, 26, 26, 26, 26, 27],
+            [25, 26, 26, 26, 26, 27],
+            [10, 11, 12, 10, 11, 10],
+        ],
+    )
     put(tree, 1, 21, 6, [[4] * 5])
-    add_object(tree, find_layer(tree, 16), 'New house', (25 * 16, 5 * 16, 16, 16), property_of('locked', 'bool', False))
+    add_object(
+        tree,
+        find_layer(tree, 16),
+        'New house',
+        (25 * 16, 5 * 16, 16, 16),
+        property_of('locked', 'bool', False),
+    )
     return tree
 
 
@@ -55,7 +75,11 @@ def with_lava():
     tree = town()
     cells = cells_of(find_layer(tree, 1))
     for x, y, width, height in (LAKE, POND):
-        for at in (row * tree['width'] + column for row in range(y, y + height) for column in range(x, x + width)):
+        for at in (
+            row * tree['width'] + column
+            for row in range(y, y + height)
+            for column in range(x, x + width)
+        ):
             if cells[at] == WATER:
                 cells[at] = LAVA
     return tree
@@ -68,21 +92,35 @@ def with_spawn_point(data):
     tree['layers'].append(layer)
     tree['nextlayerid'] += 1
     middle = tree['width'] * tree['tilewidth'] // 2, tree['height'] * tree['tileheight'] // 2
-    add_object(tree, layer, 'spawn', (*middle, 0, 0), property_of('facing', 'string', 'south'), property_of('team', 'int', 1))
+    add_object(
+        tree,
+        layer,
+        'spawn',
+        (*middle, 0, 0),
+        property_of('facing', 'string', 'south'),
+        property_of('team', 'int', 1),
+    )
     return tree
 
 
 def lines_in(session):
     """The lines of a session file that are answered."""
-    return [line for line in session.read_text().split('\n') if line.strip() and not line.startswith('#')]
+    return [
+        line
+        for line in session.read_text().split('\n')
+        if line.strip() and not line.startswith('#')
+    ]
 
 
 def see_files(page, folder, changed, gone=()):
-    """Sees that a folder has the files of the example maps, but for those that are changed, and those that are gone."""
+    """Sees that a folder has the files of the example maps, but for those that are changed, and
+    those that are gone."""
     wanted = {name: data for name, data in files_in(EXAMPLE_MAPS).items() if name not in gone}
     wanted.update(changed)
     files = files_in(folder)
-    differ = sorted(name for name in wanted.keys() | files.keys() if wanted.get(name) != files.get(name))
+    differ = sorted(
+        name for name in wanted.keys() | files.keys() if wanted.get(name) != files.get(name)
+    )
     assert not differ, f'{page.name}: {", ".join(differ)}: not what plain edits make'
 
 
@@ -96,8 +134,10 @@ def see_console(page, clone, console):
 def check_session(name, saved, tree):
     """A page with the lines of one session, and the map that it saves."""
     page = Page(TOP / 'docs' / 'tutorials' / f'{name}.md')
-    run, = page.runs()
-    assert run.lines() == lines_in(EXAMPLES / f'{name}.session'), f'{page.name}: the lines are not those of examples/{name}.session'
+    (run,) = page.runs()
+    assert run.lines() == lines_in(
+        EXAMPLES / f'{name}.session'
+    ), f'{page.name}: the lines are not those of examples/{name}.session'
     with tempfile.TemporaryDirectory() as top:
         folder = Path(top) / 'maps'
         shutil.copytree(EXAMPLE_MAPS, folder)
@@ -121,14 +161,21 @@ def test_lava():
 
 
 def test_spawn_points():
-    """The page has the last of the lines that are printed. Without `tail` all of them are compared, and the status."""
+    """The page has the last of the lines that are printed. Without `tail` all of them are compared,
+    and the status."""
     page = Page(TOP / 'docs' / 'tutorials' / 'spawn_points.md')
     refused, accepted = page.consoles()
-    maps = {name: data for name, data in files_in(EXAMPLE_MAPS).items() if name.endswith('.tmj') and name not in REFUSED}
+    maps = {
+        name: data
+        for name, data in files_in(EXAMPLE_MAPS).items()
+        if name.endswith('.tmj') and name not in REFUSED
+    }
     changed = {name: text_of(with_spawn_point(data)) for name, data in maps.items()}
     told = [f'saved {name} {len(data)}' for name, data in sorted(changed.items())]
     command, printed = accepted[-1]
-    assert command.endswith(LAST_LINE) and printed == told[-1], f'{page.name}: {command}: the page has {printed!r}'
+    assert (
+        command.endswith(LAST_LINE) and printed == told[-1]
+    ), f'{page.name}: {command}: the page has {printed!r}'
     whole = (command.removesuffix(LAST_LINE) + '; echo "status $?"', '\n'.join([*told, 'status 0']))
     for last in accepted[-1], whole:
         with Clone() as clone:

@@ -1,6 +1,6 @@
-"""Compares the version in the file VERSION with every place that names it: what the programs and the Python package print, the
-header, the names of the shared library, the package's own metadata, the page of the library, and the newest heading of
-CHANGELOG.md, where that is there."""
+"""Compares the version in the file VERSION with every place that names it: what the programs and
+the Python package print, the header, the names of the shared library, the package's own metadata,
+the page of the library, and the newest heading of CHANGELOG.md, where that is there."""
 import re
 import subprocess
 import sys
@@ -18,7 +18,13 @@ IN_FILES = [
 
 
 def printed(*words):
-    done = subprocess.run([str(word) for word in words], cwd=TOP, capture_output=True, text=True, env={'PYTHONPATH': str(TOP / 'python')})
+    done = subprocess.run(
+        [str(word) for word in words],
+        cwd=TOP,
+        capture_output=True,
+        text=True,
+        env={'PYTHONPATH': str(TOP / 'python')},
+    )
     return done.returncode, done.stdout, done.stderr
 
 
@@ -34,8 +40,15 @@ def test_the_file():
 def test_what_is_printed():
     """By the programs that are tried, those in `bin/`, and the page's server."""
     programs = sorted({TILE_EDITOR, MAP_REPORT, BIN / 'tile_editor', BIN / 'map_report'})
-    cases = [Case(f'{path.relative_to(TOP)} --version', [path], (0, f'{path.name} {VERSION}\n', '')) for path in programs]
-    page = Case('roskevad.page --version', [sys.executable, '-m', 'roskevad.page'], (0, f'roskevad {VERSION}\n', ''))
+    cases = [
+        Case(f'{path.relative_to(TOP)} --version', [path], (0, f'{path.name} {VERSION}\n', ''))
+        for path in programs
+    ]
+    page = Case(
+        'roskevad.page --version',
+        [sys.executable, '-m', 'roskevad.page'],
+        (0, f'roskevad {VERSION}\n', ''),
+    )
     check_each([*cases, page], lambda case: unlike(case.wanted, printed(*case.given, '--version')))
 
 
@@ -62,4 +75,6 @@ def test_the_newest_heading_of_the_changes():
     newest = re.search(r'(?m)^## \[?v?(\d[^\s\]]*)', page.read_text()) if page.exists() else None
     if not page.exists():
         return
-    assert newest and newest[1] == VERSION, f'CHANGELOG.md: wanted {VERSION}, came {newest and newest[1]}'
+    assert (
+        newest and newest[1] == VERSION
+    ), f'CHANGELOG.md: wanted {VERSION}, came {newest and newest[1]}'

@@ -1,5 +1,5 @@
-"""Finds Chromium, its driver and selenium, which the steps of the page need, and installs them from Debian where they are
-missing and this is root."""
+"""Finds Chromium, its driver and selenium, which the steps of the page need, and installs them from
+Debian where they are missing and this is root."""
 import os
 import shutil
 import subprocess
@@ -11,7 +11,13 @@ PACKAGES = ('chromium', 'chromium-driver', 'python3-selenium')
 def pythons():
     """The interpreters here that have selenium: this one, or Debian's own."""
     for path in (sys.executable, '/usr/bin/python3'):
-        if os.path.exists(path) and subprocess.run([path, '-c', 'import selenium'], stderr=subprocess.DEVNULL).returncode == 0:
+        if (
+            os.path.exists(path)
+            and subprocess.run(
+                [path, '-c', 'import selenium'], stderr=subprocess.DEVNULL
+            ).returncode
+            == 0
+        ):
             yield path
 
 
@@ -23,7 +29,8 @@ def python():
 
 
 def install():
-    """Installs what is missing, where it can. What is still missing then fails the steps that need it."""
+    """Installs what is missing, where it can. What is still missing then fails the steps that need
+    it."""
     if not python()[1] or os.getuid() != 0 or not shutil.which('apt-get'):
         return
     print('installing', *PACKAGES, flush=True)

@@ -1,7 +1,7 @@
 """How a test writes its cases, looks at each, and tells all that are at fault.
 
-A case has a name, what is given to the program, and what must come of it. A test passes its cases to `check_each` with a
-function that gives what is wrong in one, as text, or None:
+A case has a name, what is given to the program, and what must come of it. A test passes its cases
+to `check_each` with a function that gives what is wrong in one, as text, or None:
 
     def fault_of(case):
         return unlike(case.wanted, program(case.given))
@@ -30,6 +30,7 @@ _shared = None
 @dataclass(frozen=True)
 class Case:
     """A name, what is given, and what must come."""
+
     name: str
     given: Any
     wanted: Any
@@ -69,13 +70,15 @@ def told(case, fault):
 
 
 def in_processes(function, items, chunk=1):
-    """What a function of a module gives for each item, in processes side by side. They know what this one knew before."""
+    """What a function of a module gives for each item, in processes side by side. They know what
+    this one knew before."""
     with ProcessPoolExecutor(CORES, mp_context=get_context('fork')) as pool:
         return list(pool.map(function, items, chunksize=chunk))
 
 
 def check_each(cases, fault_of, workers=1):
-    """Looks at each case, several at once where there are workers, counts them, and fails with all that are at fault."""
+    """Looks at each case, several at once where there are workers, counts them, and fails with all
+    that are at fault."""
     cases = list(cases)
     if workers == 1:
         faults = list(map(fault_of, cases))
@@ -86,7 +89,8 @@ def check_each(cases, fault_of, workers=1):
 
 
 def check_in_processes(cases, fault_of):
-    """The same in processes, for what takes this process's time. The function counts no checks of its own there."""
+    """The same in processes, for what takes this process's time. The function counts no checks of
+    its own there."""
     global _shared
     _shared = list(cases), fault_of
     see_faults(_shared[0], in_processes(fault_at, range(len(_shared[0]))))

@@ -1,10 +1,20 @@
-"""What each edit does to a map, plainly: on the tree of its JSON text and a set of selected cells, by the rules of
-docs/session-lines.md and docs/map-files.md."""
+"""What each edit does to a map, plainly: on the tree of its JSON text and a set of selected cells,
+by the rules of docs/session-lines.md and docs/map-files.md."""
 import json
 from dataclasses import dataclass
 from typing import Any, Callable, Optional
 
-from lib.maps import FLAGLESS, MOST_LAYERS, cells_of, layers_in, objects_in, set_cells, thing, things, tiles
+from lib.maps import (
+    FLAGLESS,
+    MOST_LAYERS,
+    cells_of,
+    layers_in,
+    objects_in,
+    set_cells,
+    thing,
+    things,
+    tiles,
+)
 
 MOST_COLUMNS, MOST_CELLS, MOST_PIXELS = 4096, 1_048_576, 1_000_000_000
 MOST_OBJECTS, MOST_ENTRIES, LAST_ID, LAST_FIRST_ID = 4096, 256, 2_147_483_647, 268_435_455
@@ -20,7 +30,9 @@ class Refused(Exception):
 
 @dataclass
 class Draft:
-    """A map that an edit changes, and its selected cells; where none is selected, all may be changed."""
+    """A map that an edit changes, and its selected cells; where none is selected, all may be
+    changed."""
+
     tree: dict
     selection: set
 
@@ -33,7 +45,9 @@ class Draft:
     def rectangle(self, x, y, width, height):
         """The cells of a rectangle that are in the map."""
         right, below = min(x + width, self.tree['width']), min(y + height, self.tree['height'])
-        return {(column, row) for row in range(max(y, 0), below) for column in range(max(x, 0), right)}
+        return {
+            (column, row) for row in range(max(y, 0), below) for column in range(max(x, 0), right)
+        }
 
     def put(self, layer, values):
         """Gives cells of a layer these values, where they may be changed."""
@@ -46,15 +60,23 @@ class Draft:
 
 # ---- what stands where
 
+
 def tileset_of(tree, value):
     """The first id of the tileset that a value belongs to, or None."""
-    ids = [tileset['firstgid'] for tileset in tree['tilesets'] if tileset['firstgid'] <= value % FLAGLESS]
+    ids = [
+        tileset['firstgid']
+        for tileset in tree['tilesets']
+        if tileset['firstgid'] <= value % FLAGLESS
+    ]
     return max(ids, default=None)
 
 
 def siblings_of(tree, number):
     """The list that a layer stands in, and its place there."""
-    lists = [tree['layers'], *(layer['layers'] for layer in layers_in(tree['layers']) if layer['type'] == 'group')]
+    lists = [
+        tree['layers'],
+        *(layer['layers'] for layer in layers_in(tree['layers']) if layer['type'] == 'group'),
+    ]
     for layers in lists:
         for at, layer in enumerate(layers):
             if layer['id'] == number:
@@ -90,10 +112,14 @@ def see(is_allowed, code):
 
 # ---- cells and selections
 
+
 def stamp(draft, number, x, y, width, values):
     layer = find_layer(draft.tree, number, 'tilelayer')
     see(all(tileset_of(draft.tree, value) for value in set(values) if value), 33)
-    draft.put(layer, {(x + at % width, y + at // width): value for at, value in enumerate(values) if value})
+    draft.put(
+        layer,
+        {(x + at % width, y + at // width): value for at, value in enumerate(values) if value},
+    )
 
 
 def erase(draft, number, x, y, width, height):
@@ -114,14 +140,23 @@ def fill(draft, number, x, y, value):
     reached, more = set(), {(x, y)} if is_free(x, y) else set()
     while more:
         reached |= more
-        beside = {(column + right, row + down) for column, row in more for right, down in ((1, 0), (-1, 0), (0, 1), (0, -1))}
+        beside = {
+            (column + right, row + down)
+            for column, row in more
+            for right, down in ((1, 0), (-1, 0), (0, 1), (0, -1))
+        }
         more = {cell for cell in beside - reached if is_free(*cell)}
     draft.put(layer, dict.fromkeys(reached, value))
 
 
 def select(draft, mode, x, y, width, height):
     cells, own = draft.rectangle(x, y, width, height), draft.selection
-    draft.selection = {'replace': cells, 'add': own | cells, 'subtract': own - cells, 'intersect': own & cells}[mode]
+    draft.selection = {
+        'replace': cells,
+        'add': own | cells,
+        'subtract': own - cells,
+        'intersect': own & cells,
+    }[mode]
 
 
 def select_none(draft):
@@ -130,9 +165,20 @@ def select_none(draft):
 
 def resize(draft, width, height, right, down):
     tree, columns = draft.tree, draft.tree['width']
-    see(1 <= width <= MOST_COLUMNS and 1 <= height <= MOST_COLUMNS and width * height <= MOST_CELLS, 39)
+    see(
+        1 <= width <= MOST_COLUMNS and 1 <= height <= MOST_COLUMNS and width * height <= MOST_CELLS,
+        39,
+    )
     shifts = [('x', right * tree['tilewidth']), ('y', down * tree['tileheight'])]
-    see(all(abs(item[name] + pixels) <= MOST_PIXELS for item in objects_in(tree) for name, pixels in shifts if name in item), 39)
+    see(
+        all(
+            abs(item[name] + pixels) <= MOST_PIXELS
+            for item in objects_in(tree)
+            for name, pixels in shifts
+            if name in item
+        ),
+        39,
+    )
     for layer in layers_in(tree['layers']):
         if layer['type'] == 'tilelayer':
             cells = cells_of(layer)
@@ -144,15 +190,22 @@ def resize(draft, width, height, right, down):
             if name in item:
                 item[name] += pixels
     tree.update(width=width, height=height)
-    draft.selection = {(x + right, y + down) for x, y in draft.selection if draft.has(x + right, y + down)}
+    draft.selection = {
+        (x + right, y + down) for x, y in draft.selection if draft.has(x + right, y + down)
+    }
 
 
 # ---- layers
 
+
 def add_layer(draft, kind, name):
     tree, number = draft.tree, draft.tree['nextlayerid']
     see(sum(1 for _ in layers_in(tree['layers'])) < MOST_LAYERS and number < LAST_ID, 40)
-    made = tiles(number, tree['width'], tree['height'], name=name) if kind == 'tile' else things(number, name=name)
+    made = (
+        tiles(number, tree['width'], tree['height'], name=name)
+        if kind == 'tile'
+        else things(number, name=name)
+    )
     tree['layers'].append(made)
     tree['nextlayerid'] += 1
 
@@ -178,11 +231,14 @@ def show_layer(draft, number, answer):
 
 # ---- objects
 
+
 def add_object(draft, number, x, y, width, height, name):
     layer, tree = find_layer(draft.tree, number, 'objectgroup'), draft.tree
     see(width <= MOST_PIXELS and height <= MOST_PIXELS, 39)
     see(len(layer['objects']) < MOST_OBJECTS and tree['nextobjectid'] < LAST_ID, 40)
-    layer['objects'].append(thing(tree['nextobjectid'], x=x, y=y, width=width, height=height, name=name))
+    layer['objects'].append(
+        thing(tree['nextobjectid'], x=x, y=y, width=width, height=height, name=name)
+    )
     tree['nextobjectid'] += 1
 
 
@@ -204,6 +260,7 @@ def remove_object(draft, number):
 
 
 # ---- properties and tilesets
+
 
 def set_property(draft, owner, key, kind, value):
     found = find_owner(draft.tree, owner)
@@ -236,7 +293,12 @@ def add_tileset(draft, first_id, source):
 def remove_tileset(draft, first_id):
     tree = draft.tree
     see(any(tileset['firstgid'] == first_id for tileset in tree['tilesets']), 36)
-    values = {cell for layer in layers_in(tree['layers']) if layer['type'] == 'tilelayer' for cell in cells_of(layer)}
+    values = {
+        cell
+        for layer in layers_in(tree['layers'])
+        if layer['type'] == 'tilelayer'
+        for cell in cells_of(layer)
+    }
     values |= {item['gid'] for item in objects_in(tree) if 'gid' in item}
     see(all(tileset_of(tree, value) != first_id for value in values), 37)
     tree['tilesets'] = [tileset for tileset in tree['tilesets'] if tileset['firstgid'] != first_id]
@@ -244,14 +306,17 @@ def remove_tileset(draft, first_id):
 
 # ---- the lines of the edits
 
+
 def tile_list(text):
     return list(map(int, text.split(',')))
 
 
 @dataclass(frozen=True)
 class Edit:
-    """An edit: what it does, how its fields are read, its text, whether it is no step where it changes nothing, and how many
-    of its first fields a line with a `+` must share with the step before, or None where there is no such line."""
+    """An edit: what it does, how its fields are read, its text, whether it is no step where it
+    changes nothing, and how many of its first fields a line with a `+` must share with the step
+    before, or None where there is no such line."""
+
     act: Callable
     fields: tuple
     text: str
@@ -289,6 +354,7 @@ EDITS = {
 @dataclass(frozen=True)
 class EditLine:
     """The line of an edit as it is read: its words, whether it has a `+`, and its values."""
+
     words: str
     follows: bool
     values: tuple
@@ -299,19 +365,24 @@ class EditLine:
 
     def tag(self):
         """What a line with a `+` must have in common with the step before."""
-        return self.words, self.values[:self.edit.shared or 0]
+        return self.words, self.values[: self.edit.shared or 0]
 
 
 def read_edit(line):
     """An edit's line, or None for any other."""
     first, _, rest = line.partition(' ')
     second = rest.partition(' ')[0]
-    for words, said, values in ((f'{first} {second}', f'{first} {second}', rest.partition(' ')[2]), (first, first, rest)):
+    for words, said, values in (
+        (f'{first} {second}', f'{first} {second}', rest.partition(' ')[2]),
+        (first, first, rest),
+    ):
         words = said.rstrip('+')
         if words in EDITS:
             fields = EDITS[words].fields
             texts = values.split(' ', len(fields) - 1) if fields else []
-            return EditLine(words, said != words, tuple(read(text) for read, text in zip(fields, texts)))
+            return EditLine(
+                words, said != words, tuple(read(text) for read, text in zip(fields, texts))
+            )
     return None
 
 

@@ -13,7 +13,13 @@ def spread(form):
 
 
 def forms_in(help_text):
-    return re.findall(r'^  (.+)$', help_text.partition('Session lines:\n')[2].partition('\n\n')[0], re.MULTILINE)
+    return re.findall(
+        r'^  (.+)$', help_text.partition('Session lines:\n')[2].partition('\n\n')[0], re.MULTILINE
+    )
 
 
-HELP = forms_in(subprocess.run([BIN / 'tile_editor', '--help'], capture_output=True, text=True, check=True).stdout)
+HELP = forms_in(
+    subprocess.run(
+        [BIN / 'tile_editor', '--help'], capture_output=True, text=True, check=True
+    ).stdout
+)

@@ -1,5 +1,6 @@
-"""What Python's json module tells of the text of a map, for test_broken_maps.py: whether it is JSON, has a fraction or is no map,
-as docs/map-files.md says, and what must be written for a map that was opened."""
+"""What Python's json module tells of the text of a map, for test_broken_maps.py: whether it is
+JSON, has a fraction or is no map, as docs/map-files.md says, and what must be written for a map
+that was opened."""
 import functools
 import json
 import math
@@ -7,13 +8,15 @@ import re
 
 from lib.maps import layers_in, text_of
 
+
 @functools.lru_cache(maxsize=4096)
 def number_of(text):
-    """A whole number as the tree of a map has it, or a float for any other. Too great a float is no JSON."""
+    """A whole number as the tree of a map has it, or a float for any other. Too great a float is no
+    JSON."""
     value = float(text)
     if math.isinf(value):
         raise ValueError(text)
-    is_whole = re.fullmatch('0|-?[1-9][0-9]*', text) and -2 ** 63 <= int(text) < 2 ** 64
+    is_whole = re.fullmatch('0|-?[1-9][0-9]*', text) and -(2**63) <= int(text) < 2**64
     return int(text) if is_whole else value
 
 
@@ -56,9 +59,18 @@ def has_fraction(value):
 
 
 def code_of(tree):
-    """The refusal of a tree that is no map or has a fraction, or None. The version may be any number."""
+    """The refusal of a tree that is no map or has a fraction, or None. The version may be any
+    number."""
     is_object = isinstance(tree, dict)
-    others = {name: value for name, value in tree.items() if name != 'version' or not isinstance(value, float)} if is_object else tree
+    others = (
+        {
+            name: value
+            for name, value in tree.items()
+            if name != 'version' or not isinstance(value, float)
+        }
+        if is_object
+        else tree
+    )
     if has_fraction(others):
         return 61
     return None if is_object and tree.get('type') == 'map' else 69
@@ -72,7 +84,8 @@ def without_empty_properties(owner):
 
 
 def text_behind(tree):
-    """The text that must be written for the tree of a map that was opened: what is absent and means something is there."""
+    """The text that must be written for the tree of a map that was opened: what is absent and means
+    something is there."""
     tree.update(version='1.10', infinite=False)
     without_empty_properties(tree)
     for layer in layers_in(tree['layers']):

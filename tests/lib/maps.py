@@ -10,7 +10,8 @@ FLAGLESS = 0x10000000
 
 
 def text_of(tree):
-    """The text that is written for a tree: compact, with the members of each object in byte order of their names."""
+    """The text that is written for a tree: compact, with the members of each object in byte order
+    of their names."""
     return json.dumps(tree, sort_keys=True, ensure_ascii=False, separators=(',', ':')).encode()
 
 
@@ -24,7 +25,12 @@ def layers_in(layers):
 
 def objects_in(tree):
     """All objects of a map, in drawing order."""
-    return [item for layer in layers_in(tree['layers']) if layer['type'] == 'objectgroup' for item in layer['objects']]
+    return [
+        item
+        for layer in layers_in(tree['layers'])
+        if layer['type'] == 'objectgroup'
+        for item in layer['objects']
+    ]
 
 
 def written(data):
@@ -39,6 +45,7 @@ def written(data):
 
 
 # ---- cells
+
 
 def packed(values):
     """Cells in base64: four bytes each, the lowest first."""
@@ -63,13 +70,24 @@ def tile_reply(value, first_id=1):
     if value == 0:
         return 'tile 0'
     flags = ''.join(letter if value & bit else '-' for bit, letter in FLAGS)
-    return f'tile {value} {flags} ' + ('none' if first_id is None else f'{first_id} {value % FLAGLESS - first_id}')
+    return f'tile {value} {flags} ' + (
+        'none' if first_id is None else f'{first_id} {value % FLAGLESS - first_id}'
+    )
 
 
 # ---- parts of maps, as the editor makes them
 
+
 def layer_of(number, kind, **members):
-    layer = {'id': number, 'name': f'{kind} {number}', 'opacity': 1, 'type': kind, 'visible': True, 'x': 0, 'y': 0}
+    layer = {
+        'id': number,
+        'name': f'{kind} {number}',
+        'opacity': 1,
+        'type': kind,
+        'visible': True,
+        'x': 0,
+        'y': 0,
+    }
     return {**layer, **members}
 
 
@@ -86,8 +104,18 @@ def things(number, *objects, **members):
 
 def thing(number, **members):
     """An object."""
-    return {'height': 8, 'id': number, 'name': f'thing {number}', 'rotation': 0, 'type': '', 'visible': True,
-            'width': 8, 'x': 0, 'y': 0, **members}
+    return {
+        'height': 8,
+        'id': number,
+        'name': f'thing {number}',
+        'rotation': 0,
+        'type': '',
+        'visible': True,
+        'width': 8,
+        'x': 0,
+        'y': 0,
+        **members,
+    }
 
 
 def group(number, *layers, **members):
@@ -104,14 +132,35 @@ def property_of(name, kind, value):
 
 
 def map_of(*layers, **members):
-    """A map of 2 by 1 cells with these layers, ids to come that are above all of theirs, and one tileset."""
-    return {'height': 1, 'infinite': False, 'layers': list(layers), 'nextlayerid': 9001, 'nextobjectid': 9001,
-            'orientation': 'orthogonal', 'renderorder': 'right-down', 'tileheight': 16,
-            'tilesets': [{'firstgid': 1, 'source': 't.tsj'}], 'tilewidth': 16, 'type': 'map', 'version': '1.10',
-            'width': 2, **members}
+    """A map of 2 by 1 cells with these layers, ids to come that are above all of theirs, and one
+    tileset."""
+    return {
+        'height': 1,
+        'infinite': False,
+        'layers': list(layers),
+        'nextlayerid': 9001,
+        'nextobjectid': 9001,
+        'orientation': 'orthogonal',
+        'renderorder': 'right-down',
+        'tileheight': 16,
+        'tilesets': [{'firstgid': 1, 'source': 't.tsj'}],
+        'tilewidth': 16,
+        'type': 'map',
+        'version': '1.10',
+        'width': 2,
+        **members,
+    }
 
 
 def new_map(width, height, tile_width, tile_height, source):
     """The map that the line `new` opens."""
-    return map_of(tiles(1, width, height, name='Tile Layer 1'), width=width, height=height, tilewidth=tile_width,
-                  tileheight=tile_height, tilesets=[{'firstgid': 1, 'source': source}], nextlayerid=2, nextobjectid=1)
+    return map_of(
+        tiles(1, width, height, name='Tile Layer 1'),
+        width=width,
+        height=height,
+        tilewidth=tile_width,
+        tileheight=tile_height,
+        tilesets=[{'firstgid': 1, 'source': source}],
+        nextlayerid=2,
+        nextobjectid=1,
+    )

@@ -1,10 +1,12 @@
-"""A plain model of the editor: it keeps lists of whole maps, as texts, and tells the reply to each line that can be read.
+"""A plain model of the editor: it keeps lists of whole maps, as texts, and tells the reply to each
+line that can be read.
 
     editor = Editor()
     editor.step('new town 4 3 16 16 town.tsj')     # 'ok 0/0 clean 0'
 
-It is slow, and has no other idea in it than docs/session-lines.md: a step is the map before it and the map after it, an undo
-gives back the one and a redo the other. A `Play` is a run of the program whose replies the model tells."""
+It is slow, and has no other idea in it than docs/session-lines.md: a step is the map before it and
+the map after it, an undo gives back the one and a redo the other. A `Play` is a run of the program
+whose replies the model tells."""
 import json
 from dataclasses import dataclass, field
 from typing import Optional
@@ -22,6 +24,7 @@ MOST_LEVELS, GREATEST_LIMIT, MOST_SIDE = 64, 1_000_000, 65_535
 @dataclass(frozen=True)
 class State:
     """A map's text, and the cells that are selected."""
+
     text: bytes
     selection: frozenset = frozenset()
 
@@ -31,7 +34,9 @@ class State:
 
 @dataclass
 class Step:
-    """What can be undone: its texts, what a line with a `+` must share with it, and the states before and after."""
+    """What can be undone: its texts, what a line with a `+` must share with it, and the states
+    before and after."""
+
     texts: tuple
     tag: Optional[tuple]
     before: State
@@ -41,13 +46,15 @@ class Step:
 @dataclass
 class Level:
     """A macro that is open: its texts, the state before it, and its steps so far."""
+
     texts: tuple
     before: State
     steps: list = field(default_factory=list)
 
 
 class Document:
-    """An open map with its steps, of which `index` are done. `clean` is the index that counts as saved, or None."""
+    """An open map with its steps, of which `index` are done. `clean` is the index that counts as
+    saved, or None."""
 
     def __init__(self, text, limit=0):
         self.now, self.limit = State(text), limit
@@ -63,20 +70,23 @@ class Document:
 
     def status(self):
         count = len(self.steps) + (len(self.levels) > 0)
-        return f'ok {self.index}/{count} {"clean" if self.is_clean() else "dirty"} {len(self.levels)}'
+        return (
+            f'ok {self.index}/{count} {"clean" if self.is_clean() else "dirty"} {len(self.levels)}'
+        )
 
     def inner_steps(self):
         """The steps of the innermost macro, or those of the list that are done."""
-        return self.levels[-1].steps if self.levels else self.steps[:self.index]
+        return self.levels[-1].steps if self.levels else self.steps[: self.index]
 
     def cut(self):
         """Drops the steps that could be made again."""
-        del self.steps[self.index:]
+        del self.steps[self.index :]
         if self.clean is not None and self.clean > self.index:
             self.clean = None
 
     def add(self, step):
-        """Adds a step to the innermost macro, or to the list, which then loses its oldest steps beyond the limit."""
+        """Adds a step to the innermost macro, or to the list, which then loses its oldest steps
+        beyond the limit."""
         if self.levels:
             self.levels[-1].steps.append(step)
             return
@@ -128,7 +138,8 @@ class Document:
 
 
 class Editor:
-    """Documents by name, of which one may be active, and files by name. The files can all be opened."""
+    """Documents by name, of which one may be active, and files by name. The files can all be
+    opened."""
 
     def __init__(self, files=(), limit=0):
         self.files, self.limit = dict(files), limit
@@ -172,8 +183,17 @@ class Editor:
     def on_documents(self, word, rest):
         """The reply to a line on documents, or None for any other."""
         if word == 'list':
-            return ''.join(['docs', *(f' {"*" * (name == self.active)}{name}' for name in self.documents)])
-        acts = {'new': self.new, 'open': self.open, 'use': self.use, 'close': self.close, 'discard': self.discard, 'status': lambda: None}
+            return ''.join(
+                ['docs', *(f' {"*" * (name == self.active)}{name}' for name in self.documents)]
+            )
+        acts = {
+            'new': self.new,
+            'open': self.open,
+            'use': self.use,
+            'close': self.close,
+            'discard': self.discard,
+            'status': lambda: None,
+        }
         if word not in acts:
             return None
         acts[word](*(rest.split(' ', 5) if rest else []))
@@ -183,7 +203,12 @@ class Editor:
         *sizes, source = rest
         width, height, *sides = sizes = list(map(int, sizes))
         see(name not in self.documents, 11)
-        is_right = min(sizes) >= 1 and max(width, height) <= 4096 and width * height <= 1_048_576 and max(sides) <= MOST_SIDE
+        is_right = (
+            min(sizes) >= 1
+            and max(width, height) <= 4096
+            and width * height <= 1_048_576
+            and max(sides) <= MOST_SIDE
+        )
         see(is_right, 39)
         self.add(name, text_of(new_map(*sizes, source)))
 
@@ -242,13 +267,17 @@ class Editor:
             return self.tile(document, *map(int, rest.split(' ')))
         if word == 'save':
             return self.save(document, rest)
-        steps = [step.texts for step in document.steps] + [level.texts for level in document.levels[:1]]
+        steps = [step.texts for step in document.steps] + [
+            level.texts for level in document.levels[:1]
+        ]
         if word == 'text':
             see(int(rest) < len(steps), 39)
             return f'text {steps[int(rest)][0]}'
         if word in ('undotext', 'redotext'):
             at = document.index - (word == 'undotext')
-            return f'text {steps[at][1]}' if 0 <= at < len(steps) and not document.levels else 'text'
+            return (
+                f'text {steps[at][1]}' if 0 <= at < len(steps) and not document.levels else 'text'
+            )
         return None
 
     def tile(self, document, number, x, y):
@@ -277,7 +306,8 @@ class Play(Run):
         self.editor.files[name] = data
 
     def hear(self, *lines):
-        """The program hears these lines, and must answer each as the model does. Gives the last reply."""
+        """The program hears these lines, and must answer each as the model does. Gives the last
+        reply."""
         rows = [(line, self.editor.step(line)) for line in lines]
         self.say_all(rows)
         self.after = dict(self.editor.files)

@@ -28,7 +28,9 @@ def compiled(words, source, *behind):
     if not goal.exists():
         # Two steps may build it at once: each builds its own, and the last one stays.
         with tempfile.TemporaryDirectory(dir=folder()) as own:
-            subprocess.run(['cc', *words, source, *behind, '-o', f'{own}/made'], check=True, cwd=TOP)
+            subprocess.run(
+                ['cc', *words, source, *behind, '-o', f'{own}/made'], check=True, cwd=TOP
+            )
             os.replace(f'{own}/made', goal)
     return goal
 

@@ -1,8 +1,9 @@
-"""Reads the pages of the repository: their links, the files that they name, their commands, and their transcripts, of which each
-is run as it stands on the page.
+"""Reads the pages of the repository: their links, the files that they name, their commands, and
+their transcripts, of which each is run as it stands on the page.
 
-A table whose first two columns are Line and Reply is a transcript. It is run over a copy of the example maps, in a new map of 4 by 3 cells
-where it opens none. Where it needs more, a comment in front of it says so, with a line for each:
+A table whose first two columns are Line and Reply is a transcript. It is run over a copy of the
+example maps, in a new map of 4 by 3 cells where it opens none. Where it needs more, a comment in
+front of it says so, with a line for each:
 
   <!-- transcript
   file city.tmj examples/maps/town.tmj       a file of its folder, and which file of the repository that is
@@ -10,9 +11,8 @@ where it opens none. Where it needs more, a comment in front of it says so, with
   go on                                      it goes on where the transcript before it on this page ends
   -->
 
-A block of `console` has commands behind `$ `, each with what it prints. Commands stand in indented blocks too. They are run in a copy of
-the repository, where `/tmp/maps` is a folder of the run.
-"""
+A block of `console` has commands behind `$ `, each with what it prints. Commands stand in indented
+blocks too. They are run in a copy of the repository, where `/tmp/maps` is a folder of the run."""
 import os
 import re
 import shutil
@@ -27,14 +27,30 @@ CODE = re.compile(r'`([^`]+)`')
 COMMENT = re.compile(r'<!-- transcript\n(.*?)-->', re.DOTALL)
 LINK = re.compile(r'\]\(([^)\s]+)\)')
 # A path of the repository, in text or as code.
-NAMED = re.compile(r'(?<![\w./-])((?:docs|crates|examples|sessions|include|lib|bin|python|tests|tools|\.ci)/[\w./*-]*[\w/*])')
+NAMED = re.compile(
+    r'(?<![\w./-])((?:docs|crates|examples|sessions|include|lib|bin|python|tests|tools|\.ci)/[\w./*-]*[\w/*])'
+)
 # A file of a crate, on that crate's page.
 OF_CRATE = re.compile(r'`((?:src|specs|proofs|must-fail)/[\w./]+)`')
 # What stands in parentheses, with code in it or not.
 ASIDE = re.compile(r'\((?:[^()`]|`[^`]*`)*\)')
 # The first words of commands that are run.
-COMMANDS = ('cc', 'cp', 'mkdir', 'rm', 'pip', 'python3', 'PYTHONPATH=python', './tile_editor', 'bin/tile_editor', './map_report',
-            'bin/map_report', 'examples/build.sh', 'tests/run', '/tmp/maps/fence')
+COMMANDS = (
+    'cc',
+    'cp',
+    'mkdir',
+    'rm',
+    'pip',
+    'python3',
+    'PYTHONPATH=python',
+    './tile_editor',
+    'bin/tile_editor',
+    './map_report',
+    'bin/map_report',
+    'examples/build.sh',
+    'tests/run',
+    '/tmp/maps/fence',
+)
 NEW_MAP = 'new town 4 3 16 16 town.tsj'
 
 
@@ -47,8 +63,8 @@ class Page:
         self.text = path.read_text()
 
     def links(self):
-        """The files that links lead to, from the folder of the page, and those that the text names, from the top. Commands may
-        name files that they make, and NAME stands for any name."""
+        """The files that links lead to, from the folder of the page, and those that the text names,
+        from the top. Commands may name files that they make, and NAME stands for any name."""
         for link in LINK.findall(self.text):
             if '://' not in link and not link.startswith('#'):
                 yield self.path.parent / link.split('#')[0]
@@ -61,7 +77,8 @@ class Page:
         return OF_CRATE.findall(self.text)
 
     def refused_lines(self):
-        """Of tables of lines and of what they are read as, those that are refused, each with its code."""
+        """Of tables of lines and of what they are read as, those that are refused, each with its
+        code."""
         for line, read in self.rows_of('Line', 'Read as'):
             code = re.match(r'\d+', read)
             if code and line.startswith('`'):
@@ -81,7 +98,12 @@ class Page:
 
     def blocks(self):
         """The lines of each block of `console`."""
-        return [block.split('\n') for block in re.findall(r'^```console\n(.*?)\n```$', self.text, re.DOTALL | re.MULTILINE)]
+        return [
+            block.split('\n')
+            for block in re.findall(
+                r'^```console\n(.*?)\n```$', self.text, re.DOTALL | re.MULTILINE
+            )
+        ]
 
     def consoles(self):
         """Of each block of `console` its commands, each with what it prints."""
@@ -95,11 +117,21 @@ class Page:
             yield [(command, '\n'.join(told)) for command, told in commands]
 
     def commands(self):
-        """The commands in indented blocks and in code within the text; one with a word in capitals is a form, and no command."""
-        indented = re.findall(r'^    (\S.*)$', re.sub(r'^```.*?^```$', '', self.text, flags=re.DOTALL | re.MULTILINE), re.MULTILINE)
+        """The commands in indented blocks and in code within the text; one with a word in capitals
+        is a form, and no command."""
+        indented = re.findall(
+            r'^    (\S.*)$',
+            re.sub(r'^```.*?^```$', '', self.text, flags=re.DOTALL | re.MULTILINE),
+            re.MULTILINE,
+        )
         for command in indented + CODE.findall(self.text):
             words = command.split()
-            if words and words[0] in COMMANDS and len(words) > 1 and not any(re.fullmatch('[A-Z]+', word) for word in words):
+            if (
+                words
+                and words[0] in COMMANDS
+                and len(words) > 1
+                and not any(re.fullmatch('[A-Z]+', word) for word in words)
+            ):
                 yield command
 
     def programs(self):
@@ -119,8 +151,10 @@ class Page:
             elif rows is not None and cells and not cells[0].startswith('---'):
                 rows.append(tuple(cell.replace('\\|', '|') for cell in cells[:2]))
             elif rows is not None and not cells:
-                front = '\n'.join(self.text.split('\n')[:start - 1]).rstrip()
-                comment = COMMENT.search(front[front.rfind('<!--'):]) if front.endswith('-->') else None
+                front = '\n'.join(self.text.split('\n')[: start - 1]).rstrip()
+                comment = (
+                    COMMENT.search(front[front.rfind('<!--') :]) if front.endswith('-->') else None
+                )
                 yield Transcript(self, start, comment[1] if comment else before, rows)
                 rows = None
 
@@ -143,9 +177,15 @@ class Transcript:
         self.rows = [(code_of(line), code_of(reply)) for line, reply in rows]
         told = [line.strip() for line in comment.split('\n') if line.strip()]
         self.goes_on = 'go on' in told
-        self.files = {word.split(' ')[1]: TOP / word.split(' ')[2] for word in told if word.startswith('file ')}
+        self.files = {
+            word.split(' ')[1]: TOP / word.split(' ')[2]
+            for word in told
+            if word.startswith('file ')
+        }
         self.before = [word[4:] for word in told if word.startswith('say ')]
-        if not any(line.split(' ')[0] in ('new', 'open') for line in (*self.before, self.rows[0][0])):
+        if not any(
+            line.split(' ')[0] in ('new', 'open') for line in (*self.before, self.rows[0][0])
+        ):
             self.before.insert(0, NEW_MAP)
 
     def lines(self):
@@ -163,13 +203,21 @@ class Transcript:
     def fault_in(self, program, folder):
         """The same in a folder, and the files that stand there behind it."""
         session = ''.join(line + '\n' for line in (*self.before, *self.lines()))
-        done = subprocess.run([program, '--folder', folder], input=session.encode(), capture_output=True, timeout=120)
-        replies = done.stdout.decode().split('\n')[len(self.before):-1]
+        done = subprocess.run(
+            [program, '--folder', folder], input=session.encode(), capture_output=True, timeout=120
+        )
+        replies = done.stdout.decode().split('\n')[len(self.before) : -1]
         if done.returncode != 0 or len(replies) != len(self.rows):
-            return f'{self.name}: exit status {done.returncode}, {len(replies)} replies to {len(self.rows)} lines', {}
+            return (
+                f'{self.name}: exit status {done.returncode}, {len(replies)} replies to {len(self.rows)} lines',
+                {},
+            )
         for (line, wanted), given in zip(self.rows, replies):
             if wanted != given:
-                return f'{self.name}: {line}: the page has {wanted!r}, the program {given[:200]!r}', {}
+                return (
+                    f'{self.name}: {line}: the page has {wanted!r}, the program {given[:200]!r}',
+                    {},
+                )
         return None, files_in(folder)
 
 
@@ -182,7 +230,13 @@ def code_of(cell):
 
 def pages():
     """All pages of the repository."""
-    folders = ('docs/**/*.md', 'examples/**/*.md', 'sessions/*.md', 'tests/**/*.md', 'crates/*/README.md')
+    folders = (
+        'docs/**/*.md',
+        'examples/**/*.md',
+        'sessions/*.md',
+        'tests/**/*.md',
+        'crates/*/README.md',
+    )
     paths = [*TOP.glob('*.md'), *(path for folder in folders for path in TOP.glob(folder))]
     return [Page(path) for path in sorted(paths)]
 
@@ -208,12 +262,26 @@ class Clone:
     def run(self, commands):
         """What each of some commands prints, on both outputs, and the exit status of the last."""
         mark = '<end of a command>'
-        script = ''.join(f'{command}\nstatus=$?; echo "{mark}"; (exit $status)\n' for command in commands)
+        script = ''.join(
+            f'{command}\nstatus=$?; echo "{mark}"; (exit $status)\n' for command in commands
+        )
         script = script.replace('/tmp/maps', str(self.maps)) + 'exit $status\n'
         words = ['bash', '-c', script]
-        env = {**os.environ, 'PYTHONDONTWRITEBYTECODE': '1', 'PIP_TARGET': self.top.name + '/installed', 'PIP_NO_INDEX': '1'}
-        done = subprocess.run(words, stdin=subprocess.DEVNULL, stdout=subprocess.PIPE, stderr=subprocess.STDOUT, cwd=self.folder,
-                              timeout=120, env=env)
+        env = {
+            **os.environ,
+            'PYTHONDONTWRITEBYTECODE': '1',
+            'PIP_TARGET': self.top.name + '/installed',
+            'PIP_NO_INDEX': '1',
+        }
+        done = subprocess.run(
+            words,
+            stdin=subprocess.DEVNULL,
+            stdout=subprocess.PIPE,
+            stderr=subprocess.STDOUT,
+            cwd=self.folder,
+            timeout=120,
+            env=env,
+        )
         told = done.stdout.decode().replace(str(self.maps), '/tmp/maps').split(mark + '\n')
         return [text.rstrip('\n') for text in told[:-1]], done.returncode
 

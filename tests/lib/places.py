@@ -12,7 +12,8 @@ SESSION_MAPS = SESSIONS / 'maps'
 # The programs and the library that the repository comes with.
 BIN, LIB = TOP / 'bin', TOP / 'lib'
 
-# `tests/run --gate` sets it: the programs are then those that `rt ci` has built, and no test may be skipped.
+# `tests/run --gate` sets it: the programs are then those that `rt ci` has built, and no test may be
+# skipped.
 GATE = 'ROSKEVAD_GATE'
 IS_GATE = os.environ.get(GATE) == '1'
 
@@ -36,4 +37,6 @@ def files_in(folder):
 
 def example_maps():
     """The example maps by their names."""
-    return {name: data for name, data in sorted(files_in(EXAMPLE_MAPS).items()) if name.endswith('.tmj')}
+    return {
+        name: data for name, data in sorted(files_in(EXAMPLE_MAPS).items()) if name.endswith('.tmj')
+    }

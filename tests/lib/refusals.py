@@ -4,7 +4,10 @@ import re
 from lib.places import TOP
 
 PAGE = TOP / 'docs' / 'refusals.md'
-ROWS = [(int(code), words) for code, words in re.findall(r'^\| (\d+) \| (.+?) \|', PAGE.read_text(), re.MULTILINE)]
+ROWS = [
+    (int(code), words)
+    for code, words in re.findall(r'^\| (\d+) \| (.+?) \|', PAGE.read_text(), re.MULTILINE)
+]
 WORDS = dict(ROWS)
 # The refusals of a map's file.
 OF_MAPS = {code: words for code, words in ROWS if 60 <= code <= 69}

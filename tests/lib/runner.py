@@ -1,15 +1,15 @@
 """Finds the steps of the tests and runs them, side by side where they may.
 
-A step is a file `tests/test_NAME.py`. Each of its functions `test_..`, and each such method of its classes `Test..`, is a test:
-it passes if it raises nothing, and is left out if it raises `unittest.SkipTest`. A step's docstring says in its first
-sentence what it tests. Its file may also say
+A step is a file `tests/test_NAME.py`. Each of its functions `test_..`, and each such method of its
+classes `Test..`, is a test: it passes if it raises nothing, and is left out if it raises
+`unittest.SkipTest`. A step's docstring says in its first sentence what it tests. Its file may also
+say
 
     ALONE = True            it times something or bounds memory, so no other step runs beside it
     IS_LONG = True          it is among the first that start
     NEEDS_BROWSER = True    it needs Chromium, its driver and selenium
 
-Each step runs in a process of its own, in which `run_step` writes what came of it.
-"""
+Each step runs in a process of its own, in which `run_step` writes what came of it."""
 import argparse
 import ast
 import importlib
@@ -28,7 +28,7 @@ from dataclasses import asdict, dataclass, field
 from pathlib import Path
 
 from lib import browser_packages, cases, native
-from lib.places import GATE, IS_GATE, TESTS, TOP
+from lib.places import GATE, TESTS, TOP
 
 RUN = TESTS / 'run'
 
@@ -36,6 +36,7 @@ RUN = TESTS / 'run'
 @dataclass(frozen=True)
 class Step:
     """A file of tests, as it stands: it is not loaded."""
+
     name: str
     about: str
     is_alone: bool
@@ -45,8 +46,9 @@ class Step:
 
 @dataclass
 class Outcome:
-    """What came of a step: how many tests passed and failed, those that were left out with the reasons, how many checks passed
-    in them all, and what was told."""
+    """What came of a step: how many tests passed and failed, those that were left out with the
+    reasons, how many checks passed in them all, and what was told."""
+
     passed: int = 0
     failed: int = 0
     skipped: list = field(default_factory=list)
@@ -56,17 +58,28 @@ class Outcome:
 
 # ---- which steps there are
 
+
 def read_step(path):
     """What a step's file says of it."""
     tree = ast.parse(path.read_text())
-    said = {each.targets[0].id: each.value for each in tree.body if isinstance(each, ast.Assign) and isinstance(each.targets[0], ast.Name)}
+    said = {
+        each.targets[0].id: each.value
+        for each in tree.body
+        if isinstance(each, ast.Assign) and isinstance(each.targets[0], ast.Name)
+    }
 
     def is_set(name):
         return name in said and ast.literal_eval(said[name]) is True
 
-    about = ' '.join((ast.get_docstring(tree) or '').split())
-    first = about.partition('. ')[0].rstrip('.') + '.'
-    return Step(path.stem[len('test_'):], first, is_set('ALONE'), is_set('IS_LONG'), is_set('NEEDS_BROWSER'))
+    about = ' '.join((ast.get_docstring(tree) or '').partition('\n\n')[0].split())
+    first = about.partition('. ')[0].rstrip('.:') + '.'
+    return Step(
+        path.stem[len('test_') :],
+        first,
+        is_set('ALONE'),
+        is_set('IS_LONG'),
+        is_set('NEEDS_BROWSER'),
+    )
 
 
 def all_steps():
@@ -74,6 +87,7 @@ def all_steps():
 
 
 # ---- one step, in its own process
+
 
 def tests_of(module):
     """The tests of a module by name, in the order of the file."""
@@ -115,6 +129,7 @@ def run_step(name, file):
 
 # ---- all steps
 
+
 class Runner:
     """Runs steps, tells what came of each as it ends, and adds it up."""
 
@@ -122,11 +137,19 @@ class Runner:
         self.folder, self.is_gate = Path(folder), is_gate
         self.tells = threading.Lock()
         self.outcomes, self.running = {}, set()
-        self.env = {**os.environ, native.FOLDER: folder, GATE: '1' if is_gate else '0', 'PYTHONDONTWRITEBYTECODE': '1'}
+        self.env = {
+            **os.environ,
+            native.FOLDER: folder,
+            GATE: '1' if is_gate else '0',
+            'PYTHONDONTWRITEBYTECODE': '1',
+        }
 
     def run_all(self, steps):
-        """Runs the steps, those that may in as many workers as there are cores, and then the others one by one."""
-        beside = sorted((step for step in steps if not step.is_alone), key=lambda step: not step.is_long)
+        """Runs the steps, those that may in as many workers as there are cores, and then the others
+        one by one."""
+        beside = sorted(
+            (step for step in steps if not step.is_alone), key=lambda step: not step.is_long
+        )
         pool = ThreadPoolExecutor(cases.CORES)
         try:
             list(pool.map(self.run, beside))
@@ -146,7 +169,9 @@ class Runner:
         outcome = self.came_of(step)
         if self.is_gate and outcome.skipped:
             outcome.failed += len(outcome.skipped)
-            outcome.told += ''.join(f'left out, which the gate does not allow: {each}\n' for each in outcome.skipped)
+            outcome.told += ''.join(
+                f'left out, which the gate does not allow: {each}\n' for each in outcome.skipped
+            )
             outcome.skipped = []
         self.outcomes[step.name] = outcome
         self.tell(step, outcome, time.monotonic() - began)
@@ -156,15 +181,27 @@ class Runner:
         if step.needs_browser:
             python, missing = browser_packages.python()
             if missing:
-                return Outcome(failed=1, told=f'missing are Debian\'s packages {" ".join(missing)}\n')
+                return Outcome(
+                    failed=1, told=f'missing are Debian\'s packages {" ".join(missing)}\n'
+                )
         file = self.folder / f'{step.name}.json'
-        process = subprocess.Popen([python, RUN, '--step', step.name, '--outcome', file], env=self.env, cwd=TOP, text=True,
-                                   stdin=subprocess.DEVNULL, stdout=subprocess.PIPE, stderr=subprocess.STDOUT, errors='replace')
+        process = subprocess.Popen(
+            [python, RUN, '--step', step.name, '--outcome', file],
+            env=self.env,
+            cwd=TOP,
+            text=True,
+            stdin=subprocess.DEVNULL,
+            stdout=subprocess.PIPE,
+            stderr=subprocess.STDOUT,
+            errors='replace',
+        )
         self.running.add(process)
         told, _ = process.communicate()
         self.running.discard(process)
         outcome = Outcome(**json.loads(file.read_text())) if file.exists() else Outcome(failed=1)
-        outcome.told = told if file.exists() else f'{told}the step ended with status {process.returncode}\n'
+        outcome.told = (
+            told if file.exists() else f'{told}the step ended with status {process.returncode}\n'
+        )
         return outcome
 
     def tell(self, step, outcome, seconds):
@@ -172,7 +209,10 @@ class Runner:
         counts = f'{outcome.passed} of {outcome.passed + outcome.failed + len(outcome.skipped)} tests, {outcome.checks} checks'
         with self.tells:
             print(f'{step.name}: {word} in {seconds:.1f} s ({counts})')
-            for line in [*outcome.told.splitlines(), *(f'left out: {each}' for each in outcome.skipped)]:
+            for line in [
+                *outcome.told.splitlines(),
+                *(f'left out: {each}' for each in outcome.skipped),
+            ]:
                 print(f'    {line}')
             sys.stdout.flush()
 
@@ -192,16 +232,26 @@ def chosen(steps, names):
     """The steps of these names, or all; an unknown name ends the run."""
     unknown = sorted(set(names) - {step.name for step in steps})
     if unknown:
-        print(f'tests/run: no such step: {" ".join(unknown)}; there are {" ".join(step.name for step in steps)}', file=sys.stderr)
+        print(
+            f'tests/run: no such step: {" ".join(unknown)}; there are {" ".join(step.name for step in steps)}',
+            file=sys.stderr,
+        )
         raise SystemExit(2)
     return [step for step in steps if not names or step.name in names]
 
 
 def main(words):
-    parser = argparse.ArgumentParser(prog='tests/run', description='Runs the tests of the repository, or those steps that are named.')
+    parser = argparse.ArgumentParser(
+        prog='tests/run',
+        description='Runs the tests of the repository, or those steps that are named.',
+    )
     parser.add_argument('names', metavar='NAME', nargs='*', help='a step: tests/test_NAME.py')
     parser.add_argument('--list', action='store_true', help='lists the steps and what they test')
-    parser.add_argument('--gate', action='store_true', help='tries what `rt ci` has built, and fails where a test is left out')
+    parser.add_argument(
+        '--gate',
+        action='store_true',
+        help='tries what `rt ci` has built, and fails where a test is left out',
+    )
     parser.add_argument('--step', help=argparse.SUPPRESS)
     parser.add_argument('--outcome', help=argparse.SUPPRESS)
     said = parser.parse_args(words)

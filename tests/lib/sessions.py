@@ -1,5 +1,5 @@
-"""Runs of the program: what it hears, what it must answer, and which files it must leave; and those that the folders of
-`sessions/` have, as sessions/README.md describes them."""
+"""Runs of the program: what it hears, what it must answer, and which files it must leave; and those
+that the folders of `sessions/` have, as sessions/README.md describes them."""
 import functools
 import itertools
 import re
@@ -17,8 +17,9 @@ ESCAPE = re.compile(rb'\\(x[0-9a-f]{2}|\\)')
 
 
 class Run:
-    """One run of the program: the words of its command line beside the folder, the bytes that it hears and those that it
-    replies, and the files of its folder by their names, as they are before it and after it."""
+    """One run of the program: the words of its command line beside the folder, the bytes that it
+    hears and those that it replies, and the files of its folder by their names, as they are before
+    it and after it."""
 
     def __init__(self, name, before=(), session=b''):
         self.name = name
@@ -42,7 +43,7 @@ class Run:
         self._replies += times([spelled(reply) for _, reply in rows if reply is not None], count)
 
     def cut_last_newline(self):
-        del self._session[len(self._session.rstrip(b'\n')):]
+        del self._session[len(self._session.rstrip(b'\n')) :]
 
     def put(self, name, data):
         """A file of the folder before the run."""
@@ -66,6 +67,7 @@ class Run:
 
 # ---- session files
 
+
 def function_of(expression):
     """An expression over `i`."""
     return eval(b'lambda i: ' + expression, {'__builtins__': {}})
@@ -78,7 +80,8 @@ def values_of(count, expression):
 
 
 def spelled(text):
-    """A function of `i` that spells out each piece in braces and each escaped byte; the text itself, where it has no `i`."""
+    """A function of `i` that spells out each piece in braces and each escaped byte; the text
+    itself, where it has no `i`."""
     text = ESCAPE.sub(lambda e: b'\\' if e[1] == b'\\' else bytes.fromhex(e[1][1:].decode()), text)
     text = VALUES.sub(lambda v: values_of(int(v[1]), v[2]), text)
     text = TIMES.sub(lambda t: t[1] * int(t[2]), text)
@@ -95,11 +98,14 @@ def times(rows, count):
     rows = [row if callable(row) else row + b'\n' for row in rows]
     if not any(callable(row) for row in rows):
         return b''.join(rows) * count
-    return b''.join(row(i) + b'\n' if callable(row) else row for i in range(1, count + 1) for row in rows)
+    return b''.join(
+        row(i) + b'\n' if callable(row) else row for i in range(1, count + 1) for row in rows
+    )
 
 
 def file_of(text):
-    """A file's name in the folder of a run, and its bytes, which are those of a file of the repository."""
+    """A file's name in the folder of a run, and its bytes, which are those of a file of the
+    repository."""
     name, path = text.decode().split(' ')
     return name, (TOP / path).read_bytes()
 
@@ -111,7 +117,8 @@ def row_of(text):
 
 
 class Reader:
-    """Reads the runs of a session file, each named by the file's folder and name and by its title."""
+    """Reads the runs of a session file, each named by the file's folder and name and by its
+    title."""
 
     def __init__(self, file):
         self.file = file.relative_to(SESSIONS).with_suffix('')
@@ -164,21 +171,24 @@ def all_runs():
 
 # ---- what the program does
 
+
 def joined(lines):
     """Lines or replies as bytes, each with its newline."""
     return b''.join(line + b'\n' for line in lines)
 
 
 def heard(session, before=(), options=(), env=None, where=None):
-    """What the program does with a session over a folder of these files, which is made in another one, and the files that
-    stand there behind it."""
+    """What the program does with a session over a folder of these files, which is made in another
+    one, and the files that stand there behind it."""
     with tempfile.TemporaryDirectory(dir=where) as top:
         folder = Path(top) / 'maps'
         folder.mkdir()
         for name, data in dict(before).items():
             (folder / name).write_bytes(data)
         words = [TILE_EDITOR, '--folder', 'maps', *options]
-        done = subprocess.run(words, input=session, capture_output=True, timeout=120, env=env, cwd=top)
+        done = subprocess.run(
+            words, input=session, capture_output=True, timeout=120, env=env, cwd=top
+        )
         return done, files_in(folder)
 
 
@@ -188,12 +198,18 @@ def answered(session):
 
 
 def fault_of_replies(session, wanted, given):
-    """How the replies to a session differ from those that are wanted, and to which line, or None."""
+    """How the replies to a session differ from those that are wanted, and to which line, or
+    None."""
     if wanted == given:
         return None
-    rows = itertools.zip_longest(answered(session), wanted.split(b'\n'), given.split(b'\n'), fillvalue=b'nothing')
-    return next(f'reply {at}, to {line[:200]!r}: wanted {reply[:200]!r}, came {came[:200]!r}'
-                for at, (line, reply, came) in enumerate(rows, 1) if reply != came)
+    rows = itertools.zip_longest(
+        answered(session), wanted.split(b'\n'), given.split(b'\n'), fillvalue=b'nothing'
+    )
+    return next(
+        f'reply {at}, to {line[:200]!r}: wanted {reply[:200]!r}, came {came[:200]!r}'
+        for at, (line, reply, came) in enumerate(rows, 1)
+        if reply != came
+    )
 
 
 def fault_of_files(wanted, given):
@@ -205,11 +221,16 @@ def fault_of_files(wanted, given):
 
 
 def fault_of_reasons(replies, errors):
-    """What is wrong with standard error, or None: each load and each save that failed is told in a line of its own."""
+    """What is wrong with standard error, or None: each load and each save that failed is told in a
+    line of its own."""
     failed = sum(reply.startswith((b'no 50 ', b'no 51 ')) for reply in replies.split(b'\n'))
     told = errors.split(b'\n')[:-1]
     is_right = len(told) == failed and all(line.startswith(b'tile_editor: ') for line in told)
-    return None if is_right else f'{failed} loads and saves failed, and standard error has {errors.decode()!r}'
+    return (
+        None
+        if is_right
+        else f'{failed} loads and saves failed, and standard error has {errors.decode()!r}'
+    )
 
 
 def fault_of_run(run, env=None):
@@ -217,14 +238,21 @@ def fault_of_run(run, env=None):
     done, files = heard(run.session, run.before, run.options, env)
     if done.returncode != 0:
         return f'exit status {done.returncode}, {done.stderr.decode()[:300]}'
-    return (fault_of_reasons(run.replies, done.stderr) or fault_of_replies(run.session, run.replies, done.stdout)
-            or fault_of_files(run.after, files))
+    return (
+        fault_of_reasons(run.replies, done.stderr)
+        or fault_of_replies(run.session, run.replies, done.stdout)
+        or fault_of_files(run.after, files)
+    )
 
 
 def check_together(runs):
     """The program hears some runs as one session, which leaves no files; each of them is a case."""
     done, files = heard(b''.join(run.session for run in runs))
-    assert (done.returncode, done.stderr, files) == (0, b'', {}), (done.returncode, done.stderr[:300], sorted(files))
+    assert (done.returncode, done.stderr, files) == (0, b'', {}), (
+        done.returncode,
+        done.stderr[:300],
+        sorted(files),
+    )
     came = iter(done.stdout.splitlines(keepends=True))
 
     def fault_of(run):

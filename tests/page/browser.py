@@ -18,7 +18,8 @@ from selenium.webdriver.common.action_chains import ActionChains
 from selenium.webdriver.common.by import By
 from selenium.webdriver.common.keys import Keys
 
-# How many seconds a thing may take that the page must show at last: other steps may take the processors.
+# How many seconds a thing may take that the page must show at last: other steps may take the
+# processors.
 WAIT = 60
 
 
@@ -26,8 +27,13 @@ WAIT = 60
 def browser():
     """Chromium by its driver, one for all tests of a step. It keeps what the page logs."""
     flags = webdriver.ChromeOptions()
-    for flag in ('--headless=new', '--disable-gpu', '--disable-dev-shm-usage', '--window-size=1320,1040',
-                 '--force-device-scale-factor=1'):
+    for flag in (
+        '--headless=new',
+        '--disable-gpu',
+        '--disable-dev-shm-usage',
+        '--window-size=1320,1040',
+        '--force-device-scale-factor=1',
+    ):
         flags.add_argument(flag)
     if os.getuid() == 0:
         # Chromium has no sandbox for root.
@@ -53,7 +59,9 @@ image.src = "data:image/png;base64," + data;'''
 
 def pixels(driver, data, points):
     """Red, green, blue and alpha of a PNG at these points; the browser unpacks it."""
-    told = driver.execute_async_script(PIXELS, base64.b64encode(data).decode(), [list(point) for point in points])
+    told = driver.execute_async_script(
+        PIXELS, base64.b64encode(data).decode(), [list(point) for point in points]
+    )
     return [tuple(each) for each in told]
 
 
@@ -61,7 +69,9 @@ class Server:
     """`./tile_page` on a folder."""
 
     def __init__(self, folder, *words):
-        self.program = subprocess.Popen([TOP / 'tile_page', '--folder', folder, *words], stdout=subprocess.PIPE, text=True)
+        self.program = subprocess.Popen(
+            [TOP / 'tile_page', '--folder', folder, *words], stdout=subprocess.PIPE, text=True
+        )
         self.address = self.program.stdout.readline().strip()
         self.parts = urllib.parse.urlsplit(self.address)
 
@@ -76,14 +86,16 @@ class Server:
         return data
 
     def lines(self, *said):
-        return self.ask('POST', '/lines', ''.join(line + '\n' for line in said)).decode().splitlines()
+        return (
+            self.ask('POST', '/lines', ''.join(line + '\n' for line in said)).decode().splitlines()
+        )
 
     def state(self):
         return json.loads(self.ask('GET', '/state', steps=100000))
 
     def change(self, known):
         """The count of changes; little else is told where it is the one that is known."""
-        return json.loads(self.ask('GET', '/state', change=known, lines=10 ** 9))['change']
+        return json.loads(self.ask('GET', '/state', change=known, lines=10**9))['change']
 
     def map(self):
         return json.loads(self.ask('GET', '/map'))
@@ -121,11 +133,17 @@ class Page:
 
     def settle(self):
         """Waits until the page shows what the editor has."""
+
         def is_settled():
-            change = self.js('const {editor} = roskevad; return editor.isCurrent && editor.isQuiet ? editor.state.change : -1')
+            change = self.js(
+                'const {editor} = roskevad; return editor.isCurrent && editor.isQuiet ? editor.state.change : -1'
+            )
             return change >= 0 and change == self.server.change(change)
+
         self.wait(is_settled, 'the page has what the editor has')
-        self.js('return new Promise(done => requestAnimationFrame(() => requestAnimationFrame(done)))')
+        self.js(
+            'return new Promise(done => requestAnimationFrame(() => requestAnimationFrame(done)))'
+        )
 
     # ---- the hand
     def find(self, css):
@@ -161,8 +179,8 @@ class Page:
         self.settle()
 
     def stroke(self, cells, *lines):
-        """A stroke over these cells, by events that the page gives itself: quicker than the driver's hand. The page sends lines at
-        once before it, if there are any."""
+        """A stroke over these cells, by events that the page gives itself: quicker than the
+        driver's hand. The page sends lines at once before it, if there are any."""
         code = '''const [cells, lines] = arguments, {view, bench} = roskevad;
                   if (lines.length) bench.act(lines);
                   view.box.setPointerCapture = () => {};
@@ -248,7 +266,10 @@ class Page:
                   const at = (origin, cell, side, pixel) => Math.floor(origin + (cell * side + pixel + 0.5) * view.scale);
                   return cells.map(([x, y]) => [frame.left + at(view.originX, x, view.map.tileWidth, across),
                                                 frame.top + at(view.originY, y, view.map.tileHeight, down)]);'''
-        return [[int(each) for each in place] for place in self.js(code, [list(cell) for cell in cells], *pixel)]
+        return [
+            [int(each) for each in place]
+            for place in self.js(code, [list(cell) for cell in cells], *pixel)
+        ]
 
     def log(self):
         """What the browser has logged as errors since it was asked last."""

@@ -16,7 +16,9 @@ class Door:
 
     def __init__(self, *words):
         self.faults = tempfile.TemporaryFile()
-        self.program = subprocess.Popen([TOP / 'tile_page', *words], stdout=subprocess.PIPE, stderr=self.faults, text=True)
+        self.program = subprocess.Popen(
+            [TOP / 'tile_page', *words], stdout=subprocess.PIPE, stderr=self.faults, text=True
+        )
         self.address = self.program.stdout.readline()
         parts = urllib.parse.urlsplit(self.address.strip())
         self.port, self.query = parts.port, parts.query
@@ -88,8 +90,9 @@ def read_answer(link, left=b''):
 
 @contextlib.contextmanager
 def opened():
-    """A server on a folder of its own, and that folder. Connections that say nothing, or half a head, stay open beside all that is
-    asked. At the end it must still run, and have said nothing on standard error."""
+    """A server on a folder of its own, and that folder. Connections that say nothing, or half a
+    head, stay open beside all that is asked. At the end it must still run, and have said nothing on
+    standard error."""
     with tempfile.TemporaryDirectory() as top:
         folder = Path(top) / 'maps'
         folder.mkdir()
