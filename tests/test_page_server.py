@@ -59,7 +59,6 @@ def test_page_and_headers():
 
 
 def test_lines_that_are_heard():
-    """Lines in one request, with `stop` and with `after`; the map and the session."""
     with opened() as (door, _):
         got = door.ask('POST', door.lines, TOWN)
         door.want(
@@ -83,6 +82,12 @@ def test_lines_that_are_heard():
             )
             == 200,
         )
+
+
+def test_what_is_told_of_lines():
+    """The map and the session; and requests with `stop` and with `after`."""
+    with opened() as (door, _):
+        door.ask('POST', door.lines, TOWN)
         got = door.ask('GET', f'/map?{door.query}')
         door.want(
             'the map is what show says',

@@ -198,6 +198,19 @@ def test_resize():
         see_colours(page, [(x, y) for x, y in free_places(town, 7)])
 
 
+def places_in_view(page):
+    """Cells that no object covers, and that are not beside the view of the map."""
+    left, top, right, bottom = page.js(
+        'const box = roskevad.view.box.getBoundingClientRect();'
+        'return [box.left, box.top, box.right, box.bottom]'
+    )
+    cells = list(free_places(page.server.map()))
+    places = zip(cells, page.places(cells, (5, 9)))
+    return [
+        cell for cell, (x, y) in places if left < x - 2 < right - 4 and top < y - 2 < bottom - 4
+    ]
+
+
 def test_moving():
     """The wheel makes the map larger and smaller where the hand is; the middle button moves it;
     only what is seen is drawn."""
@@ -229,16 +242,7 @@ def test_moving():
         )
         for way in ((-160, 90), (70, -200), (40, 60)):
             page.drag_points([[800, 500], [800 + way[0], 500 + way[1]]], button=1)
-        box = page.js(
-            'const box = roskevad.view.box.getBoundingClientRect(); return [box.left, box.top, box.right, box.bottom]'
-        )
-        cells = list(free_places(page.server.map()))
-        seen = [
-            each
-            for each, (x, y) in zip(cells, page.places(cells, (5, 9)))
-            if box[0] < x - 2 < box[2] - 4 and box[1] < y - 2 < box[3] - 4
-        ]
-        see_colours(page, seen)
+        see_colours(page, places_in_view(page))
         page.click('#fit')
         page.click('#grid')
         see_colours(page, free_places(page.server.map(), 11))

@@ -174,9 +174,36 @@ def played(bench, session, before):
     return folder
 
 
+def work_on(page):
+    """Strokes, macros, undone steps, refused lines, another document between them, and saves."""
+    choose(page, 'Ground')
+    take_tile(page, (3, 1))
+    for y in (20, 21, 22):
+        page.drag([(3, y), (8, y)])
+    page.ctrl('z')
+    page.say('frobnicate')
+    page.say('tile 1 0 0')
+    page.click('#macro')
+    page.drag([(10, 20), (10, 25)])
+    page.click('#macro')
+    page.ctrl('s')
+    page.say('open other layers.tmj')
+    page.drag([(0, 0), (3, 0)])
+    page.click('.tab[data-document="town"]')
+    page.keys('e')
+    page.drag([(12, 20), (12, 25)])
+    for line in (
+        'prop set map mood string calm',
+        'undo',
+        'redo',
+        'resize 41 30 0 0',
+        'save end.tmj',
+    ):
+        page.say(line)
+
+
 def test_session():
-    """'Copy as session' is played by the program to the same file: strokes, macros, undone steps,
-    refused lines, another document between them, a limit, and a save in the middle."""
+    """'Copy as session' is played by the program to the same files, with a limit."""
     bench = Bench(limit=6)
     with bench as page:
         page.driver.execute_cdp_cmd(
@@ -186,30 +213,7 @@ def test_session():
                 'permissions': ['clipboardReadWrite', 'clipboardSanitizedWrite'],
             },
         )
-        choose(page, 'Ground')
-        take_tile(page, (3, 1))
-        for y in (20, 21, 22):
-            page.drag([(3, y), (8, y)])
-        page.ctrl('z')
-        page.say('frobnicate')
-        page.say('tile 1 0 0')
-        page.click('#macro')
-        page.drag([(10, 20), (10, 25)])
-        page.click('#macro')
-        page.ctrl('s')
-        page.say('open other layers.tmj')
-        page.drag([(0, 0), (3, 0)])
-        page.click('.tab[data-document="town"]')
-        page.keys('e')
-        page.drag([(12, 20), (12, 25)])
-        for line in (
-            'prop set map mood string calm',
-            'undo',
-            'redo',
-            'resize 41 30 0 0',
-            'save end.tmj',
-        ):
-            page.say(line)
+        work_on(page)
         page.click('#copy')
         session = page.js('return navigator.clipboard.readText()')
         assert (
@@ -313,6 +317,15 @@ def test_two_tabs():
         page.driver.switch_to.window(first)
 
 
+# Presses a button on the map, and counts what the page has asked for.
+PRESS = '''
+const view = document.getElementById("view"), [clientX, clientY] = arguments;
+view.setPointerCapture = () => {};
+view.dispatchEvent(new PointerEvent("pointerdown",
+  {clientX, clientY, button: 0, pointerId: 7, bubbles: true}));'''
+ASKED = 'return performance.getEntriesByType("resource").length'
+
+
 def test_server_that_ends():
     """Where the server is gone the page says so, and sends nothing; behind a new start its new
     address works."""
@@ -326,24 +339,13 @@ def test_server_that_ends():
         page.wait(
             lambda: 'has ended' in page.find('#gone').text, 'the page says that the server is gone'
         )
-        lines, asked = page.texts('#lines li'), page.js(
-            'return performance.getEntriesByType("resource").length'
-        )
-        hand = page.point((3, 22))
-        page.js(
-            '''document.getElementById("view").setPointerCapture = () => {};
-                   document.getElementById("view").dispatchEvent(new PointerEvent("pointerdown",
-                     {clientX: arguments[0], clientY: arguments[1], button: 0, pointerId: 7, bubbles: true}))''',
-            *hand,
-        )
+        before = page.texts('#lines li'), page.js(ASKED)
+        page.js(PRESS, *page.point((3, 22)))
         page.find('#layer-up').click()
         page.find('#line').send_keys('undo', Keys.ENTER)
         page.wait(lambda: 'ended' in page.bubble(), 'the hand is told')
         page.js('return new Promise(done => setTimeout(done, 1500))')
-        assert (
-            page.texts('#lines li') == lines
-            and page.js('return performance.getEntriesByType("resource").length') == asked
-        )
+        assert (page.texts('#lines li'), page.js(ASKED)) == before
         page.driver.get_log('browser')
         bench.server = page.server = Server(
             bench.folder, '--port', str(bench.server.parts.port), str(bench.folder / 'town.tmj')
@@ -355,6 +357,5 @@ def test_server_that_ends():
         )
         page.driver.get_log('browser')
         page.open()
-        assert cells_with(page, 'Ground', 12) >= {(x, 20) for x in range(3, 7)} and standing(
-            page
-        ) == (0, 0)
+        assert cells_with(page, 'Ground', 12) >= {(x, 20) for x in range(3, 7)}
+        assert standing(page) == (0, 0)
