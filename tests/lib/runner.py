@@ -16,6 +16,7 @@ import importlib
 import inspect
 import json
 import os
+import signal
 import subprocess
 import sys
 import tempfile
@@ -99,6 +100,12 @@ def tests_of(module):
                 yield f'{name}.{method}', getattr(value(), method)
 
 
+def last_line_of_test(fault):
+    """The line of a step's file from which a fault came."""
+    lines = traceback.extract_tb(fault.__traceback__)
+    return [line for line in lines if Path(line.filename).name.startswith('test_')][-1]
+
+
 def run_test(name, test, outcome):
     """Runs one test and notes what came of it. A test that counts no checks of its own is one."""
     before = cases.passed_so_far()
@@ -110,7 +117,7 @@ def run_test(name, test, outcome):
         outcome.skipped.append(f'{name}: {reason}')
     except AssertionError as fault:
         outcome.failed += 1
-        where = traceback.extract_tb(fault.__traceback__)[-1]
+        where = last_line_of_test(fault)
         print(f'{name} ({Path(where.filename).name}, line {where.lineno}): {fault or where.line}')
     except Exception:
         outcome.failed += 1
@@ -124,6 +131,9 @@ def run_step(name, file):
     for each, test in tests_of(module):
         run_test(each, test, outcome)
     outcome.checks = cases.passed_so_far()
+    if not outcome.passed + outcome.failed + len(outcome.skipped):
+        outcome.failed = 1
+        print('it has no tests')
     Path(file).write_text(json.dumps(asdict(outcome)))
 
 
@@ -159,7 +169,7 @@ class Runner:
         except KeyboardInterrupt:
             pool.shutdown(wait=False, cancel_futures=True)
             for process in list(self.running):
-                process.terminate()
+                process.send_signal(signal.SIGINT)
             raise
         pool.shutdown()
 
@@ -181,9 +191,8 @@ class Runner:
         if step.needs_browser:
             python, missing = browser_packages.python()
             if missing:
-                return Outcome(
-                    failed=1, told=f'missing are Debian\'s packages {" ".join(missing)}\n'
-                )
+                told = f'missing are of Debian\'s packages: {", ".join(missing)}\n'
+                return Outcome(failed=1, told=told)
         file = self.folder / f'{step.name}.json'
         process = subprocess.Popen(
             [python, RUN, '--step', step.name, '--outcome', file],
@@ -198,21 +207,22 @@ class Runner:
         self.running.add(process)
         told, _ = process.communicate()
         self.running.discard(process)
-        outcome = Outcome(**json.loads(file.read_text())) if file.exists() else Outcome(failed=1)
-        outcome.told = (
-            told if file.exists() else f'{told}the step ended with status {process.returncode}\n'
-        )
+        if not file.exists():
+            return Outcome(
+                failed=1, told=f'{told}the step ended with status {process.returncode}\n'
+            )
+        outcome = Outcome(**json.loads(file.read_text()))
+        outcome.told = told
         return outcome
 
     def tell(self, step, outcome, seconds):
         word = 'FAILED' if outcome.failed else 'skipped' if not outcome.passed else 'passed'
-        counts = f'{outcome.passed} of {outcome.passed + outcome.failed + len(outcome.skipped)} tests, {outcome.checks} checks'
+        tests = outcome.passed + outcome.failed + len(outcome.skipped)
+        counts = f'{outcome.passed} of {tests} tests, {outcome.checks} checks'
+        left_out = [f'left out: {each}' for each in outcome.skipped]
         with self.tells:
             print(f'{step.name}: {word} in {seconds:.1f} s ({counts})')
-            for line in [
-                *outcome.told.splitlines(),
-                *(f'left out: {each}' for each in outcome.skipped),
-            ]:
+            for line in outcome.told.splitlines() + left_out:
                 print(f'    {line}')
             sys.stdout.flush()
 
@@ -232,10 +242,8 @@ def chosen(steps, names):
     """The steps of these names, or all; an unknown name ends the run."""
     unknown = sorted(set(names) - {step.name for step in steps})
     if unknown:
-        print(
-            f'tests/run: no such step: {" ".join(unknown)}; there are {" ".join(step.name for step in steps)}',
-            file=sys.stderr,
-        )
+        there = ' '.join(step.name for step in steps)
+        print(f'tests/run: no such step: {" ".join(unknown)}; there are {there}', file=sys.stderr)
         raise SystemExit(2)
     return [step for step in steps if not names or step.name in names]
 
@@ -266,5 +274,9 @@ def main(words):
         browser_packages.install()
     with tempfile.TemporaryDirectory(prefix='roskevad_tests_') as folder:
         runner = Runner(folder, said.gate)
-        runner.run_all(steps)
+        try:
+            runner.run_all(steps)
+        except KeyboardInterrupt:
+            print('tests/run: interrupted', file=sys.stderr)
+            return 130
     return runner.end()
