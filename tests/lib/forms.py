@@ -1,0 +1,25 @@
+"""The forms of lines, as the program's help has them."""
+import itertools
+import re
+import subprocess
+
+from lib.places import BIN
+
+
+def spread(form):
+    """The forms that a form with alternatives, as `yes|no`, stands for."""
+    choices = [[word] if word == '||' else word.split('|') for word in form.split(' ')]
+    return [' '.join(words) for words in itertools.product(*choices)]
+
+
+def forms_in(help_text):
+    return re.findall(
+        r'^  (.+)$', help_text.partition('Session lines:\n')[2].partition('\n\n')[0], re.MULTILINE
+    )
+
+
+HELP = forms_in(
+    subprocess.run(
+        [BIN / 'tile_editor', '--help'], capture_output=True, text=True, check=True
+    ).stdout
+)

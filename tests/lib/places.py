@@ -1,0 +1,42 @@
+"""Where things stand in the repository, and which programs are tried."""
+import os
+from pathlib import Path
+
+TOP = Path(__file__).resolve().parents[2]
+TESTS = TOP / 'tests'
+NATIVE = TESTS / 'native'
+SESSIONS = TOP / 'sessions'
+EXAMPLES = TOP / 'examples'
+EXAMPLE_MAPS = EXAMPLES / 'maps'
+SESSION_MAPS = SESSIONS / 'maps'
+# The programs and the library that the repository comes with.
+BIN, LIB = TOP / 'bin', TOP / 'lib'
+
+# `tests/run --gate` sets it: the programs are then those that `rt ci` has built, and no test may be
+# skipped.
+GATE = 'ROSKEVAD_GATE'
+IS_GATE = os.environ.get(GATE) == '1'
+
+# A folder in memory, where a save need not wait for a disk. It may be small.
+IN_MEMORY = '/dev/shm' if os.access('/dev/shm', os.W_OK) else None
+
+
+def built(crate):
+    """The program of a crate that `rt ci` has proved and built."""
+    return TOP / 'crates' / crate / 'out' / crate
+
+
+TILE_EDITOR = built('tile_editor') if IS_GATE else BIN / 'tile_editor'
+MAP_REPORT = built('map_report') if IS_GATE else BIN / 'map_report'
+
+
+def files_in(folder):
+    """The files of a folder by their names."""
+    return {path.name: path.read_bytes() for path in folder.iterdir()}
+
+
+def example_maps():
+    """The example maps by their names."""
+    return {
+        name: data for name, data in sorted(files_in(EXAMPLE_MAPS).items()) if name.endswith('.tmj')
+    }

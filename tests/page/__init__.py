@@ -1,0 +1,1 @@
+"""What the steps of the page to draw on share."""

@@ -1,0 +1,235 @@
+"""A server over a copy of the example maps with the page of it, what is asked of both, and the
+colours that the page must show by the images of the tilesets. The state is looked at by lines, and
+what is seen by its pixels."""
+import base64
+import json
+import shutil
+import tempfile
+from pathlib import Path
+from xml.etree import ElementTree
+
+from lib.maps import cells_of, layers_in
+from lib.places import EXAMPLE_MAPS
+from page.browser import Page, Server, browser, pixels
+
+FLIPS = (0x80000000, 0x40000000, 0x20000000)
+# What stands behind the map.
+GROUND = (0x5B, 0x60, 0x68)
+
+
+class Bench:
+    """A server over a copy of the maps, with the town or other maps open, and the page of it.
+    Behind the test the browser may have logged no error."""
+
+    def __init__(self, *files, limit=None, empty=False):
+        self.top = tempfile.TemporaryDirectory()
+        self.folder = Path(self.top.name) / 'maps'
+        shutil.copytree(EXAMPLE_MAPS, self.folder)
+        self.options = [] if limit is None else ['--limit', str(limit)]
+        names = [] if empty else files or ('town.tmj',)
+        browser().get_log('browser')
+        self.server = Server(
+            self.folder, *self.options, *(str(self.folder / name) for name in names)
+        )
+        self.page = Page(self.server)
+
+    def __enter__(self):
+        return self.page
+
+    def __exit__(self, kind, *_):
+        # A page that still looks at its server would log that it is gone.
+        self.page.driver.get('about:blank')
+        self.server.end()
+        self.top.cleanup()
+        errors = self.page.log()
+        assert kind or not errors, f'the browser has logged {errors}'
+
+
+# ---- what the map has
+
+
+def layer_of(page, name):
+    return next(layer for layer in layers_in(page.server.map()['layers']) if layer['name'] == name)
+
+
+def choose(page, name):
+    """Clicks at a layer, and gives its id."""
+    number = layer_of(page, name)['id']
+    page.click(f'#layers li[data-layer="{number}"] .name')
+    return number
+
+
+def cell(page, layer, x, y):
+    return int(page.server.lines(f'tile {layer} {x} {y}')[0].split(' ')[1])
+
+
+def cells_with(page, name, value):
+    data, width = layer_of(page, name)['data'], page.server.map()['width']
+    return {(at % width, at // width) for at, each in enumerate(data) if each == value}
+
+
+def take_tile(page, place):
+    """Clicks at a tile of the palette, by its column and row."""
+    frame = page.js(
+        'const box = document.getElementById("palette").getBoundingClientRect(); return [box.left, box.top]'
+    )
+    point = [int(frame[0] + place[0] * 32 + 16), int(frame[1] + place[1] * 32 + 16)]
+    page.drag_points([point])
+
+
+def spelled(page):
+    """The lines of the session so far, without the first one."""
+    return page.server.session().decode().splitlines()[1:]
+
+
+def standing(page):
+    state = page.server.state()
+    return state['index'], state['count']
+
+
+def object_of(page, number):
+    return next(
+        each
+        for layer in layers_in(page.server.map()['layers'])
+        for each in layer.get('objects', ())
+        if each['id'] == number
+    )
+
+
+# ---- pixels
+
+
+def visible_layers(layers, is_seen=True, right=0, down=0):
+    """The tile layers that are seen, each with how many pixels it is moved to the right and down,
+    by itself and by its groups."""
+    for layer in layers:
+        place = (
+            is_seen and layer['visible'],
+            right + layer.get('offsetx', 0),
+            down + layer.get('offsety', 0),
+        )
+        if layer['type'] == 'group':
+            yield from visible_layers(layer['layers'], *place)
+        elif place[0] and layer['type'] == 'tilelayer':
+            yield layer, *place[1:]
+
+
+def source_pixel(value, across, down, side):
+    """The pixel of a tile's image that stands at a pixel of its cell: the flips turned back, the
+    last one first."""
+    if value & FLIPS[0]:
+        across = side - 1 - across
+    if value & FLIPS[1]:
+        down = side - 1 - down
+    return (down, across) if value & FLIPS[2] else (across, down)
+
+
+class Tiles:
+    """The tilesets of a map, read by this script, and the pixels of their images, unpacked by the
+    browser once each."""
+
+    images = {}
+
+    def __init__(self, page, town):
+        self.sets = []
+        for each in town['tilesets']:
+            columns, image, width, height = each_image(each)
+            if image not in self.images:
+                points = [(x, y) for y in range(height) for x in range(width)]
+                self.images[image] = pixels(
+                    page.driver, (EXAMPLE_MAPS / image).read_bytes(), points
+                )
+            self.sets.append((each['firstgid'], columns, width, self.images[image]))
+
+    def colour(self, value, across, down, side=16):
+        """Red, green, blue and alpha at a pixel of a cell that has this value."""
+        across, down = source_pixel(value, across, down, side)
+        first, columns, width, seen = max(
+            each for each in self.sets if each[0] <= value & 0x0FFFFFFF
+        )
+        tile = (value & 0x0FFFFFFF) - first
+        return seen[(tile // columns * side + down) * width + tile % columns * side + across]
+
+
+def each_image(tileset):
+    """The columns of a tileset, its image, and how wide and high that is."""
+    source = tileset.get('source', '')
+    if source.endswith('.tsx'):
+        root = ElementTree.parse(EXAMPLE_MAPS / source).getroot()
+        image = root.find('image')
+        return (
+            int(root.get('columns')),
+            image.get('source'),
+            int(image.get('width')),
+            int(image.get('height')),
+        )
+    told = json.loads((EXAMPLE_MAPS / source).read_text()) if source else tileset
+    return told['columns'], told['image'], told['imagewidth'], told['imageheight']
+
+
+def wanted_colour(town, place, pixel, tiles):
+    """The colour that a map has at a pixel of a cell: of its highest tile that is not clear
+    there."""
+    colour, side = GROUND, 16
+    for layer, right, below in visible_layers(town['layers']):
+        (column, across), (row, down) = (
+            divmod(place[at] * side + pixel[at] - moved, side)
+            for at, moved in ((0, right), (1, below))
+        )
+        is_inside = 0 <= column < town['width'] and 0 <= row < town['height']
+        value = cells_of(layer)[row * town['width'] + column] if is_inside else 0
+        seen = tiles.colour(value, across, down) if value else (0, 0, 0, 0)
+        if seen[3] == 255:
+            colour = seen[:3]
+    return colour
+
+
+def see_colours(page, places, pixel=(5, 9)):
+    """Looks at a pixel in each of these cells, on the screen and in the tilesets' images."""
+    places, town = list(places), page.server.map()
+    tiles = Tiles(page, town)
+    for place, shown in zip(places, page.colours(page.places(places, pixel))):
+        wanted = wanted_colour(town, place, pixel, tiles)
+        assert shown == wanted, (place, shown, wanted)
+
+
+def free_places(town, step=1):
+    """Cells that no object and no name covers."""
+    boxes = [
+        (o['x'] - 24, o['y'] - 48, o['x'] + o['width'] + 96, o['y'] + o['height'] + 24)
+        for layer in layers_in(town['layers'])
+        for o in layer.get('objects', ())
+    ]
+    for at in range(0, town['width'] * town['height'], step):
+        x, y = at % town['width'], at // town['width']
+        if not any(
+            left <= x * 16 + 8 <= right and top <= y * 16 + 8 <= bottom
+            for left, top, right, bottom in boxes
+        ):
+            yield x, y
+
+
+def middle_of(page, number):
+    code = '''const view = roskevad.view, {object} = roskevad.editor.map.object(arguments[0]), frame = view.box.getBoundingClientRect();
+              const top = object.gid ? -object.height / 2 : object.height / 2;
+              return [frame.left + view.originX + (object.x + object.width / 2) * view.scale, frame.top + view.originY + (object.y + top) * view.scale]'''
+    return [int(each) for each in page.js(code, number)]
+
+
+def corner_of(page):
+    """Where the map begins in the window, and its scale."""
+    code = '''const view = roskevad.view, frame = view.box.getBoundingClientRect();
+              return [frame.left + view.originX, frame.top + view.originY, view.scale]'''
+    return page.js(code)
+
+
+def points_at(page, places):
+    """Where these pixels of the map are in the window."""
+    left, top, scale = corner_of(page)
+    return [(int(left + x * scale), int(top + y * scale)) for x, y in places]
+
+
+def colours_now(page, points):
+    """The colours that are seen while the hand stays where it is."""
+    data = base64.b64decode(page.driver.get_screenshot_as_base64())
+    return [each[:3] for each in pixels(page.driver, data, points)]

@@ -1,0 +1,276 @@
+"""Chromium without a window, the page in it, the hand on it, and the pixels that it shows."""
+import atexit
+import base64
+import functools
+import http.client
+import json
+import os
+import shutil
+import subprocess
+import time
+import urllib.parse
+from pathlib import Path
+
+from lib.places import TOP
+from selenium import webdriver
+from selenium.webdriver.chrome.service import Service
+from selenium.webdriver.common.action_chains import ActionChains
+from selenium.webdriver.common.by import By
+from selenium.webdriver.common.keys import Keys
+
+# How many seconds a thing may take that the page must show at last: other steps may take the
+# processors.
+WAIT = 60
+
+
+@functools.cache
+def browser():
+    """Chromium by its driver, one for all tests of a step. It keeps what the page logs."""
+    flags = webdriver.ChromeOptions()
+    for flag in (
+        '--headless=new',
+        '--disable-gpu',
+        '--disable-dev-shm-usage',
+        '--window-size=1320,1040',
+        '--force-device-scale-factor=1',
+    ):
+        flags.add_argument(flag)
+    if os.getuid() == 0:
+        # Chromium has no sandbox for root.
+        flags.add_argument('--no-sandbox')
+    flags.binary_location = shutil.which('chromium')
+    flags.set_capability('goog:loggingPrefs', {'browser': 'ALL'})
+    started = webdriver.Chrome(service=Service(shutil.which('chromedriver')), options=flags)
+    atexit.register(started.quit)
+    started.set_window_size(1320, 1040)
+    return started
+
+
+PIXELS = '''
+const [data, points, done] = arguments;
+const image = new Image();
+image.onload = () => {
+  const pen = new OffscreenCanvas(image.width, image.height).getContext("2d", {willReadFrequently: true});
+  pen.drawImage(image, 0, 0);
+  done(points.map(([x, y]) => [...pen.getImageData(x, y, 1, 1).data]));
+};
+image.src = "data:image/png;base64," + data;'''
+
+
+def pixels(driver, data, points):
+    """Red, green, blue and alpha of a PNG at these points; the browser unpacks it."""
+    told = driver.execute_async_script(
+        PIXELS, base64.b64encode(data).decode(), [list(point) for point in points]
+    )
+    return [tuple(each) for each in told]
+
+
+class Server:
+    """`./tile_page` on a folder."""
+
+    def __init__(self, folder, *words):
+        self.program = subprocess.Popen(
+            [TOP / 'tile_page', '--folder', folder, *words], stdout=subprocess.PIPE, text=True
+        )
+        self.address = self.program.stdout.readline().strip()
+        self.parts = urllib.parse.urlsplit(self.address)
+
+    def ask(self, method, path, body=None, **words):
+        link = http.client.HTTPConnection(self.parts.netloc, timeout=60)
+        query = urllib.parse.urlencode({'key': self.parts.query.removeprefix('key='), **words})
+        link.request(method, f'{path}?{query}', body)
+        answer = link.getresponse()
+        data = answer.read()
+        link.close()
+        assert answer.status == 200, (path, answer.status)
+        return data
+
+    def lines(self, *said):
+        return (
+            self.ask('POST', '/lines', ''.join(line + '\n' for line in said)).decode().splitlines()
+        )
+
+    def state(self):
+        return json.loads(self.ask('GET', '/state', steps=100000))
+
+    def change(self, known):
+        """The count of changes; little else is told where it is the one that is known."""
+        return json.loads(self.ask('GET', '/state', change=known, lines=10**9))['change']
+
+    def map(self):
+        return json.loads(self.ask('GET', '/map'))
+
+    def session(self):
+        return self.ask('GET', '/session')
+
+    def end(self):
+        self.program.terminate()
+        self.program.wait(WAIT)
+
+
+class Page:
+    """A tab of the browser with the page in it, and the hand on it."""
+
+    def __init__(self, server):
+        self.driver, self.server = browser(), server
+        self.open()
+
+    def open(self, address=None):
+        self.driver.get(address or self.server.address)
+        self.wait(lambda: self.js('return document.body.dataset.isReady'), 'the page is ready')
+        self.settle()
+
+    def js(self, code, *words):
+        return self.driver.execute_script(code, *words)
+
+    def wait(self, test, what):
+        end = time.monotonic() + WAIT
+        while time.monotonic() < end:
+            if test():
+                return
+            time.sleep(0.04)
+        raise AssertionError(f'not within {WAIT} seconds: {what}')
+
+    def settle(self):
+        """Waits until the page shows what the editor has."""
+
+        def is_settled():
+            change = self.js(
+                'const {editor} = roskevad; return editor.isCurrent && editor.isQuiet ? editor.state.change : -1'
+            )
+            return change >= 0 and change == self.server.change(change)
+
+        self.wait(is_settled, 'the page has what the editor has')
+        self.js(
+            'return new Promise(done => requestAnimationFrame(() => requestAnimationFrame(done)))'
+        )
+
+    # ---- the hand
+    def find(self, css):
+        return self.driver.find_element(By.CSS_SELECTOR, css)
+
+    def click(self, css):
+        self.find(css).click()
+        self.settle()
+
+    def point(self, cell):
+        """Where the middle of a cell is in the window."""
+        return [int(each) for each in self.js('return roskevad.view.middleOf(...arguments)', *cell)]
+
+    def drag(self, cells, *keys, button=0):
+        """Presses at the first cell, goes over the others, and lets go, with keys held down."""
+        self.drag_points([self.point(cell) for cell in cells], *keys, button=button)
+
+    def drag_points(self, points, *keys, button=0):
+        chain = ActionChains(self.driver, duration=30)
+        for key in keys:
+            chain.key_down(key)
+        hand = chain.w3c_actions.pointer_action
+        hand.move_to_location(*points[0])
+        hand.pointer_down(button=button)
+        for point in points[1:]:
+            hand.move_to_location(*point)
+        hand.pointer_up(button=button)
+        chain.perform()
+        chain = ActionChains(self.driver)
+        for key in keys:
+            chain.key_up(key)
+        chain.perform()
+        self.settle()
+
+    def stroke(self, cells, *lines):
+        """A stroke over these cells, by events that the page gives itself: quicker than the
+        driver's hand. The page sends lines at once before it, if there are any."""
+        code = '''const [cells, lines] = arguments, {view, bench} = roskevad;
+                  if (lines.length) bench.act(lines);
+                  view.box.setPointerCapture = () => {};
+                  const tell = (kind, cell) => {
+                    const [x, y] = view.middleOf(...cell);
+                    view.box.dispatchEvent(new PointerEvent(kind, {clientX: x, clientY: y, button: 0, pointerId: 7, bubbles: true}));
+                  };
+                  tell("pointerdown", cells[0]);
+                  for (const cell of cells.slice(1)) tell("pointermove", cell);
+                  tell("pointerup", cells[cells.length - 1]);'''
+        self.js(code, [list(cell) for cell in cells], lines)
+        self.settle()
+
+    def keys(self, text, *held):
+        """Presses keys, with others held down, where no field has them."""
+        self.js('document.activeElement?.blur()')
+        chain = ActionChains(self.driver)
+        for key in held:
+            chain.key_down(key)
+        for each in text if isinstance(text, str) and len(text) > 1 and text.isascii() else [text]:
+            chain.send_keys(each)
+        for key in held:
+            chain.key_up(key)
+        chain.perform()
+        self.settle()
+
+    def ctrl(self, key, *more):
+        self.keys(key, Keys.CONTROL, *more)
+
+    def say(self, line):
+        """Types a line into the box."""
+        self.find('#line').send_keys(line, Keys.ENTER)
+        self.settle()
+
+    def fill_in(self, answer='OK', **fields):
+        """Fills in the dialog that stands there, and answers it."""
+        self.wait(lambda: self.driver.find_elements(By.CSS_SELECTOR, 'dialog[open]'), 'a dialog')
+        for name, value in fields.items():
+            field = self.find(f'dialog [name={name}]')
+            field.clear()
+            field.send_keys(str(value))
+        for each in self.driver.find_elements(By.CSS_SELECTOR, 'dialog button'):
+            if each.text == answer:
+                each.click()
+                break
+        self.settle()
+
+    def type_into(self, css, value):
+        """Types a value over that of a field of a table, and goes on."""
+        field = self.find(css)
+        field.click()
+        field.send_keys(Keys.CONTROL, 'a')
+        field.send_keys(Keys.NULL, str(value), Keys.TAB)
+        self.settle()
+
+    # ---- what is seen
+    def bubble(self):
+        return self.find('#bubble').text
+
+    def texts(self, css):
+        return [each.text for each in self.driver.find_elements(By.CSS_SELECTOR, css)]
+
+    def picture(self, path=None):
+        """What is seen, with the hand away from the map."""
+        chain = ActionChains(self.driver, duration=0)
+        chain.w3c_actions.pointer_action.move_to_location(4, 4)
+        self.js('document.getElementById("bubble").hidden = true')
+        chain.perform()
+        self.settle()
+        data = base64.b64decode(self.driver.get_screenshot_as_base64())
+        if path:
+            Path(path).write_bytes(data)
+        return data
+
+    def colours(self, points):
+        """The colours that are seen at points of the window."""
+        return [each[:3] for each in pixels(self.driver, self.picture(), points)]
+
+    def places(self, cells, pixel):
+        """Where a pixel of the tile in each of these cells is in the window."""
+        code = '''const [view, cells, across, down] = [roskevad.view, ...arguments];
+                  const frame = view.box.getBoundingClientRect();
+                  const at = (origin, cell, side, pixel) => Math.floor(origin + (cell * side + pixel + 0.5) * view.scale);
+                  return cells.map(([x, y]) => [frame.left + at(view.originX, x, view.map.tileWidth, across),
+                                                frame.top + at(view.originY, y, view.map.tileHeight, down)]);'''
+        return [
+            [int(each) for each in place]
+            for place in self.js(code, [list(cell) for cell in cells], *pixel)
+        ]
+
+    def log(self):
+        """What the browser has logged as errors since it was asked last."""
+        return [each for each in self.driver.get_log('browser') if each['level'] == 'SEVERE']

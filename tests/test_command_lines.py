@@ -1,0 +1,190 @@
+"""Runs the program on command lines, and compares its exit status and the first line that it writes
+on each output. The launchers at the top are tried too: by their names and by links to them they run
+what is in `bin/`. Besides, the program is run where its replies, its help and its version have
+nowhere to go."""
+import os
+import subprocess
+import tempfile
+from pathlib import Path
+
+from lib.cases import CORES, Case, check_each, unlike
+from lib.places import BIN, EXAMPLES, TILE_EDITOR, TOP
+
+ABOUT = 'Edits tile maps by session lines: reads lines from standard input, and answers each with a line on'
+NO_FOLDER = "error: a value is required for '--folder <DIR>' but none was supplied"
+NO_NUMBER = "error: a value is required for '--limit <N>' but none was supplied"
+BAD_NUMBER = "error: invalid value 'x' for '--limit <N>': invalid digit found in string"
+TOO_LARGE = "error: invalid value '1000001' for '--limit <N>': 1000001 is not in 0..=1000000"
+UNKNOWN = "error: unexpected argument '--frob' found"
+
+
+def twice(option):
+    return f"error: the argument '{option}' cannot be used multiple times"
+
+
+# The words of a command line in a folder, the exit status, and the first lines on standard output
+# and standard error.
+COMMAND_LINES = [
+    Case('no words', [], (0, '', '')),
+    Case('a folder', ['--folder', '.'], (0, '', '')),
+    Case('a folder behind an equals sign', ['--folder=.'], (0, '', '')),
+    Case('a limit', ['--limit', '1000000'], (0, '', '')),
+    Case('a limit and a folder', ['--limit', '3', '--folder', '.'], (0, '', '')),
+    Case(
+        'a folder that is not there',
+        ['--folder', 'no/maps'],
+        (0, '', 'tile_editor: no/maps: No such file or directory'),
+    ),
+    Case('a strict run', ['--strict'], (0, '', '')),
+    Case('strict twice', ['--strict', '--strict'], (2, '', twice('--strict'))),
+    Case('help', ['--help'], (0, ABOUT, '')),
+    Case('no folder', ['--folder'], (2, '', NO_FOLDER)),
+    Case('an empty folder', ['--folder', ''], (2, '', NO_FOLDER)),
+    Case('an empty folder behind an equals sign', ['--folder='], (2, '', NO_FOLDER)),
+    Case('no limit', ['--limit'], (2, '', NO_NUMBER)),
+    Case('a limit that is too large', ['--limit', '1000001'], (2, '', TOO_LARGE)),
+    Case('a limit below 0', ['--limit', '-1'], (2, '', "error: unexpected argument '-1' found")),
+    Case('a limit that is no number', ['--limit', 'x'], (2, '', BAD_NUMBER)),
+    Case('an unknown option', ['--frob'], (2, '', UNKNOWN)),
+    Case('a stray word', ['maps'], (2, '', "error: unexpected argument 'maps' found")),
+    Case('a folder twice', ['--folder', 'a', '--folder', 'b'], (2, '', twice('--folder <DIR>'))),
+    Case(
+        'no UTF-8',
+        [b'--folder=\xff'],
+        (2, '', 'tile_editor: a word of the command line is not UTF-8'),
+    ),
+]
+
+
+def came_of(words, folder, **more):
+    """The exit status of a command, and the first lines that it writes."""
+    done = subprocess.run(
+        words, cwd=folder, capture_output=True, timeout=60, **{'stdin': subprocess.DEVNULL, **more}
+    )
+    return done.returncode, *(
+        text.decode().partition('\n')[0] for text in (done.stdout, done.stderr)
+    )
+
+
+def fault_of_words(case):
+    with tempfile.TemporaryDirectory() as folder:
+        return unlike(case.wanted, came_of([TILE_EDITOR, *case.given], folder))
+
+
+def test_words():
+    check_each(COMMAND_LINES, fault_of_words, CORES)
+
+
+def test_input_that_is_a_folder():
+    """A folder in the place of the input can be opened and not read."""
+    with tempfile.TemporaryDirectory() as folder:
+        place = os.open(folder, os.O_RDONLY)
+        fault = unlike(
+            (1, '', 'tile_editor: read failed'), came_of([TILE_EDITOR], folder, stdin=place)
+        )
+        os.close(place)
+    assert not fault, fault
+
+
+# ---- the launchers
+
+
+def make_links(folder):
+    """Links of other names, to other links, and in other folders."""
+    (folder / 'deep').mkdir()
+    for name, goal in [
+        ('editor', TOP / 'tile_editor'),
+        ('deep/again', '../editor'),
+        ('map_report', TOP / 'map_report'),
+        ('report', 'map_report'),
+        ('page', TOP / 'tile_page'),
+        ('build', EXAMPLES / 'build.sh'),
+    ]:
+        (folder / name).symlink_to(goal)
+
+
+def launchers(links):
+    """Commands that are run at the top, with the command that they must lead to."""
+    editor, report = BIN / 'tile_editor', BIN / 'map_report'
+    return [
+        Case('the launcher', ['./tile_editor'], [editor]),
+        Case('the launcher of the report', ['./map_report'], [report]),
+        Case('the launcher by its absolute path', [TOP / 'tile_editor'], [editor]),
+        Case('the launcher in the shell', ['bash', 'tile_editor'], [editor]),
+        Case('the launcher of the report in the shell', ['bash', 'map_report'], [report]),
+        Case(
+            'the launcher with a CDPATH',
+            ['env', f'CDPATH={links}:{EXAMPLES}', 'crates/../tile_editor'],
+            [editor],
+        ),
+        Case('a link', [links / 'editor'], [editor]),
+        Case('a link to a link', [links / 'deep' / 'again'], [editor]),
+        Case(
+            'a link in the PATH', ['env', f'PATH={links}:{os.environ["PATH"]}', 'editor'], [editor]
+        ),
+        Case('a link to the report', [links / 'map_report'], [report]),
+        Case('a link to a link to the report', [links / 'report'], [report]),
+        Case(
+            'a link to the page',
+            [links / 'page'],
+            ['env', 'PYTHONPATH=python', 'python3', '-m', 'roskevad.page'],
+        ),
+    ]
+
+
+def fault_of_launcher(case):
+    wanted = came_of([*case.wanted, '--version'], TOP)
+    return (
+        unlike(wanted, came_of([*case.given, '--version'], TOP))
+        if wanted[::2] == (0, '') and wanted[1]
+        else f'{wanted}'
+    )
+
+
+def test_launchers():
+    """Each prints the version of the program that it leads to."""
+    with tempfile.TemporaryDirectory() as folder:
+        make_links(Path(folder))
+        check_each(launchers(Path(folder)), fault_of_launcher)
+
+
+def test_the_build_script():
+    """By a link and in the shell, over a session without lines."""
+    with tempfile.TemporaryDirectory() as folder:
+        make_links(Path(folder))
+        check_each(
+            [
+                Case('a link to the build script', ([f'{folder}/build'], TOP), (0, '', '')),
+                Case(
+                    'the build script in the shell', (['bash', 'build.sh'], EXAMPLES), (0, '', '')
+                ),
+            ],
+            lambda case: unlike(
+                case.wanted, came_of([*case.given[0], '/dev/null', folder], case.given[1])
+            ),
+        )
+
+
+# ---- nowhere to go
+
+
+def fault_without_room(case):
+    words, sink = case.given
+    command = f'printf "status\\n" | "$0" {words} >{sink}'
+    return unlike(case.wanted, came_of(['bash', '-c', command, TILE_EDITOR], TOP))
+
+
+def test_output_that_has_nowhere_to_go():
+    """Replies, help and the version to a full device, and to an output that is closed."""
+    check_each(
+        [
+            Case(
+                f'{words or "replies"} to {sink}',
+                (words, sink),
+                (1, '', 'tile_editor: write failed'),
+            )
+            for sink in ('/dev/full', '&-')
+            for words in ('', '--help', '--version')
+        ],
+        fault_without_room,
+    )

@@ -1,0 +1,64 @@
+"""Sees how the pages are laid out: each line of a page has at most 100 characters, but for rows of
+tables, lines of fenced blocks, and lines that are one link or one address; and each row of a table
+has as many cells as its head."""
+import re
+import subprocess
+
+from lib.cases import check_each
+from lib.pages import ROW, Page
+from lib.places import TOP
+
+MOST = 100
+# One link or one address, perhaps as an entry of a list.
+ONE_LINK = re.compile(r'\s*(?:[-*] |\d+\. )?(?:!?\[[^\]]*\]\([^)]*\)|<?https?://\S+>?)[.,;:]?')
+
+
+def tracked():
+    """The pages that git tracks; all that there are where this is no clone."""
+    listed = subprocess.run(['git', 'ls-files', '*.md'], cwd=TOP, capture_output=True, text=True)
+    names = listed.stdout.splitlines() or [
+        str(path.relative_to(TOP)) for path in TOP.rglob('*.md') if '/out/' not in str(path)
+    ]
+    return [Page(TOP / name) for name in names if (TOP / name).exists()]
+
+
+def text_lines(page):
+    """The lines of a page that are in no fenced block, with their numbers."""
+    is_fenced = False
+    for number, line in enumerate(page.text.split('\n'), 1):
+        if re.match(r'\s*(```|~~~)', line):
+            is_fenced = not is_fenced
+        elif not is_fenced:
+            yield number, line
+
+
+def is_row(line):
+    return line.lstrip().startswith('|')
+
+
+def fault_of_widths(page):
+    wide = [
+        f'line {number}: {len(line)} characters: {line[:60]}..'
+        for number, line in text_lines(page)
+        if len(line) > MOST and not is_row(line) and not ONE_LINK.fullmatch(line)
+    ]
+    return '\n    '.join(wide) or None
+
+
+def fault_of_rows(page):
+    """The rows of tables that have more or fewer cells than their heads, or None."""
+    head, wrong = None, []
+    for number, line in text_lines(page):
+        cells = len(ROW.split(line.strip())) - 2 if is_row(line) else None
+        head = None if cells is None else head or cells
+        if cells != head:
+            wrong.append(f'line {number}: {cells} cells, and {head} in the head: {line[:60]}')
+    return '\n    '.join(wrong) or None
+
+
+def test_widths_of_lines():
+    check_each(tracked(), fault_of_widths)
+
+
+def test_cells_of_tables():
+    check_each(tracked(), fault_of_rows)

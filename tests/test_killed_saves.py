@@ -1,0 +1,304 @@
+"""Kills the program at each step of a save, and makes each call of a save on files fail, over files
+of several modes. However a save ends, the file under its name is the old one or the new one, whole,
+and has the old one's mode; no file has a wider mode meanwhile, and the next save of that name takes
+away what is left beside it. A save that fails is answered so, and leaves the document as it was. It
+runs as the user nobody where it would otherwise run as root, whom no permission stops.
+native/interpose_saves.c kills and makes calls fail."""
+import errno
+import os
+import shutil
+import signal
+import stat
+import subprocess
+import tempfile
+from dataclasses import dataclass
+from pathlib import Path
+
+from lib.cases import CORES, check_each, passed
+from lib.native import interposed
+from lib.places import SESSION_MAPS, TILE_EDITOR
+from lib.refusals import refusal
+from lib.rights import NOBODY, can_lose_rights
+from lib.sessions import joined
+
+OLD = (SESSION_MAPS / 'two_cells.tmj').read_bytes()
+EMPTY = (SESSION_MAPS / 'town.tmj').read_bytes()
+# The map with its first cell stamped, which is one digit for another.
+NEW = EMPTY.replace(b'"data":[0,', b'"data":[5,')
+NAME, BESIDE, FAR = 'm.tmj', '.m.tmj.new', 'far'
+# The bits of a mode that a save keeps.
+ACCESS = 0o777
+
+EDITS = [b'new town 4 3 16 16 town.tsj', b'stamp 1 0 0 1 5', b'save m.tmj']
+SESSION = [*EDITS, b'status', b'undo', b'redo', b'list']
+EDITED = [b'ok 0/0 clean 0', b'ok 1/1 dirty 0']
+SAVED = [
+    *EDITED,
+    b'saved m.tmj 389',
+    b'ok 1/1 clean 0',
+    b'ok 0/1 dirty 0',
+    b'ok 1/1 clean 0',
+    b'docs *town',
+]
+NOT_SAVED = [
+    *EDITED,
+    refusal(51).encode(),
+    b'ok 1/1 dirty 0',
+    b'ok 0/1 clean 0',
+    b'ok 1/1 dirty 0',
+    b'docs *town',
+]
+NEXT_SESSION = [b'new town 4 3 16 16 town.tsj', b'save m.tmj', b'status']
+NEXT_SAVED = [b'ok 0/0 clean 0', b'saved m.tmj 389', b'ok 0/0 clean 0']
+
+ERRORS = [errno.EIO, errno.ENOSPC, errno.EACCES]
+# The steps that every save has, and those whose failure loses nothing: there was no file left
+# behind, and the file is synced.
+NEEDED = ['open', 'write', 'fsync', 'rename']
+HARMLESS = ['unlink', 'close', 'reply']
+
+
+class Fault(Exception):
+    """What is wrong in a save."""
+
+
+@dataclass(frozen=True)
+class Place:
+    """What stands under the name before a save, and the mask of the program."""
+
+    name: str
+    mode: int = None
+    mask: int = 0o022
+    is_link: bool = False
+
+    def make(self, folder, user):
+        """Makes a folder anew, with this in it."""
+        shutil.rmtree(folder, ignore_errors=True)
+        folder.mkdir()
+        file = folder / (FAR if self.is_link else NAME)
+        if self.mode is not None:
+            file.write_bytes(OLD)
+            if user is not None:
+                os.chown(file, user, user)
+            file.chmod(self.mode)
+        if self.is_link:
+            (folder / NAME).symlink_to(FAR)
+        if user is not None:
+            os.chown(folder, user, user)
+
+    def before(self):
+        """What stands in the folder before a save."""
+        file = {} if self.mode is None else {FAR if self.is_link else NAME: (self.mode, OLD)}
+        return {**file, NAME: FAR} if self.is_link else file
+
+    def new_mode(self):
+        """The mode of the file that a save makes: the access bits of the file that stood there,
+        else those of any new file."""
+        return 0o666 & ~self.mask if self.mode is None or self.is_link else self.mode & ACCESS
+
+    def after(self, data):
+        """What stands in the folder after a save of these bytes."""
+        return {**self.before(), NAME: (self.new_mode(), data)}
+
+    def after_next(self, found):
+        """What stands there after one more save, where this was found before it."""
+        stood = found.get(NAME)
+        mode = stood[0] & ACCESS if isinstance(stood, tuple) else self.new_mode()
+        return {**self.before(), NAME: (mode, EMPTY)}
+
+
+PLACES = [
+    Place('no file'),
+    Place('no file, and a mask of 077', mask=0o077),
+    *(
+        Place(f'a file of mode {mode:o}', mode)
+        for mode in (0o644, 0o600, 0o640, 0o444, 0o666, 0o755, 0o000)
+    ),
+    Place('a file of mode 664, and a mask of 077', 0o664, 0o077),
+    Place('a file of mode 604, and no mask', 0o604, 0o000),
+    Place('a file of mode 4755', 0o4755),
+    Place('a link to a file of mode 600', 0o600, is_link=True),
+    Place('a link to nothing', is_link=True),
+]
+
+
+def entry(path):
+    """What stands at a path: where a link leads, or a file's mode and bytes. A file that may not be
+    read is opened for that long."""
+    if path.is_symlink():
+        return os.readlink(path)
+    mode = stat.S_IMODE(path.lstat().st_mode)
+    path.chmod(mode | 0o400)
+    data = path.read_bytes()
+    path.chmod(mode)
+    return mode, data
+
+
+def entries(folder):
+    """What stands in a folder, by name."""
+    return {path.name: entry(path) for path in folder.iterdir()}
+
+
+def in_words(found):
+    """What stands in a folder, to be printed."""
+    words = {
+        name: f'{it[0]:o} {it[1][:40]!r}.. of {len(it[1])}' if isinstance(it, tuple) else it
+        for name, it in found.items()
+    }
+    return f'the folder has {words}'
+
+
+class Saver:
+    """The program with the library that stops saves before it, in a folder of its own."""
+
+    def __init__(self, top):
+        self.top, self.folder = top, top / 'maps'
+        self.program, self.library = top / 'program', top / 'interpose_saves.so'
+        self.user = NOBODY if os.getuid() == 0 and can_lose_rights() else None
+        top.chmod(0o755)
+        shutil.copy(TILE_EDITOR, self.program)
+        shutil.copy(interposed('interpose_saves.c'), self.library)
+
+    def heard(self, place, session, env):
+        """What the program does with a session."""
+        passed()
+        words = [self.program, '--folder', 'maps']
+        return subprocess.run(
+            words,
+            input=joined(session),
+            capture_output=True,
+            timeout=60,
+            cwd=self.top,
+            env=env,
+            umask=place.mask,
+            user=self.user,
+            group=self.user,
+        )
+
+    def stopped(self, place, at=0, by='kill', stops_all=False):
+        """What the program does over a place with a save that is stopped at a call, and the names
+        of the calls up to its end."""
+        place.make(self.folder, self.user)
+        env = {
+            'LD_PRELOAD': str(self.library),
+            'STOP_AT': str(at),
+            'STOP_BY': str(by),
+            **({'STOP_ALL': '1'} if stops_all else {}),
+        }
+        done = self.heard(place, SESSION, env)
+        calls = done.stderr.decode().rpartition('calls:')[2].split()
+        return done, calls
+
+    def save_again(self, place, found):
+        """Sees that the next save of the name works, and leaves nothing beside the file."""
+        done = self.heard(place, NEXT_SESSION, {})
+        replies = done.stdout.split(b'\n')[:-1]
+        if done.returncode != 0 or replies != NEXT_SAVED:
+            raise Fault(f'the next save: {replies}')
+        if entries(self.folder) != place.after_next(found):
+            raise Fault(f'the next save: {in_words(entries(self.folder))}')
+
+
+def see_folder(place, found, may_be_old, may_be_new, may_have_rest):
+    """Sees that what stands in a folder is old or new, as it may be, and that the mode of what is
+    beside it is no wider."""
+    rest = found.pop(BESIDE, None)
+    if not (may_be_old and found == place.before()) and not (
+        may_be_new and found == place.after(NEW)
+    ):
+        raise Fault(in_words(found))
+    if rest is None:
+        return
+    mode, data = rest
+    if not may_have_rest:
+        raise Fault(f'{BESIDE} is left')
+    if mode & ~place.new_mode():
+        raise Fault(
+            f'{BESIDE} has the mode {mode:o}, and is to have no more than {place.new_mode():o}'
+        )
+    if not NEW.startswith(data):
+        raise Fault(f'{BESIDE} has {data[:80]!r}')
+
+
+def see_saved(saver, place):
+    """Sees that a save that nothing stops works, and gives the names of its calls."""
+    done, calls = saver.stopped(place)
+    if done.returncode != 0 or done.stdout.split(b'\n')[:-1] != SAVED:
+        raise Fault(f'status {done.returncode}, {done.stdout}')
+    see_folder(place, entries(saver.folder), False, True, False)
+    missing = [name for name in NEEDED if name not in calls]
+    if missing or calls[-1] != 'reply':
+        raise Fault(f'no {missing} seen among {calls}')
+    last_write, sync, rename = (
+        len(calls) - calls[::-1].index('write') - 1,
+        calls.index('fsync'),
+        calls.index('rename'),
+    )
+    if not last_write < sync < rename:
+        raise Fault(f'not synced between the last write and the rename: {calls}')
+    return calls
+
+
+def see_killed(saver, place, at, by):
+    """Sees what is there after a kill at a call."""
+    done, _ = saver.stopped(place, at, by)
+    if done.returncode != -signal.SIGKILL:
+        raise Fault(f'not killed, but status {done.returncode}')
+    found = entries(saver.folder)
+    see_folder(place, dict(found), True, True, True)
+    saver.save_again(place, found)
+
+
+def see_failed(saver, place, at, error, stops_all):
+    """Sees what is there after a call has failed, or all from that one on."""
+    done, calls = saver.stopped(place, at, error, stops_all)
+    replies = done.stdout.split(b'\n')[:-1]
+    is_saved = replies == SAVED
+    if done.returncode != 0 or not (is_saved or replies == NOT_SAVED):
+        raise Fault(f'status {done.returncode}, {replies}')
+    if is_saved and (stops_all or calls[at - 1] not in HARMLESS):
+        raise Fault('the save is said to have worked')
+    found = entries(saver.folder)
+    see_folder(place, dict(found), not is_saved, is_saved, stops_all)
+    saver.save_again(place, found)
+
+
+def stops_of(calls):
+    """Each way to stop a save of these calls: words for it, the call that sees it, and what that is
+    passed."""
+    for at, name in enumerate(calls, 1):
+        yield f'killed before call {at}, {name}', see_killed, (at, 'kill')
+        if name == 'write':
+            yield f'killed in call {at}, {name}', see_killed, (at, 'half')
+        for error in ERRORS if name != 'reply' else []:
+            yield f'call {at}, {name}, gives {errno.errorcode[error]}', see_failed, (
+                at,
+                error,
+                False,
+            )
+        if name not in ('close', 'reply'):
+            yield f'all calls from {at}, {name}, give EIO', see_failed, (at, errno.EIO, True)
+
+
+def faults_in(saver, place):
+    """What is wrong in saves over a place."""
+    try:
+        calls = see_saved(saver, place)
+    except Fault as fault:
+        yield str(fault)
+        return
+    for title, see, arguments in stops_of(calls):
+        try:
+            see(saver, place, *arguments)
+        except Fault as fault:
+            yield f'{title}: {fault}'
+
+
+def fault_of(place):
+    with tempfile.TemporaryDirectory() as top:
+        return '\n    '.join(faults_in(Saver(Path(top)), place)) or None
+
+
+def test_saves_that_are_stopped():
+    """Each kind of file is a case, and each run of the program a check besides."""
+    check_each(PLACES, fault_of, CORES)

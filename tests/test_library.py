@@ -1,0 +1,216 @@
+"""Tries the library in `lib/`: the calls of Python and of C on their edges, on random bytes, and
+under the sanitizers of the C compiler; the examples in both languages, which make the same map; and
+the package's forms of lines, which are those of the program's help."""
+import copy
+import os
+import pickle
+import random
+import subprocess
+import sys
+import tempfile
+import threading
+from pathlib import Path
+
+from lib.cases import passed, unlike
+from lib.forms import HELP, spread
+from lib.maps import layers_in
+from lib.native import c_program
+from lib.places import EXAMPLES, EXAMPLE_MAPS, NATIVE, TOP
+
+sys.path.insert(0, str(TOP / 'python'))
+from roskevad import Closed, Editor, Refused  # noqa: E402
+from roskevad.forms import FORMS  # noqa: E402
+
+SANITIZED = ['-fsanitize=address,undefined', '-fno-sanitize-recover=all', '-g']
+
+
+def raises(kind, call, *words):
+    try:
+        call(*words)
+    except kind as fault:
+        return fault
+    raise AssertionError(f'{call} has not raised {kind}')
+
+
+def test_editors_that_are_closed_or_forked():
+    """An editor can't be copied or pickled; a closed one, and one in a forked process, hears
+    nothing."""
+    editor = Editor(limit=5)
+    raises(TypeError, copy.copy, editor)
+    raises(TypeError, copy.deepcopy, editor)
+    raises(TypeError, pickle.dumps, editor)
+    child = os.fork()
+    if child == 0:
+        try:
+            raises(Closed, editor.step, 'status')
+            os._exit(0)
+        except BaseException:
+            os._exit(1)
+    assert os.waitpid(child, 0)[1] == 0
+    assert editor.step('status') == 'ok none clean'
+    editor.close()
+    editor.close()
+    raises(Closed, editor.step, 'status')
+    raises(ValueError, Editor, 1_000_001)
+
+
+def filled(top):
+    """A folder with a folder and a pipe in the place of maps."""
+    (Path(top) / 'folder.tmj').mkdir()
+    os.mkfifo(Path(top) / 'pipe.tmj')
+
+
+def test_files_that_are_not_opened():
+    with tempfile.TemporaryDirectory() as top, Editor(folder=top) as editor:
+        filled(top)
+        for name, code in (('none', 50), ('folder', 51)):
+            refusal = raises(Refused, editor.open_file, f'{name}.tmj')
+            fault = unlike((code, f'open {name} {top}/{name}.tmj'), (refusal.code, refusal.line))
+            assert not fault, fault
+            passed()
+        assert raises(Refused, editor.open_file, 'pipe.tmj').code == 51
+
+
+def test_files_that_are_saved():
+    """What is refused leaves the clean index, and nothing stays in the store."""
+    with tempfile.TemporaryDirectory() as top, Editor(folder=top) as editor:
+        filled(top)
+        assert raises(Refused, editor.save_file, 'a.tmj').code == 10
+        editor.step('new a 2 2 16 16 a.tsj')
+        editor.step('stamp 1 0 0 1 1')
+        assert raises(Refused, editor.save_file, 'none/a.tmj').code == 51
+        assert raises(Refused, editor.save_file, 'folder.tmj').code == 51
+        assert editor.step('status').split(' ')[2] == 'dirty'
+        assert editor.save_file('a.tmj').startswith('saved a.tmj ')
+        assert editor.step('status').split(' ')[2] == 'clean'
+        file = Path(top) / 'a.tmj'
+        file.chmod(0o640)
+        assert (
+            editor.save_file('a.tmj').startswith('saved a.tmj ')
+            and file.stat().st_mode & 0o777 == 0o640
+        )
+        assert raises(Refused, editor.open_file, 'a.tmj').code == 11
+        assert editor.open_file('a.tmj', 'b').startswith('ok')
+        assert (
+            sorted(os.listdir(top)) == ['a.tmj', 'folder.tmj', 'pipe.tmj'] and editor.files() == []
+        )
+        editor.step('begin M')
+        assert raises(Refused, editor.save_file, 'a.tmj').code == 20
+        assert raises(Refused, editor.step, 'stamp').forms == FORMS['stamp']
+
+
+def test_what_no_line_tells():
+    """Ids by names, the selection, the clean index, and which steps are macros."""
+    with Editor() as editor:
+        editor.step('new a 4 3 16 16 a.tsj')
+        editor.step('layer add object Doors')
+        assert editor.layer_id('Doors') == editor.last_layer_id() == 2
+        editor.step('object add 2 0 0 8 8 door')
+        assert editor.object_id('door') == editor.last_object_id() == 1
+        raises(KeyError, editor.layer_id, 'Walls')
+        editor.open_map('groups', (EXAMPLE_MAPS / 'groups.tmj').read_bytes())
+        drawn = list(layers_in(editor.map()['layers']))
+        assert any('layers' in layer for layer in drawn) and len(drawn) > len(
+            editor.map()['layers']
+        )
+        for layer in drawn:
+            first = next(each for each in drawn if each['name'] == layer['name'])
+            assert editor.layer_id(layer['name']) == first['id']
+        objects = [each for layer in drawn for each in layer.get('objects', ())]
+        for each in objects:
+            assert (
+                editor.object_id(each['name'])
+                == next(other for other in objects if other['name'] == each['name'])['id']
+            )
+        editor.step('use a')
+        editor.step('select replace 1 1 2 2')
+        assert editor.selection() == [(1, 1, 2), (2, 1, 2)]
+        assert (
+            editor.clean_index() == 0
+            and editor.is_macro(0) is False
+            and editor.is_macro(99) is None
+        )
+        raises(ValueError, editor.put_file, '../a', b'')
+
+
+def test_threads():
+    """Calls from eight threads at once wait for each other."""
+    with Editor() as editor:
+        editor.step('new a 4 3 16 16 a.tsj')
+        replies = []
+
+        def draw():
+            for _ in range(500):
+                replies.extend(editor.step_bytes(line) for line in (b'stamp 1 0 0 1 5', b'undo'))
+
+        work = [threading.Thread(target=draw) for _ in range(8)]
+        for each in work:
+            each.start()
+        for each in work:
+            each.join()
+        assert len(replies) == 8000 and set(reply[:5] for reply in replies) <= {
+            b'ok 1/',
+            b'ok 0/',
+            b'no 21',
+        }
+
+
+def test_random_bytes():
+    """Random bytes as lines, of any length."""
+    numbers = random.Random(20261125)
+    with Editor() as editor:
+        for at in range(20_000):
+            line = numbers.randbytes(numbers.choice((0, 1, 5, 80, 3000)) if at % 500 else 70_000)
+            reply = editor.step_bytes(line)
+            assert reply is None or reply.startswith(b'no '), (line, reply)
+
+
+# ---- C
+
+
+def ran(program, *words):
+    """Runs a program in C; what it finds wrong it says on standard error."""
+    done = subprocess.run(
+        [program, *words], cwd=TOP, stdout=subprocess.DEVNULL, stderr=subprocess.PIPE, text=True
+    )
+    assert done.returncode == 0, f'{words}: status {done.returncode}: {done.stderr[-2000:]}'
+    passed()
+
+
+def test_calls_of_c():
+    """The edges of each call, and random bytes as lines, under the sanitizers."""
+    calls = c_program(NATIVE / 'library_calls.c', *SANITIZED)
+    for seed in ('1', '2', '3'):
+        ran(calls, 'random', seed, '3000')
+
+
+def test_examples_in_c_and_python():
+    """Both make the same map."""
+    with tempfile.TemporaryDirectory() as folder:
+        files = [f'{folder}/fenced.tmj', f'{folder}/again.tmj']
+        ran(c_program(EXAMPLES / 'fence.c', *SANITIZED), EXAMPLE_MAPS / 'layers.tmj', files[0])
+        ran(sys.executable, EXAMPLES / 'fence.py', EXAMPLE_MAPS / 'layers.tmj', files[1])
+        assert Path(files[0]).read_bytes() == Path(files[1]).read_bytes(), 'the maps differ'
+
+
+# ---- forms
+
+
+def test_forms_of_the_package():
+    """They are those of the program's help. Those of `prop set` name each type, and the help names
+    none."""
+    given = [form for forms in FORMS.values() for each in forms for form in spread(each)]
+    typed = [form for form in given if form.startswith('prop set ')]
+    assert {form.split(' ')[4] for form in typed} == {
+        'string',
+        'file',
+        'int',
+        'bool',
+        'color',
+        'object',
+    }, typed
+    fault = unlike(sorted({*HELP} - {'prop set OWNER KEY TYPE VALUE'}), sorted({*given} - {*typed}))
+    assert not fault, fault
+    assert all(
+        form.split(' ')[0].rstrip('+') == word for word, forms in FORMS.items() for form in forms
+    )

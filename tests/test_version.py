@@ -1,0 +1,80 @@
+"""Compares the version in the file VERSION with every place that names it: what the programs and
+the Python package print, the header, the names of the shared library, the package's own metadata,
+the page of the library, and the newest heading of CHANGELOG.md, where that is there."""
+import re
+import subprocess
+import sys
+
+from lib.cases import Case, check_each, unlike
+from lib.places import BIN, LIB, MAP_REPORT, TILE_EDITOR, TOP
+
+VERSION = (TOP / 'VERSION').read_text().removesuffix('\n')
+# A place in a file: what stands before the version there, and what behind.
+IN_FILES = [
+    Case('the header', 'include/roskevad.h', r'ROSKEVAD_VERSION "(.*)"'),
+    Case('the page of the library', 'docs/library.md', r'libroskevad\.so\.(\d[\d.]*\d)'),
+    Case('the Python project', 'python/pyproject.toml', r'(?m)^version = "(.*)"'),
+]
+
+
+def printed(*words):
+    done = subprocess.run(
+        [str(word) for word in words],
+        cwd=TOP,
+        capture_output=True,
+        text=True,
+        env={'PYTHONPATH': str(TOP / 'python')},
+    )
+    return done.returncode, done.stdout, done.stderr
+
+
+def fault_of_file(case):
+    found = re.findall(case.wanted, (TOP / case.given).read_text())
+    return unlike([VERSION], sorted(set(found)))
+
+
+def test_the_file():
+    assert re.fullmatch(r'\d+\.\d+\.\d+', VERSION), f'VERSION has {VERSION!r}'
+
+
+def test_what_is_printed():
+    """By the programs that are tried, those in `bin/`, and the page's server."""
+    programs = sorted({TILE_EDITOR, MAP_REPORT, BIN / 'tile_editor', BIN / 'map_report'})
+    cases = [
+        Case(f'{path.relative_to(TOP)} --version', [path], (0, f'{path.name} {VERSION}\n', ''))
+        for path in programs
+    ]
+    page = Case(
+        'roskevad.page --version',
+        [sys.executable, '-m', 'roskevad.page'],
+        (0, f'roskevad {VERSION}\n', ''),
+    )
+    check_each([*cases, page], lambda case: unlike(case.wanted, printed(*case.given, '--version')))
+
+
+def test_files_that_name_it():
+    check_each(IN_FILES, fault_of_file)
+
+
+def test_the_python_package():
+    code = 'import roskevad; print(roskevad.__version__)'
+    fault = unlike((0, f'{VERSION}\n', ''), printed(sys.executable, '-c', code))
+    assert not fault, f'roskevad.__version__: {fault}'
+
+
+def test_names_of_the_shared_library():
+    """Its own name, and the version of the names that it gives out."""
+    _, told, _ = printed('objdump', '-p', LIB / 'libroskevad.so')
+    given = re.search(r'SONAME +(\S+)', told)[1], sorted(set(re.findall(r'\b(ROSKEVAD_\S+)', told)))
+    fault = unlike((f'libroskevad.so.{VERSION}', [f'ROSKEVAD_{VERSION.rpartition(".")[0]}']), given)
+    assert not fault, f'objdump -p lib/libroskevad.so: {fault}'
+
+
+def test_the_newest_heading_of_the_changes():
+    page = TOP / 'CHANGELOG.md'
+    newest = re.search(r'(?m)^## \[?v?(\d[^\s\]]*)', page.read_text()) if page.exists() else None
+    if not page.exists():
+        return
+    assert (
+        newest and newest[1] == VERSION
+    ), f'CHANGELOG.md: wanted {VERSION}, came {newest and newest[1]}'
