@@ -11,6 +11,7 @@ from lib.cases import Case, check_each
 from lib.kit import need_built, need_kit
 from lib.places import LIB, TOP
 
+IS_LONG = True
 SHARED = LIB / 'libroskevad.so'
 # The C library that it needs, as docs/library.md says.
 GLIBC = re.search(r'glibc ([0-9.]+) or later', (TOP / 'docs' / 'library.md').read_text())[1]

@@ -191,8 +191,7 @@ def large_stroke(chosen, at):
 def check_strokes(kind, count):
     chosen = random.Random(f'{SEED} {kind.__name__}')
     strokes = [kind(chosen, at) for at in range(1, count + 1)]
-    for first in range(0, count, STROKES_OF_RUN):
-        check_together(strokes[first : first + STROKES_OF_RUN])
+    check_together(strokes, STROKES_OF_RUN)
 
 
 def test_pairs_of_edits():

@@ -245,18 +245,19 @@ def fault_of_run(run, env=None):
     )
 
 
-def check_together(runs):
-    """The program hears some runs as one session, which leaves no files; each of them is a case."""
+def replies_together(runs):
+    """The replies to each of some runs that the program hears as one session, which leaves no files."""
     done, files = heard(b''.join(run.session for run in runs))
-    assert (done.returncode, done.stderr, files) == (0, b'', {}), (
-        done.returncode,
-        done.stderr[:300],
-        sorted(files),
-    )
-    came = iter(done.stdout.splitlines(keepends=True))
+    came = (done.returncode, done.stderr[:300], sorted(files))
+    assert came == (0, b'', []), f'wanted status 0, no errors and no files, came {came}'
+    replies = iter(done.stdout.splitlines(keepends=True))
+    for run in runs:
+        yield b''.join(next(replies, b'') for _ in range(run.replies.count(b'\n')))
 
-    def fault_of(run):
-        given = b''.join(next(came, b'') for _ in range(run.replies.count(b'\n')))
-        return fault_of_replies(run.session, run.replies, given)
 
-    check_each(runs, fault_of)
+def check_together(runs, at_once=None):
+    """The program hears some runs as one session, or so many at once; each of them is a case."""
+    step = at_once or len(runs)
+    parts = [runs[first : first + step] for first in range(0, len(runs), step)]
+    came = iter([replies for part in parts for replies in replies_together(part)])
+    check_each(runs, lambda run: fault_of_replies(run.session, run.replies, next(came)))

@@ -7,6 +7,7 @@ import json
 import os
 import shutil
 import subprocess
+import tempfile
 import time
 import urllib.parse
 from pathlib import Path
@@ -40,7 +41,11 @@ def browser():
         flags.add_argument('--no-sandbox')
     flags.binary_location = shutil.which('chromium')
     flags.set_capability('goog:loggingPrefs', {'browser': 'ALL'})
-    started = webdriver.Chrome(service=Service(shutil.which('chromedriver')), options=flags)
+    # Chromium leaves files behind, so it has a folder of its own.
+    folder = tempfile.mkdtemp(prefix='roskevad_chromium_')
+    atexit.register(shutil.rmtree, folder, ignore_errors=True)
+    service = Service(shutil.which('chromedriver'), env={**os.environ, 'TMPDIR': folder})
+    started = webdriver.Chrome(service=service, options=flags)
     atexit.register(started.quit)
     started.set_window_size(1320, 1040)
     return started
