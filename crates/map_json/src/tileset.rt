@@ -6,6 +6,7 @@ use crate::fault::{MapFault, MapRefusal};
 use crate::json_object::JsonObject;
 use crate::scalar::{optional_text, required_whole};
 use crate::size::Size;
+use crate::trail::Trail;
 use map_model::limits::MAX_FIRST_ID;
 use map_model::{Tileset, names};
 use serde_json::Value;
@@ -15,11 +16,15 @@ impl Element for Tileset {
     ghost reads = { λ _. tileset_at };
 
     #[tactic(auto, using(crate::proofs::MembersLemmas::takes), unfolding(crate::specs::Reading::tileset_at))]
-    fn read(_alloc: Global, _size: Size, value: Value) -> Result<Tileset, MapFault> {
+    fn read<T: Trail>(
+        _alloc: Global,
+        _size: Size,
+        value: Value,
+        trail: &mut T,
+    ) -> Result<Tileset, MapFault> {
         let mut members = JsonObject::from_value(value).ok_or(MapRefusal::MemberOfAnotherKind)?;
-        let first_id = required_whole(members.get(names::FIRST_ID), 1, MAX_FIRST_ID)?;
-        members.remove(names::FIRST_ID);
-        let source = optional_text(members.take(names::SOURCE))?;
+        let first_id = required_whole(&mut members, names::FIRST_ID, 1, MAX_FIRST_ID, trail)?;
+        let source = optional_text(&mut members, names::SOURCE, trail)?;
         Ok(Tileset {
             first_id,
             source,
