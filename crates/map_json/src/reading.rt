@@ -5,16 +5,16 @@ ghost use Rattle.map_json.specs.Steps.{Gives};
 ghost use Rattle.map_json.specs.Maps.{is_map_type, parts_of, consistent, map_of, Says};
 
 use crate::doubles::{are_below_next, has_no_double, ids_of_map};
-use crate::elements::required_elements;
 use crate::fault::{MapFault, MapRefusal};
 use crate::fractions::has_fraction;
 use crate::json_object::JsonObject;
 use crate::layer::map_layers;
 use crate::property::properties_or_none;
-use crate::scalar::{required_whole, truth_or};
+use crate::scalar::{required_next_id, required_whole, truth_or};
 use crate::size::Size;
+use crate::tileset::required_tilesets;
 use crate::trail::{NoTrail, Step, Trail};
-use map_model::limits::{MAX_CELLS, MAX_NEXT_ID, MAX_SIDE, MAX_TILE_SIDE, MAX_TILESETS};
+use map_model::limits::{MAX_CELLS, MAX_SIDE, MAX_TILE_SIDE};
 use map_model::{Map, MapParts, names};
 use serde_json::Value;
 use std::alloc::Global;
@@ -40,23 +40,10 @@ fn parts_of<T: Trail>(
         trail.enter(Step::Member(names::INFINITE));
         return Err(MapFault::Refused(MapRefusal::Infinite));
     }
-    let next_layer_id = required_whole(&mut members, names::NEXT_LAYER_ID, 1, MAX_NEXT_ID, trail)?;
-    let next_object_id = required_whole(
-        &mut members,
-        names::NEXT_OBJECT_ID,
-        1,
-        MAX_NEXT_ID,
-        trail,
-    )?;
+    let next_layer_id = required_next_id(&mut members, names::NEXT_LAYER_ID, trail)?;
+    let next_object_id = required_next_id(&mut members, names::NEXT_OBJECT_ID, trail)?;
     let layers = map_layers(alloc, size, &mut members, trail)?;
-    let tilesets = required_elements(
-        alloc,
-        size,
-        MAX_TILESETS,
-        &mut members,
-        names::TILESETS,
-        trail,
-    )?;
+    let tilesets = required_tilesets(alloc, size, &mut members, trail)?;
     let properties = properties_or_none(alloc, size, &mut members, trail)?;
     members.remove(names::TYPE);
     members.remove(names::VERSION);

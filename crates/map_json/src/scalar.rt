@@ -57,6 +57,18 @@ pub fn required_id<T: Trail>(members: &mut JsonObject, trail: &mut T) -> Result<
     required_whole(members, names::ID, 1, MAX_NEXT_ID - 1, trail)
 }
 
+/// The id that comes next, which must be there.
+pub fn required_next_id<T: Trail>(
+    members: &mut JsonObject,
+    name: &str,
+    trail: &mut T,
+) -> Result<u32, MapRefusal>
+    ensures value { result ≡ required (whole_at 1 MAX_NEXT_ID) (get_member name.now members.old) }
+    ensures left { members.new ≡ without name.now members.old }
+{
+    required_whole(members, name, 1, MAX_NEXT_ID, trail)
+}
+
 /// A whole number that may be absent, from low to high.
 pub fn optional_whole<T: Trail>(
     members: &mut JsonObject,
