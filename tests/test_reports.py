@@ -2,8 +2,8 @@
 the one that the rules of docs/map-files.md give. Each map with a fault is a good one with some
 members changed or taken out; a table says which, and what the line must be. A second table has the
 members that the reader knows, and what each must be: each of them is taken out, where it must be
-there, and gets each kind of wrong value. Then come texts that are no JSON, the listings of the
-example maps, files that can't be read, and command lines."""
+there, and gets each kind of wrong value. Then come the listings of the example maps, files that
+can't be read, and command lines."""
 import copy
 import json
 import re
@@ -428,27 +428,6 @@ def faults_of_roots():
     yield report('61 as the root', b'2.5', f'{refusal(61)}: the root is 2.5')
 
 
-def faults_of_texts():
-    """Texts that are no JSON, with the line and the column of the byte at fault, or of the last one
-    where the text ends too early; and with those of what stands behind it, to which the reader may
-    have come."""
-    rows = [
-        (b'{\n  "height": ]\n}', (2, 13), (3, 1)),
-        (b'{"a":1', (1, 6)),
-        (b'', (1, 0)),
-        (b'[1,\n2,\n\n]', (4, 1)),
-        (b'["\xff"]', (1, 3)),
-        (b'<?xml version="1.0"?>\n<map/>', (1, 1), (1, 2)),
-        (b'[' * 200, (1, 128), (1, 129)),
-    ]
-    for data, *places in rows:
-        yield report(
-            f'60 in {data[:20]}',
-            data,
-            *(f'{refusal(60)}: line {line}, column {column}' for line, column in places),
-        )
-
-
 # ---- what is in a map that is read
 
 
@@ -574,7 +553,7 @@ def test_faults_in_their_order():
 
 
 def test_what_is_no_map():
-    check_each([*faults_with_names(), *faults_of_roots(), *faults_of_texts()], fault_of, CORES)
+    check_each([*faults_with_names(), *faults_of_roots()], fault_of, CORES)
 
 
 def test_maps_that_are_read():

@@ -3,7 +3,7 @@ use Rattle.std.proofs.Common.{◌≡◌, ℕ, List, [], ◌∷◌, bytes_eq, fal
 use Rattle.std.specs.List.{list_any}
 use Rattle.serde_json.specs.Data.{Members}
 use Rattle.serde_json.specs.Find.{get_member}
-use Rattle.map_model.specs.declared.names.TheConstants.{WIDTH, HEIGHT, LAYERS, ENCODING, COMPRESSION, DATA, OBJECTS}
+use Rattle.map_model.specs.declared.names.TheConstants.{ID, X, Y, WIDTH, HEIGHT, LAYERS, ENCODING, COMPRESSION, DATA, OBJECTS}
 use Rattle.map_model.specs.Keeping.{common_names, body_names, layer_names}
 use Rattle.map_model.specs.declared.parts.Body.{Body}
 use Rattle.map_model.specs.declared.parts.Layer.{Layer}
@@ -11,7 +11,7 @@ use Rattle.map_json.specs.declared.body.LayerType.{LayerType}
 use Rattle.map_json.specs.declared.body.LayerType.TheVariants.{TileLayer, ObjectGroup, ImageLayer, GroupLayer}
 use Rattle.map_json.specs.Members.{without, without_all}
 use Rattle.map_json.specs.Elements.{Counting}
-use Rattle.map_json.specs.Reading.{tiles_of, objects_of, body_by}
+use Rattle.map_json.specs.Reading.{tiles_of, objects_of, body_by, placing_of}
 use Rattle.map_json.proofs.MembersLemmas.{get_member-without}
 
 stays_at : (b : Bool) (q k : List ℕ) (r : Bool) (ms : Members) → bytes_eq q k ≡ b → b || r ≡ false → get_member q (without k ms) ≡ get_member q ms
@@ -42,3 +42,11 @@ pub without_layer_names : (b : Body) (ms : Members) → without_all (layer_names
 without_layer_names b ms = refl
 
 pub ruleset common = (body_by_common, without_layer_names)
+
+-- where an object stands does not depend on its id
+pub placing_of-without_id : (ms : Members) → placing_of (without ID.now ms) ≡ placing_of ms
+unfolding placing_of
+placing_of-without_id ms =
+    rw (get_member-without X.now ID.now ms refl, get_member-without Y.now ID.now ms refl, get_member-without WIDTH.now ID.now ms refl, get_member-without HEIGHT.now ID.now ms refl) refl
+
+pub ruleset placings = (placing_of-without_id, get_member-without)

@@ -7,6 +7,7 @@ pub mod Pushes
 pub mod Base64
 pub mod Walks
 pub mod Bodies
+pub mod Parts
 pub mod Meetings
 pub mod Fine
 pub mod FineLemmas

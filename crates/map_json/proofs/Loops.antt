@@ -38,7 +38,7 @@ module _ {A : Type 0} where
   refused_element read prefix d ds Memory h = tt
   refused_element read prefix d ds (Refused f) h = rw h refl
 
-  -- the same of elements that are counted
+  -- what was read before, and what is still read of elements that are counted
   abbrev pub counted_prefix : List A → Result (ℕ × List A) MapRefusal → Result (ℕ × List A) MapRefusal
   counted_prefix prefix (Ok xs) = Ok (xs.0, prefix ++ xs.1)
   counted_prefix prefix (Err f) = Err f

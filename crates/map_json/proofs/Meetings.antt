@@ -1,7 +1,8 @@
 -- Keys that are met one after the other, and a set of those that were.
-use Rattle.std.proofs.Common.{◌≡◌, ℕ, ◌<◌, map, bytes_eq, Bor, ◌++◌, eqb, arith, Less, Equal, Greater, List, [], ◌∷◌, Bool, true, false, not, cond, true≢false, ◌&&◌, ◌||◌, nat_cmp, is_eq, refl, sym, ap}
+use Rattle.std.proofs.Common.{◌≡◌, ℕ, ◌+◌, ◌<◌, ◌∙◌, length, get_or, drop, map, bytes_eq, Bor, ◌++◌, eqb, arith, Less, Equal, Greater, List, [], ◌∷◌, Bool, true, false, not, cond, true≢false, ◌&&◌, ◌||◌, nat_cmp, is_eq, refl, sym, ap}
 use Rattle.std.specs.Prelude.{◌==◌, nat_lt}
 use Rattle.std.proofs.lemmas.Bool.{ltb-true, eqb-true}
+use Rattle.std.proofs.lemmas.List.{at_drop_more}
 use Rattle.std.specs.List.{list_any, list_all}
 use Rattle.std.specs.Cmp.Lexicographic.{slice_cmp}
 use Rattle.std.proofs.lemmas.Map.Text.{is_eq-slice_cmp}
@@ -42,6 +43,12 @@ module _ {K : Type 0} (eq : K → K → Bool) where
   -- an element that was met before
   pub go_on-again : (met : K → Bool) (x : K) (xs : List K) → met x ≡ true → go_on met (x ∷ xs) ≡ false
   go_on-again met x xs again = rw again refl
+
+  -- an element at a place that is new
+  pub go_on-place : (met after : K → Bool) (xs : List K) (i : ℕ) (x : K) → i < length xs → x ≡ get_or xs i x → ((q : K) → after q ≡ cond (eq x q) true (met q)) → met x ≡ false
+      → go_on met (drop i xs) ≡ go_on after (drop (i + 1) xs)
+  go_on-place met after xs i x lt at is new =
+      at_drop_more (λ (ys : List K). go_on met ys) xs i x lt ∙ (ap (λ (y : K). go_on met (y ∷ drop (i + 1) xs)) (sym at) ∙ go_on-new met after x (drop (i + 1) xs) is new)
 
   -- nothing was met
   pub go_on-first : (met : K → Bool) → ((q : K) → met q ≡ false) → (xs : List K) → go_on met xs ≡ are_distinct eq xs

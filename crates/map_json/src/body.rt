@@ -1,10 +1,12 @@
-// What a layer holds, by its type: a tile layer and an object layer.
-ghost use Rattle.std.specs.Prelude.{◌≡◌, ◌*◌, ◌≤◌, option_map, IfOk};
+// What a layer holds, by its type: a tile layer and an object layer. The members are taken out, and read at their places.
+ghost use Rattle.std.specs.Prelude.{◌≡◌, ◌*◌, ◌≤◌, IfOk};
+ghost use Rattle.serde_json.specs.Find.{get_member};
 ghost use Rattle.serde_json.specs.View.{view as data_of};
 ghost use Rattle.map_model.specs.Keeping.{body_names};
 ghost use Rattle.map_model.specs.declared.limits.TheConstants.{MAX_CELLS};
+ghost use Rattle.map_model.specs.declared.names.TheConstants.{TYPE, ENCODING, COMPRESSION, DATA};
 ghost use Rattle.map_model.specs.declared.parts.Encoding.TheVariants.{Array};
-ghost use Rattle.map_json.specs.Members.{without_all};
+ghost use Rattle.map_json.specs.Members.{without, without_all};
 ghost use Rattle.map_json.specs.Steps.{Gives, required, absent_means};
 ghost use Rattle.map_json.specs.Reading.{type_at, encoding_at, compression_at, same_at, cells_at, tiles_of, objects_of};
 
@@ -13,6 +15,7 @@ use crate::elements::required_elements;
 use crate::fault::{MapFault, MapRefusal};
 use crate::json_object::JsonObject;
 use crate::size::Size;
+use crate::trail::Trail;
 use map_model::limits::MAX_OBJECTS;
 use map_model::{Body, Cells, Encoding, names};
 use serde_json::Value;
@@ -27,132 +30,192 @@ pub enum LayerType {
     GroupLayer,
 }
 
-/// The type of a layer, which must be there.
 #[tactic(auto, unfolding(crate::specs::Reading::type_at))]
-pub fn layer_type(member: Option<&Value>) -> Result<LayerType, MapRefusal>
-    ensures { result ≡ required type_at (option_map (λ value. data_of value.now) member.entry) }
+fn layer_type(value: &Value) -> Result<LayerType, MapRefusal>
+    ensures { result ≡ type_at (data_of value.now) }
 {
-    match member {
-        Some(value) => {
-            let text = value.as_str().ok_or(MapRefusal::MemberOfAnotherKind)?;
-            if text == "tilelayer" {
-                Ok(LayerType::TileLayer)
-            } else if text == "objectgroup" {
-                Ok(LayerType::ObjectGroup)
-            } else if text == "imagelayer" {
-                Ok(LayerType::ImageLayer)
-            } else if text == "group" {
-                Ok(LayerType::GroupLayer)
-            } else {
-                Err(MapRefusal::MemberOfAnotherKind)
-            }
-        }
-        None => Err(MapRefusal::MemberMissing),
+    let text = value.as_str().ok_or(MapRefusal::MemberOfAnotherKind)?;
+    if text == "tilelayer" {
+        Ok(LayerType::TileLayer)
+    } else if text == "objectgroup" {
+        Ok(LayerType::ObjectGroup)
+    } else if text == "imagelayer" {
+        Ok(LayerType::ImageLayer)
+    } else if text == "group" {
+        Ok(LayerType::GroupLayer)
+    } else {
+        Err(MapRefusal::MemberOfAnotherKind)
     }
+}
+
+/// The type of a layer, which must be there.
+pub fn required_type<T: Trail>(
+    members: &mut JsonObject,
+    trail: &mut T,
+) -> Result<LayerType, MapRefusal>
+    ensures value { result ≡ required type_at (get_member TYPE.now members.old) }
+    ensures left { members.new ≡ without TYPE.now members.old }
+{
+    let value = members
+        .enter(names::TYPE, trail)
+        .ok_or(MapRefusal::MemberMissing)?;
+    let found = layer_type(&value)?;
+    trail.leave();
+    Ok(found)
 }
 
 #[tactic(auto, unfolding(crate::specs::Reading::encoding_at))]
-fn encoding(member: Option<&Value>) -> Result<Encoding, MapRefusal>
-    ensures { result ≡ absent_means Array encoding_at (option_map (λ value. data_of value.now) member.entry) }
+fn encoding(value: &Value) -> Result<Encoding, MapRefusal>
+    ensures { result ≡ encoding_at (data_of value.now) }
 {
-    match member {
-        Some(value) => {
-            let text = value.as_str().ok_or(MapRefusal::MemberOfAnotherKind)?;
-            if text == "csv" {
-                Ok(Encoding::Array)
-            } else if text == "base64" {
-                Ok(Encoding::Base64)
-            } else {
-                Err(MapRefusal::MemberOfAnotherKind)
-            }
-        }
-        None => Ok(Encoding::Array),
+    let text = value.as_str().ok_or(MapRefusal::MemberOfAnotherKind)?;
+    if text == "csv" {
+        Ok(Encoding::Array)
+    } else if text == "base64" {
+        Ok(Encoding::Base64)
+    } else {
+        Err(MapRefusal::MemberOfAnotherKind)
     }
 }
 
-#[tactic(auto, unfolding(crate::specs::Reading::compression_at))]
-fn compression(member: Option<&Value>) -> Result<(), MapRefusal>
-    ensures { result ≡ absent_means tt compression_at (option_map (λ value. data_of value.now) member.entry) }
+fn encoding_or_array<T: Trail>(
+    members: &mut JsonObject,
+    trail: &mut T,
+) -> Result<Encoding, MapRefusal>
+    ensures value { result ≡ absent_means Array encoding_at (get_member ENCODING.now members.old) }
+    ensures left { members.new ≡ without ENCODING.now members.old }
 {
-    match member {
-        Some(value) => {
-            let text = value.as_str().ok_or(MapRefusal::MemberOfAnotherKind)?;
-            if text == "" {
-                Ok(())
-            } else {
-                Err(MapRefusal::Compressed)
-            }
-        }
-        None => Ok(()),
+    let found = match members.enter(names::ENCODING, trail) {
+        Some(value) => encoding(&value)?,
+        None => Encoding::Array,
+    };
+    trail.leave();
+    Ok(found)
+}
+
+// Refuses what names a compression.
+#[tactic(auto, unfolding(crate::specs::Reading::compression_at))]
+fn compression(value: &Value) -> Result<(), MapRefusal>
+    ensures { result ≡ compression_at (data_of value.now) }
+{
+    let text = value.as_str().ok_or(MapRefusal::MemberOfAnotherKind)?;
+    if text == "" {
+        Ok(())
+    } else {
+        Err(MapRefusal::Compressed)
+    }
+}
+
+fn no_compression<T: Trail>(members: &mut JsonObject, trail: &mut T) -> Result<(), MapRefusal>
+    ensures value { result ≡ absent_means tt compression_at (get_member COMPRESSION.now members.old) }
+    ensures left { members.new ≡ without COMPRESSION.now members.old }
+{
+    if let Some(value) = members.enter(names::COMPRESSION, trail) {
+        compression(&value)?;
+    }
+    trail.leave();
+    Ok(())
+}
+
+// Refuses what is not the map's width or height.
+#[tactic(auto, unfolding(crate::specs::Reading::same_at))]
+fn same(value: &Value, wanted: u32) -> Result<(), MapRefusal>
+    ensures { result ≡ same_at wanted (data_of value.now) }
+{
+    let number = value.as_number().ok_or(MapRefusal::MemberOfAnotherKind)?;
+    let whole = number.as_u64().ok_or(MapRefusal::BadData)?;
+    if whole == u64::from(wanted) {
+        Ok(())
+    } else {
+        Err(MapRefusal::BadData)
     }
 }
 
 // A width or a height of a layer, which is the map's.
-#[tactic(auto, unfolding(crate::specs::Reading::same_at))]
-fn same(member: Option<&Value>, wanted: u32) -> Result<(), MapRefusal>
-    ensures { result ≡ absent_means tt (same_at wanted) (option_map (λ value. data_of value.now) member.entry) }
+fn same_or_absent<T: Trail>(
+    members: &mut JsonObject,
+    name: &str,
+    wanted: u32,
+    trail: &mut T,
+) -> Result<(), MapRefusal>
+    ensures value { result ≡ absent_means tt (same_at wanted) (get_member name.now members.old) }
+    ensures left { members.new ≡ without name.now members.old }
 {
-    match member {
-        Some(value) => {
-            let number = value.as_number().ok_or(MapRefusal::MemberOfAnotherKind)?;
-            let whole = number.as_u64().ok_or(MapRefusal::BadData)?;
-            if whole == u64::from(wanted) {
-                Ok(())
-            } else {
-                Err(MapRefusal::BadData)
-            }
-        }
-        None => Ok(()),
+    if let Some(value) = members.enter(name, trail) {
+        same(&value, wanted)?;
     }
+    trail.leave();
+    Ok(())
 }
 
-fn cells(
+fn cells<T: Trail>(
     alloc: Global,
     encoding: Encoding,
     count: usize,
-    member: Option<&Value>,
+    value: &Value,
+    trail: &mut T,
 ) -> Result<Cells, MapFault>
     requires { count ≤ MAX_CELLS }
-    ensures { Gives result (required (cells_at encoding count) (option_map (λ value. data_of value.now) member.entry)) }
+    ensures { Gives result (cells_at encoding count (data_of value.now)) }
 {
-    match member {
-        Some(value) => match encoding {
-            Encoding::Array => array_cells(alloc, value, count),
-            Encoding::Base64 => base64_cells(alloc, value, count),
-        },
-        None => Err(MapFault::Refused(MapRefusal::MemberMissing)),
+    match encoding {
+        Encoding::Array => array_cells(alloc, value, count, trail),
+        Encoding::Base64 => base64_cells(alloc, value, count),
     }
 }
 
-/// What a tile layer holds; its members are taken out.
+fn required_cells<T: Trail>(
+    alloc: Global,
+    encoding: Encoding,
+    count: usize,
+    members: &mut JsonObject,
+    trail: &mut T,
+) -> Result<Cells, MapFault>
+    requires { count ≤ MAX_CELLS }
+    ensures value { Gives result (required (cells_at encoding count) (get_member DATA.now members.old)) }
+    ensures left { members.new ≡ without DATA.now members.old }
+{
+    let value = members
+        .enter(names::DATA, trail)
+        .ok_or(MapRefusal::MemberMissing)?;
+    let found = cells(alloc, encoding, count, &value, trail)?;
+    trail.leave();
+    Ok(found)
+}
+
+/// What a tile layer holds.
 #[tactic(auto, using(crate::proofs::MembersLemmas::takes), unfolding(crate::specs::Reading::tiles_of))]
-pub fn tiles(alloc: Global, size: Size, members: &mut JsonObject) -> Result<Body, MapFault>
+pub fn tiles<T: Trail>(
+    alloc: Global,
+    size: Size,
+    members: &mut JsonObject,
+    trail: &mut T,
+) -> Result<Body, MapFault>
     requires { size.width * size.height ≤ MAX_CELLS }
     ensures value { Gives result (tiles_of size.width size.height members.old) }
     ensures kept { IfOk result (λ body. members.new ≡ without_all (body_names body) members.old) }
 {
-    let encoding = encoding(members.get(names::ENCODING))?;
-    compression(members.get(names::COMPRESSION))?;
-    same(members.get(names::WIDTH), size.width)?;
-    same(members.get(names::HEIGHT), size.height)?;
+    let encoding = encoding_or_array(members, trail)?;
+    no_compression(members, trail)?;
+    same_or_absent(members, names::WIDTH, size.width, trail)?;
+    same_or_absent(members, names::HEIGHT, size.height, trail)?;
     let count = size.width as usize * size.height as usize;
-    let cells = cells(alloc, encoding, count, members.get(names::DATA))?;
-    members.remove(names::ENCODING);
-    members.remove(names::COMPRESSION);
-    members.remove(names::WIDTH);
-    members.remove(names::HEIGHT);
-    members.remove(names::DATA);
+    let cells = required_cells(alloc, encoding, count, members, trail)?;
     Ok(Body::Tiles(encoding, cells))
 }
 
-/// What an object layer holds; its members are taken out.
+/// What an object layer holds.
 #[tactic(auto, unfolding(crate::specs::Reading::objects_of))]
-pub fn objects(alloc: Global, size: Size, members: &mut JsonObject) -> Result<Body, MapFault>
+pub fn objects<T: Trail>(
+    alloc: Global,
+    size: Size,
+    members: &mut JsonObject,
+    trail: &mut T,
+) -> Result<Body, MapFault>
     requires { size.width * size.height ≤ MAX_CELLS }
     ensures value { Gives result (objects_of members.old) }
     ensures kept { IfOk result (λ body. members.new ≡ without_all (body_names body) members.old) }
 {
-    let objects = members.take(names::OBJECTS);
-    let objects = required_elements(alloc, size, MAX_OBJECTS, objects)?;
+    let objects = required_elements(alloc, size, MAX_OBJECTS, members, names::OBJECTS, trail)?;
     Ok(Body::Objects(objects))
 }

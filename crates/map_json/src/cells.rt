@@ -10,6 +10,7 @@ ghost use Rattle.map_json.specs.Cells.{is_blank, cell_of, cells_of, array_cells_
 ghost use Rattle.map_json.specs.declared.fault.MapRefusal.TheVariants.{BadData};
 
 use crate::fault::{MapFault, MapRefusal};
+use crate::trail::{Step, Trail};
 use base64::DecodeAllocError;
 use base64::engine::general_purpose::STANDARD;
 use map_model::Cells;
@@ -30,13 +31,15 @@ fn cell(value: &Value) -> Option<Gid>
     }
 }
 
-fn cells(alloc: Global, values: &Vec<Value>) -> Result<Vec<Gid>, MapFault>
+// The cells of an array. Only one at fault is gone to.
+fn cells<T: Trail>(alloc: Global, values: &Vec<Value>, trail: &mut T) -> Result<Vec<Gid>, MapFault>
     ensures { GivesBy (λ found. found.items) result
         (ok_or (cells_of (items_view values.now.items)) BadData) }
 {
     let mut found = Vec::with_capacity(alloc, values.len())?;
-    for value in values {
+    for (at, value) in values.iter().enumerate() {
         let Some(cell) = cell(value) else {
+            trail.enter(Step::Element(at));
             return Err(MapFault::Refused(MapRefusal::BadData));
         };
         found.push(cell)?;
@@ -46,11 +49,16 @@ fn cells(alloc: Global, values: &Vec<Value>) -> Result<Vec<Gid>, MapFault>
 
 /// The cells that an array of numbers spells.
 #[tactic(auto, unfolding(crate::specs::Cells::array_cells_at))]
-pub fn array_cells(alloc: Global, value: &Value, count: usize) -> Result<Cells, MapFault>
+pub fn array_cells<T: Trail>(
+    alloc: Global,
+    value: &Value,
+    count: usize,
+    trail: &mut T,
+) -> Result<Cells, MapFault>
     ensures { Gives result (array_cells_at count (data_of value.now)) }
 {
     let values = value.as_array().ok_or(MapRefusal::MemberOfAnotherKind)?;
-    let found = cells(alloc, values)?;
+    let found = cells(alloc, values, trail)?;
     if found.len() != count {
         return Err(MapFault::Refused(MapRefusal::BadData));
     }

@@ -1,5 +1,5 @@
-// Whether what must differ does, and ids are below the next one.
-ghost use Rattle.std.specs.Prelude.{◌≡◌, ◌==◌, ◌++◌, [], ◌∷◌, nat_lt, IfOk, OnOk};
+// Whether what must differ does, and ids are below the next one. The trail of what is not so stands at the fault.
+ghost use Rattle.std.specs.Prelude.{◌≡◌, ◌==◌, ◌++◌, [], ◌∷◌, nat_lt, is_none, IfOk, OnOk};
 ghost use Rattle.std.specs.List.{list_all, flat_map};
 ghost use Rattle.std.specs.Ordering.{is_eq};
 ghost use Rattle.map_model.specs.WellFormed.{ids_of, layer_ids, object_ids, object_ids_in, object_ids_of, first_ids_of};
@@ -8,31 +8,34 @@ ghost use Rattle.map_model.specs.declared.parts.Body.TheVariants.{Objects};
 ghost use Rattle.map_model.specs.Groups.{drawn};
 ghost use Rattle.map_model.specs.Keeping.{layer_level};
 
+use crate::trail::{Step, Trail};
 use link_chain::Chain;
 use map_model::limits::MAX_GROUPS;
-use map_model::{Body, Layer, MapParts, Object, Property, Tileset};
+use map_model::{Body, Layer, MapParts, Object, Property, Tileset, names};
 use std::alloc::{AllocError, Global};
 use std::collections::BTreeSet;
 
-// Whether no key is there twice, by a set of those that were met.
-fn are_distinct<K: Ord + Drop>(alloc: Global, keys: Vec<K>) -> Result<bool, AllocError>
-    ensures { IfOk result (λ answer. answer ≡ are_distinct (λ a b. is_eq (K.cmp a b)) keys.items) }
+// The place of the first key that is there before, by a set of those that were met.
+fn second_place<K: Ord + Copy + Drop>(
+    alloc: Global,
+    keys: &[K],
+) -> Result<Option<usize>, AllocError>
+    ensures { IfOk result (λ place. is_none place ≡ are_distinct (λ a b. is_eq (K.cmp a b)) keys.now) }
 {
     let mut met = BTreeSet::new(alloc);
-    for key in keys {
-        if !met.insert(key)? {
-            return Ok(false);
+    for (at, key) in keys.iter().enumerate() {
+        if !met.insert(*key)? {
+            return Ok(Some(at));
         }
     }
-    Ok(true)
+    Ok(None)
 }
 
-// Whether no number is there twice.
-
-fn numbers_are_distinct(alloc: Global, numbers: Vec<u32>) -> Result<bool, AllocError>
-    ensures { IfOk result (λ answer. answer ≡ are_distinct (λ a b. a == b) numbers.items) }
+// The place of the first number that is there before.
+fn second_number(alloc: Global, numbers: &[u32]) -> Result<Option<usize>, AllocError>
+    ensures { IfOk result (λ place. is_none place ≡ are_distinct (λ a b. a == b) numbers.now) }
 {
-    are_distinct(alloc, numbers)
+    second_place(alloc, numbers)
 }
 
 fn push_ids(objects: &Chain<Object>, ids: &mut Vec<u32>) -> Result<(), AllocError>
@@ -92,6 +95,81 @@ pub fn ids_of_map(alloc: Global, parts: &MapParts) -> Result<Ids, AllocError>
     Ok(ids)
 }
 
+/// Whose ids a list of ids has.
+#[derive(Clone, Copy)]
+enum Owners {
+    Layers,
+    Objects,
+}
+
+// Goes to an id in a layer, that of the layer or one of its objects, where there are more than so many; else counts them.
+fn enter_id_in<T: Trail>(layer: &Layer, owners: Owners, before: &mut usize, trail: &mut T) -> bool {
+    let count = match (owners, &layer.body) {
+        (Owners::Layers, _) => 1,
+        (Owners::Objects, Body::Objects(objects)) => objects.len(),
+        (Owners::Objects, _) => 0,
+    };
+    if *before >= count {
+        *before -= count;
+        return false;
+    }
+    if let Owners::Objects = owners {
+        trail.enter(Step::Member(names::OBJECTS));
+        trail.enter(Step::Element(*before));
+    }
+    trail.enter(Step::Member(names::ID));
+    true
+}
+
+// Goes to the id that has so many before it in drawing order; stays where there are not so many.
+fn enter_id<T: Trail>(
+    layers: &Chain<Layer>,
+    room: usize,
+    owners: Owners,
+    before: &mut usize,
+    trail: &mut T,
+) -> bool {
+    // That a length is a `usize` bounds the places.
+    if layers.len() == 0 {
+        return false;
+    }
+    trail.enter(Step::Member(names::LAYERS));
+    for (at, layer) in layers.iter().enumerate() {
+        trail.enter(Step::Element(at));
+        if enter_id_in(layer, owners, before, trail) {
+            return true;
+        }
+        if room > 0 {
+            if let Some(inside) = layer.body.layers() {
+                if enter_id(inside, room - 1, owners, before, trail) {
+                    return true;
+                }
+            }
+        }
+        trail.leave();
+    }
+    trail.leave();
+    false
+}
+
+// Whether no id is at fault; else goes to that at this place in drawing order.
+fn is_none_at_fault<T: Trail>(
+    layers: &Chain<Layer>,
+    owners: Owners,
+    place: Option<usize>,
+    trail: &mut T,
+) -> bool
+    ensures { result ≡ is_none place }
+{
+    match place {
+        Some(mut before) => {
+            enter_id(layers, MAX_GROUPS, owners, &mut before, trail);
+            false
+        }
+        None => true,
+    }
+}
+
 fn first_ids(alloc: Global, tilesets: &Chain<Tileset>) -> Result<Vec<u32>, AllocError>
     ensures { IfOk result (λ ids. ids.items ≡ flat_map first_ids_of tilesets.now) }
 {
@@ -102,8 +180,32 @@ fn first_ids(alloc: Global, tilesets: &Chain<Tileset>) -> Result<Vec<u32>, Alloc
     Ok(ids)
 }
 
+// Whether no tileset has the first id of another one.
+fn first_ids_are_distinct<T: Trail>(
+    alloc: Global,
+    tilesets: &Chain<Tileset>,
+    trail: &mut T,
+) -> Result<bool, AllocError>
+    ensures { IfOk result (λ answer. answer ≡ are_distinct (λ a b. a == b) (flat_map first_ids_of tilesets.now)) }
+{
+    let ids = first_ids(alloc, tilesets)?;
+    match second_number(alloc, &ids)? {
+        Some(at) => {
+            trail.enter(Step::Member(names::TILESETS));
+            trail.enter(Step::Element(at));
+            trail.enter(Step::Member(names::FIRST_ID));
+            Ok(false)
+        }
+        None => Ok(true),
+    }
+}
+
 // Whether no name stands twice among the properties of an owner.
-fn names_are_distinct(alloc: Global, properties: &Chain<Property>) -> Result<bool, AllocError>
+fn names_are_distinct<T: Trail>(
+    alloc: Global,
+    properties: &Chain<Property>,
+    trail: &mut T,
+) -> Result<bool, AllocError>
     ensures { IfOk result (λ answer. answer
         ≡ are_named_apart properties.now) }
 {
@@ -111,86 +213,147 @@ fn names_are_distinct(alloc: Global, properties: &Chain<Property>) -> Result<boo
     for property in properties.iter() {
         names.push(property.name.as_str())?;
     }
-    are_distinct(alloc, names)
+    match second_place(alloc, &names)? {
+        Some(at) => {
+            trail.enter(Step::Member(names::PROPERTIES));
+            trail.enter(Step::Element(at));
+            trail.enter(Step::Member(names::NAME));
+            Ok(false)
+        }
+        None => Ok(true),
+    }
 }
 
-fn object_names_are_distinct(alloc: Global, body: &Body) -> Result<bool, AllocError>
-    ensures { IfOk result (λ answer. answer ≡ list_all are_named_apart (lists_in body.now)) }
+fn object_names_are_distinct<T: Trail>(
+    alloc: Global,
+    objects: &Chain<Object>,
+    trail: &mut T,
+) -> Result<bool, AllocError>
+    ensures { IfOk result (λ answer. answer ≡ list_all are_named_apart (lists_in (Objects objects.now))) }
 {
-    if let Body::Objects(objects) = body {
-        for object in objects.iter() {
-            if !names_are_distinct(alloc, &object.properties)? {
-                return Ok(false);
-            }
-        }
+    // That a length is a `usize` bounds the places.
+    if objects.len() == 0 {
+        return Ok(true);
     }
+    trail.enter(Step::Member(names::OBJECTS));
+    for (at, object) in objects.iter().enumerate() {
+        trail.enter(Step::Element(at));
+        if !names_are_distinct(alloc, &object.properties, trail)? {
+            return Ok(false);
+        }
+        trail.leave();
+    }
+    trail.leave();
     Ok(true)
 }
 
-fn names_in_layer_are_distinct(alloc: Global, layer: &Layer) -> Result<bool, AllocError>
+fn names_in_body_are_distinct<T: Trail>(
+    alloc: Global,
+    body: &Body,
+    trail: &mut T,
+) -> Result<bool, AllocError>
+    ensures { IfOk result (λ answer. answer ≡ list_all are_named_apart (lists_in body.now)) }
+{
+    match body {
+        Body::Objects(objects) => object_names_are_distinct(alloc, objects, trail),
+        Body::Tiles(_, _) | Body::Other | Body::Group(_) => Ok(true),
+    }
+}
+
+fn names_in_layer_are_distinct<T: Trail>(
+    alloc: Global,
+    layer: &Layer,
+    trail: &mut T,
+) -> Result<bool, AllocError>
     ensures { IfOk result (λ answer. answer ≡ list_all are_named_apart (lists_of_layer layer.now)) }
 {
     Ok(
-        names_are_distinct(alloc, &layer.properties)?
-            && object_names_are_distinct(alloc, &layer.body)?,
+        names_are_distinct(alloc, &layer.properties, trail)?
+            && names_in_body_are_distinct(alloc, &layer.body, trail)?,
     )
 }
 
-// The same of layers, and of those in them.
-fn layer_names_are_distinct(
+// Whether no name stands twice among the properties of a layer, of an object, or of those in the groups among them.
+fn layer_names_are_distinct<T: Trail>(
     alloc: Global,
     layers: &Chain<Layer>,
     room: usize,
+    trail: &mut T,
 ) -> Result<bool, AllocError>
     ensures { IfOk result (λ answer. answer
         ≡ list_all are_named_apart (flat_map lists_of_drawn (drawn room layer_level layers.now))) }
 {
-    for layer in layers.iter() {
-        if !names_in_layer_are_distinct(alloc, layer)? {
+    // That a length is a `usize` bounds the places.
+    if layers.len() == 0 {
+        return Ok(true);
+    }
+    trail.enter(Step::Member(names::LAYERS));
+    for (at, layer) in layers.iter().enumerate() {
+        trail.enter(Step::Element(at));
+        if !names_in_layer_are_distinct(alloc, layer, trail)? {
             return Ok(false);
         }
         if room > 0 {
             if let Some(inside) = layer.body.layers() {
-                if !layer_names_are_distinct(alloc, inside, room - 1)? {
+                if !layer_names_are_distinct(alloc, inside, room - 1, trail)? {
                     return Ok(false);
                 }
             }
         }
+        trail.leave();
     }
+    trail.leave();
     Ok(true)
 }
 
-/// Whether no id and no first id is used twice, nor a name within one owner.
-pub fn has_no_double(alloc: Global, parts: &MapParts, ids: Ids) -> Result<bool, AllocError>
-    requires layers { ids.layers.items ≡ layer_ids parts.now.layers }
-    requires objects { ids.objects.items ≡ object_ids parts.now.layers }
+/// Whether no id and no first id is used twice, nor a name within one owner. Else the trail stands at the second one.
+pub fn has_no_double<T: Trail>(
+    alloc: Global,
+    parts: &MapParts,
+    ids: &Ids,
+    trail: &mut T,
+) -> Result<bool, AllocError>
+    requires layers { ids.now.layers.items ≡ layer_ids parts.now.layers }
+    requires objects { ids.now.objects.items ≡ object_ids parts.now.layers }
     ensures { IfOk result (λ answer. answer ≡ has_no_double parts.now) }
 {
+    let layer = second_number(alloc, &ids.layers)?;
+    if !is_none_at_fault(&parts.layers, Owners::Layers, layer, trail) {
+        return Ok(false);
+    }
+    let object = second_number(alloc, &ids.objects)?;
+    if !is_none_at_fault(&parts.layers, Owners::Objects, object, trail) {
+        return Ok(false);
+    }
     Ok(
-        numbers_are_distinct(alloc, ids.layers)?
-            && numbers_are_distinct(alloc, ids.objects)?
-            && numbers_are_distinct(alloc, first_ids(alloc, &parts.tilesets)?)?
-            && names_are_distinct(alloc, &parts.properties)?
-            && layer_names_are_distinct(alloc, &parts.layers, MAX_GROUPS)?,
+        first_ids_are_distinct(alloc, &parts.tilesets, trail)?
+            && names_are_distinct(alloc, &parts.properties, trail)?
+            && layer_names_are_distinct(alloc, &parts.layers, MAX_GROUPS, trail)?,
     )
 }
 
-fn all_below(ids: &Vec<u32>, next: u32) -> bool
-    ensures { result ≡ list_all (λ id. nat_lt id next) ids.now.items }
+// The place of the first id that is not below the next one.
+fn late_place(ids: &[u32], next: u32) -> Option<usize>
+    ensures { is_none result ≡ list_all (λ id. nat_lt id next) ids.now }
 {
-    for id in ids {
+    for (at, id) in ids.iter().enumerate() {
         if *id >= next {
-            return false;
+            return Some(at);
         }
     }
-    true
+    None
 }
 
-/// Whether each id is below the next one.
-pub fn are_below_next(parts: &MapParts, ids: &Ids) -> bool
+/// Whether each id is below the next one. Else the trail stands at the first that is not.
+pub fn are_below_next<T: Trail>(parts: &MapParts, ids: &Ids, trail: &mut T) -> bool
     requires layers { ids.now.layers.items ≡ layer_ids parts.now.layers }
     requires objects { ids.now.objects.items ≡ object_ids parts.now.layers }
     ensures { result ≡ are_below_next parts.now }
 {
-    all_below(&ids.layers, parts.next_layer_id) && all_below(&ids.objects, parts.next_object_id)
+    let layer = late_place(&ids.layers, parts.next_layer_id);
+    if !is_none_at_fault(&parts.layers, Owners::Layers, layer, trail) {
+        return false;
+    }
+    let object = late_place(&ids.objects, parts.next_object_id);
+    is_none_at_fault(&parts.layers, Owners::Objects, object, trail)
 }

@@ -5,6 +5,7 @@ ghost use Rattle.serde_json.specs.Find.{get_member, as_object};
 ghost use Rattle.serde_json.specs.View.{view as data_of, members_view};
 ghost use Rattle.map_json.specs.Members.{without, put_some};
 
+use crate::trail::{Step, Trail};
 use map_model::Kept;
 use serde_json::{Map, Value};
 use std::alloc::{AllocError, Global};
@@ -61,6 +62,15 @@ impl JsonObject {
         ensures left { self.new ≡ without name.now self.old }
     {
         self.members.remove(name)
+    }
+
+    /// Takes a member out, and goes to its place.
+    pub fn enter<T: Trail>(&mut self, name: &str, trail: &mut T) -> Option<Value>
+        ensures found { option_map data_of result ≡ get_member name.now self.old }
+        ensures left { self.new ≡ without name.now self.old }
+    {
+        trail.enter(Step::Member(name));
+        self.take(name)
     }
 
     /// Takes a member out, and drops it.

@@ -1,59 +1,39 @@
 // Layers.
-ghost use Rattle.std.specs.Prelude.{◌≡◌, ◌*◌, ◌≤◌, Ok, IfErr, IfOk, IsSomeAnd, length, option_map};
+ghost use Rattle.std.specs.Prelude.{◌≡◌, ◌*◌, ◌≤◌, Ok, IfErr, IfOk, IsSomeAnd, length};
 ghost use Rattle.serde_json.specs.Find.{get_member};
 ghost use Rattle.serde_json.specs.View.{view as data_of, items_view};
-ghost use Rattle.map_model.specs.declared.names.TheConstants.{NAME, PROPERTIES};
-ghost use Rattle.map_model.specs.Keeping.{body_names, common_names};
+ghost use Rattle.map_model.specs.declared.names.TheConstants.{LAYERS};
+ghost use Rattle.map_model.specs.Keeping.{body_names};
 ghost use Rattle.map_model.specs.declared.limits.TheConstants.{MAX_CELLS, MAX_LAYERS};
-ghost use Rattle.map_json.specs.Members.{without_all};
+ghost use Rattle.map_json.specs.Members.{without, without_all};
 ghost use Rattle.map_json.specs.Steps.{Fails, Gives, GivesBy, required};
 ghost use Rattle.map_json.specs.Elements.{each_counted};
 ghost use Rattle.map_json.specs.Reading.{body_by, layer_by, layers_at, map_layers_at};
 
-use crate::body::{LayerType, layer_type, objects, tiles};
+use crate::body::{LayerType, objects, required_type, tiles};
 use crate::elements::array_of;
 use crate::fault::{MapFault, MapRefusal};
 use crate::json_object::JsonObject;
 use crate::property::properties_or_none;
 use crate::scalar::{required_id, text_or, truth_or};
 use crate::size::Size;
+use crate::trail::{Step, Trail};
 use link_chain::{Chain, Loose};
 use map_model::limits::{MAX_GROUPS, MAX_LAYERS};
 use map_model::{Body, Layer, names};
 use serde_json::Value;
 use std::alloc::Global;
 
-// The members of a layer of any kind that are moved into it.
-#[derive(Drop)]
-struct CommonMembers {
-    name: Option<Value>,
-    properties: Option<Value>,
-}
-
-#[tactic(auto, using(crate::proofs::MembersLemmas::takes))]
-fn common_members(members: &mut JsonObject) -> CommonMembers
-    ensures name { option_map data_of result.name ≡ get_member NAME.now members.old }
-    ensures properties { option_map data_of result.properties
-        ≡ get_member PROPERTIES.now members.old }
-    ensures kept { members.new ≡ without_all common_names members.old }
-{
-    members.remove(names::TYPE);
-    members.remove(names::ID);
-    let name = members.take(names::NAME);
-    members.remove(names::VISIBLE);
-    let properties = members.take(names::PROPERTIES);
-    CommonMembers { name, properties }
-}
-
 // What a layer of this type holds; its members are taken out.
 #[cycle(layers)]
-fn body(
+fn body<T: Trail>(
     alloc: Global,
     size: Size,
     room: usize,
     kind: LayerType,
     members: &mut JsonObject,
     count: &mut usize,
+    trail: &mut T,
 ) -> Result<Body, MapFault>
     requires size { size.width * size.height ≤ MAX_CELLS }
     requires few { count.old ≤ MAX_LAYERS }
@@ -63,26 +43,29 @@ fn body(
     ensures few { IfOk result (λ body. count.new ≤ MAX_LAYERS) }
 {
     match kind {
-        LayerType::TileLayer => tiles(alloc, size, members),
-        LayerType::ObjectGroup => objects(alloc, size, members),
+        LayerType::TileLayer => tiles(alloc, size, members, trail),
+        LayerType::ObjectGroup => objects(alloc, size, members, trail),
         LayerType::ImageLayer => Ok(Body::Other),
         LayerType::GroupLayer => {
-            let layers = members
-                .take(names::LAYERS)
+            let value = members
+                .enter(names::LAYERS, trail)
                 .ok_or(MapRefusal::MemberMissing)?;
-            Ok(Body::Group(layers_in(alloc, size, room, layers, count)?))
+            let layers = layers_in(alloc, size, room, value, count, trail)?;
+            trail.leave();
+            Ok(Body::Group(layers))
         }
     }
 }
 
 #[cycle(layers)]
-#[tactic(auto, using(crate::proofs::Bodies::common), unfolding(crate::specs::Reading::layer_by))]
-fn layer(
+#[tactic(auto, using(crate::proofs::Bodies::common, crate::proofs::MembersLemmas::takes), unfolding(crate::specs::Reading::layer_by))]
+fn layer<T: Trail>(
     alloc: Global,
     size: Size,
     room: usize,
     value: Value,
     count: &mut usize,
+    trail: &mut T,
 ) -> Result<Layer, MapFault>
     requires size { size.width * size.height ≤ MAX_CELLS }
     requires few { count.old ≤ MAX_LAYERS }
@@ -91,15 +74,12 @@ fn layer(
     ensures few { IfOk result (λ layer. count.new ≤ MAX_LAYERS) }
 {
     let mut members = JsonObject::from_value(value).ok_or(MapRefusal::MemberOfAnotherKind)?;
-    let kind = layer_type(members.get(names::TYPE))?;
-    let id = required_id(members.get(names::ID))?;
-    // A fault of the name comes before one of this.
-    let visible = truth_or(members.get(names::VISIBLE), true);
-    let CommonMembers { name, properties } = common_members(&mut members);
-    let name = text_or(alloc, name, "")?;
-    let visible = visible?;
-    let properties = properties_or_none(alloc, size, properties)?;
-    let body = body(alloc, size, room, kind, &mut members, count)?;
+    let kind = required_type(&mut members, trail)?;
+    let id = required_id(&mut members, trail)?;
+    let name = text_or(alloc, &mut members, names::NAME, "", trail)?;
+    let visible = truth_or(&mut members, names::VISIBLE, true, trail)?;
+    let properties = properties_or_none(alloc, size, &mut members, trail)?;
+    let body = body(alloc, size, room, kind, &mut members, count, trail)?;
     Ok(Layer {
         id,
         name,
@@ -112,12 +92,13 @@ fn layer(
 
 // A layer in a link of its own.
 #[cycle(layers)]
-fn linked(
+fn linked<T: Trail>(
     alloc: Global,
     size: Size,
     room: usize,
     value: Value,
     count: &mut usize,
+    trail: &mut T,
 ) -> Result<Loose<Layer>, MapFault>
     requires size { size.width * size.height ≤ MAX_CELLS }
     requires few { count.old ≤ MAX_LAYERS }
@@ -127,18 +108,19 @@ fn linked(
         (layer_by (layers_at room size.width size.height) size.width size.height count.old (data_of value))) }
     ensures few { IfOk result (λ loose. count.new ≤ MAX_LAYERS) }
 {
-    let layer = layer(alloc, size, room, value, count)?;
+    let layer = layer(alloc, size, room, value, count, trail)?;
     Loose::new(alloc, layer).map_err(|_| MapFault::Memory)
 }
 
 // The layers of an array, one after the other, with room for so many arrays in one another in each.
 #[cycle(layers)]
-fn each_layer(
+fn each_layer<T: Trail>(
     alloc: Global,
     size: Size,
     room: usize,
     values: Vec<Value>,
     count: &mut usize,
+    trail: &mut T,
 ) -> Result<Chain<Layer>, MapFault>
     requires size { size.width * size.height ≤ MAX_CELLS }
     requires few { count.old ≤ MAX_LAYERS }
@@ -149,7 +131,9 @@ fn each_layer(
 {
     let mut found = Chain::new(alloc);
     for value in values {
-        let link = linked(alloc, size, room, value, count)?;
+        trail.enter(Step::Element(found.len()));
+        let link = linked(alloc, size, room, value, count, trail)?;
+        trail.leave();
         found.insert(found.len(), link);
     }
     Ok(found)
@@ -158,12 +142,13 @@ fn each_layer(
 // The layers of an array, where so many arrays may stand in one another and so many layers were counted.
 #[cycle(layers)]
 #[tactic(auto, using(crate::proofs::Loops::lengths))]
-fn layers_in(
+fn layers_in<T: Trail>(
     alloc: Global,
     size: Size,
     room: usize,
     value: Value,
     count: &mut usize,
+    trail: &mut T,
 ) -> Result<Chain<Layer>, MapFault>
     requires size { size.width * size.height ≤ MAX_CELLS }
     requires few { count.old ≤ MAX_LAYERS }
@@ -176,20 +161,26 @@ fn layers_in(
         return Err(MapFault::Refused(MapRefusal::OverLimit));
     }
     *count += values.len();
-    each_layer(alloc, size, room - 1, values, count)
+    each_layer(alloc, size, room - 1, values, count, trail)
 }
 
-/// The layers of a map, which must be there.
-pub fn map_layers(
+/// The layers of a map, which must be there. They are taken out.
+pub fn map_layers<T: Trail>(
     alloc: Global,
     size: Size,
-    member: Option<Value>,
+    members: &mut JsonObject,
+    trail: &mut T,
 ) -> Result<Chain<Layer>, MapFault>
     requires { size.width * size.height ≤ MAX_CELLS }
-    ensures { Gives result
-        (required (map_layers_at size.width size.height) (option_map data_of member)) }
+    ensures value { Gives result
+        (required (map_layers_at size.width size.height) (get_member LAYERS.now members.old)) }
+    ensures left { members.new ≡ without LAYERS.now members.old }
 {
-    let value = member.ok_or(MapRefusal::MemberMissing)?;
+    let value = members
+        .enter(names::LAYERS, trail)
+        .ok_or(MapRefusal::MemberMissing)?;
     let mut count = 0;
-    layers_in(alloc, size, MAX_GROUPS + 1, value, &mut count)
+    let layers = layers_in(alloc, size, MAX_GROUPS + 1, value, &mut count, trail)?;
+    trail.leave();
+    Ok(layers)
 }

@@ -16,8 +16,10 @@ mod reading;
 mod scalar;
 mod size;
 mod tileset;
+mod trail;
 mod writing;
 
 pub use fault::{MapFault, MapRefusal};
 pub use map_text::{write_map, written_is_read};
-pub use reading::read_map;
+pub use reading::{read_map, read_map_along};
+pub use trail::{NoTrail, Step, Trail};

@@ -1,85 +1,52 @@
 // A map from its text.
 ghost use Rattle.std.specs.Prelude.{◌≡◌, option_map};
-ghost use Rattle.serde_json.specs.Find.{get_member};
 ghost use Rattle.serde_json.specs.View.{view as data_of};
-ghost use Rattle.map_model.specs.declared.names.TheConstants.{PROPERTIES, LAYERS, TILESETS};
-ghost use Rattle.map_model.specs.Keeping.{map_names};
-ghost use Rattle.map_json.specs.Members.{without_all};
 ghost use Rattle.map_json.specs.Steps.{Gives};
 ghost use Rattle.map_json.specs.Maps.{is_map_type, parts_of, consistent, map_of, Says};
 
 use crate::doubles::{are_below_next, has_no_double, ids_of_map};
-use crate::elements::required_elements;
 use crate::fault::{MapFault, MapRefusal};
 use crate::fractions::has_fraction;
 use crate::json_object::JsonObject;
 use crate::layer::map_layers;
 use crate::property::properties_or_none;
-use crate::scalar::{required_whole, truth_or};
+use crate::scalar::{required_next_id, required_whole, truth_or};
 use crate::size::Size;
-use map_model::limits::{MAX_CELLS, MAX_NEXT_ID, MAX_SIDE, MAX_TILE_SIDE, MAX_TILESETS};
+use crate::tileset::required_tilesets;
+use crate::trail::{NoTrail, Step, Trail};
+use map_model::limits::{MAX_CELLS, MAX_SIDE, MAX_TILE_SIDE};
 use map_model::{Map, MapParts, names};
 use serde_json::Value;
 use std::alloc::Global;
 
-// The members of a map that are moved into it.
-#[derive(Drop)]
-struct MapMembers {
-    layers: Option<Value>,
-    tilesets: Option<Value>,
-    properties: Option<Value>,
-    kept: JsonObject,
-}
-
-#[tactic(auto, using(crate::proofs::MembersLemmas::takes))]
-fn map_members(mut members: JsonObject) -> MapMembers
-    ensures layers { option_map data_of result.layers ≡ get_member LAYERS.now members }
-    ensures tilesets { option_map data_of result.tilesets ≡ get_member TILESETS.now members }
-    ensures properties { option_map data_of result.properties
-        ≡ get_member PROPERTIES.now members }
-    ensures kept { result.kept ≡ without_all map_names members }
-{
-    members.remove(names::WIDTH);
-    members.remove(names::HEIGHT);
-    members.remove(names::TILE_WIDTH);
-    members.remove(names::TILE_HEIGHT);
-    members.remove(names::INFINITE);
-    members.remove(names::NEXT_LAYER_ID);
-    members.remove(names::NEXT_OBJECT_ID);
-    let layers = members.take(names::LAYERS);
-    let tilesets = members.take(names::TILESETS);
-    let properties = members.take(names::PROPERTIES);
-    members.remove(names::TYPE);
-    members.remove(names::VERSION);
-    MapMembers {
-        layers,
-        tilesets,
-        properties,
-        kept: members,
-    }
-}
-
-#[tactic(auto, unfolding(crate::specs::Maps::parts_of))]
-fn parts_of(alloc: Global, members: JsonObject) -> Result<MapParts, MapFault>
+#[tactic(auto, using(crate::proofs::MembersLemmas::takes), unfolding(crate::specs::Maps::parts_of))]
+fn parts_of<T: Trail>(
+    alloc: Global,
+    mut members: JsonObject,
+    trail: &mut T,
+) -> Result<MapParts, MapFault>
     ensures { Gives result (parts_of members) }
 {
-    let width = required_whole(members.get(names::WIDTH), 1, MAX_SIDE)?;
-    let height = required_whole(members.get(names::HEIGHT), 1, MAX_SIDE)?;
+    let width = required_whole(&mut members, names::WIDTH, 1, MAX_SIDE, trail)?;
+    let height = required_whole(&mut members, names::HEIGHT, 1, MAX_SIDE, trail)?;
     if width as usize * height as usize > MAX_CELLS {
+        trail.enter(Step::Member(names::HEIGHT));
         return Err(MapFault::Refused(MapRefusal::OverLimit));
     }
     let size = Size { width, height };
-    let tile_width = required_whole(members.get(names::TILE_WIDTH), 1, MAX_TILE_SIDE)?;
-    let tile_height = required_whole(members.get(names::TILE_HEIGHT), 1, MAX_TILE_SIDE)?;
-    if truth_or(members.get(names::INFINITE), false)? {
+    let tile_width = required_whole(&mut members, names::TILE_WIDTH, 1, MAX_TILE_SIDE, trail)?;
+    let tile_height = required_whole(&mut members, names::TILE_HEIGHT, 1, MAX_TILE_SIDE, trail)?;
+    if truth_or(&mut members, names::INFINITE, false, trail)? {
+        trail.enter(Step::Member(names::INFINITE));
         return Err(MapFault::Refused(MapRefusal::Infinite));
     }
-    let next_layer_id = required_whole(members.get(names::NEXT_LAYER_ID), 1, MAX_NEXT_ID)?;
-    let next_object_id = required_whole(members.get(names::NEXT_OBJECT_ID), 1, MAX_NEXT_ID)?;
-    let members = map_members(members);
-    let layers = map_layers(alloc, size, members.layers)?;
-    let tilesets = required_elements(alloc, size, MAX_TILESETS, members.tilesets)?;
-    let properties = properties_or_none(alloc, size, members.properties)?;
+    let next_layer_id = required_next_id(&mut members, names::NEXT_LAYER_ID, trail)?;
+    let next_object_id = required_next_id(&mut members, names::NEXT_OBJECT_ID, trail)?;
+    let layers = map_layers(alloc, size, &mut members, trail)?;
+    let tilesets = required_tilesets(alloc, size, &mut members, trail)?;
+    let properties = properties_or_none(alloc, size, &mut members, trail)?;
+    members.remove(names::TYPE);
+    members.remove(names::VERSION);
     Ok(MapParts {
         width,
         height,
@@ -90,21 +57,19 @@ fn parts_of(alloc: Global, members: JsonObject) -> Result<MapParts, MapFault>
         properties,
         next_layer_id,
         next_object_id,
-        kept: members.kept.into_kept(),
+        kept: members.into_kept(),
     })
 }
 
 #[tactic(auto, unfolding(crate::specs::Maps::consistent))]
-fn consistent(alloc: Global, parts: MapParts) -> Result<MapParts, MapFault>
+fn consistent<T: Trail>(alloc: Global, parts: MapParts, trail: &mut T) -> Result<MapParts, MapFault>
     ensures { Gives result (consistent parts) }
 {
     let ids = ids_of_map(alloc, &parts)?;
-    // A fault of the doubles comes before one of this.
-    let below = are_below_next(&parts, &ids);
-    if !has_no_double(alloc, &parts, ids)? {
+    if !has_no_double(alloc, &parts, &ids, trail)? {
         return Err(MapFault::Refused(MapRefusal::IdUsedTwice));
     }
-    if !below {
+    if !are_below_next(&parts, &ids, trail) {
         return Err(MapFault::Refused(MapRefusal::OverLimit));
     }
     Ok(parts)
@@ -123,18 +88,20 @@ fn is_map_type(member: Option<&Value>) -> bool
 }
 
 #[tactic(auto, unfolding(crate::specs::Maps::map_of))]
-fn map_of(alloc: Global, value: Value) -> Result<MapParts, MapFault>
+fn map_of<T: Trail>(alloc: Global, value: Value, trail: &mut T) -> Result<MapParts, MapFault>
     ensures { Gives result (map_of (data_of value)) }
 {
-    if has_fraction(&value) {
+    if has_fraction(&value, trail) {
         return Err(MapFault::Refused(MapRefusal::Fraction));
     }
     let members = JsonObject::from_value(value).ok_or(MapRefusal::NotAMap)?;
+    trail.enter(Step::Member(names::TYPE));
     if !is_map_type(members.get(names::TYPE)) {
         return Err(MapFault::Refused(MapRefusal::NotAMap));
     }
-    let parts = parts_of(alloc, members)?;
-    consistent(alloc, parts)
+    trail.leave();
+    let parts = parts_of(alloc, members, trail)?;
+    consistent(alloc, parts, trail)
 }
 
 /// The map that the bytes of a file spell, or the first fault in the order of reading.
@@ -143,8 +110,18 @@ fn map_of(alloc: Global, value: Value) -> Result<MapParts, MapFault>
 pub fn read_map(alloc: Global, bytes: &[u8]) -> Result<Map, MapFault>
     ensures { Says bytes.now result }
 {
+    read_map_along(alloc, bytes, &mut NoTrail)
+}
+
+/// What `read_map` answers. The trail begins at the root.
+///
+/// After a refusal other than `NotJson` the trail stands at the place of the fault: what was entered and not left. A
+/// member that is absent is entered as well. After any other answer it says nothing.
+pub fn read_map_along<T: Trail>(alloc: Global, bytes: &[u8], trail: &mut T) -> Result<Map, MapFault>
+    ensures { Says bytes.now result }
+{
     match Value::from_slice(alloc, bytes) {
-        Ok(value) => Ok(Map::from_parts(map_of(alloc, value)?)),
+        Ok(value) => Ok(Map::from_parts(map_of(alloc, value, trail)?)),
         Err(error) => {
             if error.is_memory() {
                 Err(MapFault::Memory)

@@ -1,7 +1,8 @@
 // The reports of files, one after the other.
 use crate::listing::write_listing;
+use crate::place::Place;
 use crate::refusals::write_refusal;
-use map_json::read_map;
+use map_json::read_map_along;
 use std::fs;
 use std::io::{self, Write};
 use std::rt::Files;
@@ -19,13 +20,14 @@ fn report_file<R: Files + AllocGlobal + Eprint, W: Write>(
             return Ok(false);
         }
     };
-    match read_map(rt.alloc(), &bytes) {
+    let mut place = Place::new(rt.alloc());
+    match read_map_along(rt.alloc(), &bytes, &mut place) {
         Ok(map) => {
             write_listing(file, map.parts(), output)?;
             Ok(true)
         }
         Err(fault) => {
-            write_refusal(rt.alloc(), file, &bytes, fault, output)?;
+            write_refusal(rt.alloc(), file, &bytes, fault, &place, output)?;
             Ok(false)
         }
     }

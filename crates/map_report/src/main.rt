@@ -2,13 +2,13 @@
 #![tactic(auto)]
 
 mod files;
+mod json_fault;
 mod listing;
 mod options;
 mod place;
 mod refusals;
 mod shown;
 mod table;
-mod walk;
 
 use crate::files::report_files;
 use crate::options::{Options, parse_options};

@@ -1,48 +1,108 @@
 // The place of a fault in the tree of a file, and what stands there.
 use crate::shown::{is_shown_plain, write_short};
+use map_json::{Step, Trail};
 use serde_json::Value;
-use std::alloc::Global;
+use std::alloc::{AllocError, Global};
 use std::io::{self, Write};
 
-/// A step from a value to one in it.
-#[derive(Clone, Copy)]
-pub enum Step<'a> {
-    Member(&'a str),
+// A step from a value to one in it, with a name of its own.
+#[derive(Drop)]
+enum OwnStep {
+    Member(String),
     Element(usize),
 }
 
-// What stands behind a step.
-fn step_into<'a>(value: &'a Value, step: Step<'_>) -> Option<&'a Value> {
-    match step {
-        Step::Member(name) => value.get(name),
-        Step::Element(at) => value.get(at),
+/// The trail of a reader: the steps from the root to where it stands. Without memory for one it is lost for good.
+#[derive(Drop)]
+pub struct Place {
+    alloc: Global,
+    steps: Vec<OwnStep>,
+    is_lost: bool,
+}
+
+impl Place {
+    /// The root.
+    pub fn new(alloc: Global) -> Place {
+        Place {
+            alloc,
+            steps: Vec::new(alloc),
+            is_lost: false,
+        }
+    }
+
+    /// Whether there was no memory for a step.
+    pub fn is_lost(&self) -> bool {
+        self.is_lost
+    }
+
+    fn push(&mut self, step: Step<'_>) -> Result<(), AllocError> {
+        let step = match step {
+            Step::Member(name) => OwnStep::Member(String::from_str(self.alloc, name)?),
+            Step::Element(at) => OwnStep::Element(at),
+        };
+        self.steps.push(step)?;
+        Ok(())
+    }
+
+    // What stands here; none where the last member is absent.
+    fn value_in<'a>(&self, root: &'a Value) -> Option<&'a Value> {
+        let mut value = root;
+        for step in &self.steps {
+            value = step_into(value, step)?;
+        }
+        Some(value)
+    }
+
+    /// Writes the steps and what stands here in a tree.
+    pub fn write<W: Write>(&self, root: &Value, output: &mut W) -> io::Result<()> {
+        if self.steps.is_empty() {
+            output.write_all(b"the root")?;
+        }
+        for (at, step) in self.steps.iter().enumerate() {
+            write_step(self.alloc, step, at == 0, output)?;
+        }
+        write_value(self.alloc, self.value_in(root), output)
     }
 }
 
-// What stands at a place; none where its last member is absent.
-fn value_at<'a>(root: &'a Value, place: &[Step<'_>]) -> Option<&'a Value> {
-    let mut value = root;
-    for step in place {
-        value = step_into(value, *step)?;
+impl Trail for Place {
+    fn enter(&mut self, step: Step<'_>) {
+        if !self.is_lost && self.push(step).is_err() {
+            self.is_lost = true;
+        }
     }
-    Some(value)
+
+    fn leave(&mut self) {
+        self.steps.pop();
+    }
+}
+
+// What stands behind a step.
+fn step_into<'a>(value: &'a Value, step: &OwnStep) -> Option<&'a Value> {
+    match step {
+        OwnStep::Member(name) => value.get(name.as_str()),
+        OwnStep::Element(at) => value.get(*at),
+    }
 }
 
 fn write_step<W: Write>(
     alloc: Global,
-    step: Step<'_>,
+    step: &OwnStep,
     is_first: bool,
     output: &mut W,
 ) -> io::Result<()> {
-    match step {
-        Step::Element(at) => write!(output, "[{at}]"),
-        Step::Member(name) if !is_shown_plain(name) => {
-            output.write_all(b"[")?;
-            write_short(alloc, name, output)?;
-            output.write_all(b"]")
-        }
-        Step::Member(name) if is_first => write!(output, "{name}"),
-        Step::Member(name) => write!(output, ".{name}"),
+    let name = match step {
+        OwnStep::Element(at) => return write!(output, "[{at}]"),
+        OwnStep::Member(name) => name.as_str(),
+    };
+    if !is_shown_plain(name) {
+        output.write_all(b"[")?;
+        write_short(alloc, name, output)?;
+        output.write_all(b"]")
+    } else if is_first {
+        write!(output, "{name}")
+    } else {
+        write!(output, ".{name}")
     }
 }
 
@@ -61,20 +121,4 @@ fn write_value<W: Write>(alloc: Global, value: Option<&Value>, output: &mut W) -
         }
         Some(other) => write!(output, " is {other}"),
     }
-}
-
-/// Writes a place and what stands there.
-pub fn write_place<W: Write>(
-    alloc: Global,
-    root: &Value,
-    place: &[Step<'_>],
-    output: &mut W,
-) -> io::Result<()> {
-    if place.is_empty() {
-        output.write_all(b"the root")?;
-    }
-    for (at, step) in place.iter().enumerate() {
-        write_step(alloc, *step, at == 0, output)?;
-    }
-    write_value(alloc, value_at(root, place), output)
 }

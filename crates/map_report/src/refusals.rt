@@ -1,6 +1,6 @@
 // Why a map is refused: the code, its words, and the place of the fault.
-use crate::place::write_place;
-use crate::walk::place_of;
+use crate::json_fault::{LineColumn, place_of_fault};
+use crate::place::Place;
 use map_json::{MapFault, MapRefusal};
 use serde_json::{Error, Value};
 use std::alloc::Global;
@@ -23,49 +23,52 @@ pub fn words_of(refusal: MapRefusal) -> &'static str {
 }
 
 // Writes where a text ceases to be JSON, where that is known.
-fn write_line<W: Write>(error: &Error, output: &mut W) -> io::Result<()> {
-    let (line, column) = (error.line(), error.column());
-    if error.is_memory() || line == 0 {
+fn write_line<W: Write>(
+    alloc: Global,
+    bytes: &[u8],
+    error: &Error,
+    output: &mut W,
+) -> io::Result<()> {
+    if error.is_memory() {
         return Ok(());
     }
+    let LineColumn { line, column } = place_of_fault(alloc, bytes, error);
     write!(output, ": line {line}, column {column}")
 }
 
-// Writes the place of a fault, where it is found.
+// Writes the place of a fault, where there is memory for the tree.
 fn write_where<W: Write>(
     alloc: Global,
     bytes: &[u8],
-    refusal: MapRefusal,
+    place: &Place,
     output: &mut W,
 ) -> io::Result<()> {
-    let root = match Value::from_slice(alloc, bytes) {
-        Ok(root) => root,
-        Err(error) => return write_line(&error, output),
-    };
-    match place_of(alloc, &root, refusal) {
-        Some(place) => {
+    match Value::from_slice(alloc, bytes) {
+        Ok(root) => {
             output.write_all(b": ")?;
-            write_place(alloc, &root, place.as_slice(), output)
+            place.write(&root, output)
         }
-        None => Ok(()),
+        Err(error) => write_line(alloc, bytes, &error, output),
     }
 }
 
-/// Writes the line of a map that is refused.
+/// Writes the line of a map that is refused, with the place at which the reader stopped. Where that is lost, there was no
+/// memory.
 pub fn write_refusal<W: Write>(
     alloc: Global,
     file: &str,
     bytes: &[u8],
     fault: MapFault,
+    place: &Place,
     output: &mut W,
 ) -> io::Result<()> {
     match fault {
-        MapFault::Memory => write!(output, "{file}: no 90 no memory")?,
-        MapFault::Refused(refusal) => {
+        MapFault::Refused(refusal) if !place.is_lost() => {
             let words = words_of(refusal);
             write!(output, "{file}: no {words}")?;
-            write_where(alloc, bytes, refusal, output)?;
+            write_where(alloc, bytes, place, output)?;
         }
+        MapFault::Refused(_) | MapFault::Memory => write!(output, "{file}: no 90 no memory")?,
     }
     output.write_all(b"\n")
 }

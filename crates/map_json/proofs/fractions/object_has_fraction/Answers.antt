@@ -10,7 +10,7 @@ use Rattle.map_json.proofs.Walks.{has_fraction-object}
 use Rattle.map_json.proofs.fractions.object_has_fraction.Goals as goal
 
 pub returns-else-others_have_fraction : goal.returns-else-others_have_fraction
-returns-else-others_have_fraction c =
+returns-else-others_have_fraction g c =
     let held = c.args.members.now.entries in
     let found : option_map (λ v. view v.now) c.get.result ≡ get_member VERSION.now (members_view held)
     = view_of_ref c.get.result ∙ (ap (option_map view) c.get.ensures.value ∙ view-lookup VERSION.now held) in

@@ -5,5 +5,5 @@ use Rattle.map_model.specs.declared.names.TheConstants.{VERSION}
 use Rattle.map_json.specs.Members.{without}
 use Rattle.map_json.proofs.fractions.others_have_fraction.Given as goal
 
-abbrev pub invariant-loop-key : goal.invariant-loop-key
-invariant-loop-key l = members_have_float (without VERSION.now (members_view l.key-iterator)) ≡ members_have_float (without VERSION.now (members_view l.members.entries))
+abbrev pub invariant-loop-name : goal.invariant-loop-name
+invariant-loop-name g l = members_have_float (without VERSION.now (members_view l.name-iterator)) ≡ members_have_float (without VERSION.now (members_view l.members.entries))

@@ -10,14 +10,14 @@ use Rattle.map_json.proofs.layer.+layers.Goals as goal
 
 pub layers_in-returns-in_err-values-clause-value :
     goal.layers_in-returns-in_err-values-clause-value
-layers_in-returns-in_err-values-clause-value t c =
+layers_in-returns-in_err-values-clause-value g t c =
     let none : as_array (data_of c.args.value) ≡ None = search rules in
     let is = layers_at-no_array c.args.size.width c.args.size.height c.args.count.now (data_of c.args.value) c.args.room none in
     search rules
 
 pub layers_in-returns-then-room-eq0-clause-value :
     goal.layers_in-returns-then-room-eq0-clause-value
-layers_in-returns-then-room-eq0-clause-value t c =
+layers_in-returns-then-room-eq0-clause-value g t c =
     let values = items_view c.in_ok-values.values.items in
     let found : as_array (data_of c.args.value) ≡ Some values = search rules in
     elim c.then-room-eq0.branch [
@@ -27,7 +27,7 @@ layers_in-returns-then-room-eq0-clause-value t c =
     ]
 
 pub layers_in-returns-clause-value : goal.layers_in-returns-clause-value
-layers_in-returns-clause-value t c =
+layers_in-returns-clause-value g t c =
     let values = items_view c.in_ok-values.values.items in
     let found : as_array (data_of c.args.value) ≡ Some values = search rules in
     let long : items_len values ≡ c.len-2.result = omega (arith, c.len-2.ensures, items_len-items_view c.in_ok-values.values.items) in

@@ -8,24 +8,24 @@ use Rattle.map_json.proofs.Loops.{counted_prefix}
 use Rattle.map_json.proofs.layer.+layers.Given as goal
 
 abbrev pub decreases-layers_in : goal.decreases-layers_in
-decreases-layers_in l = 5 * l.room
+decreases-layers_in g l = 5 * l.room
 
 abbrev pub decreases-body : goal.decreases-body
-decreases-body l = 5 * l.room + 1
+decreases-body g l = 5 * l.room + 1
 
 abbrev pub decreases-layer : goal.decreases-layer
-decreases-layer l = 5 * l.room + 2
+decreases-layer g l = 5 * l.room + 2
 
 abbrev pub decreases-linked : goal.decreases-linked
-decreases-linked l = 5 * l.room + 3
+decreases-linked g l = 5 * l.room + 3
 
 abbrev pub decreases-each_layer : goal.decreases-each_layer
-decreases-each_layer l = 5 * l.room + 4
+decreases-each_layer g l = 5 * l.room + 4
 
 abbrev pub invariant-each_layer-loop-value : goal.invariant-each_layer-loop-value
-invariant-each_layer-loop-value l =
+invariant-each_layer-loop-value g l =
     let read = layer_by (layers_at l.room l.size.width l.size.height) l.size.width l.size.height in
-    (goal.iterator-each_layer-loop-value).can_next l.value-iterator × (goal.iterator-each_layer-loop-value).is_finite l.value-iterator
+    (goal.iterator-each_layer-loop-value g).can_next l.value-iterator × (goal.iterator-each_layer-loop-value g).is_finite l.value-iterator
     × (length l.found + length (into_iter_items l.value-iterator) ≡ length l.fn.values.items)
     × (counted_prefix l.found (each_counted read l.count (items_view (into_iter_items l.value-iterator))) ≡ each_counted read l.initial.count (items_view l.fn.values.items))
     × (l.count ≤ MAX_LAYERS)
