@@ -223,8 +223,7 @@ impl<C: Command> Stack<C> {
     pub fn sound_is_calm(&self)
         requires { Holds C.change self.now }
         ensures { IsCalm C.change self.now }
-    {
-    }
+    {}
 
     /// Makes the change of a command, and puts it into the history. The steps above the index go, and with them a clean index
     /// among them.
