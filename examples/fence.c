@@ -1,6 +1,6 @@
 /* Opens a map, draws a fence, takes it back, draws it again and saves the map. From the top of a clone:
  *
- *   mkdir -p /tmp/maps && cp -r examples/maps/. /tmp/maps
+ *   cp -r examples/maps /tmp
  *   cc -O2 -Iinclude examples/fence.c lib/libroskevad.a -o /tmp/maps/fence
  *   /tmp/maps/fence /tmp/maps/layers.tmj /tmp/maps/fenced.tmj
  */

@@ -1,5 +1,5 @@
 """Sees how the pages are laid out: each line of a page has at most 100 characters, but for rows of
-tables, lines of fenced blocks, and lines that are one link or one address; and each row of a table
+tables, lines of blocks of code, and lines that are one link or one address; and each row of a table
 has as many cells as its head."""
 import re
 import subprocess
@@ -23,12 +23,12 @@ def tracked():
 
 
 def text_lines(page):
-    """The lines of a page that are in no fenced block, with their numbers."""
+    """The lines of a page that are in no block of code, fenced or indented, with their numbers."""
     is_fenced = False
     for number, line in enumerate(page.text.split('\n'), 1):
         if re.match(r'\s*(```|~~~)', line):
             is_fenced = not is_fenced
-        elif not is_fenced:
+        elif not is_fenced and not line.startswith('    '):
             yield number, line
 
 

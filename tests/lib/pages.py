@@ -12,7 +12,7 @@ front of it says so, with a line for each:
   -->
 
 A block of `console` has commands behind `$ `, each with what it prints. Commands stand in indented
-blocks too. They are run in a copy of the repository, where `/tmp/maps` is a folder of the run."""
+blocks too. They are run in a copy of the repository, where `/tmp` is a folder of the run."""
 import os
 import re
 import shutil
@@ -242,7 +242,7 @@ def pages():
 
 
 class Clone:
-    """A copy of the repository in which commands are run, with a folder for `/tmp/maps`."""
+    """A copy of the repository in which commands are run, with a folder that stands for `/tmp`."""
 
     def __enter__(self):
         self.top = tempfile.TemporaryDirectory()
@@ -265,7 +265,7 @@ class Clone:
         script = ''.join(
             f'{command}\nstatus=$?; echo "{mark}"; (exit $status)\n' for command in commands
         )
-        script = script.replace('/tmp/maps', str(self.maps)) + 'exit $status\n'
+        script = script.replace('/tmp', self.top.name) + 'exit $status\n'
         words = ['bash', '-c', script]
         env = {
             **os.environ,
@@ -282,7 +282,7 @@ class Clone:
             timeout=120,
             env=env,
         )
-        told = done.stdout.decode().replace(str(self.maps), '/tmp/maps').split(mark + '\n')
+        told = done.stdout.decode().replace(self.top.name, '/tmp').split(mark + '\n')
         return [text.rstrip('\n') for text in told[:-1]], done.returncode
 
     def fault_of_console(self, console):
