@@ -10,7 +10,10 @@ from lib.cases import CORES, Case, check_each, unlike
 from lib.commands import first_lines
 from lib.places import BIN, EXAMPLES, TILE_EDITOR, TOP
 
-ABOUT = 'Edits tile maps by session lines: reads lines from standard input, and answers each with a line on'
+ABOUT = (
+    'Edits tile maps by session lines: '
+    'reads lines from standard input, and answers each with a line on'
+)
 NO_FOLDER = "error: a value is required for '--folder <DIR>' but none was supplied"
 NO_NUMBER = "error: a value is required for '--limit <N>' but none was supplied"
 BAD_NUMBER = "error: invalid value 'x' for '--limit <N>': invalid digit found in string"

@@ -462,7 +462,8 @@ def word(text):
 def lines_of_properties(owner, indent):
     for item in owner.get('properties', []):
         value = json.dumps(item['value'], ensure_ascii=False, sort_keys=True, separators=(',', ':'))
-        yield f"{indent}property {json.dumps(item['name'], ensure_ascii=False)}, {word(item.get('type', 'string'))}: {value}"
+        name = json.dumps(item['name'], ensure_ascii=False)
+        yield f"{indent}property {name}, {word(item.get('type', 'string'))}: {value}"
 
 
 def lines_of_object(item, indent):
@@ -484,7 +485,8 @@ def lines_of_layer(layer, indent):
         if cells is not None
         else ''
     )
-    yield f"{indent}{kind} {layer['id']} {json.dumps(layer.get('name', ''), ensure_ascii=False)}{set_cells}"
+    name = json.dumps(layer.get('name', ''), ensure_ascii=False)
+    yield f"{indent}{kind} {layer['id']} {name}{set_cells}"
     yield from lines_of_properties(layer, indent + '  ')
     for item in layer['objects'] if kind == 'object layer' else []:
         yield from lines_of_object(item, indent + '  ')
@@ -494,7 +496,8 @@ def lines_of_layer(layer, indent):
 
 def listing(tree):
     """What is reported of a map behind its file's name."""
-    sizes = f"{tree['width']} by {tree['height']} cells of {tree['tilewidth']} by {tree['tileheight']} pixels"
+    pixels = f"{tree['tilewidth']} by {tree['tileheight']} pixels"
+    sizes = f"{tree['width']} by {tree['height']} cells of {pixels}"
     ids = f"next layer {tree['nextlayerid']}, next object {tree['nextobjectid']}"
     lines = [f'{sizes}, {ids}', *lines_of_properties(tree, '  ')]
     for layer in tree['layers']:
@@ -600,7 +603,10 @@ def fault_of_words(case):
 
 
 def test_command_lines():
-    about = 'Says what is in maps that Tiled saved as JSON, or why the editor refuses them and at which place.'
+    about = (
+        'Says what is in maps that Tiled saved as JSON, '
+        'or why the editor refuses them and at which place.'
+    )
     rows = [
         (['--help'], 0, about, ''),
         (['--frob'], 2, '', "error: unexpected argument '--frob' found"),
