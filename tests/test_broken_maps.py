@@ -101,7 +101,8 @@ def heavy_cases():
 
 def rows_of(number):
     """The lines that open and save a map, and what was saved."""
-    return f'open m m{number}\nsave s{number}\ndiscard m\nopen s s{number}\nsave t{number}\ndiscard s\n'
+    opened = f'open m m{number}\nsave s{number}\ndiscard m\n'
+    return f'{opened}open s s{number}\nsave t{number}\ndiscard s\n'
 
 
 def said(folder, lines, env=None):

@@ -3,14 +3,17 @@ on each output. The launchers at the top are tried too: by their names and by li
 what is in `bin/`. Besides, the program is run where its replies, its help and its version have
 nowhere to go."""
 import os
-import subprocess
 import tempfile
 from pathlib import Path
 
 from lib.cases import CORES, Case, check_each, unlike
+from lib.commands import first_lines
 from lib.places import BIN, EXAMPLES, TILE_EDITOR, TOP
 
-ABOUT = 'Edits tile maps by session lines: reads lines from standard input, and answers each with a line on'
+ABOUT = (
+    'Edits tile maps by session lines: '
+    'reads lines from standard input, and answers each with a line on'
+)
 NO_FOLDER = "error: a value is required for '--folder <DIR>' but none was supplied"
 NO_NUMBER = "error: a value is required for '--limit <N>' but none was supplied"
 BAD_NUMBER = "error: invalid value 'x' for '--limit <N>': invalid digit found in string"
@@ -56,19 +59,9 @@ COMMAND_LINES = [
 ]
 
 
-def came_of(words, folder, **more):
-    """The exit status of a command, and the first lines that it writes."""
-    done = subprocess.run(
-        words, cwd=folder, capture_output=True, timeout=60, **{'stdin': subprocess.DEVNULL, **more}
-    )
-    return done.returncode, *(
-        text.decode().partition('\n')[0] for text in (done.stdout, done.stderr)
-    )
-
-
 def fault_of_words(case):
     with tempfile.TemporaryDirectory() as folder:
-        return unlike(case.wanted, came_of([TILE_EDITOR, *case.given], folder))
+        return unlike(case.wanted, first_lines([TILE_EDITOR, *case.given], folder))
 
 
 def test_words():
@@ -80,7 +73,7 @@ def test_input_that_is_a_folder():
     with tempfile.TemporaryDirectory() as folder:
         place = os.open(folder, os.O_RDONLY)
         fault = unlike(
-            (1, '', 'tile_editor: read failed'), came_of([TILE_EDITOR], folder, stdin=place)
+            (1, '', 'tile_editor: read failed'), first_lines([TILE_EDITOR], folder, stdin=place)
         )
         os.close(place)
     assert not fault, fault
@@ -133,9 +126,9 @@ def launchers(links):
 
 
 def fault_of_launcher(case):
-    wanted = came_of([*case.wanted, '--version'], TOP)
+    wanted = first_lines([*case.wanted, '--version'], TOP)
     return (
-        unlike(wanted, came_of([*case.given, '--version'], TOP))
+        unlike(wanted, first_lines([*case.given, '--version'], TOP))
         if wanted[::2] == (0, '') and wanted[1]
         else f'{wanted}'
     )
@@ -160,7 +153,7 @@ def test_the_build_script():
                 ),
             ],
             lambda case: unlike(
-                case.wanted, came_of([*case.given[0], '/dev/null', folder], case.given[1])
+                case.wanted, first_lines([*case.given[0], '/dev/null', folder], case.given[1])
             ),
         )
 
@@ -171,7 +164,7 @@ def test_the_build_script():
 def fault_without_room(case):
     words, sink = case.given
     command = f'printf "status\\n" | "$0" {words} >{sink}'
-    return unlike(case.wanted, came_of(['bash', '-c', command, TILE_EDITOR], TOP))
+    return unlike(case.wanted, first_lines(['bash', '-c', command, TILE_EDITOR], TOP))
 
 
 def test_output_that_has_nowhere_to_go():

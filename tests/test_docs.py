@@ -31,8 +31,8 @@ LINES = TOP / 'docs' / 'session-lines.md'
 TUTORIALS = TOP / 'docs' / 'tutorials'
 EDITOR = BIN / 'tile_editor'
 PAGES = pages()
-# Those whose lines are tried here.
-TRIED = [page for page in PAGES if page.path.parent != TUTORIALS]
+# Those whose lines and commands are tried here: the list of changes tells of other versions, too.
+TRIED = [page for page in PAGES if page.path.parent != TUTORIALS and page.name != 'CHANGELOG.md']
 
 
 # ---- links

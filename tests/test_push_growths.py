@@ -64,20 +64,15 @@ def growths(lines):
     return REFUSER.count(b'growths', lines)
 
 
-def fault_of_push(before, line, last=1):
-    """What is wrong where the last growths of a line are refused in turn, or None: that line must
-    have no memory, and the session goes on without it."""
+def see_push(before, line, last=1):
+    """Sees that where the last growths of a line are refused in turn, that line has no memory, and
+    the session goes on without it."""
     count = growths(before + [line])
-    try:
-        session = Session('a push', REFUSER, before + [line] + BEHIND)
-        for growth in range(count - last + 1, count + 1):
-            session.see(
-                session.refused_at(growth) == len(before), growth, f'it is none of {line!r}'
-            )
-            passed()
-    except AssertionError as fault:
-        return str(fault)
-    return None
+    session = Session('a push', REFUSER, before + [line] + BEHIND)
+    for growth in range(count - last + 1, count + 1):
+        is_of_line = session.refused_at(growth) == len(before)
+        session.see(is_of_line, growth, f'it is none of {line!r}')
+        passed()
 
 
 def cases_of(befores, lines, wanted=None):
@@ -91,39 +86,29 @@ def cases_of(befores, lines, wanted=None):
 def test_the_box_of_each_lean_edit():
     """Below a step that waits to be made again, and in a level."""
 
-    def fault_of(case):
+    def see_box(case):
         before, line = case.given
         count = REFUSER.more(b'growths', before, [line])
-        return (
-            fault_of_push(before, line)
-            if count == case.wanted
-            else f'it grows memory {count} times, and not once'
-        )
+        assert count == case.wanted, f'it grows memory {count} times, and not once'
+        see_push(before, line)
 
-    check_each(cases_of((BEGUN + UNDONE, BEGUN + LEVELS + STEPS[:1]), LEAN, 1), fault_of, CORES)
+    check_each(cases_of((BEGUN + UNDONE, BEGUN + LEVELS + STEPS[:1]), LEAN, 1), see_box, CORES)
 
 
 def test_the_growths_of_merges():
     """Below a step that waits to be made again, and in a level."""
 
-    def fault_of(case):
+    def see_merge(case):
         before, line = case.given
         count = growths(before + [line]) - growths(before + [line.replace(b'+', b'')])
-        return (
-            fault_of_push(before, line, count)
-            if 1 <= count <= case.wanted
-            else f'the merge takes {count} growths'
-        )
+        assert 1 <= count <= case.wanted, f'the merge takes {count} growths'
+        see_push(before, line, count)
 
-    check_each(
-        [
-            case
-            for first, line, most in MERGES
-            for case in cases_of((BEGUN + [first] + UNDONE, BEGUN + LEVELS + [first]), [line], most)
-        ],
-        fault_of,
-        CORES,
-    )
+    cases = []
+    for first, line, most in MERGES:
+        befores = (BEGUN + [first] + UNDONE, BEGUN + LEVELS + [first])
+        cases += cases_of(befores, [line], most)
+    check_each(cases, see_merge, CORES)
 
 
 def check_places(before):
@@ -132,16 +117,17 @@ def check_places(before):
     plain = [growths(before + STEPS[:n]) for n in numbers]
     without_room = set()
 
-    def fault_of(case):
+    def see_place(case):
         line = case.given
         asked = [growths(before + STEPS[:n] + [line]) - plain[n] for n in numbers]
         full = [n for n in numbers if asked[n] == min(asked) + 1]
-        if not full or any(asked[n] != min(asked) for n in numbers if n not in full):
-            return f'{asked} growths behind 0, 1 .. steps'
+        is_right = full and all(asked[n] == min(asked) for n in numbers if n not in full)
+        assert is_right, f'{asked} growths behind 0, 1 .. steps'
         without_room.add(tuple(full))
-        return next(filter(None, (fault_of_push(before + STEPS[:n], line) for n in full)), None)
+        for n in full:
+            see_push(before + STEPS[:n], line)
 
-    check_each([Case(line.decode(), line, None) for line in LEAN + OTHERS], fault_of, CORES)
+    check_each([Case(line.decode(), line, None) for line in LEAN + OTHERS], see_place, CORES)
     assert len(without_room) == 1, f'there is no room behind {without_room} steps'
 
 

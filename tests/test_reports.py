@@ -7,11 +7,11 @@ can't be read, and command lines."""
 import copy
 import json
 import re
-import subprocess
 import tempfile
 from pathlib import Path
 
 from lib.cases import CORES, Case, check_each, unlike
+from lib.commands import came_of, first_lines
 from lib.maps import cells_of, packed, property_of
 from lib.places import MAP_REPORT, example_maps
 from lib.refusals import refusal
@@ -441,7 +441,8 @@ def word(text):
 def lines_of_properties(owner, indent):
     for item in owner.get('properties', []):
         value = json.dumps(item['value'], ensure_ascii=False, sort_keys=True, separators=(',', ':'))
-        yield f"{indent}property {json.dumps(item['name'], ensure_ascii=False)}, {word(item.get('type', 'string'))}: {value}"
+        name = json.dumps(item['name'], ensure_ascii=False)
+        yield f"{indent}property {name}, {word(item.get('type', 'string'))}: {value}"
 
 
 def lines_of_object(item, indent):
@@ -463,7 +464,8 @@ def lines_of_layer(layer, indent):
         if cells is not None
         else ''
     )
-    yield f"{indent}{kind} {layer['id']} {json.dumps(layer.get('name', ''), ensure_ascii=False)}{set_cells}"
+    name = json.dumps(layer.get('name', ''), ensure_ascii=False)
+    yield f"{indent}{kind} {layer['id']} {name}{set_cells}"
     yield from lines_of_properties(layer, indent + '  ')
     for item in layer['objects'] if kind == 'object layer' else []:
         yield from lines_of_object(item, indent + '  ')
@@ -473,7 +475,8 @@ def lines_of_layer(layer, indent):
 
 def listing(tree):
     """What is reported of a map behind its file's name."""
-    sizes = f"{tree['width']} by {tree['height']} cells of {tree['tilewidth']} by {tree['tileheight']} pixels"
+    pixels = f"{tree['tilewidth']} by {tree['tileheight']} pixels"
+    sizes = f"{tree['width']} by {tree['height']} cells of {pixels}"
     ids = f"next layer {tree['nextlayerid']}, next object {tree['nextobjectid']}"
     lines = [f'{sizes}, {ids}', *lines_of_properties(tree, '  ')]
     for layer in tree['layers']:
@@ -525,19 +528,11 @@ def reports_of_examples():
 # ---- runs
 
 
-def came_of(folder, *words):
-    """The status and the texts of a run in a folder."""
-    done = subprocess.run(
-        [MAP_REPORT, *words], cwd=folder, stdin=subprocess.DEVNULL, capture_output=True, timeout=300
-    )
-    return done.returncode, done.stdout.decode(), done.stderr.decode()
-
-
 def fault_of(case):
     """What is wrong in the report of one file, or None."""
     with tempfile.TemporaryDirectory() as folder:
         (Path(folder) / 'map.tmj').write_bytes(case.given)
-        came = came_of(folder, 'map.tmj')
+        came = came_of([MAP_REPORT, 'map.tmj'], folder)
     wanted = [
         (1 if line.startswith('no ') else 0, f'map.tmj: {line}\n', '') for line in case.wanted
     ]
@@ -576,19 +571,21 @@ def test_several_files():
         (folder / 'folder').mkdir()
         check_each(
             [Case(' '.join(words), words, wanted) for words, wanted in rows],
-            lambda case: unlike(case.wanted, came_of(folder, *case.given)),
+            lambda case: unlike(case.wanted, came_of([MAP_REPORT, *case.given], folder)),
         )
 
 
 def fault_of_words(case):
     """What is wrong in the status of a command line, and in the first lines that it writes."""
     with tempfile.TemporaryDirectory() as folder:
-        status, output, error = came_of(folder, *case.given)
-    return unlike(case.wanted, (status, output.partition('\n')[0], error.partition('\n')[0]))
+        return unlike(case.wanted, first_lines([MAP_REPORT, *case.given], folder))
 
 
 def test_command_lines():
-    about = 'Says what is in maps that Tiled saved as JSON, or why the editor refuses them and at which place.'
+    about = (
+        'Says what is in maps that Tiled saved as JSON, '
+        'or why the editor refuses them and at which place.'
+    )
     rows = [
         (['--help'], 0, about, ''),
         (['--frob'], 2, '', "error: unexpected argument '--frob' found"),
@@ -607,7 +604,6 @@ def test_command_lines():
 
 
 def test_the_help_names_each_status():
-    with tempfile.TemporaryDirectory() as folder:
-        _, output, _ = came_of(folder, '--help')
+    _, output, _ = came_of([MAP_REPORT, '--help'])
     exits = [line.strip() for line in output.split('\n') if re.match(r'  [012]  ', line)]
     assert len(exits) == 3, f'--help names the statuses {exits}'

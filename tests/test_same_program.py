@@ -12,7 +12,7 @@ def fault_of(case):
     return (
         None
         if is_same
-        else f'it is not the program that was proved: cp {case.wanted.relative_to(TOP)} bin/{case.name}'
+        else f'not the program that was proved: cp {case.wanted.relative_to(TOP)} bin/{case.name}'
     )
 
 

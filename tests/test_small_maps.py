@@ -50,7 +50,8 @@ class Drawing(Play):
 
     def fill(self):
         width, height = self.sides()
-        return f'fill 1 {self.chosen.randrange(width)} {self.chosen.randrange(height)} {self.chosen.randint(0, 2)}'
+        chosen = self.chosen
+        return f'fill 1 {chosen.randrange(width)} {chosen.randrange(height)} {chosen.randint(0, 2)}'
 
     def stamp(self):
         x, y, width, height = self.area()
@@ -62,7 +63,8 @@ class Drawing(Play):
 
     def resize(self):
         chosen = self.chosen
-        return f'resize {chosen.randint(1, 7)} {chosen.randint(1, 6)} {chosen.randint(-4, 4)} {chosen.randint(-3, 3)}'
+        size = chosen.randint(1, 7), chosen.randint(1, 6)
+        return 'resize {} {} {} {}'.format(*size, chosen.randint(-4, 4), chosen.randint(-3, 3))
 
     def look_at_selection(self):
         """A stamp over the whole map, with a value that nothing else has, and its undo."""

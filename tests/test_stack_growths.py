@@ -43,7 +43,8 @@ def fault_of(case):
     whole = run(case.given, 0)
     growths = count_of(b'growths', whole) if whole.returncode == 0 else 0
     if growths < case.wanted:
-        return f'it has only {growths} growths, status {whole.returncode}: {whole.stderr.decode()[-300:]}'
+        told = whole.stderr.decode()[-300:]
+        return f'it has only {growths} growths, status {whole.returncode}: {told}'
     for growth in range(1, growths + 1):
         done = run(case.given, growth)
         if done.returncode != 0:

@@ -1,11 +1,12 @@
 """Compares the version in the file VERSION with every place that names it: what the programs and
 the Python package print, the header, the names of the shared library, the package's own metadata,
 the page of the library, and the newest heading of CHANGELOG.md, where that is there."""
+import os
 import re
-import subprocess
 import sys
 
 from lib.cases import Case, check_each, unlike
+from lib.commands import came_of
 from lib.places import BIN, LIB, MAP_REPORT, TILE_EDITOR, TOP
 
 VERSION = (TOP / 'VERSION').read_text().removesuffix('\n')
@@ -18,14 +19,7 @@ IN_FILES = [
 
 
 def printed(*words):
-    done = subprocess.run(
-        [str(word) for word in words],
-        cwd=TOP,
-        capture_output=True,
-        text=True,
-        env={'PYTHONPATH': str(TOP / 'python')},
-    )
-    return done.returncode, done.stdout, done.stderr
+    return came_of(words, env={**os.environ, 'PYTHONPATH': str(TOP / 'python')})
 
 
 def fault_of_file(case):
@@ -72,9 +66,6 @@ def test_names_of_the_shared_library():
 
 def test_the_newest_heading_of_the_changes():
     page = TOP / 'CHANGELOG.md'
-    newest = re.search(r'(?m)^## \[?v?(\d[^\s\]]*)', page.read_text()) if page.exists() else None
-    if not page.exists():
-        return
-    assert (
-        newest and newest[1] == VERSION
-    ), f'CHANGELOG.md: wanted {VERSION}, came {newest and newest[1]}'
+    if page.exists():
+        headings = re.findall(r'(?m)^## .*?(\d+\.\d+\.\d+)', page.read_text())
+        assert headings[:1] == [VERSION], f'CHANGELOG.md: wanted {VERSION}, came {headings[:1]}'

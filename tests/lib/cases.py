@@ -1,7 +1,7 @@
 """How a test writes its cases, looks at each, and tells all that are at fault.
 
 A case has a name, what is given to the program, and what must come of it. A test passes its cases
-to `check_each` with a function that gives what is wrong in one, as text, or None:
+to `check_each` with a function that gives what is wrong in one, as text, or None, or raises it:
 
     def fault_of(case):
         return unlike(case.wanted, program(case.given))
@@ -11,6 +11,7 @@ to `check_each` with a function that gives what is wrong in one, as text, or Non
 """
 import os
 import threading
+import traceback
 import unittest
 from concurrent.futures import ProcessPoolExecutor, ThreadPoolExecutor
 from dataclasses import dataclass
@@ -76,15 +77,25 @@ def in_processes(function, items, chunk=1):
         return list(pool.map(function, items, chunksize=chunk))
 
 
+def fault_in(case, fault_of):
+    """What is wrong in a case, or None. What it raises is wrong with it, too."""
+    try:
+        return fault_of(case)
+    except AssertionError as fault:
+        return str(fault) or traceback.format_exc()
+    except Exception as fault:
+        return f'{fault}\n{traceback.format_exc()}'
+
+
 def check_each(cases, fault_of, workers=1):
     """Looks at each case, several at once where there are workers, counts them, and fails with all
     that are at fault."""
     cases = list(cases)
     if workers == 1:
-        faults = list(map(fault_of, cases))
+        faults = [fault_in(case, fault_of) for case in cases]
     else:
         with ThreadPoolExecutor(workers) as pool:
-            faults = list(pool.map(fault_of, cases))
+            faults = list(pool.map(lambda case: fault_in(case, fault_of), cases))
     see_faults(cases, faults)
 
 
@@ -98,7 +109,7 @@ def check_in_processes(cases, fault_of):
 
 def fault_at(place):
     cases, fault_of = _shared
-    return fault_of(cases[place])
+    return fault_in(cases[place], fault_of)
 
 
 def see_faults(cases, faults):

@@ -80,7 +80,7 @@ class Session:
             self.see(
                 is_right,
                 growth,
-                f'not the end for want of memory, but {done.stdout[-200:]!r}, {done.stderr[-200:]!r}',
+                f'not the end for want of memory: {done.stdout[-200:]!r}, {done.stderr[-200:]!r}',
             )
             return None
         given = done.stdout.split(b'\n')[:-1]

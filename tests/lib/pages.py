@@ -6,9 +6,9 @@ example maps, in a new map of 4 by 3 cells where it opens none. Where it needs m
 front of it says so, with a line for each:
 
   <!-- transcript
-  file city.tmj examples/maps/town.tmj       a file of its folder, and which file of the repository that is
-  say layer add object Things                a line that is said before those of the table
-  go on                                      it goes on where the transcript before it on this page ends
+  file city.tmj examples/maps/town.tmj     a file of its folder, and where its bytes stand here
+  say layer add object Things              a line that is said before those of the table
+  go on                                    it goes on where the one before it on this page ends
   -->
 
 A block of `console` has commands behind `$ `, each with what it prints. Commands stand in indented
@@ -28,7 +28,8 @@ COMMENT = re.compile(r'<!-- transcript\n(.*?)-->', re.DOTALL)
 LINK = re.compile(r'\]\(([^)\s]+)\)')
 # A path of the repository, in text or as code.
 NAMED = re.compile(
-    r'(?<![\w./-])((?:docs|crates|examples|sessions|include|lib|bin|python|tests|tools|\.ci)/[\w./*-]*[\w/*])'
+    r'(?<![\w./-])((?:docs|crates|examples|sessions|include|lib|bin|python|tests|tools|\.ci)/'
+    r'[\w./*-]*[\w/*])'
 )
 # A file of a crate, on that crate's page.
 OF_CRATE = re.compile(r'`((?:src|specs|proofs|must-fail)/[\w./]+)`')

@@ -216,7 +216,8 @@ def fault_of_files(wanted, given):
     """How the files of a folder differ from those that are wanted, or None."""
     for name in sorted(wanted.keys() | given.keys()):
         if wanted.get(name) != given.get(name):
-            return f'file {name}: wanted {wanted.get(name, b"nothing")[:200]!r}, came {given.get(name, b"nothing")[:200]!r}'
+            pair = (files.get(name, b'nothing')[:200] for files in (wanted, given))
+            return 'file {}: wanted {!r}, came {!r}'.format(name, *pair)
     return None
 
 
@@ -246,7 +247,7 @@ def fault_of_run(run, env=None):
 
 
 def replies_together(runs):
-    """The replies to each of some runs that the program hears as one session, which leaves no files."""
+    """The replies to each of some runs that the program hears as one session. It leaves no files."""
     done, files = heard(b''.join(run.session for run in runs))
     came = (done.returncode, done.stderr[:300], sorted(files))
     assert came == (0, b'', []), f'wanted status 0, no errors and no files, came {came}'
