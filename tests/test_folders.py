@@ -13,6 +13,7 @@ from pathlib import Path
 
 from lib.cases import Case, check_each, skip, unlike
 from lib.places import SESSION_MAPS, TILE_EDITOR
+from lib.refusals import refusal
 from lib.rights import NOBODY, can_lose_rights
 from lib.sessions import fault_of_reasons, fault_of_replies, joined, row_of
 
@@ -33,18 +34,18 @@ NEW_AND_SAVE = [
 NOT_SAVED = [
     'new town 4 3 16 16 town.tsj => ok 0/0 clean 0',
     'stamp 1 0 0 1 5 => ok 1/1 dirty 0',
-    'save m.tmj => no 51 store failed',
+    f'save m.tmj => {refusal(51)}',
     'status => ok 1/1 dirty 0',
     'undo => ok 0/1 clean 0',
     'list => docs *town',
 ]
-NOT_OPENED = ['open m m.tmj => no 51 store failed', 'list => docs', 'status => ok none clean']
+NOT_OPENED = [f'open m m.tmj => {refusal(51)}', 'list => docs', 'status => ok none clean']
 
 
 def missing(folder):
     """A folder that is not there, and is not made."""
     folder.rmdir()
-    return ['open m m.tmj => no 50 no such file', 'list => docs', *NOT_SAVED], None
+    return [f'open m m.tmj => {refusal(50)}', 'list => docs', *NOT_SAVED], None
 
 
 def file_for_folder(folder):
@@ -84,7 +85,7 @@ def longest(folder):
     """The longest file that is loaded. It has no text of JSON."""
     with open(folder / 'm.tmj', 'wb') as file:
         file.truncate(LONGEST)
-    return ['open m m.tmj => no 60 not JSON', 'list => docs', *NEW_AND_SAVE], {'m.tmj': NEW}
+    return [f'open m m.tmj => {refusal(60)}', 'list => docs', *NEW_AND_SAVE], {'m.tmj': NEW}
 
 
 def longest_map(folder):
@@ -96,7 +97,7 @@ def longest_map(folder):
 def empty(folder):
     """An empty file."""
     (folder / 'm.tmj').write_bytes(b'')
-    return ['open m m.tmj => no 60 not JSON', 'list => docs', *NEW_AND_SAVE], {'m.tmj': NEW}
+    return [f'open m m.tmj => {refusal(60)}', 'list => docs', *NEW_AND_SAVE], {'m.tmj': NEW}
 
 
 def left_behind(folder):
@@ -111,7 +112,7 @@ def left_behind(folder):
 def left_behind_and_opened(folder):
     """A file that a killed run left behind, where nothing is saved."""
     (folder / '.m.tmj.new').write_bytes(MAP)
-    return ['open m m.tmj => no 50 no such file', 'list => docs'], {'.m.tmj.new': MAP}
+    return [f'open m m.tmj => {refusal(50)}', 'list => docs'], {'.m.tmj.new': MAP}
 
 
 def folder_left_behind(folder):
@@ -150,7 +151,7 @@ def full(folder):
         'undo => ok 0/1 clean 0',
         'save n.tmj => saved n.tmj 384',
         'use town => ok 0/1 clean 0',
-        'save n.tmj => no 51 store failed',
+        f'save n.tmj => {refusal(51)}',
     ]
     return NOT_SAVED + rows, {'m.tmj': MAP, 'n.tmj': MAP}
 
@@ -182,7 +183,7 @@ def link_to_nothing(folder):
     """A symbolic link that leads nowhere: a save puts a file in its place, and makes none at its
     end."""
     (folder / 'm.tmj').symlink_to('far')
-    return ['open m m.tmj => no 50 no such file', *NEW_AND_SAVE], {'m.tmj': NEW}
+    return [f'open m m.tmj => {refusal(50)}', *NEW_AND_SAVE], {'m.tmj': NEW}
 
 
 def link_to_itself(folder):
@@ -196,7 +197,7 @@ def unreadable(folder):
     that may not be read."""
     (folder / 'm.tmj').write_bytes(MAP)
     (folder / 'm.tmj').chmod(0)
-    return NOT_OPENED + NEW_AND_SAVE[:-1] + ['open m m.tmj => no 51 store failed'], {'m.tmj': NEW}
+    return NOT_OPENED + NEW_AND_SAVE[:-1] + [f'open m m.tmj => {refusal(51)}'], {'m.tmj': NEW}
 
 
 def unwritable(folder):

@@ -17,6 +17,7 @@ from pathlib import Path
 
 from lib.cases import Case, check_each, unlike
 from lib.places import EXAMPLE_MAPS, TOP
+from lib.refusals import refusal
 from page.door import Door, opened, read_answer
 
 IS_LONG = True
@@ -24,6 +25,11 @@ LONGEST = 1024 * 1024
 # After how many seconds a silent connection is closed.
 SILENCE = 20
 TOWN = b'new town 4 3 16 16 town.tsj\nstamp 1 1 1 2 5,6\n# quiet\nundo\nnope\n'
+
+
+def refused(code):
+    """The bytes of the reply that refuses a line by this code."""
+    return refusal(code).encode()
 
 
 def test_address():
@@ -63,7 +69,7 @@ def test_lines_that_are_heard():
         got = door.ask('POST', door.lines, TOWN)
         door.want(
             'lines are heard',
-            got[2] == b'ok 0/0 clean 0\nok 1/1 dirty 0\nok 0/1 clean 0\nno 3 unknown command\n',
+            got[2] == b'ok 0/0 clean 0\nok 1/1 dirty 0\nok 0/1 clean 0\n%s\n' % refused(3),
             got,
         )
         door.want(
@@ -100,9 +106,7 @@ def test_what_is_told_of_lines():
             == b'new town 4 3 16 16 town.tsj\nstamp 1 1 1 2 5,6\nundo\n',
         )
         got = door.ask('POST', f'{door.lines}&stop', b'nope\nredo\n')
-        door.want(
-            'with stop none is heard behind a refusal', got[2] == b'no 3 unknown command\n', got
-        )
+        door.want('with stop none is heard behind a refusal', got[2] == refused(3) + b'\n', got)
         got = door.ask('POST', f'{door.lines}&after=0', b'redo\n')
         door.want(
             'with another count of changes none is heard',
@@ -404,12 +408,12 @@ def test_files_of_the_folder():
         os.mkfifo(folder / 'pipe.tmj')
         said = b'open a pipe.tmj\nopen a none.tmj\nopen a ../a.tmj\nsave ../a.tmj\nsave a.tmj\nopen a a.tmj\nopen a a.tmj\n'
         got = door.ask('POST', door.lines, said)[2].split(b'\n')
-        wanted = [b'no 51 store failed', b'no 50 no such file', b'no 4 bad word', b'no 4 bad word']
+        wanted = [refused(code) for code in (51, 50, 4, 4)]
         door.want(
             'files',
             got[:4] == wanted
             and got[4].startswith(b'saved a.tmj ')
-            and got[5:] == [b'ok 0/0 clean 0', b'no 11 name taken', b''],
+            and got[5:] == [b'ok 0/0 clean 0', refused(11), b''],
             got,
         )
 
@@ -471,8 +475,8 @@ def test_command_lines_that_are_refused():
             (['--limit', '-1'], 2, b'a limit is'),
             (['--port', '70000'], 2, b'a port is'),
             ([folder / 'a b.tmj'], 2, b'no line can spell'),
-            ([folder / 'none.tmj'], 1, b'no 50 no such file'),
-            ([folder / 'broken.tmj'], 1, b'no 60 not JSON'),
+            ([folder / 'none.tmj'], 1, refused(50)),
+            ([folder / 'broken.tmj'], 1, refused(60)),
         ]
         check_each(
             [

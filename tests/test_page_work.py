@@ -7,6 +7,7 @@ from pathlib import Path
 from lib.cases import passed
 from lib.maps import layers_in
 from lib.places import BIN, EXAMPLE_MAPS
+from lib.refusals import refusal
 from page.bench import Bench, cell, cells_with, choose, see_colours, spelled, standing, take_tile
 from page.browser import Keys, Server
 
@@ -136,7 +137,7 @@ def test_refusals():
         assert 'unknown command' in page.bubble()
         assert page.server.map() == before and standing(page) == count and not spelled(page)
         refused = page.texts('#lines li.refused .reply')
-        assert refused == ['no 31 layer of another kind', 'no 3 unknown command'], refused
+        assert refused == [refusal(31), refusal(3)], refused
 
 
 def test_box():
