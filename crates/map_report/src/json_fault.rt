@@ -1,7 +1,7 @@
-// Where a text ceases to be JSON. The reader of JSON names the token at fault, or what stands behind it; from there the
-// byte is sought that no JSON text could have.
+// Where bytes cease to be JSON. The reader of JSON names the token at fault, or what stands behind it; in that token the
+// first byte is sought that no JSON could have there. Places are offsets, which count from 0.
 use serde_json::{Error, Value};
-use std::alloc::Global;
+use std::alloc::{AllocError, Global};
 
 /// The place of a byte, from line 1 and column 1.
 #[derive(Clone, Copy)]
@@ -12,11 +12,11 @@ pub struct LineColumn {
 }
 
 impl LineColumn {
-    // The place of the byte that has so many before it, or of the last one where there are not so many.
-    fn of_byte(bytes: &[u8], before: usize) -> LineColumn {
+    // The place of the byte at an offset, or of the last one at the end.
+    fn of_byte(bytes: &[u8], at: usize) -> LineColumn {
         let last = bytes.len().saturating_sub(1);
         let mut place = LineColumn { line: 1, column: 1 };
-        for byte in bytes.iter().take(before.min(last)) {
+        for byte in bytes.iter().take(at.min(last)) {
             place = match byte {
                 b'\n' => LineColumn {
                     line: place.line.saturating_add(1),
@@ -32,8 +32,8 @@ impl LineColumn {
     }
 }
 
-// How many bytes stand before the one at a place. Column 0, at the end of a text, is that of the newline before it.
-fn bytes_before(bytes: &[u8], line: usize, column: usize) -> usize {
+// The offset of the byte at a line and a column. Column 0, which is the end behind a newline, gives that newline.
+fn offset_of(bytes: &[u8], line: usize, column: usize) -> usize {
     let mut line_start = 0;
     let mut lines = 1;
     for (at, byte) in bytes.iter().enumerate() {
@@ -49,7 +49,7 @@ fn is_blank(byte: u8) -> bool {
     byte == b' ' || byte == b'\t' || byte == b'\r' || byte == b'\n'
 }
 
-// What stands before the blanks at the end.
+// The bytes without the blanks at their end.
 fn without_blanks(bytes: &[u8]) -> &[u8] {
     match bytes.iter().rposition(|byte| !is_blank(*byte)) {
         Some(last) => &bytes[..last + 1],
@@ -57,7 +57,7 @@ fn without_blanks(bytes: &[u8]) -> &[u8] {
     }
 }
 
-// What stands before a place.
+// The bytes before an offset.
 fn front(bytes: &[u8], at: usize) -> &[u8] {
     &bytes[..at.min(bytes.len())]
 }
@@ -71,7 +71,7 @@ enum InText {
     Escape,
     /// The first digit of an escaped number.
     Digit,
-    /// The second one behind `d`: from 8 on the number is the half of a pair.
+    /// The second one behind `d`: from 8 on the number is one of a pair.
     DigitBehindD,
     /// So many digits more, and whether the number is the first of a pair.
     Digits(u8, bool),
@@ -83,7 +83,7 @@ enum InText {
     End,
 }
 
-// What may stand next behind a byte; none where no text has that byte there.
+// What may stand behind a byte; none where no text has that byte there.
 fn text_after(next: InText, byte: u8) -> Option<InText> {
     let then = match (next, byte) {
         (InText::Letter, b'"') => InText::End,
@@ -109,7 +109,7 @@ fn text_after(next: InText, byte: u8) -> Option<InText> {
     Some(then)
 }
 
-// How many bytes stand before the fault of a text whose quote stands before a place; none where it has no fault.
+// The offset of the fault of a text whose quote stands before an offset; none where it has none.
 fn text_fault(bytes: &[u8], from: usize) -> Option<usize> {
     let mut next = InText::Letter;
     for at in from..bytes.len() {
@@ -138,7 +138,7 @@ enum InNumber {
     Power,
 }
 
-// What stands before behind a byte; none where no number has that byte there.
+// What stands before the byte behind this one; none where no number has this byte here.
 fn number_after(before: InNumber, byte: u8) -> Option<InNumber> {
     let then = match (before, byte) {
         (InNumber::Nothing, b'-') => InNumber::Minus,
@@ -165,7 +165,7 @@ fn is_whole_number(before: InNumber) -> bool {
     }
 }
 
-// Whether a token may end before a place.
+// Whether a token may end before an offset.
 fn may_end_at(bytes: &[u8], at: usize) -> bool {
     match bytes.get(at) {
         Some(byte) => is_blank(*byte) || *byte == b',' || *byte == b']' || *byte == b'}',
@@ -173,7 +173,7 @@ fn may_end_at(bytes: &[u8], at: usize) -> bool {
     }
 }
 
-// How many bytes stand before the fault of a number that begins at a place; none where it has no fault.
+// The offset of the fault of a number that begins at an offset; none where it has none.
 fn number_fault(bytes: &[u8], from: usize) -> Option<usize> {
     let mut before = InNumber::Nothing;
     let mut end = from;
@@ -191,7 +191,7 @@ fn number_fault(bytes: &[u8], from: usize) -> Option<usize> {
     }
 }
 
-// How many bytes stand before the fault of a word that begins at a place; none where it has no fault.
+// The offset of the fault of a word that begins at an offset; none where it has none.
 fn word_fault(bytes: &[u8], from: usize, word: &[u8]) -> Option<usize> {
     let mut end = from;
     for byte in word {
@@ -207,7 +207,7 @@ fn word_fault(bytes: &[u8], from: usize, word: &[u8]) -> Option<usize> {
     }
 }
 
-// How many bytes stand before the fault of a token that begins at a place; none where it has no fault.
+// The offset of the fault of a token that begins at an offset; none where it has none, or nothing begins there.
 fn token_fault(bytes: &[u8], from: usize) -> Option<usize> {
     match bytes.get(from)? {
         b'"' => text_fault(bytes, from.saturating_add(1)),
@@ -221,7 +221,7 @@ fn token_fault(bytes: &[u8], from: usize) -> Option<usize> {
 
 // ---- what stands before
 
-// Whether a token may begin at a place: behind a bracket, a comma or a colon, or first of all. In an object a text is first.
+// Whether a token may begin at an offset: behind a bracket, a comma or a colon, or first of all. In an object a text is first.
 fn may_begin_at(bytes: &[u8], at: usize) -> bool {
     match without_blanks(front(bytes, at)).last() {
         Some(b'{') => bytes.get(at) == Some(&b'"'),
@@ -231,13 +231,14 @@ fn may_begin_at(bytes: &[u8], at: usize) -> bool {
 }
 
 // Whether a number is too great for a float, which the reader of JSON alone knows.
-fn is_too_great(alloc: Global, number: &[u8]) -> bool {
+fn is_too_great(alloc: Global, number: &[u8]) -> Result<bool, AllocError> {
     if number_fault(number, 0).is_some() {
-        return false;
+        return Ok(false);
     }
     match Value::from_slice(alloc, number) {
-        Ok(_) => false,
-        Err(error) => !error.is_memory(),
+        Ok(_) => Ok(false),
+        Err(error) if error.is_memory() => Err(AllocError),
+        Err(_) => Ok(true),
     }
 }
 
@@ -245,8 +246,8 @@ fn is_of_number(byte: u8) -> bool {
     byte.is_ascii_digit() || b"+-.eE".contains(&byte)
 }
 
-// How many bytes stand before a number that is too great. It stands before a place, with blanks and a comma between them.
-fn great_number(alloc: Global, bytes: &[u8], at: usize) -> Option<usize> {
+// The offset of a number that is too great. It stands before an offset, with blanks and perhaps a comma between them.
+fn great_number(alloc: Global, bytes: &[u8], at: usize) -> Result<Option<usize>, AllocError> {
     let before = without_blanks(front(bytes, at));
     let before = match before {
         [behind_number @ .., b','] => without_blanks(behind_number),
@@ -256,35 +257,39 @@ fn great_number(alloc: Global, bytes: &[u8], at: usize) -> Option<usize> {
         Some(other) => other + 1,
         None => 0,
     };
-    if is_too_great(alloc, &before[start..]) {
-        Some(start)
-    } else {
-        None
-    }
+    let is_great = is_too_great(alloc, &before[start..])?;
+    Ok(if is_great { Some(start) } else { None })
 }
 
-// How many bytes stand before the fault, where the reader of JSON names a place at it or close behind it.
-fn fault_near(alloc: Global, bytes: &[u8], named: usize) -> usize {
-    // The last byte is named for the end, too.
-    let is_last = named.saturating_add(1) >= bytes.len();
-    let end = if is_last { bytes.len() } else { named };
-    let number = great_number(alloc, bytes, named);
-    if let Some(number) = number.or_else(|| great_number(alloc, bytes, end)) {
-        return number;
+// The offset of the fault, where the reader of JSON names one.
+fn fault_near(alloc: Global, bytes: &[u8], named: usize) -> Result<usize, AllocError> {
+    if let Some(number) = great_number(alloc, bytes, named)? {
+        return Ok(number);
+    }
+    // The reader names the last byte for the end, too.
+    if named.saturating_add(1) >= bytes.len() {
+        if let Some(number) = great_number(alloc, bytes, bytes.len())? {
+            return Ok(number);
+        }
     }
     if may_begin_at(bytes, named) {
-        token_fault(bytes, named).unwrap_or(named)
+        Ok(token_fault(bytes, named).unwrap_or(named))
     } else {
-        named
+        Ok(named)
     }
 }
 
 /// Where bytes that are no JSON have their fault, by the error of the reader of JSON.
-pub fn place_of_fault(alloc: Global, bytes: &[u8], error: &Error) -> LineColumn {
-    let named = bytes_before(bytes, error.line(), error.column());
+pub fn place_of_fault(
+    alloc: Global,
+    bytes: &[u8],
+    error: &Error,
+) -> Result<LineColumn, AllocError> {
+    let named = offset_of(bytes, error.line(), error.column());
     // Where bytes are not UTF-8 the first such byte is named, and nothing else is looked at.
-    if str::from_utf8(bytes).is_err() {
-        return LineColumn::of_byte(bytes, named);
-    }
-    LineColumn::of_byte(bytes, fault_near(alloc, bytes, named))
+    let fault = match str::from_utf8(bytes) {
+        Ok(_) => fault_near(alloc, bytes, named)?,
+        Err(_) => named,
+    };
+    Ok(LineColumn::of_byte(bytes, fault))
 }

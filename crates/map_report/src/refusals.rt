@@ -22,7 +22,7 @@ pub fn words_of(refusal: MapRefusal) -> &'static str {
     }
 }
 
-// Writes where a text ceases to be JSON, where that is known.
+// Writes where a text ceases to be JSON, where there is memory to know it.
 fn write_line<W: Write>(
     alloc: Global,
     bytes: &[u8],
@@ -32,8 +32,10 @@ fn write_line<W: Write>(
     if error.is_memory() {
         return Ok(());
     }
-    let LineColumn { line, column } = place_of_fault(alloc, bytes, error);
-    write!(output, ": line {line}, column {column}")
+    match place_of_fault(alloc, bytes, error) {
+        Ok(LineColumn { line, column }) => write!(output, ": line {line}, column {column}"),
+        Err(_) => Ok(()),
+    }
 }
 
 // Writes the place of a fault, where there is memory for the tree.
