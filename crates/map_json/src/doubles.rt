@@ -15,7 +15,7 @@ use map_model::{Body, Layer, MapParts, Object, Property, Tileset, names};
 use std::alloc::{AllocError, Global};
 use std::collections::BTreeSet;
 
-// The place of the first key that was met before, by a set of those that were met.
+// The place of the first key that is there before, by a set of those that were met.
 fn second_place<K: Ord + Copy + Drop>(
     alloc: Global,
     keys: &[K],
@@ -31,7 +31,7 @@ fn second_place<K: Ord + Copy + Drop>(
     Ok(None)
 }
 
-// The place of the first number that was met before.
+// The place of the first number that is there before.
 fn second_number(alloc: Global, numbers: &[u32]) -> Result<Option<usize>, AllocError>
     ensures { IfOk result (λ place. is_none place ≡ are_distinct (λ a b. a == b) numbers.now) }
 {
@@ -95,14 +95,14 @@ pub fn ids_of_map(alloc: Global, parts: &MapParts) -> Result<Ids, AllocError>
     Ok(ids)
 }
 
-/// What has the ids of a list.
+/// Whose ids a list of ids has.
 #[derive(Clone, Copy)]
 enum Owners {
     Layers,
     Objects,
 }
 
-// Goes to the id of a layer, or of one of its objects, that has so many before it. Counts them off where they are too few.
+// Goes to an id in a layer, that of the layer or one of its objects, where there are more than so many; else counts them.
 fn enter_id_in<T: Trail>(layer: &Layer, owners: Owners, before: &mut usize, trail: &mut T) -> bool {
     let count = match (owners, &layer.body) {
         (Owners::Layers, _) => 1,
@@ -121,7 +121,7 @@ fn enter_id_in<T: Trail>(layer: &Layer, owners: Owners, before: &mut usize, trai
     true
 }
 
-// Goes to the id that has so many before it in drawing order. Counts them off where they are too few, and comes back.
+// Goes to the id that has so many before it in drawing order; stays where there are not so many.
 fn enter_id<T: Trail>(
     layers: &Chain<Layer>,
     room: usize,
@@ -152,7 +152,7 @@ fn enter_id<T: Trail>(
     false
 }
 
-// Whether no id is at fault; else goes to the one at this place in drawing order.
+// Whether no id is at fault; else goes to that at this place in drawing order.
 fn is_none_at_fault<T: Trail>(
     layers: &Chain<Layer>,
     owners: Owners,
@@ -273,7 +273,7 @@ fn names_in_layer_are_distinct<T: Trail>(
     )
 }
 
-// Whether no name stands twice among the properties of one layer or object, with those in groups.
+// Whether no name stands twice among the properties of a layer, of an object, or of those in the groups among them.
 fn layer_names_are_distinct<T: Trail>(
     alloc: Global,
     layers: &Chain<Layer>,

@@ -56,8 +56,8 @@ impl JsonObject {
         self.members.get(name)
     }
 
-    // Takes a member out.
-    fn take(&mut self, name: &str) -> Option<Value>
+    /// Takes a member out.
+    pub fn take(&mut self, name: &str) -> Option<Value>
         ensures found { option_map data_of result ≡ get_member name.now self.old }
         ensures left { self.new ≡ without name.now self.old }
     {
