@@ -141,7 +141,7 @@ class Editor:
             done, replies, heard = 0, [], Heard()
             while data:
                 done += self._call('run_lines', data, len(data), 1, self._room, len(self._room), heard)
-                replies += self._room.raw[: heard.replies].decode('utf-8', 'replace').split('\n')[:-1]
+                replies += str(self._view[: heard.replies], 'utf-8', 'replace').split('\n')[:-1]
                 if not heard.has_room:
                     replies.append((self._told('reply') or b'').decode('utf-8', 'replace'))
                 if heard.is_refused:

@@ -1,2 +1,5 @@
 mod Counting
+mod Cutting
+mod Hearings
 mod Numbered
+mod Rows

@@ -9,3 +9,7 @@ written values buffer = if nat_le (length values) (length buffer) then values ++
 abbrev pub filled : Option (List ℕ) → List ℕ → List ℕ
 filled None buffer = buffer
 filled (Some values) buffer = written values buffer
+
+-- how many values these are, where the buffer has room for all of them
+abbrev pub size_within : List ℕ → List ℕ → Option ℕ
+size_within values buffer = if nat_le (length values) (length buffer) then Some (length values) else None

@@ -5,7 +5,7 @@ use Rattle.session.specs.Replies.{refusal_of}
 use Rattle.session.specs.declared.reply.Reply.{Reply}
 use Rattle.editor.specs.Machine.{Workspace}
 use Rattle.editor.specs.Steps.{StepIn}
-use Rattle.session_run.specs.Runs.{Run, IsAccepted, output}
+use Rattle.session_run.specs.Runs.{Run, IsAccepted, output, reply_line}
 use Rattle.roskevad_session.specs.Buffers.{written}
 use Rattle.roskevad_session.specs.Counts.{unheard}
 use Rattle.roskevad_session.specs.Parts.{SessionParts, workspace_of}
@@ -14,6 +14,11 @@ use Rattle.roskevad_session.specs.declared.heard.Heard.{Heard}
 -- whether the reply is a refusal
 abbrev pub is_refusal : Option Reply → Bool
 is_refusal reply = is_some (option_and_then refusal_of reply)
+
+-- the reply and a newline, and nothing for a quiet line
+abbrev pub reply_bytes : Option Reply → List ℕ
+reply_bytes None = []
+reply_bytes (Some reply) = reply_line reply
 
 -- the replies that stand in the buffer: the last one where it has room
 abbrev pub told : Bool → List Reply → Option Reply → List Reply
@@ -40,7 +45,7 @@ pub record HearsUpTo (stops : Bool) (bytes buffer : List ℕ) (start : SessionPa
 
 -- all bytes were taken, or the last line was refused and that stops, or its reply has no room
 abbrev pub Ends : Bool → List ℕ → Heard → Type 0
-Ends stops bytes heard = (heard.bytes ≡ length bytes) ⊎ (IsTrue stops × IsTrue heard.is_refused) ⊎ (heard.has_room ≡ false)
+Ends stops bytes heard = (heard.bytes ≡ length bytes) ⊎ ((IsTrue stops × IsTrue heard.is_refused) ⊎ (heard.has_room ≡ false))
 
 -- lines of the bytes were heard, of which there are none where there is no byte
 pub record Hears (stops : Bool) (bytes buffer : List ℕ) (start : SessionParts) (heard : Heard) (now : SessionParts) (after : List ℕ) : Type 0 where

@@ -1,11 +1,10 @@
 // Many lines in one call.
-ghost use Rattle.std.specs.Prelude.{◌≡◌, ◌+◌, ◌<◌, ◌≤◌, ◌++◌, ◌∷◌, [], true, false, IsTrue, None, Some, drop, length, nat_le, option_to_list, if◌then◌else◌};
+ghost use Rattle.std.specs.Prelude.{◌≡◌, ◌<◌, ◌≤◌, ◌++◌, ◌∷◌, [], true, false, IsTrue, drop, length};
 ghost use Rattle.std.specs.Option.{option_copied};
 ghost use Rattle.lines.specs.Lines.{lines_of};
-ghost use Rattle.session_run.specs.Runs.{output};
 ghost use Rattle.editor.specs.Steps.{StepIn};
-ghost use Rattle.roskevad_session.specs.Buffers.{written};
-ghost use Rattle.roskevad_session.specs.Hearing.{Ends, Hears, is_refusal};
+ghost use Rattle.roskevad_session.specs.Buffers.{size_within, written};
+ghost use Rattle.roskevad_session.specs.Hearing.{Ends, Hears, is_refusal, reply_bytes};
 ghost use Rattle.roskevad_session.specs.Parts.{workspace_of};
 
 use crate::heard::Heard;
@@ -30,8 +29,7 @@ fn first_line(bytes: &[u8]) -> (&[u8], usize)
 // Puts a head, a body and a newline at the front of a buffer, where it has room for them, and gives their size.
 fn put_pieces(head: &[u8], body: &[u8], buffer: &mut [u8]) -> Option<usize>
     requires { length head.now ≤ 512 }
-    ensures size { result ≡ (if nat_le (length (head.now ++ body.now ++ 10 ∷ [])) (length buffer.old)
-        then Some (length (head.now ++ body.now ++ 10 ∷ [])) else None) }
+    ensures size { result ≡ size_within (head.now ++ body.now ++ 10 ∷ []) buffer.old }
     ensures put { buffer.new ≡ written (head.now ++ body.now ++ 10 ∷ []) buffer.old }
 {
     let size = head.len() + body.len() + 1;
@@ -40,9 +38,10 @@ fn put_pieces(head: &[u8], body: &[u8], buffer: &mut [u8]) -> Option<usize>
     }
     let (prefix, rest) = buffer.split_at_mut(head.len());
     prefix.copy_from_slice(head);
-    let (middle, last) = rest.split_at_mut(body.len());
+    let (middle, rest) = rest.split_at_mut(body.len());
     middle.copy_from_slice(body);
-    last[0] = b'\n';
+    let (last, _) = rest.split_at_mut(1);
+    last.copy_from_slice(b"\n");
     Some(size)
 }
 
@@ -53,9 +52,8 @@ fn put_reply(
     head: &mut ArrayString<512>,
     buffer: &mut [u8],
 ) -> Option<usize>
-    ensures size { result ≡ (if nat_le (length (output (option_to_list (option_copied reply.entry)))) (length buffer.old)
-        then Some (length (output (option_to_list (option_copied reply.entry)))) else None) }
-    ensures put { buffer.new ≡ written (output (option_to_list (option_copied reply.entry))) buffer.old }
+    ensures size { result ≡ size_within (reply_bytes (option_copied reply.entry)) buffer.old }
+    ensures put { buffer.new ≡ written (reply_bytes (option_copied reply.entry)) buffer.old }
 {
     let Some(reply) = reply else {
         return Some(0);
@@ -73,10 +71,16 @@ fn ends(bytes: &[u8], stops: bool, heard: Heard) -> bool
     ensures room { result ≡ false → heard.has_room ≡ true }
     ensures accepted { result ≡ false → IsTrue stops → heard.is_refused ≡ false }
 {
-    if heard.bytes == bytes.len() || !heard.has_room {
+    if heard.bytes == bytes.len() {
         return true;
     }
-    stops && heard.is_refused
+    if !heard.has_room {
+        return true;
+    }
+    if stops {
+        return heard.is_refused;
+    }
+    false
 }
 
 impl Session {
@@ -98,9 +102,8 @@ impl Session {
         replies: &mut [u8],
     ) -> Option<usize>
         ensures step { StepIn line.now (workspace_of self.old) self.new.reply (workspace_of self.new) }
-        ensures size { result ≡ (if nat_le (length (output (option_to_list self.new.reply))) (length replies.old)
-            then Some (length (output (option_to_list self.new.reply))) else None) }
-        ensures put { replies.new ≡ written (output (option_to_list self.new.reply)) replies.old }
+        ensures size { result ≡ size_within (reply_bytes self.new.reply) replies.old }
+        ensures put { replies.new ≡ written (reply_bytes self.new.reply) replies.old }
     {
         self.step(line);
         put_reply(self.reply(), head, replies)
