@@ -160,14 +160,7 @@ fn write_in(alloc: Global, map: &Map, detail: Detail) -> Result<Vec<u8>, AllocEr
     let mut text = Vec::new(alloc);
     let size = Size::of_map(parts);
     let writing = Writing { size, detail };
-    push_framed(
-        alloc,
-        &mut text,
-        writing,
-        MAX_GROUPS,
-        &parts.layers,
-        &frame,
-    )?;
+    push_framed(alloc, &mut text, writing, MAX_GROUPS, &parts.layers, &frame)?;
     Ok(text)
 }
 

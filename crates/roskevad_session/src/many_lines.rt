@@ -47,11 +47,7 @@ fn put_pieces(head: &[u8], body: &[u8], buffer: &mut [u8]) -> Option<usize>
 
 // Puts a reply and a newline at the front of a buffer, where it has room for them, and gives their size; nothing for a quiet line.
 // What the head held is dropped.
-fn put_reply(
-    reply: Option<&Reply>,
-    head: &mut ArrayString<512>,
-    buffer: &mut [u8],
-) -> Option<usize>
+fn put_reply(reply: Option<&Reply>, head: &mut ArrayString<512>, buffer: &mut [u8]) -> Option<usize>
     ensures size { result ≡ size_within (reply_bytes (option_copied reply.entry)) buffer.old }
     ensures put { buffer.new ≡ written (reply_bytes (option_copied reply.entry)) buffer.old }
 {

@@ -206,12 +206,7 @@ impl Session {
     /// Copies the cells of a rectangle of the tile layer with this id of the active document, in groups too, row by row, where
     /// the buffer has room for all of them, and gives how many they are. `None` where no document is active, where it has no
     /// tile layer with that id, and where the rectangle leaves the map.
-    pub fn copy_cells(
-        &self,
-        layer: u32,
-        rectangle: Rectangle,
-        cells: &mut [u32],
-    ) -> Option<usize>
+    pub fn copy_cells(&self, layer: u32, rectangle: Rectangle, cells: &mut [u32]) -> Option<usize>
         ensures count { result ≡ option_map length (cells_of layer rectangle (active_map self.now.machine)) }
         ensures copied { cells.new ≡ filled (cells_of layer rectangle (active_map self.now.machine)) cells.old }
     {

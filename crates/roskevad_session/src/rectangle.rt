@@ -1,6 +1,7 @@
 // Rectangles of cells, which are copied to a caller's buffer.
 ghost use Rattle.std.specs.Prelude.{◌≡◌, ◌+◌, ◌*◌, ◌≤◌, length, nat_le};
 ghost use Rattle.std.specs.Option.{option_map};
+ghost use Rattle.map_model.specs.WellFormed.{IsSize};
 ghost use Rattle.roskevad_session.specs.Buffers.{filled};
 ghost use Rattle.roskevad_session.specs.Rectangles.{cells_in, lies_in, rows_of};
 
@@ -38,7 +39,8 @@ fn copy_values(values: &[Gid], cells: &mut [u32])
     ensures { cells.new ≡ values.now }
 {
     for (at, cell) in cells.iter_mut().enumerate() {
-        *cell = values[at].0;
+        let value = values[at];
+        *cell = value.0;
     }
 }
 
@@ -47,6 +49,7 @@ fn copy_rows(map: &MapParts, values: &[Gid], rectangle: Rectangle, cells: &mut [
     requires columns { rectangle.x + rectangle.width ≤ map.now.width }
     requires rows { rectangle.y + rectangle.height ≤ map.now.height }
     requires values { length values.now ≡ map.now.width * map.now.height }
+    requires size { IsSize map.now.width map.now.height }
     requires room { length cells.old ≡ rectangle.height * rectangle.width }
     ensures { cells.new ≡ rows_of map.now.width rectangle values.now }
 {
