@@ -17,6 +17,7 @@ use Rattle.roskevad_session.specs.Counts.{unheard, with_line}
 use Rattle.roskevad_session.specs.Hearing.{HearsUpTo, is_refusal, reply_bytes, told}
 use Rattle.roskevad_session.specs.Parts.{SessionParts, workspace_of}
 use Rattle.roskevad_session.specs.declared.heard.Heard.{Heard}
+use Rattle.roskevad_session.proofs.Pieces.{written-fits, written-larger}
 
 -- no line was heard yet, or some were
 abbrev pub SoFar : Bool → List ℕ → List ℕ → SessionParts → Heard → SessionParts → List ℕ → Type 0
@@ -67,12 +68,6 @@ accepted-last None e = All-nil IsAccepted
 accepted-last (Some reply) e = All-cons IsAccepted reply [] (no_refusal (refusal_of reply) e) (All-nil IsAccepted)
 
 -- ---- buffers
-written-fits : (values buffer : List ℕ) → length values ≤ length buffer → written values buffer ≡ values ++ drop (length values) buffer
-written-fits values buffer h = rw (le-leb (length values) (length buffer) h) refl
-
-written-larger : (values buffer : List ℕ) → length buffer < length values → written values buffer ≡ buffer
-written-larger values buffer h = rw (lt-leb (length values) (length buffer) h) refl
-
 size_within-Some_at : (b : Bool) (n k : ℕ) → Some n ≡ (if b then Some k else None) → (b ≡ true) × (n ≡ k)
 size_within-Some_at true n k e = (refl, cc)
 size_within-Some_at false n k e = absurd (let worse : ⊥ = cc in worse)

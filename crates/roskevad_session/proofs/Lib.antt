@@ -2,4 +2,5 @@ mod Counting
 mod Cutting
 mod Hearings
 mod Numbered
+mod Pieces
 mod Rows

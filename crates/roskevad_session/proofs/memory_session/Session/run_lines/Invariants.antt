@@ -1,6 +1,6 @@
 use Rattle.std.proofs.Common.{◌-◌, ◌≤◌, length}
 use Rattle.roskevad_session.proofs.Hearings.{SoFar}
-use Rattle.roskevad_session.proofs.many_lines.Session.run_lines.Given as goal
+use Rattle.roskevad_session.proofs.memory_session.Session.run_lines.Given as goal
 
 abbrev pub invariant-lines : goal.invariant-lines
 invariant-lines l = record {
