@@ -1,8 +1,9 @@
 -- How the hearing of many lines goes on.
 use Rattle.std.proofs.Common.{◌≡◌, ℕ, ◌+◌, ◌-◌, ◌<◌, ◌≤◌, IsTrue, Bool, true, false, List, [], ◌∷◌, ◌++◌, length, take, drop, Option, Some, None, refl, sym, ap, subst, ◌∙◌, inl, inr, ◌⊎◌, append_assoc, arith}
 use Rattle.std.specs.Prelude.{All, nat_le, is_some, option_to_list, if◌then◌else◌}
-use Rattle.std.proofs.lemmas.Bool.{le-leb, lt-leb, leb-true, leb-false}
-use Rattle.std.proofs.lemmas.List.{append-nil, drop-drop, drop_at, length-append, length-drop, take_at}
+use Rattle.std.proofs.lemmas.Bool.{false≢true, le-leb, lt-leb, leb-true, leb-false}
+use Rattle.std.proofs.lemmas.List.{append-nil, drop-drop, drop_all, drop_at, length-append, length-drop, take_all, take_at}
+use borrow.Rule.Slice.PartMut.{put_mid}
 use Rattle.std.proofs.lemmas.List.Elements.{All-append, All-nil, All-cons}
 use Rattle.std.proofs.lemmas.Grind.{flat_map-append}
 use Rattle.lines.specs.Lines.{lines_of}
@@ -14,7 +15,7 @@ use Rattle.editor.specs.Steps.{StepIn}
 use Rattle.session_run.specs.Runs.{Run, IsAccepted, output, reply_line}
 use Rattle.roskevad_session.specs.Buffers.{size_within, written}
 use Rattle.roskevad_session.specs.Counts.{unheard, with_line}
-use Rattle.roskevad_session.specs.Hearing.{HearsUpTo, is_refusal, reply_bytes, told}
+use Rattle.roskevad_session.specs.Hearing.{Ends, HearsUpTo, is_refusal, reply_bytes, told}
 use Rattle.roskevad_session.specs.Parts.{SessionParts, workspace_of}
 use Rattle.roskevad_session.specs.declared.heard.Heard.{Heard}
 use Rattle.roskevad_session.proofs.Pieces.{written-fits, written-larger}
@@ -83,6 +84,22 @@ size_within-None_at false k e = refl
 
 size_within-None : (values buffer : List ℕ) → None ≡ size_within values buffer → length buffer < length values
 size_within-None values buffer e = leb-false (length values) (length buffer) (size_within-None_at (nat_le (length values) (length buffer)) (length values) e)
+
+-- ---- where no further line is heard
+pub none_heard : (stops : Bool) (bytes buffer : List ℕ) (start : SessionParts) (heard : Heard) (now : SessionParts) (after : List ℕ) → SoFar stops bytes buffer start heard now after
+    → bytes ≡ [] → (heard ≡ unheard) × (now ≡ start) × (after ≡ buffer)
+none_heard stops bytes buffer start heard now after (inl h) e = h
+none_heard stops bytes buffer start heard now after (inr h) e =
+    let rest = h.line ∷ lines_of (drop heard.bytes bytes) in
+    let none : [] ≡ h.before ++ rest = sym (ap lines_of e) ∙ h.cut in
+    absurd (omega (arith, ap length none, length-append h.before rest))
+
+pub some_heard : (stops : Bool) (bytes buffer : List ℕ) (start : SessionParts) (heard : Heard) (now : SessionParts) (after : List ℕ) → SoFar stops bytes buffer start heard now after
+    → Ends stops bytes heard → 0 < length bytes → HearsUpTo stops bytes buffer start heard now after
+some_heard stops bytes buffer start heard now after (inr h) e lt = h
+some_heard stops bytes buffer start heard now after (inl h) (inl at) lt = let none = ap (λ (x : Heard). x.bytes) h.0 in absurd (omega (arith, at, none, lt))
+some_heard stops bytes buffer start heard now after (inl h) (inr (inl r)) lt = absurd (false≢true (sym (ap (λ (x : Heard). x.is_refused) h.0) ∙ r.1))
+some_heard stops bytes buffer start heard now after (inl h) (inr (inr r)) lt = absurd (false≢true (sym r ∙ ap (λ (x : Heard). x.has_room) h.0))
 
 -- ---- before a further line
 told-true : (b : Bool) (replies : List Reply) (reply : Option Reply) → b ≡ true → told b replies reply ≡ replies ++ option_to_list reply
@@ -195,3 +212,34 @@ module _ (stops : Bool) (bytes buffer : List ℕ) (start : SessionParts) (heard 
             ∙ ap (λ (t : List ℕ). told_before ++ t) (written-larger reply (drop heard.replies after) larger ∙ left)
             ∙ sym (written-fits told_before buffer g.fits);
       }
+
+-- ---- the counts
+pub lines-with_line : (bytes : ℕ) (refused : Bool) (put : Option ℕ) (heard : Heard) → (with_line bytes refused put heard).lines ≡ heard.lines + 1
+lines-with_line bytes refused (Some n) heard = refl
+lines-with_line bytes refused None heard = refl
+
+pub bytes-with_line : (bytes : ℕ) (refused : Bool) (put : Option ℕ) (heard : Heard) → (with_line bytes refused put heard).bytes ≡ heard.bytes + bytes
+bytes-with_line bytes refused (Some n) heard = refl
+bytes-with_line bytes refused None heard = refl
+
+pub replies-with_line : (bytes : ℕ) (refused : Bool) (put : Option ℕ) (heard : Heard) (reply left : List ℕ) → put ≡ size_within reply left → (with_line bytes refused put heard).replies ≤ heard.replies + length left
+replies-with_line bytes refused (Some n) heard reply left e = let fits = size_within-Some reply left n e in omega (arith, fits.0, fits.1)
+replies-with_line bytes refused None heard reply left e = omega arith
+
+-- ---- the rest of a list, as a part that is handed on
+pub rest_is : (i : ℕ) (xs : List ℕ) → take (length xs - i) (drop i xs) ≡ drop i xs
+rest_is i xs = take_all (length xs - i) (drop i xs) (omega (arith, length-drop i xs))
+
+pub put_rest : (i : ℕ) (xs ys : List ℕ) → put_mid i (length xs - i) xs ys ≡ take i xs ++ ys
+put_rest i xs ys =
+    ap (λ (t : List ℕ). take i xs ++ (ys ++ t)) (drop_all (length xs - i) (drop i xs) (omega (arith, length-drop i xs)))
+    ∙ ap (λ (t : List ℕ). take i xs ++ t) (append-nil ys)
+
+length-written_at : (b : Bool) (values buffer : List ℕ) → nat_le (length values) (length buffer) ≡ b → length (written values buffer) ≡ length buffer
+length-written_at true values buffer e =
+    let fits = leb-true (length values) (length buffer) e in
+    rw (written-fits values buffer fits) (omega (arith, fits, length-append values (drop (length values) buffer), length-drop (length values) buffer))
+length-written_at false values buffer e = ap length (written-larger values buffer (leb-false (length values) (length buffer) e))
+
+pub length-written : (values buffer : List ℕ) → length (written values buffer) ≡ length buffer
+length-written values buffer = length-written_at (nat_le (length values) (length buffer)) values buffer refl
