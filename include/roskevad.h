@@ -59,10 +59,19 @@ typedef struct roskevad_run {
     uint32_t count;
 } roskevad_run;
 
+/* What came of many lines. */
+typedef struct roskevad_heard {
+    size_t bytes;      /* how many bytes of the input the lines are that are done, with their newlines */
+    size_t replies;    /* how many bytes of replies stand in the buffer */
+    size_t is_refused; /* 1 where the last of these lines was refused, and else 0 */
+    size_t has_room;   /* 1 where the reply to the last one stands in the buffer or it is quiet, and else 0 */
+} roskevad_heard;
+
 /* ---- the library's own names; their pointers are never null */
 size_t roskevad_open(roskevad_slot *slot, size_t limit);
 size_t roskevad_step(roskevad_slot *slot, const uint8_t *line, size_t line_length, uint8_t *reply, size_t room);
 size_t roskevad_reply(roskevad_slot *slot, uint8_t *reply, size_t room);
+size_t roskevad_run_lines(roskevad_slot *slot, const uint8_t *bytes, size_t length, size_t stop, uint8_t *replies, size_t room, roskevad_heard *heard);
 size_t roskevad_put_file(roskevad_slot *slot, const uint8_t *name, size_t name_length, const uint8_t *bytes, size_t length);
 size_t roskevad_file(roskevad_slot *slot, const uint8_t *name, size_t name_length, uint8_t *bytes, size_t room);
 size_t roskevad_remove_file(roskevad_slot *slot, const uint8_t *name, size_t name_length);
@@ -72,6 +81,11 @@ size_t roskevad_selection_count(roskevad_slot *slot);
 size_t roskevad_selection_run(roskevad_slot *slot, size_t at, roskevad_run *run);
 size_t roskevad_clean_index(roskevad_slot *slot);
 size_t roskevad_is_macro(roskevad_slot *slot, size_t at);
+size_t roskevad_action_text(roskevad_slot *slot, size_t at, uint8_t *text, size_t room);
+size_t roskevad_next_layer_id(roskevad_slot *slot);
+size_t roskevad_next_object_id(roskevad_slot *slot);
+size_t roskevad_cells(roskevad_slot *slot, uint32_t layer, size_t x, size_t y, size_t width, size_t height, uint32_t *cells, size_t room);
+size_t roskevad_outline(roskevad_slot *slot, uint8_t *text, size_t room);
 void roskevad_close(roskevad_slot *slot);
 size_t roskevad_version(uint8_t *version, size_t room);
 
@@ -101,6 +115,17 @@ static inline size_t roskevad_editor_step(roskevad_slot *slot, const char *line,
 static inline size_t roskevad_editor_reply(roskevad_slot *slot, char *reply, size_t room)
 {
     return roskevad_reply(slot, roskevad_somewhere(reply), room);
+}
+
+/* Does the lines of some bytes, one after another, as `roskevad_editor_step` does each. The bytes are cut at newlines; a last
+ * line without one counts where it has a byte. The replies to lines that are not quiet are put into the buffer, each with a
+ * newline. It ends at the end of the bytes; behind the first line that is refused, where `stop` is not 0; and behind a line
+ * whose reply has no room in what is left of the buffer: that line is done, and `roskevad_editor_reply` gives its reply.
+ * How many lines are done, or ROSKEVAD_IS_CLOSED, and then all is as it was. */
+static inline size_t roskevad_editor_run_lines(roskevad_slot *slot, const char *bytes, size_t length, size_t stop, char *replies, size_t room,
+                                               roskevad_heard *heard)
+{
+    return roskevad_run_lines(slot, roskevad_somewhere(bytes), length, stop, roskevad_somewhere(replies), room, heard);
 }
 
 /* Puts bytes under a name, in place of those that are there. ROSKEVAD_DONE, ROSKEVAD_NO_MEMORY, ROSKEVAD_BAD_NAME or
@@ -156,6 +181,42 @@ static inline size_t roskevad_editor_clean_index(roskevad_slot *slot)
 static inline size_t roskevad_editor_is_macro(roskevad_slot *slot, size_t at)
 {
     return roskevad_is_macro(slot, at);
+}
+
+/* The action text of the step at this place of the active document, from 0, as `undotext` and `redotext` tell it; an open macro
+ * stands last. Its size, ROSKEVAD_NONE or ROSKEVAD_IS_CLOSED. */
+static inline size_t roskevad_editor_action_text(roskevad_slot *slot, size_t at, char *text, size_t room)
+{
+    return roskevad_action_text(slot, at, roskevad_somewhere(text), room);
+}
+
+/* The id that the next layer of the active document gets, ROSKEVAD_NONE where none is active, or ROSKEVAD_IS_CLOSED. */
+static inline size_t roskevad_editor_next_layer_id(roskevad_slot *slot)
+{
+    return roskevad_next_layer_id(slot);
+}
+
+/* The id that the next object of the active document gets, ROSKEVAD_NONE where none is active, or ROSKEVAD_IS_CLOSED. */
+static inline size_t roskevad_editor_next_object_id(roskevad_slot *slot)
+{
+    return roskevad_next_object_id(slot);
+}
+
+/* The cells of a rectangle of the tile layer with this id of the active document, row by row; `room` counts cells. How many they
+ * are; ROSKEVAD_NONE where none is active, it has no tile layer with that id, or the rectangle leaves the map; or
+ * ROSKEVAD_IS_CLOSED. */
+static inline size_t roskevad_editor_cells(roskevad_slot *slot, uint32_t layer, size_t x, size_t y, size_t width, size_t height,
+                                           uint32_t *cells, size_t room)
+{
+    static uint32_t nothing;
+    return roskevad_cells(slot, layer, x, y, width, height, cells ? cells : &nothing, room);
+}
+
+/* The outline of the active document's map: the text of `show` behind `map `, without the member `data` of tile layers. Its size,
+ * ROSKEVAD_NONE where none is active, ROSKEVAD_NO_MEMORY or ROSKEVAD_IS_CLOSED. */
+static inline size_t roskevad_editor_outline(roskevad_slot *slot, char *text, size_t room)
+{
+    return roskevad_outline(slot, roskevad_somewhere(text), room);
 }
 
 /* Closes a slot, and gives back its memory. A closed one stays closed. */

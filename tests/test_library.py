@@ -133,6 +133,67 @@ def test_what_no_line_tells():
         raises(ValueError, editor.put_file, '../a', b'')
 
 
+def test_many_lines():
+    """Those that are not quiet are replied to; the first that is refused ends it."""
+    with Editor() as editor:
+        assert editor.run_lines([]) == []
+        opened = ['new a 4 3 16 16 a.tsj', '# a note', '', 'stamp 1 0 0 1 5']
+        assert editor.run_lines(opened) == ['ok 0/0 clean 0', 'ok 1/1 dirty 0']
+        refusal = raises(Refused, editor.run_lines, ['undo', '', 'stamp 9 0 0 1 5', 'redo'])
+        fault = unlike(
+            (30, 'no such layer', 'stamp 9 0 0 1 5', 2, ['ok 0/1 clean 0']),
+            (refusal.code, refusal.words, refusal.line, refusal.place, refusal.replies),
+        )
+        assert not fault, fault
+        raises(ValueError, editor.run_lines, ['redo', 'redo\nredo'])
+        assert editor.step('status') == 'ok 0/1 clean 0'
+        replies = editor.run_lines([*['layer add object Doors'] * 60, 'show', 'status', 'show'])
+        assert replies[60:] == [editor.step('show'), 'ok 60/60 dirty 0', editor.step('show')]
+        refusal = raises(Refused, editor.run_lines, ['show', 'show', 'x'])
+        assert (refusal.place, len(refusal.replies)) == (2, 2)
+        refusal = raises(Refused, editor.run_lines, ['x' * 70_000])
+        assert (refusal.code, refusal.place, refusal.replies) == (1, 0, [])
+
+
+def test_work_while_a_file_is_written():
+    """The clean mark stands at the step that is saved from the line `save` on: what is done while
+    its bytes are written outside is a step of its own and not called saved, and `dirty` takes the
+    mark away where they could not be written."""
+    with Editor() as editor:
+        editor.step('new a 4 3 16 16 a.tsj')
+        editor.step('stamp 1 0 0 1 5')
+        editor.step('save a.tmj')
+        saved = editor.file('a.tmj')
+        assert editor.step('stamp+ 1 1 0 1 5') == 'ok 2/2 dirty 0'
+        assert editor.clean_index() == 1
+        assert editor.step('undo') == 'ok 1/2 clean 0'
+        assert editor.step('show') == 'map ' + saved.decode()
+        editor.step('redo')
+        assert editor.step('dirty') == 'ok 2/2 dirty 0' and editor.clean_index() is None
+        assert editor.step('undo') == 'ok 1/2 dirty 0'
+
+
+def test_threads_in_turn():
+    """One thread after another uses an editor that another one has made, and the last closes it."""
+    editor = Editor()
+
+    def work():
+        editor.step(f'new a{len(documents)} 4 3 16 16 a.tsj')
+        editor.run_lines(['stamp 1 0 0 4 1,2,3,4', 'undo', 'redo', 'show'])
+        documents.append(editor.step('list'))
+
+    documents = []
+    for _ in range(4):
+        each = threading.Thread(target=work)
+        each.start()
+        each.join()
+    assert documents[-1] == 'docs a0 a1 a2 *a3'
+    last = threading.Thread(target=editor.close)
+    last.start()
+    last.join()
+    raises(Closed, editor.step, 'status')
+
+
 def test_threads():
     """Calls from eight threads at once wait for each other."""
     with Editor() as editor:

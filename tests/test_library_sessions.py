@@ -1,5 +1,7 @@
 """Runs the session files of `sessions/`, those without options, through the Python package and the
-library in `lib/`: they must give the replies and the files that stand there."""
+library in `lib/`, line by line and many lines in a call: they must give the replies and the files
+that stand there."""
+import ctypes
 import sys
 
 from lib.cases import check_in_processes
@@ -8,6 +10,7 @@ from lib.sessions import all_runs, fault_of_files, fault_of_replies
 
 sys.path.insert(0, str(TOP / 'python'))
 from roskevad import Editor  # noqa: E402
+from roskevad.library import LIBRARY, Heard  # noqa: E402
 
 IS_LONG = True
 
@@ -18,18 +21,65 @@ def lines_of(session):
     return lines if lines[-1] else lines[:-1]
 
 
-def fault_of_run(run):
+def replies_by_line(editor, session):
+    """The replies to the lines of a session, each by a call."""
+    replies = [editor.step_bytes(line) for line in lines_of(session)]
+    return b''.join(reply + b'\n' for reply in replies if reply is not None)
+
+
+def replies_by_many(editor, session):
+    """The replies to the lines of a session, by calls with room for some of them, which end at a
+    refused line or go on behind it, in turn."""
+    room, heard = ctypes.create_string_buffer(1000), Heard()
+    place, calls, replies = 0, 0, []
+    bytes_of_session = ctypes.create_string_buffer(session, len(session) + 1)
+    while place < len(session):
+        calls += 1
+        lines = LIBRARY.roskevad_run_lines(
+            editor._slot,
+            ctypes.cast(ctypes.addressof(bytes_of_session) + place, ctypes.c_char_p),
+            len(session) - place,
+            calls % 2,
+            room,
+            1000,
+            heard,
+        )
+        assert lines == len(lines_of(session[place : place + heard.bytes]))
+        place += heard.bytes
+        replies.append(room[: heard.replies])
+        if not heard.has_room:
+            replies.append(editor._told('reply') + b'\n')
+        assert place == len(session) or not heard.has_room or calls % 2 and heard.is_refused
+    return b''.join(replies)
+
+
+def fault_of(run, replies_of):
     """How a run of a session file through the library differs from its file, or None."""
     with Editor() as editor:
         for name, data in run.before.items():
             editor.put_file(name, data)
-        replies = [editor.step_bytes(line) for line in lines_of(run.session)]
-        given = b''.join(reply + b'\n' for reply in replies if reply is not None)
+        given = replies_of(editor, run.session)
         files = {name: editor.file(name) for name in editor.files()}
     return fault_of_replies(run.session, run.replies, given) or fault_of_files(run.after, files)
 
 
-def test_sessions():
+def fault_by_line(run):
+    return fault_of(run, replies_by_line)
+
+
+def fault_by_many(run):
+    return fault_of(run, replies_by_many)
+
+
+def sorted_runs():
     """The longest come first, so that none is left at the end."""
-    runs = sorted((run for run in all_runs() if not run.options), key=lambda run: -len(run.session))
-    check_in_processes(runs, fault_of_run)
+    runs = (run for run in all_runs() if not run.options)
+    return sorted(runs, key=lambda run: -len(run.session))
+
+
+def test_sessions():
+    check_in_processes(sorted_runs(), fault_by_line)
+
+
+def test_sessions_in_few_calls():
+    check_in_processes(sorted_runs(), fault_by_many)

@@ -6,12 +6,13 @@ import re
 import stat
 import tempfile
 import threading
+from array import array
 from pathlib import Path
 from typing import Any, Iterable, NoReturn, Optional, Union
 
 from . import library
 from .faults import Closed, Refused
-from .library import LIBRARY, SelectionRun, Slot
+from .library import LIBRARY, Heard, SelectionRun, Slot
 
 _REFUSAL = re.compile(r'no (\d+) (.*)', re.DOTALL)
 _STEP = LIBRARY.roskevad_step
@@ -125,6 +126,29 @@ class Editor:
             return ''
         return (self._told('reply') or b'').decode('utf-8', 'replace')
 
+    def run_lines(self, lines: Iterable[str]) -> list[str]:
+        """Does lines, one after another, in one call of the library, and gives the replies to those that are not quiet.
+
+        Raises Refused at the first one that is refused: `place` is its place among the lines, from 0, and `replies` are those
+        to the lines before it, which are done. Raises ValueError for a line with a newline in it, and does nothing."""
+        words = [line.encode('utf-8', 'surrogateescape') for line in lines]
+        if any(b'\n' in word for word in words):
+            raise ValueError('a line has no newline in it')
+        data = b''.join(word + b'\n' for word in words)
+        with self._lock:
+            if 32 * len(words) > len(self._room):
+                self._make_room(32 * len(words))
+            done, replies, heard = 0, [], Heard()
+            while data:
+                done += self._call('run_lines', data, len(data), 1, self._room, len(self._room), heard)
+                replies += str(self._view[: heard.replies], 'utf-8', 'replace').split('\n')[:-1]
+                if not heard.has_room:
+                    replies.append((self._told('reply') or b'').decode('utf-8', 'replace'))
+                if heard.is_refused:
+                    raise _refused(replies.pop(), words[done - 1], done - 1, replies)
+                data = data[heard.bytes :]
+        return replies
+
     # ---- the files that `open` and `save` find
     def put_file(self, name: str, data: bytes) -> None:
         """Puts bytes under a name, in place of those that are there. Raises ValueError where no line can spell that name."""
@@ -223,21 +247,50 @@ class Editor:
         """The active document's map, as `show` gives it. Raises Refused."""
         return json.loads(self.step('show')[len('map '):])
 
+    def outline(self) -> dict[str, Any]:
+        """The active document's map as `map` gives it, without the member `data` of tile layers. Raises Refused."""
+        with self._lock:
+            text = self._told('outline')
+        if text is None:
+            raise Refused(10, 'no active document', 'outline()')
+        return json.loads(text)
+
+    def cells(self, layer: int, x: int, y: int, width: int, height: int) -> 'Optional[array[int]]':
+        """The values of the cells of a rectangle, row by row, in the tile layer with this id of the active document; `None` where
+        none is active, it has no tile layer with that id, or the rectangle leaves the map."""
+        where = layer, x, y, width, height
+        if min(where) < 0 or layer >= 2**32 or max(where) >= 2**64:
+            return None
+        with self._lock:
+            count = self._call('cells', *where, self._room, 0)
+            if count == library.NONE:
+                return None
+            values = array('I', bytes(4 * count))
+            self._call('cells', *where, values.buffer_info()[0] if values else self._room, count)
+        return values
+
     def layer_id(self, name: str) -> int:
         """The id of the first layer of that name, in drawing order, groups and what stands in them too. Raises KeyError where there is none."""
-        return _id_of(_drawn(self.map()['layers']), name)
+        return _id_of(_drawn(self.outline()['layers']), name)
 
     def object_id(self, name: str) -> int:
         """The id of the first object of that name, in drawing order. Raises KeyError where there is none."""
-        return _id_of((each for layer in _drawn(self.map()['layers']) for each in layer.get('objects', ())), name)
+        return _id_of((each for layer in _drawn(self.outline()['layers']) for each in layer.get('objects', ())), name)
 
     def last_layer_id(self) -> int:
-        """The id of the layer that was added last: the next id less one."""
-        return self.map()['nextlayerid'] - 1
+        """The id of the layer that was added last: the next id less one. Raises Refused."""
+        return self._next_id('layer') - 1
 
     def last_object_id(self) -> int:
-        """The id of the object that was added last: the next id less one."""
-        return self.map()['nextobjectid'] - 1
+        """The id of the object that was added last: the next id less one. Raises Refused."""
+        return self._next_id('object') - 1
+
+    def _next_id(self, kind: str) -> int:
+        with self._lock:
+            answer = self._call(f'next_{kind}_id')
+        if answer == library.NONE:
+            raise Refused(10, 'no active document', f'last_{kind}_id()')
+        return answer
 
     def selection(self) -> list[tuple[int, int, int]]:
         """The runs of the active document's selection in row order: row, first column and number of cells of each."""
@@ -261,6 +314,12 @@ class Editor:
             answer = self._call('is_macro', at)
         return None if answer == library.NONE else answer == 1
 
+    def action_text(self, at: int) -> Optional[str]:
+        """The text that names the action of the step at this place of the active document, from 0; `None` where there is none."""
+        with self._lock:
+            text = self._told('action_text', at)
+        return None if text is None else text.decode('utf-8', 'replace')
+
 
 class _Aside:
     """For as long as it is entered, no file of that name is there; behind it the file of before stands again."""
@@ -277,6 +336,13 @@ class _Aside:
         self._editor.remove_file(self._name)
         if self._before is not None:
             self._editor.put_file(self._name, self._before)
+
+
+def _refused(reply: str, word: bytes, place: int, replies: list[str]) -> Refused:
+    """What is raised for a line among others that was answered so."""
+    refusal = _REFUSAL.fullmatch(reply)
+    assert refusal
+    return Refused(int(refusal[1]), refusal[2], word.decode('utf-8', 'surrogateescape'), place, replies)
 
 
 def _drawn(layers: list[dict[str, Any]]) -> Iterable[dict[str, Any]]:

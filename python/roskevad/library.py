@@ -25,12 +25,24 @@ class SelectionRun(ctypes.Structure):
     _fields_ = [('row', ctypes.c_uint32), ('column', ctypes.c_uint32), ('count', ctypes.c_uint32)]
 
 
+class Heard(ctypes.Structure):
+    """What came of many lines."""
+
+    _fields_ = [
+        ('bytes', ctypes.c_size_t),
+        ('replies', ctypes.c_size_t),
+        ('is_refused', ctypes.c_size_t),
+        ('has_room', ctypes.c_size_t),
+    ]
+
+
 _SIZE, _SLOT, _BYTES = ctypes.c_size_t, ctypes.POINTER(Slot), ctypes.c_char_p
 _ROOM = ctypes.c_void_p
 _PARAMETERS = {
     'open': [_SLOT, _SIZE],
     'step': [_SLOT, _BYTES, _SIZE, _ROOM, _SIZE],
     'reply': [_SLOT, _ROOM, _SIZE],
+    'run_lines': [_SLOT, _BYTES, _SIZE, _SIZE, _ROOM, _SIZE, ctypes.POINTER(Heard)],
     'put_file': [_SLOT, _BYTES, _SIZE, _BYTES, _SIZE],
     'file': [_SLOT, _BYTES, _SIZE, _ROOM, _SIZE],
     'remove_file': [_SLOT, _BYTES, _SIZE],
@@ -40,6 +52,11 @@ _PARAMETERS = {
     'selection_run': [_SLOT, _SIZE, ctypes.POINTER(SelectionRun)],
     'clean_index': [_SLOT],
     'is_macro': [_SLOT, _SIZE],
+    'action_text': [_SLOT, _SIZE, _ROOM, _SIZE],
+    'next_layer_id': [_SLOT],
+    'next_object_id': [_SLOT],
+    'cells': [_SLOT, ctypes.c_uint32, _SIZE, _SIZE, _SIZE, _SIZE, _ROOM, _SIZE],
+    'outline': [_SLOT, _ROOM, _SIZE],
     'close': [_SLOT],
     'version': [_ROOM, _SIZE],
 }

@@ -20,6 +20,9 @@ static const char *const SCRIPT[] = {
     "resize 5 4 1 1", "undo",
 };
 
+/* Behind a newline, so that one stands before each line. */
+static const char MANY_LINES[] = "\nuse town\n# quiet\nstamp 1 2 2 2 8,9\nbegin Gate || a gate\nobject add 2 0 0 4 4 gate\nend\nundotext\nundo\nredo\nsave town.tmj\n";
+
 static uint64_t state;
 
 static uint32_t random_number(void)
@@ -35,6 +38,8 @@ static void check_closed(roskevad_slot *slot)
 {
     char room[4] = "abc";
     roskevad_run run = {1, 2, 3};
+    roskevad_heard heard = {1, 2, 3, 4};
+    uint32_t cells[2] = {7, 8};
     WANT(roskevad_editor_step(slot, "undo", 4, room, 4) == ROSKEVAD_IS_CLOSED);
     WANT(roskevad_editor_reply(slot, room, 4) == ROSKEVAD_IS_CLOSED);
     WANT(roskevad_editor_put_file(slot, "a", 1, NULL, 0) == ROSKEVAD_IS_CLOSED);
@@ -46,6 +51,12 @@ static void check_closed(roskevad_slot *slot)
     WANT(roskevad_editor_selection_run(slot, 0, &run) == ROSKEVAD_IS_CLOSED && run.row == 1 && run.count == 3);
     WANT(roskevad_editor_clean_index(slot) == ROSKEVAD_IS_CLOSED);
     WANT(roskevad_editor_is_macro(slot, 0) == ROSKEVAD_IS_CLOSED);
+    WANT(roskevad_editor_run_lines(slot, "undo\n", 5, 1, room, 4, &heard) == ROSKEVAD_IS_CLOSED);
+    WANT(heard.bytes == 1 && heard.replies == 2 && heard.is_refused == 3 && heard.has_room == 4);
+    WANT(roskevad_editor_action_text(slot, 0, room, 4) == ROSKEVAD_IS_CLOSED);
+    WANT(roskevad_editor_next_layer_id(slot) == ROSKEVAD_IS_CLOSED && roskevad_editor_next_object_id(slot) == ROSKEVAD_IS_CLOSED);
+    WANT(roskevad_editor_cells(slot, 1, 0, 0, 1, 1, cells, 2) == ROSKEVAD_IS_CLOSED && cells[0] == 7 && cells[1] == 8);
+    WANT(roskevad_editor_outline(slot, room, 4) == ROSKEVAD_IS_CLOSED);
     WANT(memcmp(room, "abc", 4) == 0);
     roskevad_editor_close(slot);
 }
@@ -74,6 +85,13 @@ static void check_edges(roskevad_slot *slot)
     WANT(roskevad_editor_file_name(slot, 1, room, 5) == ROSKEVAD_NONE);
     WANT(roskevad_editor_remove_file(slot, "empty", 5) == ROSKEVAD_DONE);
     WANT(roskevad_editor_remove_file(slot, "empty", 5) == ROSKEVAD_NONE);
+    roskevad_heard heard = {1, 2, 3, 4};
+    WANT(roskevad_editor_run_lines(slot, NULL, 0, 1, NULL, 0, &heard) == 0);
+    WANT(heard.bytes == 0 && heard.replies == 0 && heard.is_refused == 0 && heard.has_room == 1);
+    WANT(roskevad_editor_action_text(slot, 0, NULL, 0) == ROSKEVAD_NONE);
+    WANT(roskevad_editor_next_layer_id(slot) == ROSKEVAD_NONE && roskevad_editor_next_object_id(slot) == ROSKEVAD_NONE);
+    WANT(roskevad_editor_cells(slot, 1, 0, 0, 0, 0, NULL, 0) == ROSKEVAD_NONE);
+    WANT(roskevad_editor_outline(slot, NULL, 0) == ROSKEVAD_NONE);
     WANT(roskevad_editor_version(room, sizeof room) == strlen(ROSKEVAD_VERSION));
     WANT(memcmp(room, ROSKEVAD_VERSION, strlen(ROSKEVAD_VERSION)) == 0);
 }
@@ -96,12 +114,84 @@ static void check_told(roskevad_slot *slot)
     WANT(roskevad_editor_selection_run(slot, 1, &run) == ROSKEVAD_NONE);
 }
 
+/* Cells of a map of 4 by 3, which has the value 5 in its first two. */
+static void check_cells(roskevad_slot *slot)
+{
+    uint32_t cells[13];
+    memset(cells, 0xff, sizeof cells);
+    WANT(roskevad_editor_cells(slot, 1, 0, 0, 4, 3, cells, 11) == 12 && cells[0] == UINT32_MAX && cells[10] == UINT32_MAX);
+    WANT(roskevad_editor_cells(slot, 1, 0, 0, 4, 3, cells, 12) == 12 && cells[12] == UINT32_MAX);
+    WANT(cells[0] == 5 && cells[1] == 5 && cells[2] == 0 && cells[11] == 0);
+    WANT(roskevad_editor_cells(slot, 1, 1, 0, 1, 2, cells + 3, 10) == 2 && cells[3] == 5 && cells[4] == 0 && cells[2] == 0);
+    WANT(roskevad_editor_cells(slot, 1, 4, 3, 0, 0, NULL, 0) == 0 && roskevad_editor_cells(slot, 1, 0, 3, 4, 0, cells, 13) == 0);
+    WANT(roskevad_editor_cells(slot, 1, 5, 0, 0, 0, cells, 13) == ROSKEVAD_NONE);
+    WANT(roskevad_editor_cells(slot, 1, 0, 4, 0, 0, cells, 13) == ROSKEVAD_NONE);
+    WANT(roskevad_editor_cells(slot, 1, 0, 0, 5, 1, cells, 13) == ROSKEVAD_NONE);
+    WANT(roskevad_editor_cells(slot, 1, 0, 0, 1, 4, cells, 13) == ROSKEVAD_NONE);
+    WANT(roskevad_editor_cells(slot, 1, SIZE_MAX, 0, 2, 1, cells, 13) == ROSKEVAD_NONE);
+    WANT(roskevad_editor_cells(slot, 1, 0, 1, 1, SIZE_MAX, cells, 13) == ROSKEVAD_NONE);
+    WANT(roskevad_editor_cells(slot, 2, 0, 0, 1, 1, cells, 13) == ROSKEVAD_NONE);
+}
+
+/* The outline, the next ids and action texts of that map, whose first step is the macro M. */
+static void check_names(roskevad_slot *slot)
+{
+    static const char OUTLINE[] = "{\"height\":3,\"infinite\":false,\"layers\":[{\"height\":3,\"id\":1,\"name\":\"Tile Layer 1\",\"opacity\":1,"
+        "\"type\":\"tilelayer\",\"visible\":true,\"width\":4,\"x\":0,\"y\":0}],\"nextlayerid\":2,\"nextobjectid\":1,"
+        "\"orientation\":\"orthogonal\",\"renderorder\":\"right-down\",\"tileheight\":16,\"tilesets\":[{\"firstgid\":1,\"source\":\"a.tsj\"}],"
+        "\"tilewidth\":16,\"type\":\"map\",\"version\":\"1.10\",\"width\":4}";
+    char room[512];
+    memset(room, 'x', sizeof room);
+    WANT(roskevad_editor_outline(slot, room, sizeof OUTLINE - 2) == sizeof OUTLINE - 1 && room[0] == 'x');
+    WANT(roskevad_editor_outline(slot, room, sizeof room) == sizeof OUTLINE - 1);
+    WANT(memcmp(room, OUTLINE, sizeof OUTLINE - 1) == 0 && room[sizeof OUTLINE - 1] == 'x');
+    WANT(roskevad_editor_next_layer_id(slot) == 2 && roskevad_editor_next_object_id(slot) == 1);
+    WANT(roskevad_editor_action_text(slot, 0, room, 1) == 1 && room[0] == 'M');
+    WANT(roskevad_editor_action_text(slot, 1, room, 4) == 11 && room[0] == 'M');
+    WANT(roskevad_editor_action_text(slot, 1, room, 11) == 11 && memcmp(room, "stamp tiles", 11) == 0);
+    WANT(roskevad_editor_action_text(slot, SIZE_MAX, room, 64) == ROSKEVAD_NONE);
+}
+
+/* Lines of which one is refused, on a slot with no document. */
+static void check_lines(roskevad_slot *slot)
+{
+    static const char LINES[] = "status\n# quiet\nbad\n\nstatus";
+    static const char REPLIES[] = "ok none clean\nno 3 unknown command\nok none clean\n";
+    char room[64];
+    roskevad_heard heard;
+    memset(room, 'x', sizeof room);
+    WANT(roskevad_editor_run_lines(slot, LINES, sizeof LINES - 1, 0, room, sizeof room, &heard) == 5);
+    WANT(heard.bytes == sizeof LINES - 1 && heard.replies == sizeof REPLIES - 1 && heard.is_refused == 0 && heard.has_room == 1);
+    WANT(memcmp(room, REPLIES, sizeof REPLIES - 1) == 0 && room[sizeof REPLIES - 1] == 'x');
+    memset(room, 'x', sizeof room);
+    WANT(roskevad_editor_run_lines(slot, LINES, sizeof LINES - 1, 1, room, sizeof room, &heard) == 3);
+    WANT(heard.bytes == 19 && heard.replies == 35 && heard.is_refused == 1 && heard.has_room == 1);
+    WANT(memcmp(room, REPLIES, 35) == 0 && room[35] == 'x');
+    memset(room, 'x', sizeof room);
+    WANT(roskevad_editor_run_lines(slot, LINES, sizeof LINES - 1, 2, room, 34, &heard) == 3);
+    WANT(heard.bytes == 19 && heard.replies == 14 && heard.is_refused == 1 && heard.has_room == 0 && room[14] == 'x');
+    WANT(roskevad_editor_reply(slot, room, sizeof room) == 20 && memcmp(room, "no 3 unknown command", 20) == 0);
+    WANT(roskevad_editor_run_lines(slot, LINES, 7, 0, room, 13, &heard) == 1 && heard.bytes == 7 && heard.replies == 0 && heard.has_room == 0);
+    WANT(roskevad_editor_run_lines(slot, LINES, 7, 0, room, 14, &heard) == 1 && heard.bytes == 7 && heard.replies == 14 && heard.has_room == 1);
+    WANT(roskevad_editor_run_lines(slot, LINES, 6, 0, room, 14, &heard) == 1 && heard.bytes == 6 && heard.replies == 14);
+    WANT(roskevad_editor_run_lines(slot, "\n\n#", 3, 1, NULL, 0, &heard) == 3 && heard.bytes == 3 && heard.has_room == 1);
+    static char lines[65537];
+    memset(lines, ' ', sizeof lines);
+    lines[65536] = '\n';
+    WANT(roskevad_editor_run_lines(slot, lines, sizeof lines, 1, room, sizeof room, &heard) == 1 && heard.bytes == sizeof lines);
+    WANT(heard.is_refused == 1 && memcmp(room, "no 1 line too long\n", 19) == 0);
+    WANT(roskevad_editor_run_lines(slot, lines + 1, sizeof lines - 1, 1, room, sizeof room, &heard) == 1 && heard.is_refused == 0 && heard.replies == 0);
+}
+
 static void run_random(size_t lines)
 {
     roskevad_slot slot = ROSKEVAD_CLOSED;
     check_closed(&slot);
     check_edges(&slot);
+    check_lines(&slot);
     check_told(&slot);
+    check_cells(&slot);
+    check_names(&slot);
     for (size_t at = 0; at < lines; at++) {
         size_t size = at % 100 == 0 ? random_number() % 70000 : random_number() % 300;
         size_t room = random_number() % 80;
@@ -133,6 +223,41 @@ static void step_at_last(roskevad_slot *slot, const char *line)
     }
 }
 
+/* Steps many lines in calls, and the rest again from a line on for which there was no memory. */
+static void run_at_last(roskevad_slot *slot, const char *lines)
+{
+    char replies[4096];
+    roskevad_heard heard;
+    for (int tries = 0; *lines && tries < 3; tries++) {
+        size_t size = strlen(lines);
+        WANT(roskevad_editor_run_lines(slot, lines, size, 1, replies, sizeof replies, &heard) <= size && heard.has_room);
+        WANT(heard.bytes == size || heard.is_refused);
+        lines += heard.bytes;
+        if (heard.is_refused) {
+            static const char REFUSED[] = "no 90 no memory\n";
+            heard.replies -= sizeof REFUSED - 1;
+            WANT(memcmp(replies + heard.replies, REFUSED, sizeof REFUSED - 1) == 0);
+            do
+                lines--;
+            while (lines[-1] != '\n');
+        }
+        WANT(fwrite(replies, 1, heard.replies, stdout) == heard.replies);
+    }
+    WANT(!*lines);
+}
+
+/* The outline of the active document's map, asked for again where there was no memory for it. */
+static void show_outline(roskevad_slot *slot)
+{
+    char text[4096] = "x";
+    size_t size = roskevad_editor_outline(slot, text, sizeof text);
+    if (size == ROSKEVAD_NO_MEMORY) {
+        WANT(text[0] == 'x');
+        size = roskevad_editor_outline(slot, text, sizeof text);
+    }
+    WANT(size < sizeof text && fwrite(text, 1, size, stdout) == size);
+}
+
 /* Has the C library make what it keeps for itself. */
 static void take_a_block(void)
 {
@@ -160,6 +285,8 @@ static void run_script(void)
     WANT(answer == ROSKEVAD_DONE);
     for (size_t at = 0; at < sizeof SCRIPT / sizeof *SCRIPT; at++)
         step_at_last(&slot, SCRIPT[at]);
+    show_outline(&slot);
+    run_at_last(&slot, MANY_LINES + 1);
     char bytes[4096];
     size_t size = roskevad_editor_file(&slot, "town.tmj", 8, bytes, sizeof bytes);
     WANT(size < sizeof bytes && fwrite(bytes, 1, size, stdout) == size);

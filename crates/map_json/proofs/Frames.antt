@@ -109,7 +109,7 @@ replaced-layer_frame width height d l ls g h =
     ∙ rw (replaced-absent LAYERS.now d l.kept (layers_absent l.body ls l.kept g h)) (ap (λ own. with_own own l.kept) (own_instead-layer_own width height d l l.body ls g))
 
 -- a layer's own members, where it is no group
-layer_own-other : (width height : ℕ) (d e : Data) (l : Layer) (b : Body) → group_in b ≡ None → layer_own width height d (record l { body = b }) ≡ layer_own width height e (record l { body = b })
+pub layer_own-other : (width height : ℕ) (d e : Data) (l : Layer) (b : Body) → group_in b ≡ None → layer_own width height d (record l { body = b }) ≡ layer_own width height e (record l { body = b })
 layer_own-other width height d e l (Tiles c cells) g = refl
 layer_own-other width height d e l (Objects os) g = refl
 layer_own-other width height d e l Other g = refl

@@ -28,4 +28,5 @@ pub mod Rooms
 pub mod Named
 pub mod DrawnLayers
 pub mod Written
+pub mod Outlines
 pub mod LayerLaw

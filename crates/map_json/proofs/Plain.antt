@@ -40,11 +40,11 @@ ArePlainItems n ds = (items_have_float ds ≡ false) × (items_depth ds ≤ n)
 abbrev ArePlain : ℕ → Members → Type 0
 ArePlain n ms = (members_have_float ms ≡ false) × (members_depth ms ≤ n)
 
-abbrev IsPlainOwn : ℕ → Option Data → Type 0
+abbrev pub IsPlainOwn : ℕ → Option Data → Type 0
 IsPlainOwn n None = Unit {0}
 IsPlainOwn n (Some d) = IsPlain n d
 
-abbrev ArePlainOwn : ℕ → List (List ℕ × Option Data) → Type 0
+abbrev pub ArePlainOwn : ℕ → List (List ℕ × Option Data) → Type 0
 ArePlainOwn n [] = Unit {0}
 ArePlainOwn n (p ∷ ps) = IsPlainOwn n p.1 × ArePlainOwn n ps
 
@@ -67,10 +67,10 @@ with_own_plain : (n : ℕ) (t : List (List ℕ × Option Data)) (kept : Members)
 with_own_plain n [] kept h g = g
 with_own_plain n (p ∷ ps) kept h g = put_plain n p.0 p.1 (with_own ps kept) h.0 (with_own_plain n ps kept h.1 g)
 
-object_plain : (n : ℕ) (t : List (List ℕ × Option Data)) (kept : Members) → ArePlainOwn n t → ArePlain n kept → IsPlain (suc n) (object (with_own t kept))
+pub object_plain : (n : ℕ) (t : List (List ℕ × Option Data)) (kept : Members) → ArePlainOwn n t → ArePlain n kept → IsPlain (suc n) (object (with_own t kept))
 object_plain n t kept h g = let all = with_own_plain n t kept h g in (all.0, omega arith)
 
-kept_plain : (level n : ℕ) (names : List (List ℕ)) (ms : Members) → level + n ≡ MAX_DEPTH → AreKept level names ms → ArePlain n ms
+pub kept_plain : (level n : ℕ) (names : List (List ℕ)) (ms : Members) → level + n ≡ MAX_DEPTH → AreKept level names ms → ArePlain n ms
 kept_plain level n names ms room h = let deep = h.shallow in (h.whole, omega arith)
 
 -- ---- scalars and lists
@@ -169,14 +169,19 @@ body_plain level n size width height room d layers (Objects os) h =
 body_plain level n size width height room d layers Other h = tt
 body_plain level n size width height room d layers (Group' s r) h = (layers, tt)
 
+-- the own members of a layer, with this for the layers of a group
+pub own_are_plain : (level n size width height : ℕ) → property_level (object_level level) + n ≡ MAX_DEPTH → (d : Data) → IsPlain (suc (suc (suc (suc n)))) d → (l : Layer) → IsLayer level size l
+    → ArePlainOwn (suc (suc (suc (suc n)))) (layer_own width height d l)
+own_are_plain level n size width height room d layers l h =
+    let m = suc (suc (suc (suc n))) in
+    ((refl, omega arith), (whole_plain m l.id, (text_plain m l.name, (truth_plain m l.visible, (properties_plain level (suc (suc n)) (omega arith) l.properties h.properties, body_plain level n size width height room d layers l.body h.body)))))
+
 -- a layer, with this for the layers of a group
 own_plain : (level n size width height : ℕ) → property_level (object_level level) + n ≡ MAX_DEPTH → (d : Data) → IsPlain (suc (suc (suc (suc n)))) d → (l : Layer) → IsLayer level size l
     → IsPlain (suc (suc (suc (suc (suc n))))) (object (with_own (layer_own width height d l) l.kept))
 own_plain level n size width height room d layers l h =
     let m = suc (suc (suc (suc n))) in
-    object_plain m (layer_own width height d l) l.kept
-    ((refl, omega arith), (whole_plain m l.id, (text_plain m l.name, (truth_plain m l.visible, (properties_plain level (suc (suc n)) (omega arith) l.properties h.properties, body_plain level n size width height room d layers l.body h.body)))))
-    (kept_plain level m (layer_names l.body) l.kept (omega arith) h.kept)
+    object_plain m (layer_own width height d l) l.kept (own_are_plain level n size width height room d layers l h) (kept_plain level m (layer_names l.body) l.kept (omega arith) h.kept)
 
 -- ---- layers within layers
 module _ (room level n width height : ℕ) (one : (l : Layer) → Each (IsDrawn (width * height)) (tree room level l) → IsPlain n (layer_tree room width height l)) where
@@ -189,7 +194,7 @@ module _ (room level n width height : ℕ) (one : (l : Layer) → Each (IsDrawn 
       let b = more.1 in
       (rw (own.0, more.0) refl, omega arith)
 
-own_IsLayer : (room level size : ℕ) (l : Layer) → Each (IsDrawn size) (tree room level l) → IsLayer level size l
+pub own_IsLayer : (room level size : ℕ) (l : Layer) → Each (IsDrawn size) (tree room level l) → IsLayer level size l
 own_IsLayer room level size l h = IsLayer-without (λ ls. []) level size l (tree-Each (IsDrawn size) room level l h).0
 
 layer_plain : (room level n width height : ℕ) → level + 2 * room ≡ deepest_level → property_level (object_level level) + n ≡ MAX_DEPTH → (l : Layer) → Each (IsDrawn (width * height)) (tree room level l)

@@ -9,3 +9,5 @@ pub mod Maps
 pub mod Trees
 pub mod Appending
 pub mod RoundTrip
+pub mod Outlines
+pub mod Details

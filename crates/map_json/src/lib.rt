@@ -3,6 +3,7 @@
 
 mod body;
 mod cells;
+mod detail;
 mod doubles;
 mod elements;
 mod fault;
@@ -20,6 +21,6 @@ mod trail;
 mod writing;
 
 pub use fault::{MapFault, MapRefusal};
-pub use map_text::{write_map, written_is_read};
+pub use map_text::{write_map, write_outline, written_is_read};
 pub use reading::{read_map, read_map_along};
 pub use trail::{NoTrail, Step, Trail};

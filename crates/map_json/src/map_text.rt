@@ -1,5 +1,5 @@
-// The text of a map. It goes out a member and a layer at a time, so that no more than one layer's tree stands in memory.
-// Of a group that tree is its members but its layers.
+// The text of a map, or of its outline. It goes out a member and a layer at a time, so that no more than one layer's tree
+// stands in memory. Of a group that tree is its members but its layers.
 ghost use Rattle.std.specs.Prelude.{◌≡◌, ◌++◌, ◌*◌, ◌∷◌, [], ◌≤◌, false, Ok, IfOk, OnOk};
 ghost use Rattle.json.specs.Print.{quoted};
 ghost use Rattle.serde_json.specs.Data.{object, depth, members_depth};
@@ -7,14 +7,18 @@ ghost use Rattle.serde_json.specs.Read.{max_depth};
 ghost use Rattle.serde_json.specs.View.{view as data_of};
 ghost use Rattle.serde_json.specs.Written.{comma_if, has_float, members_have_float};
 ghost use Rattle.map_model.specs.declared.names.TheConstants.{LAYERS};
+ghost use Rattle.map_model.specs.WellFormed.{IsWellFormed};
 ghost use Rattle.map_json.specs.Appending.{Appends, AreWritten, instead, replaced};
+ghost use Rattle.map_json.specs.Details.{layer_in, layers_in, map_in};
 ghost use Rattle.map_json.specs.Maps.{IsTreeOf, map_of};
+ghost use Rattle.map_json.specs.Outlines.{outline_text};
 ghost use Rattle.map_json.specs.RoundTrip.{WrittenIsRead};
-ghost use Rattle.map_json.specs.Trees.{layer_tree, layers_tree, text_of, tree_of};
+ghost use Rattle.map_json.specs.Trees.{text_of, tree_of};
 
+use crate::detail::{Detail, Writing};
 use crate::json_object::JsonObject;
 use crate::size::Size;
-use crate::writing::{frame_of, layer_frame, text_tree};
+use crate::writing::{frame_in, frame_of, text_tree};
 use link_chain::Chain;
 use map_model::limits::MAX_GROUPS;
 use map_model::{Layer, Map, names};
@@ -57,18 +61,18 @@ fn push_name(alloc: Global, text: &mut Vec<u8>, later: bool, name: &str) -> Resu
 fn push_layers(
     alloc: Global,
     text: &mut Vec<u8>,
-    size: Size,
+    writing: Writing,
     room: usize,
     layers: &Chain<Layer>,
 ) -> Result<(), AllocError>
-    requires { AreWritten room (size.width * size.height) layers.now }
-    ensures { OnOk result (Appends (layers_tree room size.width size.height layers.now) text.old.items text.new.items) }
+    requires { AreWritten room (writing.size.width * writing.size.height) layers.now }
+    ensures { OnOk result (Appends (layers_in writing.detail room writing.size.width writing.size.height layers.now) text.old.items text.new.items) }
 {
     text.push(b'[')?;
     let mut later = false;
     for layer in layers.iter() {
         push_comma(text, later)?;
-        push_layer(alloc, text, size, room, layer)?;
+        push_layer(alloc, text, writing, room, layer)?;
         later = true;
     }
     text.push(b']')?;
@@ -80,17 +84,17 @@ fn push_layers(
 fn push_layer(
     alloc: Global,
     text: &mut Vec<u8>,
-    size: Size,
+    writing: Writing,
     room: usize,
     layer: &Layer,
 ) -> Result<(), AllocError>
-    requires { AreWritten room (size.width * size.height) (layer.now ∷ []) }
-    ensures { OnOk result (Appends (layer_tree room size.width size.height layer.now) text.old.items text.new.items) }
+    requires { AreWritten room (writing.size.width * writing.size.height) (layer.now ∷ []) }
+    ensures { OnOk result (Appends (layer_in writing.detail room writing.size.width writing.size.height layer.now) text.old.items text.new.items) }
 {
-    let frame = layer_frame(alloc, size, layer)?;
+    let frame = frame_in(alloc, writing, layer)?;
     if room > 0 {
         if let Some(inside) = layer.body.layers() {
-            return push_framed(alloc, text, size, room - 1, inside, &frame);
+            return push_framed(alloc, text, writing, room - 1, inside, &frame);
         }
     }
     push_value(alloc, text, &frame.into_value())
@@ -101,20 +105,20 @@ fn push_layer(
 fn push_member(
     alloc: Global,
     text: &mut Vec<u8>,
-    size: Size,
+    writing: Writing,
     room: usize,
     layers: &Chain<Layer>,
     name: &str,
     value: &Value,
 ) -> Result<(), AllocError>
-    requires layers { AreWritten room (size.width * size.height) layers.now }
+    requires layers { AreWritten room (writing.size.width * writing.size.height) layers.now }
     requires whole { has_float (data_of value.now) ≡ false }
     requires shallow { depth (data_of value.now) ≤ max_depth }
-    ensures { OnOk result (Appends (instead LAYERS.now (layers_tree room size.width size.height layers.now) name.now (data_of value.now))
+    ensures { OnOk result (Appends (instead LAYERS.now (layers_in writing.detail room writing.size.width writing.size.height layers.now) name.now (data_of value.now))
         text.old.items text.new.items) }
 {
     if name == names::LAYERS {
-        return push_layers(alloc, text, size, room, layers);
+        return push_layers(alloc, text, writing, room, layers);
     }
     push_value(alloc, text, value)
 }
@@ -124,26 +128,40 @@ fn push_member(
 fn push_framed(
     alloc: Global,
     text: &mut Vec<u8>,
-    size: Size,
+    writing: Writing,
     room: usize,
     layers: &Chain<Layer>,
     frame: &JsonObject,
 ) -> Result<(), AllocError>
-    requires layers { AreWritten room (size.width * size.height) layers.now }
+    requires layers { AreWritten room (writing.size.width * writing.size.height) layers.now }
     requires whole { members_have_float frame.now ≡ false }
     requires shallow { members_depth frame.now ≤ max_depth }
-    ensures { OnOk result (Appends (object (replaced LAYERS.now (layers_tree room size.width size.height layers.now) frame.now))
+    ensures { OnOk result (Appends (object (replaced LAYERS.now (layers_in writing.detail room writing.size.width writing.size.height layers.now) frame.now))
         text.old.items text.new.items) }
 {
     text.push(b'{')?;
     let mut later = false;
     for (name, value) in frame.members().iter() {
         push_name(alloc, text, later, name.as_str())?;
-        push_member(alloc, text, size, room, layers, name.as_str(), value)?;
+        push_member(alloc, text, writing, room, layers, name.as_str(), value)?;
         later = true;
     }
     text.push(b'}')?;
     Ok(())
+}
+
+// The text of a map in this detail.
+fn write_in(alloc: Global, map: &Map, detail: Detail) -> Result<Vec<u8>, AllocError>
+    ensures text { IfOk result (λ bytes. Appends (map_in detail map.now) [] bytes.items) }
+    ensures well_formed { IsWellFormed map.now }
+{
+    let parts = map.parts();
+    let frame = frame_of(alloc, parts)?;
+    let mut text = Vec::new(alloc);
+    let size = Size::of_map(parts);
+    let writing = Writing { size, detail };
+    push_framed(alloc, &mut text, writing, MAX_GROUPS, &parts.layers, &frame)?;
+    Ok(text)
 }
 
 /// The text of a map: compact JSON, with the members of each object in the order of their names.
@@ -152,12 +170,14 @@ pub fn write_map(alloc: Global, map: &Map) -> Result<Vec<u8>, AllocError>
     ensures read_back { IfOk result (λ bytes. IsTreeOf bytes.items (tree_of map.now)) }
     ensures read_again { map_of (tree_of map.now) ≡ Ok map.now }
 {
-    let parts = map.parts();
-    let frame = frame_of(alloc, parts)?;
-    let mut text = Vec::new(alloc);
-    let size = Size::of_map(parts);
-    push_framed(alloc, &mut text, size, MAX_GROUPS, &parts.layers, &frame)?;
-    Ok(text)
+    write_in(alloc, map, Detail::Whole)
+}
+
+/// The outline of a map: its text without the member `data` of tile layers. No cell is looked at.
+pub fn write_outline(alloc: Global, map: &Map) -> Result<Vec<u8>, AllocError>
+    ensures { IfOk result (λ bytes. bytes.items ≡ outline_text map.now) }
+{
+    write_in(alloc, map, Detail::Outline)
 }
 
 /// What was written is read: bytes that have the tree of a map give that map, unless memory runs out.

@@ -1,5 +1,5 @@
 // What is written for each part of a map, as a tree.
-ghost use Rattle.std.specs.Prelude.{◌≡◌, IfOk, OnOk};
+ghost use Rattle.std.specs.Prelude.{◌≡◌, ◌++◌, IfOk, OnOk};
 ghost use Rattle.std.specs.Option.{option_map};
 ghost use Rattle.serde_json.specs.Data.{Data, array, boolean, no_items, number, string};
 ghost use Rattle.serde_json.specs.View.{view as data_of};
@@ -8,7 +8,9 @@ ghost use Rattle.map_json.specs.Members.{with_own};
 ghost use Rattle.map_model.specs.declared.parts.Body.TheVariants.{Tiles};
 ghost use Rattle.map_json.specs.Trees.{plain_own, lists_own, array_by, whole_tree, value_tree, property_own, property_tree, properties_member, object_tree, tileset_tree, bytes_of, cells_tree, encoding_member, body_own, type_word};
 ghost use Rattle.map_json.specs.Appending.{frame_of, layer_frame};
+ghost use Rattle.map_json.specs.Details.{common_own, frame_in, outline_frame, shape_own};
 
+use crate::detail::{Detail, Writing};
 use crate::json_object::JsonObject;
 use crate::size::Size;
 use base64::encoded_len;
@@ -218,6 +220,22 @@ fn encoding_member(alloc: Global, encoding: Encoding) -> Result<Option<Value>, A
     }
 }
 
+// Puts the members of a tile layer but its values.
+fn put_shape(
+    alloc: Global,
+    size: Size,
+    encoding: Encoding,
+    members: &mut JsonObject,
+) -> Result<(), AllocError>
+    ensures { OnOk result
+        (members.new ≡ with_own (shape_own size.width size.height encoding) members.old) }
+{
+    members.put(alloc, names::HEIGHT, Value::from(size.height))?;
+    members.put(alloc, names::WIDTH, Value::from(size.width))?;
+    let encoding = encoding_member(alloc, encoding)?;
+    members.put_some(alloc, names::ENCODING, encoding)
+}
+
 // Puts the members of a tile layer.
 fn put_tiles(
     alloc: Global,
@@ -231,10 +249,7 @@ fn put_tiles(
 {
     let data = cells_tree(alloc, encoding, cells)?;
     members.put(alloc, names::DATA, data)?;
-    members.put(alloc, names::HEIGHT, Value::from(size.height))?;
-    members.put(alloc, names::WIDTH, Value::from(size.width))?;
-    let encoding = encoding_member(alloc, encoding)?;
-    members.put_some(alloc, names::ENCODING, encoding)
+    put_shape(alloc, size, encoding, members)
 }
 
 // Puts the members of a layer's kind, with an empty array for the layers of a group.
@@ -272,12 +287,15 @@ fn type_word(body: &Body) -> &'static str
     }
 }
 
-/// The members of a layer, with an empty array for the layers of a group.
-pub fn layer_frame(alloc: Global, size: Size, layer: &Layer) -> Result<JsonObject, AllocError>
-    ensures { IfOk result (λ frame. frame ≡ layer_frame size.width size.height layer.now) }
+// Puts the members that a layer of any kind has.
+fn put_common(
+    alloc: Global,
+    size: Size,
+    layer: &Layer,
+    members: &mut JsonObject,
+) -> Result<(), AllocError>
+    ensures { OnOk result (members.new ≡ with_own (common_own layer.now) members.old) }
 {
-    let mut members = JsonObject::from_kept(alloc, &layer.kept)?;
-    put_body(alloc, size, &layer.body, &mut members)?;
     let properties = properties_member(alloc, size, &layer.properties)?;
     members.put_some(alloc, names::PROPERTIES, properties)?;
     members.put(alloc, names::VISIBLE, Value::from(layer.visible))?;
@@ -287,8 +305,56 @@ pub fn layer_frame(alloc: Global, size: Size, layer: &Layer) -> Result<JsonObjec
         alloc,
         names::TYPE,
         text_tree(alloc, type_word(&layer.body))?,
-    )?;
+    )
+}
+
+// The members of a layer, with an empty array for the layers of a group.
+fn layer_frame(alloc: Global, size: Size, layer: &Layer) -> Result<JsonObject, AllocError>
+    ensures { IfOk result (λ frame. frame ≡ layer_frame size.width size.height layer.now) }
+{
+    let mut members = JsonObject::from_kept(alloc, &layer.kept)?;
+    put_body(alloc, size, &layer.body, &mut members)?;
+    put_common(alloc, size, layer, &mut members)?;
     Ok(members)
+}
+
+// The members of a tile layer but its values.
+fn tiles_outline(
+    alloc: Global,
+    size: Size,
+    encoding: Encoding,
+    layer: &Layer,
+) -> Result<JsonObject, AllocError>
+    ensures { IfOk result (λ frame.
+        frame ≡ with_own (common_own layer.now ++ shape_own size.width size.height encoding) layer.now.kept) }
+{
+    let mut members = JsonObject::from_kept(alloc, &layer.kept)?;
+    put_shape(alloc, size, encoding, &mut members)?;
+    put_common(alloc, size, layer, &mut members)?;
+    Ok(members)
+}
+
+// The members of a layer but the values of its cells, with an empty array for the layers of a group.
+fn outline_frame(alloc: Global, size: Size, layer: &Layer) -> Result<JsonObject, AllocError>
+    ensures { IfOk result (λ frame. frame ≡ outline_frame size.width size.height layer.now) }
+{
+    match &layer.body {
+        Body::Tiles(encoding, _) => tiles_outline(alloc, size, *encoding, layer),
+        Body::Objects(_) => layer_frame(alloc, size, layer),
+        Body::Other => layer_frame(alloc, size, layer),
+        Body::Group(_) => layer_frame(alloc, size, layer),
+    }
+}
+
+/// The members of a layer, as far as they are written, with an empty array for the layers of a group.
+pub fn frame_in(alloc: Global, writing: Writing, layer: &Layer) -> Result<JsonObject, AllocError>
+    ensures { IfOk result (λ frame.
+        frame ≡ frame_in writing.detail writing.size.width writing.size.height layer.now) }
+{
+    match writing.detail {
+        Detail::Whole => layer_frame(alloc, writing.size, layer),
+        Detail::Outline => outline_frame(alloc, writing.size, layer),
+    }
 }
 
 // Puts the members of a map that are no lists.

@@ -1,8 +1,10 @@
 -- What a call answers, and what then stands in a caller's buffer.
-use Rattle.std.specs.Prelude.{◌≡◌, ◌++◌, ◌≤◌, ◌<◌, ◌⊎◌, ℕ, nat_le, Bool, true, false, List, drop, length, Option, None, Some, if◌then◌else◌}
+use Rattle.std.specs.Prelude.{◌≡◌, ◌≤◌, ◌<◌, ◌⊎◌, ℕ, nat_eq, not, Bool, true, false, List, length, Option, None, Some, if◌then◌else◌}
 use Rattle.std.specs.FinMap.{contains_key, empty, get, insert, remove}
 use Rattle.std.specs.List.{slice_get}
 use Rattle.std.specs.Option.{option_map}
+use Rattle.map_model.specs.declared.parts.MapParts.{MapParts}
+use Rattle.map_json.specs.Outlines.{outline_text}
 use Rattle.region.specs.declared.runs.Run.{Run}
 use Rattle.session.specs.Replies.{reply_text}
 use Rattle.session.specs.Words.{is_name}
@@ -10,22 +12,20 @@ use Rattle.session.specs.declared.limits.TheConstants.{MAX_FILE_NAME}
 use Rattle.undo_stack.specs.declared.limits.TheConstants.{MAX_LIMIT}
 use Rattle.editor.specs.Machine.{active_of, started_machine}
 use Rattle.editor.specs.Steps.{StepIn}
-use Rattle.roskevad_session.specs.Parts.{SessionParts, workspace_of, AreRunsOf}
+use Rattle.roskevad_session.specs.Buffers.{filled, written}
+use Rattle.roskevad_session.specs.Hearing.{Hears}
+use Rattle.roskevad_session.specs.Parts.{SessionParts, action_text_of, active_map, workspace_of, AreRunsOf}
+use Rattle.roskevad_session.specs.Rectangles.{cells_of}
+use Rattle.roskevad_session.specs.declared.heard.Heard.{Heard}
+use Rattle.roskevad_c.specs.Counts.{counts_of}
 use Rattle.roskevad_c.specs.declared.answers.TheConstants.{DONE, NONE, CLOSED, NO_MEMORY, TOO_GREAT, BAD_NAME}
+use Rattle.roskevad_c.specs.declared.heard.HeardCounts.{HeardCounts}
 use Rattle.roskevad_c.specs.declared.runs.SelectionRun.{SelectionRun}
-
--- the buffer with these bytes at its front, where it has room for all of them, and else as it was
-abbrev pub written : List ℕ → List ℕ → List ℕ
-written bytes buffer = if nat_le (length bytes) (length buffer) then bytes ++ drop (length bytes) buffer else buffer
 
 -- ---- bytes that may be absent
 abbrev pub size_of : Option (List ℕ) → ℕ
 size_of None = NONE
 size_of (Some bytes) = length bytes
-
-abbrev pub filled : Option (List ℕ) → List ℕ → List ℕ
-filled None buffer = buffer
-filled (Some bytes) buffer = written bytes buffer
 
 -- ---- bytes of a session, which a closed slot has not
 abbrev pub told_size : Option (Option (List ℕ)) → ℕ
@@ -62,6 +62,14 @@ without name s = if is_name MAX_FILE_NAME name then record s { files = remove s.
 -- with a file of that name
 abbrev pub with_file : List ℕ → List ℕ → SessionParts → SessionParts
 with_file name bytes s = record s { files = insert s.files name bytes }
+
+-- the cells of a rectangle of a tile layer of its active document
+abbrev pub cells_at : ℕ → ℕ → ℕ → ℕ → ℕ → SessionParts → Option (List ℕ)
+cells_at layer x y width height s = cells_of layer (record { x = x; y = y; width = width; height = height }) (active_map s.machine)
+
+-- the action text of a step of that document
+abbrev pub action_at : ℕ → SessionParts → Option (List ℕ)
+action_at at s = action_text_of (active_of s.machine) at
 
 -- ---- what calls do
 -- a session is opened, or there was no memory for it
@@ -110,3 +118,21 @@ GivesRun (Some run) answer old new = (answer ≡ DONE) × (new ≡ record { row 
 abbrev pub TellsRun : Option SessionParts → ℕ → ℕ → SelectionRun → SelectionRun → Type 0
 TellsRun None at answer old new = (answer ≡ CLOSED) × (new ≡ old)
 TellsRun (Some s) at answer old new = (runs : List Run) × AreRunsOf (active_of s.machine) runs × GivesRun (slice_get runs at) answer old new
+
+-- the outline of a map is given out, or there was no memory for it
+abbrev pub GivesOutline : Option MapParts → ℕ → List ℕ → List ℕ → Type 0
+GivesOutline None answer old new = (answer ≡ NONE) × (new ≡ old)
+GivesOutline (Some m) answer old new =
+    ((answer ≡ length (outline_text m)) × (new ≡ written (outline_text m) old)) ⊎ ((answer ≡ NO_MEMORY) × (new ≡ old))
+
+abbrev pub TellsOutline : Option SessionParts → ℕ → List ℕ → List ℕ → Type 0
+TellsOutline None answer old new = (answer ≡ CLOSED) × (new ≡ old)
+TellsOutline (Some s) answer old new = GivesOutline (active_map s.machine) answer old new
+
+-- ---- many lines
+-- they are heard, where the slot is open
+abbrev pub HearsLines : ℕ → List ℕ → Option SessionParts → ℕ → Option SessionParts → List ℕ → List ℕ → HeardCounts → HeardCounts → Type 0
+HearsLines stop bytes None answer new before after old told = (answer ≡ CLOSED) × (new ≡ None) × (after ≡ before) × (told ≡ old)
+HearsLines stop bytes (Some s) answer None before after old told = ⊥
+HearsLines stop bytes (Some s) answer (Some t) before after old told =
+    (heard : Heard) × Hears (not (nat_eq stop 0)) bytes before s heard t after × (answer ≡ heard.lines) × (told ≡ counts_of heard)

@@ -2,10 +2,13 @@
 ghost use Rattle.std.specs.Prelude.{◌≡◌, ◌≤◌, ◌++◌, length};
 ghost use Rattle.std.specs.Option.{option_copied, option_map};
 ghost use Rattle.session.specs.Replies.{reply_text};
-ghost use Rattle.roskevad_c.specs.Answers.{size_of, written, filled};
+ghost use Rattle.roskevad_session.specs.Buffers.{filled, written};
+ghost use Rattle.roskevad_session.specs.Parts.{active_map};
+ghost use Rattle.roskevad_c.specs.Answers.{size_of, GivesOutline};
 
-use crate::answers::NONE;
+use crate::answers::{NO_MEMORY, NONE};
 use arrayvec::ArrayString;
+use roskevad_session::Session;
 use session::Reply;
 
 // Copies two texts, one behind the other, where the buffer has room for both, and gives their size.
@@ -46,4 +49,16 @@ pub fn copy_reply(reply: Option<&Reply>, buffer: &mut [u8]) -> usize
     let mut head = ArrayString::<512>::new();
     reply.write_into(&mut head);
     copy_both(head.as_str().as_bytes(), reply.body(), buffer)
+}
+
+/// Copies the outline of the active document's map where the buffer has room for all of it, and gives its size, `NONE` where no
+/// document is active, or `NO_MEMORY`.
+pub fn copy_outline(session: &Session, buffer: &mut [u8]) -> usize
+    ensures { GivesOutline (active_map session.now.machine) result buffer.old buffer.new }
+{
+    match session.outline() {
+        Ok(Some(outline)) => copy_both(b"", outline.as_slice(), buffer),
+        Ok(None) => NONE,
+        Err(_) => NO_MEMORY,
+    }
 }

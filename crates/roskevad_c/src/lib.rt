@@ -7,6 +7,7 @@
 
 mod answers;
 mod copies;
+mod heard;
 mod held;
 mod names;
 mod parts;
@@ -18,15 +19,17 @@ ghost use Rattle.std.specs.FinMap.{keys, len};
 ghost use Rattle.std.specs.Option.{option_map};
 ghost use Rattle.undo_stack.specs.declared.limits.TheConstants.{MAX_LIMIT};
 ghost use Rattle.editor.specs.Machine.{active_of};
-ghost use Rattle.roskevad_session.specs.Parts.{clean_index_of, has_step};
-ghost use Rattle.roskevad_c.specs.Answers.{filled, file_in, is_there, last_reply, size_of, told_bytes, told_number, told_size, with_file, without, Opens, Puts, Steps, TellsCount, TellsOfStep, TellsRun};
+ghost use Rattle.roskevad_session.specs.Buffers.{filled};
+ghost use Rattle.roskevad_session.specs.Parts.{active_map, clean_index_of, has_step};
+ghost use Rattle.roskevad_c.specs.Answers.{action_at, cells_at, file_in, is_there, last_reply, size_of, told_bytes, told_number, told_size, with_file, without, HearsLines, Opens, Puts, Steps, TellsCount, TellsOfStep, TellsOutline, TellsRun};
 
 use crate::answers::{BAD_NAME, CLOSED, DONE, NO_MEMORY, NONE, TOO_GREAT};
-use crate::copies::{copy_bytes, copy_reply};
+use crate::copies::{copy_bytes, copy_outline, copy_reply};
+use crate::heard::HeardCounts;
 use crate::names::spelled;
 use crate::runs::SelectionRun;
 use crate::slot::Slot;
-use roskevad_session::Session;
+use roskevad_session::{Rectangle, Session};
 use std::alloc::Global;
 
 // The greatest undo limit.
@@ -87,6 +90,32 @@ pub extern "C" fn roskevad_reply(alloc: Global, slot: &mut Slot, reply: &mut [u8
     let size = copy_reply(session.reply(), reply);
     *slot = Slot::of_box(session);
     size
+}
+
+/// Does the lines of some bytes, one after another, as `roskevad_step` does each, and puts the replies to those that are not quiet
+/// into a buffer, each with a newline. The bytes are cut at newlines; a last line without one counts where it has a byte.
+///
+/// It ends at the end of the bytes; behind the first line that is refused, where `stop` is not 0; and behind a line whose reply
+/// has no room in what is left of the buffer. That line is done, and `roskevad_reply` gives its reply. Answers how many lines are
+/// done, and gives out what came of them, or answers `CLOSED`, and all is as it was.
+#[unsafe(no_mangle)]
+pub extern "C" fn roskevad_run_lines(
+    alloc: Global,
+    slot: &mut Slot,
+    bytes: &[u8],
+    stop: usize,
+    replies: &mut [u8],
+    heard: &mut HeardCounts,
+) -> usize
+    ensures { HearsLines stop bytes.now slot.old.held.held_session result slot.new.held.held_session replies.old replies.new heard.old heard.new }
+{
+    let Some(mut session) = slot.take(alloc) else {
+        return CLOSED;
+    };
+    let run = session.run_lines(bytes, stop != 0, replies);
+    *slot = Slot::of_box(session);
+    *heard = HeardCounts::of(run);
+    run.lines
 }
 
 /// Puts bytes under a name, in place of those that are there. Answers `DONE`, `NO_MEMORY`, `BAD_NAME` or `CLOSED`; but for
@@ -274,6 +303,111 @@ pub extern "C" fn roskevad_is_macro(alloc: Global, slot: &mut Slot, at: usize) -
     };
     *slot = Slot::of_box(session);
     answer
+}
+
+/// Copies the action text of the step with this number of the active document. Answers its size, `NONE` past the last one or where
+/// no document is active, or `CLOSED`. The first step is at 0; an open macro stands last.
+#[unsafe(no_mangle)]
+pub extern "C" fn roskevad_action_text(
+    alloc: Global,
+    slot: &mut Slot,
+    at: usize,
+    text: &mut [u8],
+) -> usize
+    ensures unchanged { slot.new.held.held_session ≡ slot.old.held.held_session }
+    ensures size { result ≡ told_size (option_map (action_at at) slot.old.held.held_session) }
+    ensures copied { text.new ≡ told_bytes (option_map (action_at at) slot.old.held.held_session) text.old }
+{
+    let Some(session) = slot.take(alloc) else {
+        return CLOSED;
+    };
+    let size = match session.action_text(at) {
+        Some(found) => copy_bytes(Some(found.as_bytes()), text),
+        None => NONE,
+    };
+    *slot = Slot::of_box(session);
+    size
+}
+
+/// The id that the next layer of the active document gets, `NONE` where no document is active, or `CLOSED`.
+#[unsafe(no_mangle)]
+pub extern "C" fn roskevad_next_layer_id(alloc: Global, slot: &mut Slot) -> usize
+    ensures unchanged { slot.new.held.held_session ≡ slot.old.held.held_session }
+    ensures told { result ≡ told_number (option_map (λ s. option_map (λ m. m.next_layer_id) (active_map s.machine)) slot.old.held.held_session) }
+{
+    let Some(session) = slot.take(alloc) else {
+        return CLOSED;
+    };
+    let answer = match session.next_layer_id() {
+        Some(id) => id as usize,
+        None => NONE,
+    };
+    *slot = Slot::of_box(session);
+    answer
+}
+
+/// The id that the next object of the active document gets, `NONE` where no document is active, or `CLOSED`.
+#[unsafe(no_mangle)]
+pub extern "C" fn roskevad_next_object_id(alloc: Global, slot: &mut Slot) -> usize
+    ensures unchanged { slot.new.held.held_session ≡ slot.old.held.held_session }
+    ensures told { result ≡ told_number (option_map (λ s. option_map (λ m. m.next_object_id) (active_map s.machine)) slot.old.held.held_session) }
+{
+    let Some(session) = slot.take(alloc) else {
+        return CLOSED;
+    };
+    let answer = match session.next_object_id() {
+        Some(id) => id as usize,
+        None => NONE,
+    };
+    *slot = Slot::of_box(session);
+    answer
+}
+
+/// Copies the cells of a rectangle of the tile layer with this id of the active document, in groups too, row by row. Answers how
+/// many they are; `NONE` where no document is active, where it has no tile layer with that id, and where the rectangle leaves the
+/// map; or `CLOSED`. An empty rectangle in the map has 0.
+#[unsafe(no_mangle)]
+pub extern "C" fn roskevad_cells(
+    alloc: Global,
+    slot: &mut Slot,
+    layer: u32,
+    x: usize,
+    y: usize,
+    width: usize,
+    height: usize,
+    cells: &mut [u32],
+) -> usize
+    ensures unchanged { slot.new.held.held_session ≡ slot.old.held.held_session }
+    ensures count { result ≡ told_size (option_map (cells_at layer x y width height) slot.old.held.held_session) }
+    ensures copied { cells.new ≡ told_bytes (option_map (cells_at layer x y width height) slot.old.held.held_session) cells.old }
+{
+    let Some(session) = slot.take(alloc) else {
+        return CLOSED;
+    };
+    let rectangle = Rectangle {
+        x,
+        y,
+        width,
+        height,
+    };
+    let count = session.copy_cells(layer, rectangle, cells).unwrap_or(NONE);
+    *slot = Slot::of_box(session);
+    count
+}
+
+/// Copies the outline of the active document's map: its text without the member `data` of tile layers. No cell is looked at.
+/// Answers its size, `NONE` where no document is active, `NO_MEMORY` or `CLOSED`.
+#[unsafe(no_mangle)]
+pub extern "C" fn roskevad_outline(alloc: Global, slot: &mut Slot, text: &mut [u8]) -> usize
+    ensures unchanged { slot.new.held.held_session ≡ slot.old.held.held_session }
+    ensures told { TellsOutline slot.old.held.held_session result text.old text.new }
+{
+    let Some(session) = slot.take(alloc) else {
+        return CLOSED;
+    };
+    let size = copy_outline(&session, text);
+    *slot = Slot::of_box(session);
+    size
 }
 
 /// Closes a slot, and gives back its memory. A closed one stays closed.

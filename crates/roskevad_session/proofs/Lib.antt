@@ -1,2 +1,6 @@
 mod Counting
+mod Cutting
+mod Hearings
 mod Numbered
+mod Pieces
+mod Rows

@@ -3,14 +3,16 @@ use Rattle.std.specs.Prelude.{◌≡◌, ℕ, List, [], Bool, true, false, Optio
 use Rattle.std.specs.Ordering.{nat_cmp}
 use Rattle.std.specs.Cmp.Lexicographic.{slice_cmp}
 use Rattle.std.specs.FinMap.{code}
+use Rattle.std.specs.Option.{option_map}
 use Rattle.std.specs.Coded.{Coded, coded_ℕ, coded_list}
 use Rattle.region.specs.Cells.{set_of}
 use Rattle.region.specs.Runs.{IsMaximalRuns}
 use Rattle.region.specs.declared.runs.Run.{Run}
 use Rattle.undo_stack.specs.History.{History, current}
-use Rattle.undo_stack.specs.Reading.{text_at}
+use Rattle.map_model.specs.declared.parts.MapParts.{MapParts}
+use Rattle.undo_stack.specs.Reading.{action_at, text_at}
 use Rattle.session.specs.declared.reply.Reply.{Reply}
-use Rattle.editor.specs.Machine.{Machine, Workspace, workspace}
+use Rattle.editor.specs.Machine.{Machine, Workspace, active_of, workspace}
 use Rattle.map_store.specs.Files.{Files}
 
 -- how files are coded
@@ -28,6 +30,10 @@ abbrev pub workspace_of : SessionParts → Workspace
 workspace_of s = workspace s.machine (record { files = s.files; failures = 0; honest = true })
 
 -- ---- of the active document, where there is one
+-- its map
+abbrev pub active_map : Machine → Option MapParts
+active_map m = option_map (λ (h : History). (current h).map) (active_of m)
+
 -- the position at which it counts as clean
 abbrev pub clean_index_of : Option History → Option ℕ
 clean_index_of None = None
@@ -37,6 +43,11 @@ clean_index_of (Some h) = h.clean
 abbrev pub has_step : Option History → ℕ → Bool
 has_step None at = false
 has_step (Some h) at = is_some (text_at h at)
+
+-- the action text of its step with that number
+abbrev pub action_text_of : Option History → ℕ → Option (List ℕ)
+action_text_of None at = None
+action_text_of (Some h) at = action_at h at
 
 -- the runs of its selection, in row order
 abbrev pub AreRunsOf : Option History → List Run → Type 0

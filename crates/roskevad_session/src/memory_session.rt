@@ -1,4 +1,7 @@
+use crate::rectangle::{Rectangle, copy_cells};
 use editor::{Edit, Editor};
+use map_json::write_outline;
+use map_model::Map;
 use map_store::{MapStore, MemoryStore};
 use region::Run;
 use session::Reply;
@@ -119,13 +122,16 @@ impl Session {
 
 // What no line tells of the active document.
 impl Session {
-    ghost use Rattle.std.specs.Prelude.{◌≡◌, List, IfSome, is_some, length, slice_get};
-    ghost use Rattle.std.specs.Option.{option_map};
+    ghost use Rattle.std.specs.Prelude.{◌≡◌, List, IfOk, IfSome, None, Ok, is_some, length, slice_get};
+    ghost use Rattle.std.specs.Option.{option_copied, option_map};
+    ghost use Rattle.map_json.specs.Outlines.{outline_text};
     ghost use Rattle.undo_stack.specs.Stacks.{history, Holds};
     ghost use Rattle.editor.specs.Machine.{active_of};
     ghost use Rattle.editor.specs.Planning.{edit_change};
     ghost use Rattle.region.specs.declared.runs.Run.{Run as RunOf};
-    ghost use Rattle.roskevad_session.specs.Parts.{clean_index_of, has_step, AreRunsOf};
+    ghost use Rattle.roskevad_session.specs.Buffers.{filled};
+    ghost use Rattle.roskevad_session.specs.Parts.{action_text_of, active_map, clean_index_of, has_step, AreRunsOf};
+    ghost use Rattle.roskevad_session.specs.Rectangles.{cells_of};
 
     // The stack of the active document.
     fn active(&self) -> Option<&Stack<Edit>>
@@ -133,6 +139,16 @@ impl Session {
         ensures held { IfSome result (λ stack. Holds edit_change stack.now) }
     {
         self.editor.group().active()
+    }
+
+    // The map of the active document.
+    fn active_map(&self) -> Option<&Map>
+        ensures { option_copied result ≡ active_map self.now.machine }
+    {
+        match self.active() {
+            Some(stack) => Some(stack.document().map()),
+            None => None,
+        }
     }
 
     /// The index at which the active document counts as clean, and `None` where that was lost or no document is active.
@@ -153,6 +169,62 @@ impl Session {
         match self.active() {
             Some(stack) => stack.is_macro(at),
             None => None,
+        }
+    }
+
+    /// The action text of the step with this number of the active document, where the first one has 0, and `None` past the last
+    /// one or where no document is active. An open macro stands last.
+    pub fn action_text(&self, at: usize) -> Option<&str>
+        ensures { option_copied result ≡ action_text_of (active_of self.now.machine) at }
+    {
+        match self.active() {
+            Some(stack) => stack.action(at),
+            None => None,
+        }
+    }
+
+    /// The id that the next layer of the active document gets, and `None` where none is active.
+    pub fn next_layer_id(&self) -> Option<u32>
+        ensures { result ≡ option_map (λ m. m.next_layer_id) (active_map self.now.machine) }
+    {
+        match self.active_map() {
+            Some(map) => Some(map.parts().next_layer_id),
+            None => None,
+        }
+    }
+
+    /// The id that the next object of the active document gets, and `None` where none is active.
+    pub fn next_object_id(&self) -> Option<u32>
+        ensures { result ≡ option_map (λ m. m.next_object_id) (active_map self.now.machine) }
+    {
+        match self.active_map() {
+            Some(map) => Some(map.parts().next_object_id),
+            None => None,
+        }
+    }
+
+    /// Copies the cells of a rectangle of the tile layer with this id of the active document, in groups too, row by row, where
+    /// the buffer has room for all of them, and gives how many they are. `None` where no document is active, where it has no
+    /// tile layer with that id, and where the rectangle leaves the map.
+    pub fn copy_cells(&self, layer: u32, rectangle: Rectangle, cells: &mut [u32]) -> Option<usize>
+        ensures count { result ≡ option_map length (cells_of layer rectangle (active_map self.now.machine)) }
+        ensures copied { cells.new ≡ filled (cells_of layer rectangle (active_map self.now.machine)) cells.old }
+    {
+        match self.active_map() {
+            Some(map) => copy_cells(map, layer, rectangle, cells),
+            None => None,
+        }
+    }
+
+    /// The outline of the active document's map, and `None` where no document is active: the map's text without the member
+    /// `data` of tile layers. No cell is looked at.
+    pub fn outline(&self) -> Result<Option<Vec<u8>>, AllocError>
+        ensures text { IfOk result (λ text. option_map (λ bytes. bytes.items) text ≡ option_map outline_text (active_map self.now.machine)) }
+        ensures none { active_map self.now.machine ≡ None → result ≡ Ok None }
+    {
+        match self.active_map() {
+            Some(map) => Ok(Some(write_outline(self.alloc, map)?)),
+            None => Ok(None),
         }
     }
 

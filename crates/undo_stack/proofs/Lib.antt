@@ -6,6 +6,7 @@ pub mod Steadiness
 pub mod Gone
 pub mod Views
 pub mod Texts
+mod Actions
 pub mod Pushes
 mod Reported
 pub mod Levels

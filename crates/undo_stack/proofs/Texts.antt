@@ -30,19 +30,19 @@ map-steps f g p h xs n d =
     ∙ rw (map-down f g p h (take n xs) d, map-up f g p h (drop n xs) d, ← map-append p (take n xs) (drop n xs), take-append-drop n xs) refl
 
 -- what p reads at a number of the sequence, and past it
-read_some : {A B : Type 0} (p : B → A) (xs : List B) (x : B) (at : ℕ) → at < length xs → x ≡ get_or xs at x → slice_get (map p xs) at ≡ Some (p x)
+pub read_some : {A B : Type 0} (p : B → A) (xs : List B) (x : B) (at : ℕ) → at < length xs → x ≡ get_or xs at x → slice_get (map p xs) at ≡ Some (p x)
 read_some p xs x at h k = slice_get-map p xs at ∙ ap (option_map p) (slice_get_read xs (length xs) at x refl h k)
 
-read_none : {A B : Type 0} (p : B → A) (xs : List B) (at : ℕ) → length xs ≤ at → slice_get (map p xs) at ≡ None
+pub read_none : {A B : Type 0} (p : B → A) (xs : List B) (at : ℕ) → length xs ≤ at → slice_get (map p xs) at ≡ None
 read_none p xs at h = slice_get-map p xs at ∙ ap (option_map p) (slice_get_past xs at h)
 
 -- what stands at a number before the end of a list, and at its end
-slice_get-append_left : {A : Type 0} (xs ys : List A) (at : ℕ) → at < length xs → slice_get (xs ++ ys) at ≡ slice_get xs at
+pub slice_get-append_left : {A : Type 0} (xs ys : List A) (at : ℕ) → at < length xs → slice_get (xs ++ ys) at ≡ slice_get xs at
 slice_get-append_left [] ys at h = absurd (omega arith)
 slice_get-append_left (x ∷ xs) ys zero h = refl
 slice_get-append_left (x ∷ xs) ys (suc at) h = slice_get-append_left xs ys at (omega arith)
 
-slice_get-append_at : {A : Type 0} (xs : List A) (y : A) (at : ℕ) → at ≡ length xs → slice_get (xs ++ y ∷ []) at ≡ Some y
+pub slice_get-append_at : {A : Type 0} (xs : List A) (y : A) (at : ℕ) → at ≡ length xs → slice_get (xs ++ y ∷ []) at ≡ Some y
 slice_get-append_at [] y zero h = refl
 slice_get-append_at [] y (suc at) h = absurd (omega arith)
 slice_get-append_at (x ∷ xs) y zero h = absurd (omega arith)

@@ -1,4 +1,4 @@
--- The texts of a history: for undo, for redo, and for lists.
+-- The texts of a history: for undo, for redo, for lists, and those that name actions.
 use Rattle.std.specs.Prelude.{ℕ, List, [], ◌∷◌, ◌++◌, Option, Some, None, zero, suc, map, slice_get}
 use Rattle.undo_stack.specs.History.{Step, Open, History}
 
@@ -36,3 +36,12 @@ texts_in (l ∷ ls) ss = map (λ s. s.names.text) ss ++ l.text ∷ []
 -- the text for lists at a number, and none past the last one
 abbrev pub text_at : History → ℕ → Option (List ℕ)
 text_at h at = slice_get (texts_in h.levels h.steps) at
+
+-- the action texts are those of the steps, and last that of the outermost level where one is open
+abbrev pub actions_in : List Open → List Step → List (List ℕ)
+actions_in [] ss = map (λ s. s.names.action) ss
+actions_in (l ∷ ls) ss = map (λ s. s.names.action) ss ++ l.action ∷ []
+
+-- the action text at a number, and none past the last one
+abbrev pub action_at : History → ℕ → Option (List ℕ)
+action_at h at = slice_get (actions_in h.levels h.steps) at

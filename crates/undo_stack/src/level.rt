@@ -45,6 +45,13 @@ impl<C: Command> Level<C> {
         self.contents.text.as_str()
     }
 
+    /// The text that names the action of the level, for undo and redo.
+    pub fn action(&self) -> &str
+        ensures { result.now ≡ (inner_of self.now).action }
+    {
+        self.contents.action.as_str()
+    }
+
     /// The entry that the level is once it is closed. Takes no memory.
     pub fn into_entry(self) -> Entry<C>
         ensures { IsClosed C.change (inner_of self) result }

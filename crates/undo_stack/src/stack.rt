@@ -7,6 +7,7 @@ ghost use Rattle.undo_stack.specs.Reading.{text_at, action_of, undo_text_of, red
 ghost use Rattle.undo_stack.specs.Stacks.{history, macros, Holds, IsCalm, IsReported, IsTurnReported};
 ghost use Rattle.undo_stack.specs.declared.limits.TheConstants.{MAX_LIMIT};
 
+mod actions;
 mod macros;
 mod sequences;
 

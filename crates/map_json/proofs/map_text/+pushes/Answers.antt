@@ -14,18 +14,19 @@ use Rattle.map_model.specs.declared.names.TheConstants.{LAYERS}
 use Rattle.map_model.specs.declared.parts.Layer.{Layer}
 use Rattle.map_model.specs.Groups.{group_in}
 use Rattle.map_model.specs.Lists.{or_empty}
-use Rattle.map_json.specs.Appending.{Appends, AreWritten, instead, layer_frame, replaced}
-use Rattle.map_json.specs.Trees.{items_by, layer_tree, layers_tree}
-use Rattle.map_json.proofs.Frames.{replaced-put, layer_tree-frame, layer_tree-room, layer_tree-group}
+use Rattle.map_json.specs.Appending.{Appends, AreWritten, instead, replaced}
+use Rattle.map_json.specs.Details.{frame_in, layer_in, layers_in}
+use Rattle.map_json.specs.Trees.{items_by}
+use Rattle.map_json.proofs.Frames.{replaced-put}
+use Rattle.map_json.proofs.Outlines.{frame_in_plain, layer_in-frame, layer_in-group, layer_in-room}
 use Rattle.map_json.proofs.Returning.{ItemsReturn, ItemsReturn-none, ItemsReturn-item, MembersReturn, MembersReturn-none, MembersReturn-member, Returns-array, Returns-object, regroup_item, regroup_member}
 use Rattle.map_json.proofs.Written.{AreWritten-first, AreWritten-rest, AreWritten-inside, AreWritten-lacks}
-use Rattle.map_json.proofs.Plain.{layer_frame_plain}
 use Rattle.map_json.proofs.map_text.+pushes.Goals.{push_layer-then-room-gt0+in_default, push_layer-else-room-gt0}
 use Rattle.map_json.proofs.map_text.+pushes.Goals as goal
 
 pub push_framed-loop-name-init : goal.push_framed-loop-name-init
 push_framed-loop-name-init t c =
-    let d = layers_tree c.args.room c.args.size.width c.args.size.height c.args.layers.now in
+    let d = layers_in c.args.writing.detail c.args.room c.args.writing.size.width c.args.writing.size.height c.args.layers.now in
     let every = replaced LAYERS.now d c.args.frame.now in
     let held : c.into_iter-name-iterator.result ≡ c.members.result.now.entries = search rules in
     let same = ap members_view held ∙ c.members.ensures in
@@ -41,7 +42,7 @@ push_framed-loop-name-init t c =
 pub push_framed-loop-name-preserved : goal.push_framed-loop-name-preserved
 push_framed-loop-name-preserved t c =
     let l = c.loop-name in
-    let d = layers_tree c.args.room c.args.size.width c.args.size.height c.args.layers.now in
+    let d = layers_in c.args.writing.detail c.args.room c.args.writing.size.width c.args.writing.size.height c.args.layers.now in
     let shown = λ (es : List Entry). replaced LAYERS.now d (members_view es) in
     let every = replaced LAYERS.now d c.args.frame.now in
     let done = l.invariant.0 in
@@ -73,13 +74,13 @@ push_framed-loop-name-preserved t c =
 pub push_framed-returns : goal.push_framed-returns
 push_framed-returns t c =
     let l = c.loop-name in
-    let shown = λ (es : List Entry). replaced LAYERS.now (layers_tree c.args.room c.args.size.width c.args.size.height c.args.layers.now) (members_view es) in
-    let every = replaced LAYERS.now (layers_tree c.args.room c.args.size.width c.args.size.height c.args.layers.now) c.args.frame.now in
+    let shown = λ (es : List Entry). replaced LAYERS.now (layers_in c.args.writing.detail c.args.room c.args.writing.size.width c.args.writing.size.height c.args.layers.now) (members_view es) in
+    let every = replaced LAYERS.now (layers_in c.args.writing.detail c.args.room c.args.writing.size.width c.args.writing.size.height c.args.layers.now) c.args.frame.now in
     let done = l.invariant.0 in
     let none : l.name-iterator ≡ [] = search rules in
     let held : c.into_iter-name-iterator.result ≡ c.members.result.now.entries = search rules in
     let all : c.members.result.now.entries ≡ done = sym held ∙ (l.invariant.1 ∙ (ap (λ es. done ++ es) none ∙ append-nil done)) in
-    let same : every ≡ shown done = ap (replaced LAYERS.now (layers_tree c.args.room c.args.size.width c.args.size.height c.args.layers.now)) (sym c.members.ensures) ∙ ap shown all in
+    let same : every ≡ shown done = ap (replaced LAYERS.now (layers_in c.args.writing.detail c.args.room c.args.writing.size.width c.args.writing.size.height c.args.layers.now)) (sym c.members.ensures) ∙ ap shown all in
     let back = subst (λ ms. MembersReturn no_members ms every) same (MembersReturn-none every) in (
       c.in_ok-push-2.ensures.items
           ∙ (ap (λ es. l.text.items ++ members_text l.later (shown es)) (sym none)
@@ -89,13 +90,13 @@ push_framed-returns t c =
 
 pub push_layer-push_framed-requires : goal.push_layer-push_framed-requires
 push_layer-push_framed-requires t c =
-    let size = c.args.size.width * c.args.size.height in
+    let size = c.args.writing.size.width * c.args.writing.size.height in
     let l = c.args.layer.now in
     let group : group_in l.body ≡ Some c.in-Some.inside.now = search rules in
     let more : c.args.room ≡ suc (c.args.room - 1) = omega (arith, c.if-room-gt0.true) in
-    let plain = layer_frame_plain c.args.room c.args.size.width c.args.size.height l c.requires in
+    let plain = frame_in_plain c.args.writing.detail c.args.room c.args.writing.size.width c.args.writing.size.height l c.requires in
     let deep = plain.1 in
-    let is : c.in_ok-frame.frame ≡ layer_frame c.args.size.width c.args.size.height l = c.in_ok-frame.ensures in (
+    let is : c.in_ok-frame.frame ≡ frame_in c.args.writing.detail c.args.writing.size.width c.args.writing.size.height l = c.in_ok-frame.ensures in (
       omega (arith, c.if-room-gt0.true),
       (
         AreWritten-inside c.args.room (c.args.room - 1) size l c.in-Some.inside.now more (ap or_empty group) c.requires,
@@ -109,44 +110,44 @@ push_layer-returns-in-Some t c =
     let group : group_in l.body ≡ Some c.in-Some.inside.now = search rules in
     let less = c.args.room - 1 in
     let more : c.args.room ≡ suc less = omega (arith, c.if-room-gt0.true) in
-    let is : c.in_ok-frame.frame ≡ layer_frame c.args.size.width c.args.size.height l = c.in_ok-frame.ensures in
-    let whole = ap (λ ms. object (replaced LAYERS.now (layers_tree less c.args.size.width c.args.size.height c.in-Some.inside.now) ms)) is
-    ∙ layer_tree-group c.args.room less c.args.size.width c.args.size.height l c.in-Some.inside.now more group (AreWritten-lacks c.args.room (c.args.size.width * c.args.size.height) l c.requires) in
+    let is : c.in_ok-frame.frame ≡ frame_in c.args.writing.detail c.args.writing.size.width c.args.writing.size.height l = c.in_ok-frame.ensures in
+    let whole = ap (λ ms. object (replaced LAYERS.now (layers_in c.args.writing.detail less c.args.writing.size.width c.args.writing.size.height c.in-Some.inside.now) ms)) is
+    ∙ layer_in-group c.args.writing.detail c.args.room less c.args.writing.size.width c.args.writing.size.height l c.in-Some.inside.now more group (AreWritten-lacks c.args.room (c.args.writing.size.width * c.args.writing.size.height) l c.requires) in
     subst (λ d. OnOk c.push_framed.result (Appends d c.args.text.now.items c.push_framed.new.text.items)) whole c.push_framed.ensures
 
 pub push_layer-push_value-requires-clause-whole : goal.push_layer-push_value-requires-clause-whole
 push_layer-push_value-requires-clause-whole t c =
-    let plain = layer_frame_plain c.args.room c.args.size.width c.args.size.height c.args.layer.now c.requires in
+    let plain = frame_in_plain c.args.writing.detail c.args.room c.args.writing.size.width c.args.writing.size.height c.args.layer.now c.requires in
     ap has_float (c.into_value.ensures ∙ ap object c.in_ok-frame.ensures) ∙ plain.0
 
 pub push_layer-push_value-requires-clause-shallow : goal.push_layer-push_value-requires-clause-shallow
 push_layer-push_value-requires-clause-shallow t c =
-    let plain = layer_frame_plain c.args.room c.args.size.width c.args.size.height c.args.layer.now c.requires in
+    let plain = frame_in_plain c.args.writing.detail c.args.room c.args.writing.size.width c.args.writing.size.height c.args.layer.now c.requires in
     subst (λ d. depth d ≤ max_depth) (sym (c.into_value.ensures ∙ ap object c.in_ok-frame.ensures)) plain.1
 
 pub push_layer-returns : goal.push_layer-returns
 push_layer-returns t c =
     let l = c.args.layer.now in
-    let whole : object (layer_frame c.args.size.width c.args.size.height l) ≡ layer_tree c.args.room c.args.size.width c.args.size.height l =
+    let whole : object (frame_in c.args.writing.detail c.args.writing.size.width c.args.writing.size.height l) ≡ layer_in c.args.writing.detail c.args.room c.args.writing.size.width c.args.writing.size.height l =
     elim c.if-room-gt0.branch [
       | push_layer-then-room-gt0+in_default w ↦
           let none : group_in l.body ≡ None = search rules in
-          layer_tree-frame c.args.room c.args.size.width c.args.size.height l none
-      | push_layer-else-room-gt0 w ↦ layer_tree-room c.args.room c.args.size.width c.args.size.height l (omega (arith, w.if-room-gt0))
+          layer_in-frame c.args.writing.detail c.args.room c.args.writing.size.width c.args.writing.size.height l none
+      | push_layer-else-room-gt0 w ↦ layer_in-room c.args.writing.detail c.args.room c.args.writing.size.width c.args.writing.size.height l (omega (arith, w.if-room-gt0))
     ] in
     subst (λ d. OnOk c.push_value.result (Appends d c.args.text.now.items c.push_value.new.text.items)) (c.into_value.ensures ∙ (ap object c.in_ok-frame.ensures ∙ whole)) c.push_value.ensures
 
 pub push_layers-push_layer-requires : goal.push_layers-push_layer-requires
 push_layers-push_layer-requires t c = (
   omega arith,
-  AreWritten-first c.args.room (c.args.size.width * c.args.size.height) c.in-Some.layer.now c.next.new.self
-      (subst (AreWritten c.args.room (c.args.size.width * c.args.size.height)) c.in-Some.ensures.steps c.loop-layer.invariant.2),
+  AreWritten-first c.args.room (c.args.writing.size.width * c.args.writing.size.height) c.in-Some.layer.now c.next.new.self
+      (subst (AreWritten c.args.room (c.args.writing.size.width * c.args.writing.size.height)) c.in-Some.ensures.steps c.loop-layer.invariant.2),
 )
 
 pub push_layers-loop-layer-preserved : goal.push_layers-loop-layer-preserved
 push_layers-loop-layer-preserved t c =
     let l = c.loop-layer in
-    let tree = layer_tree c.args.room c.args.size.width c.args.size.height in
+    let tree = layer_in c.args.writing.detail c.args.room c.args.writing.size.width c.args.writing.size.height in
     let d = tree c.in-Some.layer.now in
     let left = items_by tree c.next.new.self in
     let step : items_by tree l.layer-iterator ≡ item d left = ap (items_by tree) c.in-Some.ensures.steps in
@@ -155,14 +156,14 @@ push_layers-loop-layer-preserved t c =
       ap (λ t. t ++ items_text true left) (shows.0 ∙ ap (λ t. t ++ compact_text d) c.in_ok-push_comma.ensures)
           ∙ (regroup_item l.text.items (comma_if l.later) (compact_text d) (items_text true left) ∙ (ap (λ ds. l.text.items ++ items_text l.later ds) (sym step) ∙ l.invariant.0)),
       λ h. l.invariant.1 (subst ItemsReturn (sym step) (ItemsReturn-item d left shows.1 h)),
-      AreWritten-rest c.args.room (c.args.size.width * c.args.size.height) c.in-Some.layer.now c.next.new.self
-          (subst (AreWritten c.args.room (c.args.size.width * c.args.size.height)) c.in-Some.ensures.steps l.invariant.2),
+      AreWritten-rest c.args.room (c.args.writing.size.width * c.args.writing.size.height) c.in-Some.layer.now c.next.new.self
+          (subst (AreWritten c.args.room (c.args.writing.size.width * c.args.writing.size.height)) c.in-Some.ensures.steps l.invariant.2),
     )
 
 pub push_layers-returns : goal.push_layers-returns
 push_layers-returns t c =
     let l = c.loop-layer in
-    let tree = layer_tree c.args.room c.args.size.width c.args.size.height in
+    let tree = layer_in c.args.writing.detail c.args.room c.args.writing.size.width c.args.writing.size.height in
     let all = items_by tree c.args.layers.now in
     let none : l.layer-iterator ≡ [] = search rules in (
       c.in_ok-push-2.ensures.items

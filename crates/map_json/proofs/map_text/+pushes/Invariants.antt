@@ -6,7 +6,8 @@ use Rattle.serde_json.specs.Written.{items_text, members_have_float, members_tex
 use Rattle.serde_json.proofs.Views.{Entry}
 use Rattle.map_model.specs.declared.names.TheConstants.{LAYERS}
 use Rattle.map_json.specs.Appending.{AreWritten, replaced}
-use Rattle.map_json.specs.Trees.{items_by, layer_tree, layers_tree}
+use Rattle.map_json.specs.Details.{layer_in, layers_in}
+use Rattle.map_json.specs.Trees.{items_by}
 use Rattle.map_json.proofs.Returning.{ItemsReturn, MembersReturn}
 use Rattle.map_json.proofs.map_text.+pushes.Given as goal
 
@@ -24,17 +25,17 @@ decreases-push_framed l = 4 * l.room + 3
 
 abbrev pub invariant-push_layers-loop-layer : goal.invariant-push_layers-loop-layer
 invariant-push_layers-loop-layer l =
-    let f = layer_tree l.room l.size.width l.size.height in
+    let f = layer_in l.writing.detail l.room l.writing.size.width l.writing.size.height in
     let left = items_by f l.layer-iterator in
     let all = items_by f l.layers in
     (l.text.items ++ items_text l.later left ≡ l.initial.text.items ++ items_text false all)
     × (ItemsReturn left → ItemsReturn all)
-    × AreWritten l.room (l.size.width * l.size.height) l.layer-iterator
+    × AreWritten l.room (l.writing.size.width * l.writing.size.height) l.layer-iterator
 
 abbrev pub invariant-push_framed-loop-name : goal.invariant-push_framed-loop-name
 invariant-push_framed-loop-name l =
-    let shown = λ (es : List Entry). replaced LAYERS.now (layers_tree l.room l.size.width l.size.height l.layers) (members_view es) in
-    let all = replaced LAYERS.now (layers_tree l.room l.size.width l.size.height l.layers) l.frame in
+    let shown = λ (es : List Entry). replaced LAYERS.now (layers_in l.writing.detail l.room l.writing.size.width l.writing.size.height l.layers) (members_view es) in
+    let all = replaced LAYERS.now (layers_in l.writing.detail l.room l.writing.size.width l.writing.size.height l.layers) l.frame in
     (done : List Entry)
     × (l.initial.name-iterator ≡ done ++ l.name-iterator)
     × (l.text.items ++ members_text l.later (shown l.name-iterator) ≡ l.initial.text.items ++ members_text false all)

@@ -1,62 +1,20 @@
-use Rattle.std.proofs.Common.{◌≡◌, IsUtf8, ℕ, ◌*◌, sym, ap, ◌∙◌, subst, arith}
-use Rattle.serde_json.specs.Data.{Members, object}
+use Rattle.std.proofs.Common.{IsUtf8, sym, ap, ◌∙◌, subst}
+use Rattle.std.proofs.lemmas.Result.{IfOk-weaker}
 use Rattle.serde_json.specs.Read.{read}
-use Rattle.serde_json.specs.Written.{compact_text}
-use Rattle.map_model.specs.declared.names.TheConstants.{LAYERS}
-use Rattle.map_model.specs.declared.limits.TheConstants.{MAX_GROUPS}
-use Rattle.map_model.specs.declared.parts.MapParts.{MapParts}
-use Rattle.map_model.specs.WellFormed.{IsWellFormed}
-use Rattle.map_json.specs.Appending.{AreWritten, Returns, frame_of, replaced}
-use Rattle.map_json.specs.Trees.{layers_tree, tree_of}
-use Rattle.map_json.proofs.Frames.{replaced-frame_of}
+use Rattle.map_json.specs.Trees.{tree_of}
 use Rattle.map_json.proofs.MapLaw.{map_again}
-use Rattle.map_json.proofs.Plain.{frame_plain, layers_AreWritten, tree_plain}
+use Rattle.map_json.proofs.Plain.{tree_plain}
 use Rattle.map_json.proofs.Returning.{read-compact_text}
 use Rattle.map_json.proofs.map_text.write_map.Goals as goal
 
--- what is put out is the map's tree
-put_out : (width height : ℕ) (parts m : MapParts) (frame : Members) → width ≡ parts.width → height ≡ parts.height → parts ≡ m → frame ≡ frame_of parts → IsWellFormed m
-    → object (replaced LAYERS.now (layers_tree MAX_GROUPS width height parts.layers) frame) ≡ tree_of m
-unfolding tree_of
-put_out width height parts m frame wide high same is h =
-    rw (wide, high, is, same) (ap object (replaced-frame_of (layers_tree MAX_GROUPS m.width m.height m.layers) m h.kept.unread.1.1.1.1.1.1.1.0))
-
-pub push_framed-requires-clause-layers : goal.push_framed-requires-clause-layers
-push_framed-requires-clause-layers c =
-    let P : MapParts → Type 0 = λ m. AreWritten MAX_GROUPS (m.width * m.height) m.layers in
-    rw (c.of_map-size.ensures.width, c.of_map-size.ensures.height) (subst P (sym c.parts-parts.ensures.value) (layers_AreWritten c.args.map.now c.parts-parts.ensures.well_formed))
-
-pub push_framed-requires-clause-whole : goal.push_framed-requires-clause-whole
-push_framed-requires-clause-whole c =
-    let plain = frame_plain c.args.map.now c.parts-parts.ensures.well_formed in
-    rw (c.in_ok-frame.ensures, c.parts-parts.ensures.value) plain.0
-
-pub push_framed-requires-clause-shallow : goal.push_framed-requires-clause-shallow
-push_framed-requires-clause-shallow c =
-    let plain = frame_plain c.args.map.now c.parts-parts.ensures.well_formed in
-    let deep = plain.1 in
-    rw (c.in_ok-frame.ensures, c.parts-parts.ensures.value) (omega arith)
-
 pub returns-clause-text : goal.returns-clause-text
-returns-clause-text c =
-    let out = put_out c.of_map-size.result.width c.of_map-size.result.height c.parts-parts.result.now c.args.map.now c.in_ok-frame.frame c.of_map-size.ensures.width c.of_map-size.ensures.height c.parts-parts.ensures.value c.in_ok-frame.ensures c.parts-parts.ensures.well_formed in
-    c.in_ok-push_framed.ensures.0 ∙ (rw c.new-text.ensures.items (ap compact_text out))
+returns-clause-text c = IfOk-weaker c.write_in.result _ _ (λ x h. h.0) c.write_in.ensures.text
 
 pub returns-clause-read_back : goal.returns-clause-read_back
 returns-clause-read_back c =
     let m = c.args.map.now in
-    let well = c.parts-parts.ensures.well_formed in
-    let out = put_out c.of_map-size.result.width c.of_map-size.result.height c.parts-parts.result.now m c.in_ok-frame.frame c.of_map-size.ensures.width c.of_map-size.ensures.height c.parts-parts.ensures.value c.in_ok-frame.ensures well in
-    let plain = tree_plain m well in
-    let is : c.push_framed.new.text.items ≡ compact_text (tree_of m) = c.in_ok-push_framed.ensures.0 ∙ (rw c.new-text.ensures.items (ap compact_text out)) in
-    let back = subst Returns out c.in_ok-push_framed.ensures.1 in
-    (subst IsUtf8 (sym is) back.utf8, ap read is ∙ read-compact_text (tree_of m) back plain.1)
-
-pub returns-in_err-frame-clause-read_again : goal.returns-in_err-frame-clause-read_again
-returns-in_err-frame-clause-read_again c = map_again c.args.map.now c.parts-parts.ensures.well_formed
-
-pub returns-in_err-push_framed-clause-read_again : goal.returns-in_err-push_framed-clause-read_again
-returns-in_err-push_framed-clause-read_again c = map_again c.args.map.now c.parts-parts.ensures.well_formed
+    let plain = tree_plain m c.write_in.ensures.well_formed in
+    IfOk-weaker c.write_in.result _ _ (λ x h. (subst IsUtf8 (sym h.0) h.1.utf8, ap read h.0 ∙ read-compact_text (tree_of m) h.1 plain.1)) c.write_in.ensures.text
 
 pub returns-clause-read_again : goal.returns-clause-read_again
-returns-clause-read_again c = map_again c.args.map.now c.parts-parts.ensures.well_formed
+returns-clause-read_again c = map_again c.args.map.now c.write_in.ensures.well_formed

@@ -1,0 +1,112 @@
+-- What is written of a layer in an outline, and in either detail.
+use Rattle.std.proofs.Common.{◌≡◌, ℕ, zero, suc, ◌-◌, ◌*◌, List, [], ◌∷◌, ◌++◌, Some, None, cond, Bool, true, false, refl, sym, ap, ◌∙◌, subst, arith}
+use Rattle.std.specs.Prelude.{filter, not, Option}
+use Rattle.std.specs.Str.{bytes_eq}
+use Rattle.serde_json.specs.Data.{Data, array, object, no_items}
+use Rattle.serde_json.specs.Find.{get_member}
+use Rattle.map_model.specs.declared.names.TheConstants.{DATA, LAYERS}
+use Rattle.map_model.specs.declared.parts.Body.{Body}
+use Rattle.map_model.specs.declared.parts.Body.TheVariants.{Tiles, Objects, Other, Group'}
+use Rattle.map_model.specs.declared.parts.Encoding.{Encoding}
+use Rattle.map_model.specs.declared.parts.Layer.{Layer}
+use Rattle.map_model.specs.Bodies.{IsTiles}
+use Rattle.map_model.specs.Groups.{group_in, inside, tree}
+use Rattle.map_model.specs.Keeping.{layer_names}
+use Rattle.map_model.specs.Lists.{Each, or_empty}
+use Rattle.map_model.specs.WellFormed.{IsDrawn}
+use Rattle.map_json.specs.declared.detail.Detail.{Detail}
+use Rattle.map_json.specs.declared.detail.Detail.TheVariants.{Whole, Outline}
+use Rattle.map_json.specs.Appending.{AreWritten, replaced}
+use Rattle.map_json.specs.Details.{common_own, frame_in, layer_in, layers_in, outline_frame, shape_own}
+use Rattle.map_json.specs.Members.{Own, with_own}
+use Rattle.map_json.specs.Outlines.{outline_layer, outline_own}
+use Rattle.map_json.specs.Trees.{array_by, layer_own}
+use Rattle.map_json.proofs.DrawnLayers.{Each-left}
+use Rattle.map_json.proofs.Frames.{layer_own-other, layer_tree-frame, layer_tree-group, layer_tree-room, replaced-layer_frame}
+use Rattle.map_json.proofs.Plain.{ArePlainOwn, IsPlain, IsPlainOwn, kept_plain, layer_frame_plain, object_plain, own_are_plain, own_IsLayer}
+
+-- ---- the own members in an outline
+-- of a layer that is no tile layer they are all
+pub outline_own-other : (width height : ℕ) (d : Data) (l : Layer) (b : Body) → (IsTiles b → ⊥) → outline_own width height d (record l { body = b }) ≡ layer_own width height d (record l { body = b })
+outline_own-other width height d l (Tiles e cells) h = absurd (h tt)
+outline_own-other width height d l (Objects os) h = refl
+outline_own-other width height d l Other h = refl
+outline_own-other width height d l (Group' s r) h = refl
+
+-- of a tile layer they are all but the values
+pub outline_own-tiles : (width height : ℕ) (d : Data) (l : Layer) (b : Body) (e : Encoding) (cells : List ℕ) → b ≡ Tiles e cells
+    → outline_own width height d (record l { body = b }) ≡ common_own (record l { body = b }) ++ shape_own width height e
+outline_own-tiles width height d l (Tiles f values) e cells is =
+    let same : f ≡ e = cc in
+    ap (λ (x : Encoding). common_own (record l { body = Tiles f values }) ++ shape_own width height x) same
+outline_own-tiles width height d l (Objects os) e cells is = absurd (let worse : ⊥ = cc in worse)
+outline_own-tiles width height d l Other e cells is = absurd (let worse : ⊥ = cc in worse)
+outline_own-tiles width height d l (Group' s r) e cells is = absurd (let worse : ⊥ = cc in worse)
+
+no_tiles : (b : Body) (ls : List Layer) → group_in b ≡ Some ls → IsTiles b → ⊥
+no_tiles (Tiles e cells) ls g = absurd (let worse : ⊥ = cc in worse)
+no_tiles (Objects os) ls g = λ t. t
+no_tiles Other ls g = λ t. t
+no_tiles (Group' s r) ls g = λ t. t
+
+-- ---- numbers and depths
+filter_plain_at : (b : Bool) (n : ℕ) (x : List ℕ × Option Data) (rest : Own) → IsPlainOwn n x.1 → ArePlainOwn n rest → ArePlainOwn n (cond b (x ∷ rest) rest)
+filter_plain_at true n x rest h g = (h, g)
+filter_plain_at false n x rest h g = g
+
+filter_plain : (n : ℕ) (p : (List ℕ × Option Data) → Bool) (t : Own) → ArePlainOwn n t → ArePlainOwn n (filter p t)
+filter_plain n p [] h = tt
+filter_plain n p (x ∷ t) h = filter_plain_at (p x) n x (filter p t) h.0 (filter_plain n p t h.1)
+
+outline_frame_plain : (room width height : ℕ) (l : Layer) → AreWritten room (width * height) (l ∷ []) → IsPlain 127 (object (outline_frame width height l))
+outline_frame_plain room width height l h =
+    let n = 123 - h.level in
+    let m = suc (suc (suc (suc n))) in
+    let own = own_IsLayer room h.level (width * height) l (Each-left (IsDrawn (width * height)) (tree room h.level l) [] h.each) in
+    let all = own_are_plain h.level n (width * height) width height (omega (arith, h.balance)) (array no_items) (refl, omega arith) l own in
+    let some = filter_plain m (λ p. not (bytes_eq p.0 DATA.now)) (layer_own width height (array no_items) l) all in
+    let frame = object_plain m (outline_own width height (array no_items) l) l.kept some (kept_plain h.level m (layer_names l.body) l.kept (omega (arith, h.balance)) own.kept) in
+    let deep = frame.1 in
+    (frame.0, omega (arith, h.balance, h.high, deep))
+
+-- ---- in either detail
+pub frame_in_plain : (detail : Detail) (room width height : ℕ) (l : Layer) → AreWritten room (width * height) (l ∷ []) → IsPlain 127 (object (frame_in detail width height l))
+frame_in_plain Whole room width height l h = layer_frame_plain room width height l h
+frame_in_plain Outline room width height l h = outline_frame_plain room width height l h
+
+outline_layer-frame : (room width height : ℕ) (l : Layer) → group_in l.body ≡ None → object (outline_frame width height l) ≡ outline_layer room width height l
+unfolding outline_layer
+outline_layer-frame zero width height l g = refl
+outline_layer-frame (suc room) width height l g =
+    ap (λ (own : Own). object (with_own (filter (λ p. not (bytes_eq p.0 DATA.now)) own) l.kept)) (layer_own-other width height (array no_items) (array_by (outline_layer room width height) (inside l)) l l.body g)
+
+-- the tree of a layer is its frame's, where it is no group or has no room for layers in it
+pub layer_in-frame : (detail : Detail) (room width height : ℕ) (l : Layer) → group_in l.body ≡ None → object (frame_in detail width height l) ≡ layer_in detail room width height l
+layer_in-frame Whole room width height l g = layer_tree-frame room width height l g
+layer_in-frame Outline room width height l g = outline_layer-frame room width height l g
+
+outline_layer-room : (room width height : ℕ) (l : Layer) → room ≡ 0 → object (outline_frame width height l) ≡ outline_layer room width height l
+unfolding outline_layer
+outline_layer-room room width height l none = rw none refl
+
+pub layer_in-room : (detail : Detail) (room width height : ℕ) (l : Layer) → room ≡ 0 → object (frame_in detail width height l) ≡ layer_in detail room width height l
+layer_in-room Whole room width height l none = layer_tree-room room width height l none
+layer_in-room Outline room width height l none = outline_layer-room room width height l none
+
+outline_layer-group : (room less width height : ℕ) (l : Layer) (ls : List Layer) → room ≡ suc less → group_in l.body ≡ Some ls → Each (λ name. get_member name l.kept ≡ None) (layer_names l.body)
+    → object (replaced LAYERS.now (array_by (outline_layer less width height) ls) (outline_frame width height l)) ≡ outline_layer room width height l
+unfolding outline_layer
+outline_layer-group room less width height l ls more g h =
+    let d = array_by (outline_layer less width height) ls in
+    let same = λ (e : Data). outline_own-other width height e l l.body (no_tiles l.body ls g) in
+    ap (λ (own : Own). object (replaced LAYERS.now d (with_own own l.kept))) (same (array no_items))
+    ∙ (ap object (replaced-layer_frame width height d l ls g h)
+    ∙ (sym (ap (λ (own : Own). object (with_own own l.kept)) (same d))
+    ∙ (ap (λ (o : Option (List Layer)). object (with_own (outline_own width height (array_by (outline_layer less width height) (or_empty o)) l) l.kept)) (sym g)
+    ∙ ap (λ n. outline_layer n width height l) (sym more))))
+
+-- the tree of a group
+pub layer_in-group : (detail : Detail) (room less width height : ℕ) (l : Layer) (ls : List Layer) → room ≡ suc less → group_in l.body ≡ Some ls → Each (λ name. get_member name l.kept ≡ None) (layer_names l.body)
+    → object (replaced LAYERS.now (layers_in detail less width height ls) (frame_in detail width height l)) ≡ layer_in detail room width height l
+layer_in-group Whole room less width height l ls more g h = layer_tree-group room less width height l ls more g h
+layer_in-group Outline room less width height l ls more g h = outline_layer-group room less width height l ls more g h

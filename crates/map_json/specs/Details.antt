@@ -1,0 +1,44 @@
+-- For private clauses: what is written of a layer and of a map, whole or as an outline.
+use Rattle.std.specs.Prelude.{ℕ, List, [], ◌∷◌, Some, None}
+use Rattle.serde_json.specs.Data.{Data, array, boolean, string, Members, no_items}
+use Rattle.map_model.specs.declared.names.TheConstants.{ID, NAME, TYPE, VISIBLE, PROPERTIES, WIDTH, HEIGHT, ENCODING, COMPRESSION}
+use Rattle.map_model.specs.declared.parts.Encoding.{Encoding}
+use Rattle.map_model.specs.declared.parts.Layer.{Layer}
+use Rattle.map_model.specs.declared.parts.MapParts.{MapParts}
+use Rattle.map_json.specs.declared.detail.Detail.{Detail}
+use Rattle.map_json.specs.declared.detail.Detail.TheVariants.{Whole, Outline}
+use Rattle.map_json.specs.Appending.{layer_frame}
+use Rattle.map_json.specs.Members.{Own, with_own}
+use Rattle.map_json.specs.Outlines.{outline_layer, outline_of, outline_own}
+use Rattle.map_json.specs.Trees.{array_by, encoding_member, layer_tree, properties_member, tree_of, type_word, whole_tree}
+
+-- the own members of a layer of any kind
+abbrev pub common_own : Layer → Own
+common_own l =
+    (TYPE.now, Some (string (type_word l.body))) ∷ (ID.now, Some (whole_tree l.id)) ∷ (NAME.now, Some (string l.name))
+    ∷ (VISIBLE.now, Some (boolean l.visible)) ∷ (PROPERTIES.now, properties_member l.properties) ∷ []
+
+-- those of a tile layer's kind, but its values
+abbrev pub shape_own : ℕ → ℕ → Encoding → Own
+shape_own width height e =
+    (ENCODING.now, encoding_member e) ∷ (COMPRESSION.now, None) ∷ (WIDTH.now, Some (whole_tree width)) ∷ (HEIGHT.now, Some (whole_tree height)) ∷ []
+
+-- the members of a layer in an outline, with an empty array for the layers of a group
+abbrev pub outline_frame : ℕ → ℕ → Layer → Members
+outline_frame width height l = with_own (outline_own width height (array no_items) l) l.kept
+
+-- ---- in either detail
+abbrev pub frame_in : Detail → ℕ → ℕ → Layer → Members
+frame_in Whole width height l = layer_frame width height l
+frame_in Outline width height l = outline_frame width height l
+
+abbrev pub layer_in : Detail → ℕ → ℕ → ℕ → Layer → Data
+layer_in Whole room width height l = layer_tree room width height l
+layer_in Outline room width height l = outline_layer room width height l
+
+abbrev pub layers_in : Detail → ℕ → ℕ → ℕ → List Layer → Data
+layers_in detail room width height ls = array_by (layer_in detail room width height) ls
+
+abbrev pub map_in : Detail → MapParts → Data
+map_in Whole m = tree_of m
+map_in Outline m = outline_of m

@@ -1,0 +1,245 @@
+-- How the hearing of many lines goes on.
+use Rattle.std.proofs.Common.{◌≡◌, ℕ, ◌+◌, ◌-◌, ◌<◌, ◌≤◌, IsTrue, Bool, true, false, List, [], ◌∷◌, ◌++◌, length, take, drop, Option, Some, None, refl, sym, ap, subst, ◌∙◌, inl, inr, ◌⊎◌, append_assoc, arith}
+use Rattle.std.specs.Prelude.{All, nat_le, is_some, option_to_list, if◌then◌else◌}
+use Rattle.std.proofs.lemmas.Bool.{false≢true, le-leb, lt-leb, leb-true, leb-false}
+use Rattle.std.proofs.lemmas.List.{append-nil, drop-drop, drop_all, drop_at, length-append, length-drop, take_all, take_at}
+use borrow.Rule.Slice.PartMut.{put_mid}
+use Rattle.std.proofs.lemmas.List.Elements.{All-append, All-nil, All-cons}
+use Rattle.std.proofs.lemmas.Grind.{flat_map-append}
+use Rattle.lines.specs.Lines.{lines_of}
+use Rattle.session.specs.Replies.{refusal_of}
+use Rattle.session.specs.declared.reply.Refusal.{Refusal}
+use Rattle.session.specs.declared.reply.Reply.{Reply}
+use Rattle.editor.specs.Machine.{Workspace}
+use Rattle.editor.specs.Steps.{StepIn}
+use Rattle.session_run.specs.Runs.{Run, IsAccepted, output, reply_line}
+use Rattle.roskevad_session.specs.Buffers.{size_within, written}
+use Rattle.roskevad_session.specs.Counts.{unheard, with_line}
+use Rattle.roskevad_session.specs.Hearing.{Ends, HearsUpTo, is_refusal, reply_bytes, told}
+use Rattle.roskevad_session.specs.Parts.{SessionParts, workspace_of}
+use Rattle.roskevad_session.specs.declared.heard.Heard.{Heard}
+use Rattle.roskevad_session.proofs.Pieces.{written-fits, written-larger}
+
+-- no line was heard yet, or some were
+abbrev pub SoFar : Bool → List ℕ → List ℕ → SessionParts → Heard → SessionParts → List ℕ → Type 0
+SoFar stops bytes buffer start heard now after =
+    ((heard ≡ unheard) × (now ≡ start) × (after ≡ buffer)) ⊎ HearsUpTo stops bytes buffer start heard now after
+
+-- lines were heard, all their replies stand in the buffer, and a further line may follow
+pub record GoesOn (stops : Bool) (bytes buffer : List ℕ) (start : SessionParts) (heard : Heard) (now : SessionParts) (after : List ℕ) : Type 0 where
+  pub lines : List (List ℕ)
+  pub replies : List Reply
+  pub cut : lines_of bytes ≡ lines ++ lines_of (drop heard.bytes bytes)
+  pub counted : heard.lines ≡ length lines
+  pub run : Run (workspace_of start) lines replies (workspace_of now)
+  pub accepted : IsTrue stops → All IsAccepted replies
+  pub fits : length (output replies) ≤ length buffer
+  pub size : heard.replies ≡ length (output replies)
+  pub written : after ≡ output replies ++ drop (length (output replies)) buffer
+
+-- ---- a run and a step more
+run_more : (lines : List (List ℕ)) (line : List ℕ) (from now mid : Workspace) (replies : List Reply) (reply : Option Reply) → Run from lines replies now → StepIn line now reply mid
+    → Run from (lines ++ line ∷ []) (replies ++ option_to_list reply) mid
+run_more [] line from now mid replies reply r s =
+    let P : Workspace → Type 0 = λ m. StepIn line m reply mid in
+    (mid, reply, [], subst P r.1 s, (refl, refl), ap (λ (rs : List Reply). rs ++ option_to_list reply) r.0 ∙ sym (append-nil (option_to_list reply)))
+run_more (l ∷ lines) line from now mid replies reply r s = (
+  r.0,
+  r.1,
+  r.2 ++ option_to_list reply,
+  r.3,
+  run_more lines line r.0 now mid r.2 reply r.4 s,
+  ap (λ (rs : List Reply). rs ++ option_to_list reply) r.5 ∙ append_assoc (option_to_list r.1) r.2 (option_to_list reply),
+)
+
+-- ---- replies
+output-one : (reply : Option Reply) → output (option_to_list reply) ≡ reply_bytes reply
+output-one None = refl
+output-one (Some reply) = append-nil (reply_line reply)
+
+output-more : (replies : List Reply) (reply : Option Reply) → output (replies ++ option_to_list reply) ≡ output replies ++ reply_bytes reply
+output-more replies reply = flat_map-append reply_line replies (option_to_list reply) ∙ ap (λ (t : List ℕ). output replies ++ t) (output-one reply)
+
+no_refusal : (o : Option Refusal) → is_some o ≡ false → o ≡ None
+no_refusal None e = refl
+no_refusal (Some refusal) e = absurd (let worse : ⊥ = cc in worse)
+
+accepted-last : (reply : Option Reply) → is_refusal reply ≡ false → All IsAccepted (option_to_list reply)
+accepted-last None e = All-nil IsAccepted
+accepted-last (Some reply) e = All-cons IsAccepted reply [] (no_refusal (refusal_of reply) e) (All-nil IsAccepted)
+
+-- ---- buffers
+size_within-Some_at : (b : Bool) (n k : ℕ) → Some n ≡ (if b then Some k else None) → (b ≡ true) × (n ≡ k)
+size_within-Some_at true n k e = (refl, cc)
+size_within-Some_at false n k e = absurd (let worse : ⊥ = cc in worse)
+
+size_within-Some : (values buffer : List ℕ) (n : ℕ) → Some n ≡ size_within values buffer → (length values ≤ length buffer) × (n ≡ length values)
+size_within-Some values buffer n e =
+    let both = size_within-Some_at (nat_le (length values) (length buffer)) n (length values) e in
+    (leb-true (length values) (length buffer) both.0, both.1)
+
+size_within-None_at : (b : Bool) (k : ℕ) → None ≡ (if b then Some k else None) → b ≡ false
+size_within-None_at true k e = absurd (let worse : ⊥ = cc in worse)
+size_within-None_at false k e = refl
+
+size_within-None : (values buffer : List ℕ) → None ≡ size_within values buffer → length buffer < length values
+size_within-None values buffer e = leb-false (length values) (length buffer) (size_within-None_at (nat_le (length values) (length buffer)) (length values) e)
+
+-- ---- where no further line is heard
+pub none_heard : (stops : Bool) (bytes buffer : List ℕ) (start : SessionParts) (heard : Heard) (now : SessionParts) (after : List ℕ) → SoFar stops bytes buffer start heard now after
+    → bytes ≡ [] → (heard ≡ unheard) × (now ≡ start) × (after ≡ buffer)
+none_heard stops bytes buffer start heard now after (inl h) e = h
+none_heard stops bytes buffer start heard now after (inr h) e =
+    let rest = h.line ∷ lines_of (drop heard.bytes bytes) in
+    let none : [] ≡ h.before ++ rest = sym (ap lines_of e) ∙ h.cut in
+    absurd (omega (arith, ap length none, length-append h.before rest))
+
+pub some_heard : (stops : Bool) (bytes buffer : List ℕ) (start : SessionParts) (heard : Heard) (now : SessionParts) (after : List ℕ) → SoFar stops bytes buffer start heard now after
+    → Ends stops bytes heard → 0 < length bytes → HearsUpTo stops bytes buffer start heard now after
+some_heard stops bytes buffer start heard now after (inr h) e lt = h
+some_heard stops bytes buffer start heard now after (inl h) (inl at) lt = let none = ap (λ (x : Heard). x.bytes) h.0 in absurd (omega (arith, at, none, lt))
+some_heard stops bytes buffer start heard now after (inl h) (inr (inl r)) lt = absurd (false≢true (sym (ap (λ (x : Heard). x.is_refused) h.0) ∙ r.1))
+some_heard stops bytes buffer start heard now after (inl h) (inr (inr r)) lt = absurd (false≢true (sym r ∙ ap (λ (x : Heard). x.has_room) h.0))
+
+-- ---- before a further line
+told-true : (b : Bool) (replies : List Reply) (reply : Option Reply) → b ≡ true → told b replies reply ≡ replies ++ option_to_list reply
+told-true b replies reply e = ap (λ (x : Bool). told x replies reply) e
+
+pub goes_on : (stops : Bool) (bytes buffer : List ℕ) (start : SessionParts) (heard : Heard) (now : SessionParts) (after : List ℕ) → SoFar stops bytes buffer start heard now after
+    → heard.has_room ≡ true → (IsTrue stops → heard.is_refused ≡ false) → GoesOn stops bytes buffer start heard now after
+goes_on stops bytes buffer start heard now after (inl h) room accepted = record {
+  lines = [];
+  replies = [];
+  cut = ap (λ (x : Heard). lines_of (drop x.bytes bytes)) (sym h.0);
+  counted = ap (λ (x : Heard). x.lines) h.0;
+  run = (refl, ap workspace_of h.1);
+  accepted = λ s. All-nil IsAccepted;
+  fits = omega arith;
+  size = ap (λ (x : Heard). x.replies) h.0;
+  written = h.2;
+}
+goes_on stops bytes buffer start heard now after (inr h) room accepted =
+    let all = told-true heard.has_room h.replies now.reply room in
+    let fit : length (output (h.replies ++ option_to_list now.reply)) ≤ length buffer = leb-true _ _ (sym h.room ∙ room) in
+    record {
+      lines = h.before ++ h.line ∷ [];
+      replies = h.replies ++ option_to_list now.reply;
+      cut = h.cut ∙ sym (append_assoc h.before (h.line ∷ []) (lines_of (drop heard.bytes bytes)));
+      counted = h.lines ∙ sym (length-append h.before (h.line ∷ []));
+      run = run_more h.before h.line (workspace_of start) h.mid (workspace_of now) h.replies now.reply h.run h.step;
+      accepted = λ s. All-append IsAccepted h.replies (option_to_list now.reply) (h.accepted s) (accepted-last now.reply (sym h.refused ∙ accepted s));
+      fits = fit;
+      size = h.size ∙ ap (λ (rs : List Reply). length (output rs)) all;
+      written = h.written ∙ ap (λ (rs : List Reply). written (output rs) buffer) all ∙ written-fits (output (h.replies ++ option_to_list now.reply)) buffer fit;
+    }
+
+-- ---- behind a further line
+module _ (stops : Bool) (bytes buffer : List ℕ) (start : SessionParts) (heard : Heard) (now : SessionParts) (after : List ℕ) (g : GoesOn stops bytes buffer start heard now after)
+    (line : List ℕ) (taken : ℕ) (cut : lines_of (drop heard.bytes bytes) ≡ line ∷ lines_of (drop taken (drop heard.bytes bytes))) (within : heard.bytes + taken ≤ length bytes)
+    (new : SessionParts) (step : StepIn line (workspace_of now) new.reply (workspace_of new)) (refused : Bool) (is_refused : refused ≡ is_refusal new.reply) where
+  abbrev told_before : List ℕ
+  told_before = output g.replies
+
+  abbrev reply : List ℕ
+  reply = reply_bytes new.reply
+
+  -- what is left of the buffer
+  left : drop heard.replies after ≡ drop (length told_before) buffer
+  left = ap (λ n. drop n after) g.size ∙ ap (λ (t : List ℕ). drop (length told_before) t) g.written ∙ drop_at told_before (drop (length told_before) buffer) (length told_before) refl
+
+  front : take heard.replies after ≡ told_before
+  front = ap (λ n. take n after) g.size ∙ ap (λ (t : List ℕ). take (length told_before) t) g.written ∙ take_at told_before (drop (length told_before) buffer) (length told_before) refl
+
+  left_size : length (drop heard.replies after) ≡ length buffer - length told_before
+  left_size = ap length left ∙ length-drop (length told_before) buffer
+
+  all_cut : lines_of bytes ≡ g.lines ++ line ∷ lines_of (drop (heard.bytes + taken) bytes)
+  all_cut = g.cut ∙ ap (λ (ls : List (List ℕ)). g.lines ++ ls) cut ∙ ap (λ (bs : List ℕ). g.lines ++ line ∷ lines_of bs) (drop-drop taken heard.bytes bytes)
+
+  both : output (g.replies ++ option_to_list new.reply) ≡ told_before ++ reply
+  both = output-more g.replies new.reply
+
+  both_size : length (output (g.replies ++ option_to_list new.reply)) ≡ length told_before + length reply
+  both_size = ap length both ∙ length-append told_before reply
+
+  pub heard_more : (put : Option ℕ) (end : List ℕ) → put ≡ size_within reply (drop heard.replies after) → end ≡ take heard.replies after ++ written reply (drop heard.replies after)
+      → HearsUpTo stops bytes buffer start (with_line taken refused put heard) new end
+  heard_more (Some n) end e is =
+      let fits = size_within-Some reply (drop heard.replies after) n e in
+      let room : length (output (g.replies ++ option_to_list new.reply)) ≤ length buffer = omega (arith, both_size, left_size, fits.0, g.fits) in
+      let rest : drop (length reply) (drop heard.replies after) ≡ drop (length (told_before ++ reply)) buffer =
+      ap (λ (t : List ℕ). drop (length reply) t) left ∙ drop-drop (length reply) (length told_before) buffer ∙ ap (λ n. drop n buffer) (sym (length-append told_before reply)) in
+      record {
+        before = g.lines;
+        line = line;
+        replies = g.replies;
+        mid = workspace_of now;
+        cut = all_cut;
+        within = within;
+        lines = ap (λ n. n + 1) g.counted;
+        run = g.run;
+        step = step;
+        accepted = g.accepted;
+        refused = is_refused;
+        room = sym (le-leb _ _ room);
+        size = omega (arith, g.size, fits.1, both_size);
+        written =
+            is ∙ ap (λ (t : List ℕ). t ++ written reply (drop heard.replies after)) front
+            ∙ ap (λ (t : List ℕ). told_before ++ t) (written-fits reply (drop heard.replies after) fits.0 ∙ ap (λ (t : List ℕ). reply ++ t) rest)
+            ∙ sym (append_assoc told_before reply (drop (length (told_before ++ reply)) buffer))
+            ∙ ap (λ (t : List ℕ). t ++ drop (length t) buffer) (sym both)
+            ∙ sym (written-fits (output (g.replies ++ option_to_list new.reply)) buffer room);
+      }
+  heard_more None end e is =
+      let larger = size_within-None reply (drop heard.replies after) e in
+      let much : length buffer < length (output (g.replies ++ option_to_list new.reply)) = omega (arith, both_size, left_size, larger, g.fits) in
+      record {
+        before = g.lines;
+        line = line;
+        replies = g.replies;
+        mid = workspace_of now;
+        cut = all_cut;
+        within = within;
+        lines = ap (λ n. n + 1) g.counted;
+        run = g.run;
+        step = step;
+        accepted = g.accepted;
+        refused = is_refused;
+        room = sym (lt-leb _ _ much);
+        size = g.size;
+        written =
+            is ∙ ap (λ (t : List ℕ). t ++ written reply (drop heard.replies after)) front
+            ∙ ap (λ (t : List ℕ). told_before ++ t) (written-larger reply (drop heard.replies after) larger ∙ left)
+            ∙ sym (written-fits told_before buffer g.fits);
+      }
+
+-- ---- the counts
+pub lines-with_line : (bytes : ℕ) (refused : Bool) (put : Option ℕ) (heard : Heard) → (with_line bytes refused put heard).lines ≡ heard.lines + 1
+lines-with_line bytes refused (Some n) heard = refl
+lines-with_line bytes refused None heard = refl
+
+pub bytes-with_line : (bytes : ℕ) (refused : Bool) (put : Option ℕ) (heard : Heard) → (with_line bytes refused put heard).bytes ≡ heard.bytes + bytes
+bytes-with_line bytes refused (Some n) heard = refl
+bytes-with_line bytes refused None heard = refl
+
+pub replies-with_line : (bytes : ℕ) (refused : Bool) (put : Option ℕ) (heard : Heard) (reply left : List ℕ) → put ≡ size_within reply left → (with_line bytes refused put heard).replies ≤ heard.replies + length left
+replies-with_line bytes refused (Some n) heard reply left e = let fits = size_within-Some reply left n e in omega (arith, fits.0, fits.1)
+replies-with_line bytes refused None heard reply left e = omega arith
+
+-- ---- the rest of a list, as a part that is handed on
+pub rest_is : (i : ℕ) (xs : List ℕ) → take (length xs - i) (drop i xs) ≡ drop i xs
+rest_is i xs = take_all (length xs - i) (drop i xs) (omega (arith, length-drop i xs))
+
+pub put_rest : (i : ℕ) (xs ys : List ℕ) → put_mid i (length xs - i) xs ys ≡ take i xs ++ ys
+put_rest i xs ys =
+    ap (λ (t : List ℕ). take i xs ++ (ys ++ t)) (drop_all (length xs - i) (drop i xs) (omega (arith, length-drop i xs)))
+    ∙ ap (λ (t : List ℕ). take i xs ++ t) (append-nil ys)
+
+length-written_at : (b : Bool) (values buffer : List ℕ) → nat_le (length values) (length buffer) ≡ b → length (written values buffer) ≡ length buffer
+length-written_at true values buffer e =
+    let fits = leb-true (length values) (length buffer) e in
+    rw (written-fits values buffer fits) (omega (arith, fits, length-append values (drop (length values) buffer), length-drop (length values) buffer))
+length-written_at false values buffer e = ap length (written-larger values buffer (leb-false (length values) (length buffer) e))
+
+pub length-written : (values buffer : List ℕ) → length (written values buffer) ≡ length buffer
+length-written values buffer = length-written_at (nat_le (length values) (length buffer)) values buffer refl
