@@ -16,6 +16,7 @@ use Rattle.undo_stack.proofs.Targets.{pushed_merged, merged_next}
 use Rattle.undo_stack.proofs.Turnings.{false-true}
 use Rattle.undo_stack.proofs.sequence.Sequence.push.Goals as goal
 
+-- ---- the command merged
 pub settle-requires-clause-at_end : goal.settle-requires-clause-at_end
 settle-requires-clause-at_end g c =
     let q = c.merge.new.self in
@@ -29,9 +30,12 @@ returns-in-Ok-true-clause-pushed g c =
     let y = c.redo.new.self in
     let e = c.redo.new.document in
     let t = c.merge.new.self in
+    let n = history_at f e c.settle.new.self in
+    let within = c.requires.held.sound.turnable.within in
     let m = rw (c.in-Ok-true.is ∙ ap (λ (b : Bool). Ok b) c.in-Ok-true.field-0-test) at c.merge.ensures.merged in
-    pushed_at f c.args.command y q c.args.document.now e (history_at f e c.settle.new.self) c.redo.ensures c.requires.held.sound.turnable.within
-    (pushed_merged (reports f (target_in t)) (history_at f ((f y).undone e) q) (step_named (f y).names e) (history_at f e t) (history_at f e c.settle.new.self) m.merges m.next (c.settle.ensures e m.held m.target).settled)
+    let settled = (c.settle.ensures e m.held m.target).settled in
+    pushed_at f c.args.command y q c.args.document.now e n c.redo.ensures within
+    (pushed_merged (reports f (target_in t)) (history_at f ((f y).undone e) q) (step_named (f y).names e) (history_at f e t) n m.merges m.next settled)
 
 pub returns-in-Ok-true-clause-reported : goal.returns-in-Ok-true-clause-reported
 returns-in-Ok-true-clause-reported g c =
@@ -40,13 +44,16 @@ returns-in-Ok-true-clause-reported g c =
     let y = c.redo.new.self in
     let e = c.redo.new.document in
     let t = c.merge.new.self in
+    let n = history_at f e c.settle.new.self in
+    let within = c.requires.held.sound.turnable.within in
     let ok = c.in-Ok-true.is ∙ ap (λ (b : Bool). Ok b) c.in-Ok-true.field-0-test in
     let m = rw ok at c.merge.ensures.merged in
     let joined = rw ok at c.merge.ensures.joined in
-    reported_at f c.args.command y q c.args.document.now e (history_at f e c.settle.new.self) true (target_in t) c.redo.ensures c.requires.held.sound.turnable.within
-    ((λ _. m.merges), (λ _. refl)) joined
-    (merged_next (reports f (target_in t)) (history_at f ((f y).undone e) q) (step_named (f y).names e) (history_at f e t) (history_at f e c.settle.new.self) m.next (c.settle.ensures e m.held m.target).settled)
+    let settled = (c.settle.ensures e m.held m.target).settled in
+    reported_at f c.args.command y q c.args.document.now e n c.redo.ensures within true (target_in t) ((λ _. m.merges), (λ _. refl)) joined
+    (merged_next (reports f (target_in t)) (history_at f ((f y).undone e) q) (step_named (f y).names e) (history_at f e t) n m.next settled)
 
+-- ---- the command did not merge, and was entered
 pub returns-in-Ok-false-clause-pushed : goal.returns-in-Ok-false-clause-pushed
 returns-in-Ok-false-clause-pushed g c =
     let f = g.C.Command.change in
@@ -55,12 +62,16 @@ returns-in-Ok-false-clause-pushed g c =
     let d = c.args.document.now in
     let y = c.redo.new.self in
     let e = c.redo.new.document in
-    let u = c.enter.new.self in
     let h = history_at f d q in
+    let s = step_named (f y).names e in
+    let n = history_at f c.enter.new.document c.enter.new.self in
+    let within = c.requires.held.sound.turnable.within in
     let m = rw (c.in-Ok-false.is ∙ ap (λ (b : Bool). Ok b) c.in-Ok-false.field-0-test) at c.merge.ensures.merged in
-    both_ok (λ _. c.enter.new.document ≡ e) (λ _. IsEntered (f y).obsolete (history_at f ((f y).undone e) c.merge.new.self) (step_named (f y).names e) (history_at f c.enter.new.document u)) (λ _. IsPushed h (step_of (f x) (current h)) (history_at f c.enter.new.document u)) c.enter.result
-    (λ _ document entered. pushed_at f x y q d e (history_at f c.enter.new.document u) c.redo.ensures c.requires.held.sound.turnable.within
-    (pushed_entered (f y).obsolete (history_at f ((f y).undone e) q) (step_named (f y).names e) (history_at f c.enter.new.document u) m.0 (rw m.1.same at entered)))
+    both_ok (λ _. c.enter.new.document ≡ e)
+    (λ _. IsEntered (f y).obsolete (history_at f ((f y).undone e) c.merge.new.self) s n)
+    (λ _. IsPushed h (step_of (f x) (current h)) n) c.enter.result
+    (λ _ document entered. pushed_at f x y q d e n c.redo.ensures within
+    (pushed_entered (f y).obsolete (history_at f ((f y).undone e) q) s n m.0 (rw m.1.same at entered)))
     c.enter.ensures.document c.enter.ensures.entered
 
 pub returns-in-Ok-false-clause-reported : goal.returns-in-Ok-false-clause-reported
@@ -72,10 +83,14 @@ returns-in-Ok-false-clause-reported g c =
     let y = c.redo.new.self in
     let e = c.redo.new.document in
     let u = c.enter.new.self in
+    let s = step_named (f y).names e in
+    let n = history_at f c.enter.new.document u in
+    let within = c.requires.held.sound.turnable.within in
     let m = rw (c.in-Ok-false.is ∙ ap (λ (b : Bool). Ok b) c.in-Ok-false.field-0-test) at c.merge.ensures.merged in
     let told : reports f (Some (Command y)) ≡ (f y).obsolete = ap (λ (v : Change). v.obsolete) (entry_change-Command f y) in
-    both_ok (λ _. c.enter.new.document ≡ e) (λ _. IsEntered (f y).obsolete (history_at f ((f y).undone e) c.merge.new.self) (step_named (f y).names e) (history_at f c.enter.new.document u)) (λ _. IsReportedAt f x d (target_in q) (history_at f d q) c.enter.new.document (history_at f c.enter.new.document u)) c.enter.result
-    (λ _ document entered. rw document (reported_at f x y q d e (history_at f e u) false (Some (Command y)) c.redo.ensures c.requires.held.sound.turnable.within
-    ((λ q. false-true q), (λ k. absurd (m.0 k))) refl
-    (rw told (rw (m.1.same, document) at entered).next)))
+    both_ok (λ _. c.enter.new.document ≡ e)
+    (λ _. IsEntered (f y).obsolete (history_at f ((f y).undone e) c.merge.new.self) s n)
+    (λ _. IsReportedAt f x d (target_in q) (history_at f d q) c.enter.new.document n) c.enter.result
+    (λ _ document entered. rw document (reported_at f x y q d e (history_at f e u) c.redo.ensures within false (Some (Command y))
+    ((λ q. false-true q), (λ k. absurd (m.0 k))) refl (rw told (rw (m.1.same, document) at entered).next)))
     c.enter.ensures.document c.enter.ensures.entered
