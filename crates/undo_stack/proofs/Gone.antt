@@ -1,5 +1,6 @@
 -- Sequences of which an entry that changes nothing goes.
-use Rattle.std.proofs.Common.{◌≡◌, ℕ, ◌+◌, ◌<◌, ◌≤◌, List, [], ◌∷◌, ◌++◌, Option, Some, None, IsSome, OnSome, true, take, drop, length, map, get_or, slice_get, suc, refl, sym, ◌∙◌, ap, arith, inr}
+use Rattle.std.proofs.Common.{◌≡◌, ℕ, ◌+◌, ◌<◌, ◌≤◌, List, [], ◌∷◌, ◌++◌, Option, Some, None, IsSome, OnSome, true, take, drop, length, map, get_or}
+use Rattle.std.proofs.Common.{slice_get, suc, refl, sym, ◌∙◌, ap, arith, inr}
 use Rattle.std.proofs.lemmas.List.{length-take-le, take_at, drop_at, append_assoc, length-append, map-append}
 use Rattle.std.proofs.lemmas.List.Edits.{length-remove}
 use Rattle.std.proofs.lemmas.List.Elements.{All-append, All-drop, All-take}
@@ -18,7 +19,8 @@ use Rattle.undo_stack.specs.Turning.{MayGo, Drops, without_step}
 use Rattle.undo_stack.specs.declared.entry.Entry.{Entry}
 use Rattle.undo_stack.specs.declared.sequence.Sequence.{Sequence}
 use Rattle.undo_stack.proofs.Pushes.{greatest-append, at_most-up_to, sequence_nesting-take, sequence_nesting-drop}
-use Rattle.undo_stack.proofs.Sequences.{take-remove, drop-remove, before-append, steps_down-append, FitsDown-pop, length-down, take_last, drop_first, last_after-down}
+use Rattle.undo_stack.proofs.Sequences.{take-remove, drop-remove, before-append, steps_down-append, FitsDown-pop, length-down, take_last, drop_first}
+use Rattle.undo_stack.proofs.Sequences.{last_after-down}
 use Rattle.undo_stack.proofs.Turnings.{false-true}
 use Rattle.undo_stack.proofs.Calm.{Bound}
 use Rattle.undo_stack.proofs.Held.{none_free, seen, sound}

@@ -1,5 +1,6 @@
 -- Sequences that stay held: cut, merged into, settled, and pushed onto.
-use Rattle.std.proofs.Common.{◌≡◌, ℕ, ◌+◌, ◌-◌, ◌<◌, ◌≤◌, List, [], ◌∷◌, ◌++◌, Option, Some, Bool, take, drop, length, set, get_or, refl, sym, ◌∙◌, ap, subst, arith, length-set, Ok, Err, inl, true, false, nat_eq, eq-eqb}
+use Rattle.std.proofs.Common.{◌≡◌, ℕ, ◌+◌, ◌-◌, ◌<◌, ◌≤◌, List, [], ◌∷◌, ◌++◌, Option, Some, Bool, take, drop, length, set, get_or, refl, sym, ◌∙◌, ap}
+use Rattle.std.proofs.Common.{subst, arith, length-set, Ok, Err, inl, true, false, nat_eq, eq-eqb}
 use Rattle.std.specs.Prelude.{Result, IsErr, ◌↔◌}
 use Rattle.std.specs.Option.{option_eq}
 use Rattle.std.proofs.lemmas.List.{length-append, length-drop, length-take-le, take_all}
@@ -13,7 +14,8 @@ use Rattle.undo_stack.specs.Sequence.{FitsDown, IsMoved}
 use Rattle.undo_stack.specs.Calm.{is_gone, IsLive, NoneFree}
 use Rattle.undo_stack.specs.Moving.{positioned}
 use Rattle.undo_stack.specs.Entries.{entry_change, nesting, greatest}
-use Rattle.undo_stack.specs.Held.{Becomes, IsCut, history_at, target_in, IsSoundAt, IsHeld, IsHeldToLast, IsHeldButAt, IsUnchangedAt, IsTakenInto, MergesInto, IsSettledAt, IsDroppedAt}
+use Rattle.undo_stack.specs.Held.{Becomes, IsCut, history_at, target_in, IsSoundAt, IsHeld, IsHeldToLast, IsHeldButAt, IsUnchangedAt, IsTakenInto}
+use Rattle.undo_stack.specs.Held.{MergesInto, IsSettledAt, IsDroppedAt}
 use Rattle.undo_stack.specs.Merging.{MergesChange, MergesSequence, HasTarget}
 use Rattle.undo_stack.specs.Reporting.{TakesIn, EndsIn, IsReportedAt, last_entry, left_by, reports}
 use Rattle.undo_stack.specs.Sound.{IsAtMost, IsTurnable, sequence_nesting}
@@ -23,7 +25,8 @@ use Rattle.undo_stack.specs.declared.sequence.Sequence.{Sequence}
 use Rattle.undo_stack.proofs.Calm.{Bound, Live, live_as, bound_as, bound_moved, at_number, live_again, live_around, live_gone, live_none_free, live_stays}
 use Rattle.undo_stack.proofs.Joins.{take_below-set, merges_below, altered_moved, drop_below-set, settles_gone, settles_stays}
 use Rattle.undo_stack.proofs.Levels.{without_last-append}
-use Rattle.undo_stack.proofs.Pushes.{pushed_as, redone_step, done_sound, at_most-up_to, at_most-more, at_most-lowered, cut_view, cut_sound, added_view, added_fits, limited_view, sequence_nesting-append, sequence_nesting-drop, sequence_nesting-take}
+use Rattle.undo_stack.proofs.Pushes.{pushed_as, redone_step, done_sound, at_most-up_to, at_most-more, at_most-lowered, cut_view, cut_sound, added_view}
+use Rattle.undo_stack.proofs.Pushes.{added_fits, limited_view, sequence_nesting-append, sequence_nesting-drop, sequence_nesting-take}
 use Rattle.undo_stack.proofs.Reports.{takes_in, last_entry-below, last_entry-append}
 use Rattle.undo_stack.proofs.Sequences.{FitsDown-drop, length-steps, map-set_same}
 use Rattle.undo_stack.proofs.Targets.{merged_view, merges_closed, continues_closed, settles_done, up_to-unclean, at_most-unclean}

@@ -1,5 +1,6 @@
 -- The innermost sequence of a stack, and what the stack is once that became another one.
-use Rattle.std.proofs.Common.{◌≡◌, ℕ, max, ◌+◌, ◌-◌, ◌<◌, ◌≤◌, List, [], ◌∷◌, ◌++◌, Option, Some, None, Bool, true, false, take, length, map, set, get_or, refl, sym, ◌∙◌, ap, subst, arith, length-set, Ok, Err, slice_get, vec_len, inl, inr, Global, Vec}
+use Rattle.std.proofs.Common.{◌≡◌, ℕ, max, ◌+◌, ◌-◌, ◌<◌, ◌≤◌, List, [], ◌∷◌, ◌++◌, Option, Some, None, Bool, true, false, take, length, map, set, get_or}
+use Rattle.std.proofs.Common.{refl, sym, ◌∙◌, ap, subst, arith, length-set, Ok, Err, slice_get, vec_len, inl, inr, Global, Vec}
 use Rattle.std.specs.Prelude.{◌↔◌, IfErr, IfOk, Result}
 use Rattle.std.specs.VecDeque.{deque_capacity}
 use Rattle.std.proofs.lemmas.List.{length-append, length-map, map-append, take_all}
@@ -10,7 +11,8 @@ use Rattle.map_model.specs.Document.{DocumentParts}
 use Rattle.command_api.specs.Law.{Change}
 use Rattle.command_api.specs.Names.{IsSettled, Names}
 use Rattle.undo_stack.specs.History.{Step, step_named, Open, History, current, last_after}
-use Rattle.undo_stack.specs.Pushing.{cut, step_of, with_added, without_last, last_step, led_to, target, before_target, vanishing_of, IsUnclean, Merges, Vanishes, with_innermost, next_of, IsPushed}
+use Rattle.undo_stack.specs.Pushing.{cut, step_of, with_added, without_last, last_step, led_to, target, before_target, vanishing_of, IsUnclean, Merges}
+use Rattle.undo_stack.specs.Pushing.{Vanishes, with_innermost, next_of, IsPushed}
 use Rattle.undo_stack.specs.Sequence.{before, steps_down, FitsDown}
 use Rattle.undo_stack.specs.Macros.{Ends}
 use Rattle.undo_stack.specs.Entries.{entry_change, nesting}
@@ -18,7 +20,8 @@ use Rattle.undo_stack.specs.Lending.{innermost_of, innermost, with_innermost_of,
 use Rattle.undo_stack.specs.Held.{IsHeld, history_at, target_in}
 use Rattle.undo_stack.specs.Reporting.{IsReportedAt, reports}
 use Rattle.undo_stack.specs.Sound.{Inner, IsAtMost, start_of, sequence_nesting, level_nesting}
-use Rattle.undo_stack.specs.Stacks.{inner_of, inners, history, AreHeld, AreReady, Holds, IsClosed, IsDone, IsReady, IsReported, target_entry, IsCalm, LevelsAreLive}
+use Rattle.undo_stack.specs.Stacks.{inner_of, inners, history, AreHeld, AreReady, Holds, IsClosed, IsDone, IsReady, IsReported, target_entry, IsCalm}
+use Rattle.undo_stack.specs.Stacks.{LevelsAreLive}
 use Rattle.undo_stack.specs.declared.entry.Entry.{Entry}
 use Rattle.undo_stack.specs.declared.level.Level.{Level}
 use Rattle.undo_stack.specs.declared.limits.TheConstants.{MAX_DEPTH, MAX_LIMIT}
@@ -26,7 +29,9 @@ use Rattle.undo_stack.specs.declared.sequence.Sequence.{Sequence}
 use Rattle.undo_stack.specs.declared.stack.Stack.{Stack}
 use Rattle.undo_stack.specs.declared.stack.sequences.Sequences.{Sequences}
 use Rattle.undo_stack.proofs.Joins.{length-without_last, length-led_to}
-use Rattle.undo_stack.proofs.Levels.{open_of, start_of-append, opens-append, innermost-append, innermost_of-append, AreHeld-pop, AreHeld-push, AreReady-last, AreReady-pop, AreReady-push, level_nesting-append, level_nesting-closed, level_nesting-deep, level_nesting-last, level_nesting-without_last}
+use Rattle.undo_stack.proofs.Levels.{open_of, start_of-append, opens-append, innermost-append, innermost_of-append, AreHeld-pop, AreHeld-push}
+use Rattle.undo_stack.proofs.Levels.{AreReady-last, AreReady-pop, AreReady-push, level_nesting-append, level_nesting-closed, level_nesting-deep}
+use Rattle.undo_stack.proofs.Levels.{level_nesting-last, level_nesting-without_last}
 use Rattle.undo_stack.proofs.Held.{empty_held, marked_held}
 use Rattle.undo_stack.proofs.Macros.{ended_answer, ended_view}
 use Rattle.undo_stack.proofs.Pushes.{done_view, done_with}

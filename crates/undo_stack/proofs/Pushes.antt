@@ -1,5 +1,6 @@
 -- A push outside levels, of an edit that is not merged, seen on entries; and the limit.
-use Rattle.std.proofs.Common.{◌≡◌, ℕ, ◌+◌, ◌-◌, ◌<◌, ◌≤◌, max, zero, suc, List, [], ◌∷◌, ◌++◌, Option, Some, None, take, drop, length, map, refl, sym, ◌∙◌, ap, arith, Bool, true, false, leb, leb-true}
+use Rattle.std.proofs.Common.{◌≡◌, ℕ, ◌+◌, ◌-◌, ◌<◌, ◌≤◌, max, zero, suc, List, [], ◌∷◌, ◌++◌, Option, Some, None, take, drop, length, map, refl, sym, ◌∙◌}
+use Rattle.std.proofs.Common.{ap, arith, Bool, true, false, leb, leb-true}
 use Rattle.std.specs.Prelude.{if◌then◌else◌}
 use Rattle.std.proofs.lemmas.List.{append-nil, length-take-le, length-drop, take_all, drop_all, length-append, map-append}
 use Rattle.map_model.specs.Document.{DocumentParts}
@@ -14,7 +15,8 @@ use Rattle.undo_stack.specs.Held.{history_at}
 use Rattle.undo_stack.specs.Sound.{IsTurnable, IsAtMost, sequence_nesting}
 use Rattle.undo_stack.specs.declared.entry.Entry.{Entry}
 use Rattle.undo_stack.specs.declared.sequence.Sequence.{Sequence}
-use Rattle.undo_stack.proofs.Sequences.{before-append, steps_down-append, FitsDown-push, last_after-down, length-down, take-steps, last_after-take, drop-steps_down}
+use Rattle.undo_stack.proofs.Sequences.{before-append, steps_down-append, FitsDown-push, last_after-down, length-down, take-steps, last_after-take}
+use Rattle.undo_stack.proofs.Sequences.{drop-steps_down}
 use Rattle.undo_stack.proofs.Views.{history_with}
 
 -- an obsolete change leaves the document as it is

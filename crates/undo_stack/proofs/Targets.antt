@@ -4,7 +4,8 @@ use Rattle.std.specs.Prelude.{if◌then◌else◌}
 use Rattle.map_model.specs.Document.{DocumentParts}
 use Rattle.command_api.specs.Law.{Change}
 use Rattle.undo_stack.specs.History.{Step, History, last_after}
-use Rattle.undo_stack.specs.Pushing.{cut, without_last, last_step, led_to, up_to, target, before_target, vanishing_of, Continues, Merges, with_target_at, next_of, IsPushed}
+use Rattle.undo_stack.specs.Pushing.{cut, without_last, last_step, led_to, up_to, target, before_target, vanishing_of, Continues, Merges, with_target_at}
+use Rattle.undo_stack.specs.Pushing.{next_of, IsPushed}
 use Rattle.undo_stack.specs.Sequence.{before, steps_down}
 use Rattle.undo_stack.specs.Entries.{entry_change}
 use Rattle.undo_stack.specs.Held.{history_at}

@@ -1,5 +1,6 @@
 use Rattle.std.proofs.Common.{rules, ◌<◌, length, refl, ◌∙◌, ap, arith, length-set, get_or-set_other}
 use Rattle.undo_stack.specs.Entries.{entry_change, nesting}
+use Rattle.undo_stack.specs.Sequence.{after}
 use Rattle.undo_stack.proofs.EntryChanges.{Contents, entry_change-Command, entry_change-Macro, nesting-Command, nesting-Macro}
 use Rattle.undo_stack.proofs.Sequences.{map-set_same}
 use Rattle.undo_stack.proofs.Turns.{redone_named, between_on}
@@ -68,8 +69,10 @@ redo_all-loop-i-preserved g t c =
     let w = c.redo.new.self in
     let is = c.index_mut.ensures.value in
     let known = c.loop-i.invariant in
+    let first = c.args.document.now in
+    let last = after f c.args.children.now.items first in
     let at : i < length es = omega arith in (
       (length-set es i w ∙ known.0.0, λ k d h. get_or-set_other es i k w d (omega arith) ∙ known.0.1 k d (omega arith)),
-      between_on f es v w i c.loop-i.document c.redo.new.document _ _ known.1 at is c.redo.ensures.turned,
+      between_on f es v w i c.loop-i.document c.redo.new.document first last known.1 at is c.redo.ensures.turned,
       map-set_same nesting es v w i is c.redo.ensures.nesting ∙ known.2,
     )
