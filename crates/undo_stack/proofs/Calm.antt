@@ -2,7 +2,8 @@
 use Rattle.std.proofs.Common.{◌≡◌, ℕ, ◌+◌, ◌-◌, ◌<◌, List, [], ◌∷◌, ◌++◌, false, take, drop, length, map, set, get_or, suc, refl, sym, ◌∙◌, ap, subst, arith}
 use Rattle.std.specs.List.{All, remove}
 use Rattle.std.proofs.lemmas.List.{take-set, take-append-drop}
-use Rattle.std.proofs.lemmas.List.Elements.{All-nil, All-cons, All-head, All-tail, All-same, All-get_or, All-append, All-push, All-take, All-drop, All-map, All-weaker}
+use Rattle.std.proofs.lemmas.List.Elements.{All-nil, All-cons, All-head, All-tail, All-same, All-get_or, All-append, All-push, All-take, All-drop, All-map}
+use Rattle.std.proofs.lemmas.List.Elements.{All-weaker}
 use Rattle.map_model.specs.Document.{DocumentParts}
 use Rattle.command_api.specs.Law.{Change, IsSame}
 use Rattle.command_api.specs.Names.{Names, is_free}
@@ -30,10 +31,10 @@ pub live_as : (v w : Change) → IsSame v w → IsLive v → IsLive w
 live_as v w same live free = same.obsolete ∙ live (ap (λ (n : Names). is_free n.vanishing) (sym same.names) ∙ free)
 
 module _ {C : Type 0} (f : C → Change) where
-  abbrev Live : Entry C → Type 0
+  abbrev pub Live : Entry C → Type 0
   Live e = IsLive (entry_change f e)
 
-  abbrev Bound : Entry C → Type 0
+  abbrev pub Bound : Entry C → Type 0
   Bound e = is_free (entry_change f e).names.vanishing ≡ false
 
   pub at_number : (P : Entry C → Type 0) (es : List (Entry C)) (v : Entry C) (j : ℕ) → j < length es → v ≡ get_or es j v → All P es → P v
@@ -43,12 +44,15 @@ module _ {C : Type 0} (f : C → Change) where
   live_none_free es all = All-weaker Bound Live (λ e bound free. false-true (sym bound ∙ free)) es all
 
   -- the entry v at a number stays, where all the others are live
-  pub live_again : (es : List (Entry C)) (v : Entry C) (j : ℕ) → j < length es → v ≡ get_or es j v → IsLive (entry_change f v) → AreLive f (remove es j) → AreLive f es
+  pub live_again : (es : List (Entry C)) (v : Entry C) (j : ℕ) → j < length es → v ≡ get_or es j v → IsLive (entry_change f v) → AreLive f (remove es j)
+      → AreLive f es
   live_again es v j inside is live h =
-      let divided : es ≡ take j es ++ v ∷ drop (j + 1) es = sym (take-append-drop j es) ∙ ap (λ (xs : List (Entry C)). take j es ++ xs) (drop_first es v j inside is) in
+      let divided : es ≡ take j es ++ v ∷ drop (j + 1) es =
+      sym (take-append-drop j es) ∙ ap (λ (xs : List (Entry C)). take j es ++ xs) (drop_first es v j inside is) in
       let below = All-same Live (take j es) (take j (remove es j)) (sym (take-remove es j (omega arith))) (All-take Live j (remove es j) h) in
       let above = All-same Live (drop (j + 1) es) (drop j (remove es j)) (sym (drop-remove es j (omega arith))) (All-drop Live j (remove es j) h) in
-      All-same Live es (take j es ++ v ∷ drop (j + 1) es) divided (All-append Live (take j es) (v ∷ drop (j + 1) es) below (All-cons Live v (drop (j + 1) es) live above))
+      let joined = All-append Live (take j es) (v ∷ drop (j + 1) es) below (All-cons Live v (drop (j + 1) es) live above) in
+      All-same Live es (take j es ++ v ∷ drop (j + 1) es) divided joined
 
   -- so it is without an entry in whose place another one was put
   pub live_around : (es : List (Entry C)) (w : Entry C) (j : ℕ) → AreLive f es → AreLive f (remove (set es j w) j)
@@ -57,7 +61,8 @@ module _ {C : Type 0} (f : C → Change) where
       rw (next, take-set es j w, drop_past es w j) (All-append Live (take j es) (drop (j + 1) es) (All-take Live j es h) (All-drop Live (j + 1) es h))
 
   -- entries of which the names are those of bound ones
-  pub bound_moved : (es ts : List (Entry C)) (n m : ℕ) (d e : DocumentParts) → steps_of (entry_change f) ts m e ≡ steps_of (entry_change f) es n d → NoneFree f es → NoneFree f ts
+  pub bound_moved : (es ts : List (Entry C)) (n m : ℕ) (d e : DocumentParts) → steps_of (entry_change f) ts m e ≡ steps_of (entry_change f) es n d
+      → NoneFree f es → NoneFree f ts
   bound_moved es ts n m d e moved all =
       let k = entry_change f in
       let names : Entry C → Names = λ e. (entry_change f e).names in

@@ -11,17 +11,27 @@ use Rattle.undo_stack.specs.declared.entry.Entry.TheOpen.{Entry-F}
 use Rattle.undo_stack.specs.declared.entry.Entry.TheVariants.{Command, Macro, rolls-Macro, rolls-Command}
 use Rattle.undo_stack.specs.declared.entry.Entry.TheFolds.{map-Entry}
 
+-- the box that a macro holds
+abbrev pub Contents : Type 0 → Type 0
+Contents C = Box (MacroContents (Entry C)) Global
+
 before_map : {X Y : Type 0} (k : Y → Change) (v : X → Y) (xs : List X) → before (λ x. k (v x)) xs ≡ before k (map v xs)
 before_map k v [] = refl
-before_map k v (x ∷ xs) = let step : (DocumentParts → DocumentParts) → DocumentParts → DocumentParts = λ g d. (k (v x)).undone (g d) in ap step (before_map k v xs)
+before_map k v (x ∷ xs) =
+    let step : (DocumentParts → DocumentParts) → DocumentParts → DocumentParts = λ g d. (k (v x)).undone (g d) in
+    ap step (before_map k v xs)
 
 after_map : {X Y : Type 0} (k : Y → Change) (v : X → Y) (xs : List X) → after (λ x. k (v x)) xs ≡ after k (map v xs)
 after_map k v [] = refl
-after_map k v (x ∷ xs) = let step : (DocumentParts → DocumentParts) → DocumentParts → DocumentParts = λ g d. g ((k (v x)).redone d) in ap step (after_map k v xs)
+after_map k v (x ∷ xs) =
+    let step : (DocumentParts → DocumentParts) → DocumentParts → DocumentParts = λ g d. g ((k (v x)).redone d) in
+    ap step (after_map k v xs)
 
 FitsUp_map : {X Y : Type 0} (k : Y → Change) (v : X → Y) (xs : List X) → FitsUp (λ x. k (v x)) xs ≡ FitsUp k (map v xs)
 FitsUp_map k v [] = refl
-FitsUp_map k v (x ∷ xs) = let step : (DocumentParts → Type 0) → DocumentParts → Type 0 = λ g d. (k (v x)).fits_redo d × g ((k (v x)).redone d) in ap step (FitsUp_map k v xs)
+FitsUp_map k v (x ∷ xs) =
+    let step : (DocumentParts → Type 0) → DocumentParts → Type 0 = λ g d. (k (v x)).fits_redo d × g ((k (v x)).redone d) in
+    ap step (FitsUp_map k v xs)
 
 FitsDown_map : {X Y : Type 0} (k : Y → Change) (v : X → Y) (xs : List X) → FitsDown (λ x. k (v x)) xs ≡ FitsDown k (map v xs)
 FitsDown_map k v [] = refl
@@ -30,10 +40,12 @@ FitsDown_map k v (x ∷ xs) =
     let other : (DocumentParts → DocumentParts) → DocumentParts → Type 0 = λ b d. (k (v x)).fits_undo (b d) × FitsDown k (map v xs) d in
     ap step (FitsDown_map k v xs) ∙ ap other (before_map k v xs)
 
-sequence_change_map : {X Y : Type 0} (t a : List ℕ) (k : Y → Change) (v : X → Y) (xs : List X) → sequence_change t a (λ x. k (v x)) xs ≡ sequence_change t a k (map v xs)
+sequence_change_map : {X Y : Type 0} (t a : List ℕ) (k : Y → Change) (v : X → Y) (xs : List X)
+    → sequence_change t a (λ x. k (v x)) xs ≡ sequence_change t a k (map v xs)
 sequence_change_map t a k v xs = rw (before_map k v xs, after_map k v xs, FitsUp_map k v xs, FitsDown_map k v xs) refl
 
-layer_change-natural : {C : Type 0} (f : C → Change) (X : Type 0) (v : X → Entry C) (k : Entry C → Change) (x : Entry-F C X) → layer_change f (λ p. k (v p)) x ≡ layer_change f k (map-Entry C X (Entry C) v x)
+layer_change-natural : {C : Type 0} (f : C → Change) (X : Type 0) (v : X → Entry C) (k : Entry C → Change) (x : Entry-F C X)
+    → layer_change f (λ p. k (v p)) x ≡ layer_change f k (map-Entry C X (Entry C) v x)
 layer_change-natural f X v k (open_form.Command c) = refl
 layer_change-natural f X v k (open_form.Macro contents) = sequence_change_map contents.value.text contents.value.action k v contents.value.children.items
 
@@ -43,7 +55,8 @@ entry_change-roll f x = rec-roll-Entry _ Change (λ X v k e. layer_change f k e)
 pub entry_change-Command : {C : Type 0} (f : C → Change) (c : C) → entry_change f (Command c) ≡ f c
 entry_change-Command f c = ap (entry_change f) (sym (rolls-Command c)) ∙ entry_change-roll f (open_form.Command c)
 
-pub entry_change-Macro : {C : Type 0} (f : C → Change) (contents : Box (MacroContents (Entry C)) Global) → entry_change f (Macro contents) ≡ sequence_change contents.value.text contents.value.action (entry_change f) contents.value.children.items
+pub entry_change-Macro : {C : Type 0} (f : C → Change) (contents : Contents C)
+    → entry_change f (Macro contents) ≡ sequence_change contents.value.text contents.value.action (entry_change f) contents.value.children.items
 entry_change-Macro f contents = ap (entry_change f) (sym (rolls-Macro contents)) ∙ entry_change-roll f (open_form.Macro contents)
 
 nesting-roll : {C : Type 0} (x : Entry-F C (Entry C)) → nesting (roll-Entry C x) ≡ layer_nesting (map-Entry C (Entry C) ℕ nesting x)
@@ -52,5 +65,5 @@ nesting-roll {C} x = fold-roll-Entry C ℕ layer_nesting x
 pub nesting-Command : {C : Type 0} (c : C) → nesting (Command c) ≡ 0
 nesting-Command c = ap nesting (sym (rolls-Command c)) ∙ nesting-roll (open_form.Command c)
 
-pub nesting-Macro : {C : Type 0} (contents : Box (MacroContents (Entry C)) Global) → nesting (Macro contents) ≡ greatest (map nesting contents.value.children.items) + 1
+pub nesting-Macro : {C : Type 0} (contents : Contents C) → nesting (Macro contents) ≡ greatest (map nesting contents.value.children.items) + 1
 nesting-Macro contents = ap nesting (sym (rolls-Macro contents)) ∙ nesting-roll (open_form.Macro contents)

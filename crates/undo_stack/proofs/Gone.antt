@@ -1,5 +1,6 @@
 -- Sequences of which an entry that changes nothing goes.
-use Rattle.std.proofs.Common.{◌≡◌, ℕ, ◌+◌, ◌<◌, ◌≤◌, List, [], ◌∷◌, ◌++◌, Option, Some, None, IsSome, OnSome, true, take, drop, length, map, get_or, slice_get, suc, refl, sym, ◌∙◌, ap, arith, inr}
+use Rattle.std.proofs.Common.{◌≡◌, ℕ, ◌+◌, ◌<◌, ◌≤◌, List, [], ◌∷◌, ◌++◌, Option, Some, None, IsSome, OnSome, true, take, drop, length, map, get_or}
+use Rattle.std.proofs.Common.{slice_get, suc, refl, sym, ◌∙◌, ap, arith, inr}
 use Rattle.std.proofs.lemmas.List.{length-take-le, take_at, drop_at, append_assoc, length-append, map-append}
 use Rattle.std.proofs.lemmas.List.Edits.{length-remove}
 use Rattle.std.proofs.lemmas.List.Elements.{All-append, All-drop, All-take}
@@ -10,17 +11,20 @@ use Rattle.command_api.specs.Names.{is_free}
 use Rattle.undo_stack.specs.History.{Step, History, step_named, last_after}
 use Rattle.undo_stack.specs.Pushing.{up_to}
 use Rattle.undo_stack.specs.Calm.{is_gone, IsGone, NoneFree}
-use Rattle.undo_stack.specs.Held.{Becomes, IsHeld, IsHeldButAt, IsDroppedAt}
+use Rattle.undo_stack.specs.Held.{Becomes, IsHeld, IsHeldButAt, IsDroppedAt, history_at}
 use Rattle.undo_stack.specs.Entries.{entry_change, nesting}
 use Rattle.undo_stack.specs.Sequence.{before, steps_down, steps_up, steps_of, FitsDown, FitsUp}
-use Rattle.undo_stack.specs.Sound.{history_of, IsTurnable, IsAtMost, sequence_nesting}
+use Rattle.undo_stack.specs.Sound.{IsTurnable, IsAtMost, sequence_nesting}
 use Rattle.undo_stack.specs.Turning.{MayGo, Drops, without_step}
 use Rattle.undo_stack.specs.declared.entry.Entry.{Entry}
 use Rattle.undo_stack.specs.declared.sequence.Sequence.{Sequence}
 use Rattle.undo_stack.proofs.Pushes.{greatest-append, at_most-up_to, sequence_nesting-take, sequence_nesting-drop}
-use Rattle.undo_stack.proofs.Sequences.{take-remove, drop-remove, before-append, steps_down-append, FitsDown-pop, length-down, take_last, drop_first, last_after-down}
+use Rattle.undo_stack.proofs.Sequences.{take-remove, drop-remove, before-append, steps_down-append, FitsDown-pop, length-down, take_last, drop_first}
+use Rattle.undo_stack.proofs.Sequences.{last_after-down}
 use Rattle.undo_stack.proofs.Turnings.{false-true}
-use Rattle.undo_stack.proofs.Held.{Bound, none_free, seen, sound}
+use Rattle.undo_stack.proofs.Calm.{Bound}
+use Rattle.undo_stack.proofs.Held.{none_free, seen, sound}
+use Rattle.undo_stack.proofs.Views.{history_with}
 
 pub where_some : {X : Type 0} {P : Type 0} (o : Option X) → OnSome o P → IsSome o → P
 where_some None h some = false-true some
@@ -30,7 +34,8 @@ sequence_nesting-remove : {C : Type 0} (es : List (Entry C)) (j : ℕ) → seque
 sequence_nesting-remove es j =
     let first = sequence_nesting-take j es in
     let last = sequence_nesting-drop (suc j) es in
-    rw (map-append nesting (take j es) (drop (suc j) es), greatest-append (map nesting (take j es)) (map nesting (drop (suc j) es))) (omega (arith, first, last))
+    rw (map-append nesting (take j es) (drop (suc j) es), greatest-append (map nesting (take j es)) (map nesting (drop (suc j) es)))
+    (omega (arith, first, last))
 
 -- ---- a step s with some before it and some behind it
 module _ (ss ts : List Step) (s : Step) (j : ℕ) (long : length ss ≡ j) where
@@ -54,7 +59,8 @@ last_after-append : (b : DocumentParts) (ss : List Step) (s : Step) → last_aft
 last_after-append b [] s = refl
 last_after-append b (t ∷ ss) s = last_after-append t.after ss s
 
-may_go : (h : History) (ss ts : List Step) (s : Step) (j : ℕ) (d : DocumentParts) → h.steps ≡ ss ++ s ∷ ts → length ss ≡ j → last_after h.base ss ≡ d → s.after ≡ d
+may_go : (h : History) (ss ts : List Step) (s : Step) (j : ℕ) (d : DocumentParts) → h.steps ≡ ss ++ s ∷ ts → length ss ≡ j → last_after h.base ss ≡ d
+    → s.after ≡ d
     → is_free s.names.vanishing ≡ true → MayGo j h
 may_go h ss ts s j d steps long here after free = record {
   free = rw (steps, get-between ss ts s j long) free;
@@ -65,10 +71,14 @@ at_most-more : (clean : Option ℕ) (n m : ℕ) → n ≤ m → IsAtMost clean n
 at_most-more None n m h a = tt
 at_most-more (Some k) n m h a = omega (arith, h, a)
 
--- ---- entries of which the one at the number j goes, where n of them are done, all at the document d
-module _ {C : Type 0} (f : C → Change) (es : List (Entry C)) (v : Entry C) (j : ℕ) (d : DocumentParts) (inside : j < length es) (at : v ≡ get_or es j v) (gone : IsGone (entry_change f v)) where
+-- ---- a sequence of which the entry at the number j goes, all at the document d
+module _ {C : Type 0} (f : C → Change) (q : Sequence C) (v : Entry C) (j : ℕ) (d : DocumentParts) (inside : j < length q.entries.items)
+    (at : v ≡ get_or q.entries.items j v) (gone : IsGone (entry_change f v)) where
   abbrev k : Entry C → Change
   k = entry_change f
+
+  abbrev es : List (Entry C)
+  es = q.entries.items
 
   abbrev below : List Step
   below = steps_down k (take j es) d
@@ -79,30 +89,43 @@ module _ {C : Type 0} (f : C → Change) (es : List (Entry C)) (v : Entry C) (j 
   abbrev step : Step
   step = step_named (k v).names d
 
+  -- the history with the step, at a position, and without it
+  abbrev whole : ℕ → History
+  whole n = record {
+    base = before k (take j es) d;
+    steps = below ++ step ∷ above;
+    position = n;
+    clean = q.clean;
+    limit = q.limit;
+    levels = [];
+  }
+
+  abbrev rest : History
+  rest = history_with f d q (remove es j) j (up_to j q.clean)
+
   within : j ≤ length es
   within = omega (arith, inside)
 
   long : length below ≡ j
   long = length-down k (take j es) d ∙ length-take-le j es within
 
-  same_view : (clean : Option ℕ) (limit : ℕ) (h : History) → h ≡ record { base = before k (take j es) d; steps = below ++ step ∷ above; position = h.position; clean = clean; limit = limit; levels = [] }
-      → history_of f d (remove es j) j (up_to j clean) limit [] ≡ without_step j h
-  same_view clean limit h is =
+  left_view : (n : ℕ) (h : History) → h ≡ whole n → rest ≡ without_step j h
+  left_view n h is =
+      let put : List Step → History = λ ss. record (whole j) { steps = ss; clean = up_to j q.clean } in
       rw (take-remove es j within, drop-remove es j within)
-      (sym (ap (without_step j) is ∙ ap (λ (ss : List Step). record { base = before k (take j es) d; steps = ss; position = j; clean = up_to j clean; limit = limit; levels = [] }) (remove-between below above step j long)))
+      (sym (ap (without_step j) is ∙ ap put (remove-between below above step j long)))
 
-  left_view : (clean : Option ℕ) (limit : ℕ) (h : History) → h ≡ record { base = before k (take j es) d; steps = below ++ step ∷ above; position = h.position; clean = clean; limit = limit; levels = [] }
-      → Drops j h h (history_of f d (remove es j) j (up_to j clean) limit [])
-  left_view clean limit h is =
-      let may : MayGo j h = may_go h below above step j d (ap (λ (x : History). x.steps) is) long (ap (λ (x : History). last_after x.base below) is ∙ last_after-down k (take j es) d) refl gone.free in
-      inr (may, same_view clean limit h is)
+  drops : (n : ℕ) (h : History) → h ≡ whole n → Drops j h h rest
+  drops n h is =
+      let here = ap (λ (x : History). last_after x.base below) is ∙ last_after-down k (take j es) d in
+      inr (may_go h below above step j d (ap (λ (x : History). x.steps) is) long here refl gone.free, left_view n h is)
 
-  left_sound : (clean : Option ℕ) → FitsDown k (take j es) d → FitsUp k (drop (j + 1) es) d → IsTurnable f d (remove es j) j (up_to j clean)
-  left_sound clean down up =
+  left_sound : FitsDown k (take j es) d → FitsUp k (drop (j + 1) es) d → IsTurnable f d (remove es j) j (up_to j q.clean)
+  left_sound down up =
       let more = length-remove es j inside in
       record {
         within = omega (arith, more, inside);
-        clean_within = at_most-more (up_to j clean) j (length (remove es j)) (omega (arith, more, inside)) (at_most-up_to j clean);
+        clean_within = at_most-more (up_to j q.clean) j (length (remove es j)) (omega (arith, more, inside)) (at_most-up_to j q.clean);
         down = rw (take-remove es j within) down;
         up = rw (drop-remove es j within) up;
       }
@@ -118,11 +141,8 @@ module _ {C : Type 0} (f : C → Change) (es : List (Entry C)) (v : Entry C) (j 
     rest_up : FitsUp k (drop (j + 1) es) d
     rest_up = rw same_up at next_up.1
 
-    view_up : (clean : Option ℕ) (limit : ℕ) → Drops j (history_of f d es j clean limit []) (history_of f d es j clean limit []) (history_of f d (remove es j) j (up_to j clean) limit [])
-    view_up clean limit = left_view clean limit (history_of f d es j clean limit []) (rw (drop_first es v j inside at, same_up) refl)
-
-    same_view_up : (clean : Option ℕ) (limit : ℕ) → history_of f d (remove es j) j (up_to j clean) limit [] ≡ without_step j (history_of f d es j clean limit [])
-    same_view_up clean limit = same_view clean limit (history_of f d es j clean limit []) (rw (drop_first es v j inside at, same_up) refl)
+    whole_up : history_with f d q es j q.clean ≡ whole j
+    whole_up = rw (drop_first es v j inside at, same_up) refl
 
   -- the entry was redone: it is the last one below
   module _ (down : FitsDown k (take (j + 1) es) d) where
@@ -135,58 +155,61 @@ module _ {C : Type 0} (f : C → Change) (es : List (Entry C)) (v : Entry C) (j 
     rest_down : FitsDown k (take j es) d
     rest_down = rw same_down at next_down.0
 
-    whole_down : (clean : Option ℕ) (limit : ℕ) → history_of f d es (j + 1) clean limit [] ≡ record { base = before k (take j es) d; steps = below ++ step ∷ above; position = j + 1; clean = clean; limit = limit; levels = [] }
-    whole_down clean limit =
-        let base : before k (take (j + 1) es) d ≡ before k (take j es) d = ap (λ r. before k r d) (take_last es v j inside at) ∙ before-append k (take j es) v d ∙ ap (before k (take j es)) same_down in
+    whole_down : history_with f d q es (j + 1) q.clean ≡ whole (j + 1)
+    whole_down =
+        let base : before k (take (j + 1) es) d ≡ before k (take j es) d =
+        ap (λ r. before k r d) (take_last es v j inside at) ∙ before-append k (take j es) v d ∙ ap (before k (take j es)) same_down in
         let steps : steps_of k es (j + 1) d ≡ below ++ step ∷ above =
         ap (λ r. steps_down k r d ++ above) (take_last es v j inside at)
         ∙ ap (λ ss. ss ++ above) (steps_down-append k (take j es) v d ∙ ap (λ e. steps_down k (take j es) e ++ step ∷ []) same_down)
         ∙ append_assoc below (step ∷ []) above in
         rw (base, steps) refl
 
-    view_down : (clean : Option ℕ) (limit : ℕ) → Drops j (history_of f d es (j + 1) clean limit []) (history_of f d es (j + 1) clean limit []) (history_of f d (remove es j) j (up_to j clean) limit [])
-    view_down clean limit = left_view clean limit (history_of f d es (j + 1) clean limit []) (whole_down clean limit)
+  -- ---- p is what is left of it
+  module _ (p : Sequence C) (goes : true ≡ is_gone (entry_change f v)) (b : Becomes q (remove q.entries.items j) j (up_to j q.clean) p)
+      (h : IsHeldButAt f d j q) where
+    left_held : FitsDown k (take j es) d → FitsUp k (drop (j + 1) es) d → IsHeld f d p
+    left_held down up =
+        let fewer = length-remove es j inside in
+        let next : suc j ≡ j + 1 = omega arith in
+        let bound : NoneFree f es → NoneFree f (remove es j) = λ all.
+        rw next (All-append (Bound f) (take j es) (drop (j + 1) es) (All-take (Bound f) j es all) (All-drop (Bound f) (j + 1) es all)) in
+        let short : length (remove es j) ≤ length es = omega arith in
+        record {
+          sound = sound f q p (remove es j) j (up_to j q.clean) b d d (left_sound down up) short (sequence_nesting-remove es j) h.sound;
+          live = rw b.entries h.live;
+          none_free = none_free f q p (remove es j) j (up_to j q.clean) b bound h.none_free;
+        }
 
-    same_view_down : (clean : Option ℕ) (limit : ℕ) → history_of f d (remove es j) j (up_to j clean) limit [] ≡ without_step j (history_of f d es (j + 1) clean limit [])
-    same_view_down clean limit = same_view clean limit (history_of f d es (j + 1) clean limit []) (whole_down clean limit)
+    seen_left : history_at f d p ≡ rest
+    seen_left = seen f q p (remove es j) j (up_to j q.clean) b d
 
--- ---- a sequence q, of which p is what is left without the entry at the number j
-module _ {C : Type 0} (f : C → Change) (q p : Sequence C) (v : Entry C) (j : ℕ) (inside : j < length q.entries.items) (at : v ≡ get_or q.entries.items j v) (goes : true ≡ is_gone (entry_change f v)) (gone : IsGone (entry_change f v)) (w : Becomes q (remove q.entries.items j) j (up_to j q.clean) p)
-    (d : DocumentParts) (h : IsHeldButAt f d j q) where
-  left : FitsDown (entry_change f) (take j q.entries.items) d → FitsUp (entry_change f) (drop (j + 1) q.entries.items) d → IsHeld f d p
-  left down up =
-      let es = q.entries.items in
-      let bound : NoneFree f es → NoneFree f (remove es j) = λ all. let next : suc j ≡ j + 1 = omega arith in rw next (All-append (Bound f) (take j es) (drop (j + 1) es) (All-take (Bound f) j es all) (All-drop (Bound f) (j + 1) es all)) in
-      record {
-        sound = sound f q p (remove es j) j (up_to j q.clean) w d d (left_sound f es v j d inside at gone q.clean down up) (let more = length-remove es j inside in omega arith) (sequence_nesting-remove es j) h.sound;
-        live = rw w.entries h.live;
-        none_free = none_free f q p (remove es j) j (up_to j q.clean) w bound h.none_free;
-      }
+    same_below : take j p.entries.items ≡ take j es
+    same_below = rw (b.entries, take-remove es j within) refl
 
-  pub above_gone : q.index ≡ j → IsDroppedAt f d j q p
-  above_gone index =
-      let down : FitsDown (entry_change f) (take j q.entries.items) d = rw index at h.sound.turnable.down in
-      let up : FitsUp (entry_change f) (drop j q.entries.items) d = rw index at h.sound.turnable.up in
-      record {
-        held = left down (rest_up f q.entries.items v j d inside at gone up);
-        dropped = rw (seen f q p (remove q.entries.items j) j (up_to j q.clean) w d, index) (view_up f q.entries.items v j d inside at gone up q.clean q.limit);
-        entry = v;
-        was = at;
-        left = rw (← goes, seen f q p (remove q.entries.items j) j (up_to j q.clean) w d, index) (same_view_up f q.entries.items v j d inside at gone up q.clean q.limit);
-        below = rw (w.entries, take-remove q.entries.items j (omega (arith, inside))) refl;
-        above = λ next. absurd (omega (arith, index, next));
-      }
+    -- the history of q was whole, so its step may go
+    dropped_at : (n : ℕ) → history_at f d q ≡ whole n → IsHeld f d p → (q.index ≡ j + 1 → drop p.index p.entries.items ≡ drop (j + 1) es)
+        → IsDroppedAt f d j q p
+    dropped_at n is held above = record {
+      held = held;
+      dropped = rw seen_left (drops n (history_at f d q) is);
+      entry = v;
+      was = at;
+      left = rw (← goes, seen_left) (left_view n (history_at f d q) is);
+      below = same_below;
+      above = above;
+    }
 
-  pub below_gone : q.index ≡ j + 1 → IsDroppedAt f d j q p
-  below_gone index =
-      let down : FitsDown (entry_change f) (take (j + 1) q.entries.items) d = rw index at h.sound.turnable.down in
-      let up : FitsUp (entry_change f) (drop (j + 1) q.entries.items) d = rw index at h.sound.turnable.up in
-      record {
-        held = left (rest_down f q.entries.items v j d inside at gone down) up;
-        dropped = rw (seen f q p (remove q.entries.items j) j (up_to j q.clean) w d, index) (view_down f q.entries.items v j d inside at gone down q.clean q.limit);
-        entry = v;
-        was = at;
-        left = rw (← goes, seen f q p (remove q.entries.items j) j (up_to j q.clean) w d, index) (same_view_down f q.entries.items v j d inside at gone down q.clean q.limit);
-        below = rw (w.entries, take-remove q.entries.items j (omega (arith, inside))) refl;
-        above = λ next. rw (w.index, w.entries, drop-remove q.entries.items j (omega (arith, inside))) refl;
-      }
+    pub above_gone : q.index ≡ j → IsDroppedAt f d j q p
+    above_gone index =
+        let down : FitsDown k (take j es) d = rw index at h.sound.turnable.down in
+        let up : FitsUp k (drop j es) d = rw index at h.sound.turnable.up in
+        let is : history_at f d q ≡ whole j = ap (λ (n : ℕ). history_with f d q es n q.clean) index ∙ whole_up up in
+        dropped_at j is (left_held down (rest_up up)) (λ next. absurd (omega (arith, index, next)))
+
+    pub below_gone : q.index ≡ j + 1 → IsDroppedAt f d j q p
+    below_gone index =
+        let down : FitsDown k (take (j + 1) es) d = rw index at h.sound.turnable.down in
+        let up : FitsUp k (drop (j + 1) es) d = rw index at h.sound.turnable.up in
+        let is : history_at f d q ≡ whole (j + 1) = ap (λ (n : ℕ). history_with f d q es n q.clean) index ∙ whole_down down in
+        dropped_at (j + 1) is (left_held (rest_down down) up) (λ _. rw (b.index, b.entries, drop-remove es j within) refl)

@@ -1,5 +1,6 @@
 -- A newer change that is merged into a change, and into the last one of a sequence; and the last one of a sequence that goes.
-use Rattle.std.proofs.Common.{◌≡◌, ℕ, ◌+◌, ◌-◌, ◌<◌, ◌≤◌, List, [], ◌∷◌, ◌++◌, Some, take, drop, length, set, get_or, refl, sym, ◌∙◌, ap, subst, arith, Bool, true, false, Ok, Err}
+use Rattle.std.proofs.Common.{◌≡◌, ℕ, ◌+◌, ◌-◌, ◌<◌, ◌≤◌, List, [], ◌∷◌, ◌++◌, Some, take, drop, length, set, get_or, refl, sym, ◌∙◌, ap, subst, arith}
+use Rattle.std.proofs.Common.{Bool, true, false, Ok, Err}
 use Rattle.std.specs.Prelude.{Result}
 use Rattle.std.proofs.lemmas.List.{take_all, drop-set-lt}
 use Rattle.std.proofs.lemmas.Grind.{take-set_at}
@@ -59,17 +60,20 @@ without_last-led_to d (s ∷ t ∷ []) = refl
 without_last-led_to d (s ∷ t ∷ u ∷ ss) = ap (λ xs. s ∷ xs) (without_last-led_to d (t ∷ u ∷ ss))
 
 -- another change in the place of a sequence's last one
-joined_sequence : {B : Type 0} (f : B → Change) (xs : List B) (v w : B) (c : Change) (d : DocumentParts) → FitsDown f (xs ++ v ∷ []) (c.undone d) → IsJoined (f v) (f w) c d → IsAltered f (led_to d) (xs ++ v ∷ []) (c.undone d) (xs ++ w ∷ []) d
+joined_sequence : {B : Type 0} (f : B → Change) (xs : List B) (v w : B) (c : Change) (d : DocumentParts) → FitsDown f (xs ++ v ∷ []) (c.undone d)
+    → IsJoined (f v) (f w) c d → IsAltered f (led_to d) (xs ++ v ∷ []) (c.undone d) (xs ++ w ∷ []) d
 joined_sequence f xs v w c d h j =
     let b = c.undone d in
     let old = FitsDown-pop f xs v b h in
+    let led = led_to-append d (steps_down f xs ((f v).undone b)) (step_named (f v).names b) in
     record {
       down = FitsDown-push f xs w d (rw j.undone old.0) j.fits;
       base = rw (before-append f xs w d, before-append f xs v b, j.undone) refl;
-      steps = rw (steps_down-append f xs w d, steps_down-append f xs v b, led_to-append d (steps_down f xs ((f v).undone b)) (step_named (f v).names b), j.undone, j.names) refl;
+      steps = rw (steps_down-append f xs w d, steps_down-append f xs v b, led, j.undone, j.names) refl;
     }
 
-same_sequence : {B : Type 0} (f : B → Change) (xs : List B) (v w : B) (d : DocumentParts) → FitsDown f (xs ++ v ∷ []) d → IsSame (f v) (f w) → IsAltered f (λ ss. ss) (xs ++ v ∷ []) d (xs ++ w ∷ []) d
+same_sequence : {B : Type 0} (f : B → Change) (xs : List B) (v w : B) (d : DocumentParts) → FitsDown f (xs ++ v ∷ []) d → IsSame (f v) (f w)
+    → IsAltered f (λ ss. ss) (xs ++ v ∷ []) d (xs ++ w ∷ []) d
 same_sequence f xs v w d h s =
     let old = FitsDown-pop f xs v d h in
     record {
@@ -81,7 +85,8 @@ same_sequence f xs v w d h s =
 last_of : {B : Type 0} (f : B → Change) (xs : List B) (v : B) (d : DocumentParts) → last_step (steps_down f (xs ++ v ∷ []) d) ≡ Some (step_named (f v).names d)
 last_of f xs v d = ap last_step (steps_down-append f xs v d) ∙ last_step-append (steps_down f xs ((f v).undone d)) (step_named (f v).names d)
 
-merges_end : {E B : Type 0} (f : B → Change) (xs : List B) (v w : B) (c : Change) (d : DocumentParts) (r : Result Bool E) → FitsDown f (xs ++ v ∷ []) (c.undone d) → MergesChange (f v) c d r (f w) → MergesSequence f (xs ++ v ∷ []) c d r (xs ++ w ∷ [])
+merges_end : {E B : Type 0} (f : B → Change) (xs : List B) (v w : B) (c : Change) (d : DocumentParts) (r : Result Bool E)
+    → FitsDown f (xs ++ v ∷ []) (c.undone d) → MergesChange (f v) c d r (f w) → MergesSequence f (xs ++ v ∷ []) c d r (xs ++ w ∷ [])
 merges_end f xs v w c d (Ok true) h m = (rw (last_of f xs v (c.undone d)) m.0, joined_sequence f xs v w c d h m.1)
 merges_end f xs v w c d (Ok false) h m = (rw (last_of f xs v (c.undone d)) m.0, same_sequence f xs v w (c.undone d) h m.1)
 merges_end f xs v w c d (Err e) h m = same_sequence f xs v w (c.undone d) h m
@@ -96,10 +101,13 @@ take_below xs v n p q k =
 pub take_below-set : {B : Type 0} (xs : List B) (w : B) (n : ℕ) → 0 < n → n ≤ length xs → take n (set xs (n - 1) w) ≡ take (n - 1) xs ++ w ∷ []
 take_below-set xs w n p q = take-set_at xs (n - 1) n w (omega arith) (omega arith)
 
-pub last_fits : {B : Type 0} (f : B → Change) (xs : List B) (v : B) (n : ℕ) (d : DocumentParts) → 0 < n → n ≤ length xs → v ≡ get_or xs (n - 1) v → FitsDown f (take n xs) d → (f v).fits_undo d
+pub last_fits : {B : Type 0} (f : B → Change) (xs : List B) (v : B) (n : ℕ) (d : DocumentParts) → 0 < n → n ≤ length xs → v ≡ get_or xs (n - 1) v
+    → FitsDown f (take n xs) d → (f v).fits_undo d
 last_fits f xs v n d p q k h = (FitsDown-pop f (take (n - 1) xs) v d (rw (take_below xs v n p q k) at h)).1
 
-pub merges_below : {E B : Type 0} (f : B → Change) (xs : List B) (v w : B) (n : ℕ) (c : Change) (d : DocumentParts) (r : Result Bool E) → 0 < n → n ≤ length xs → v ≡ get_or xs (n - 1) v → FitsDown f (take n xs) (c.undone d) → MergesChange (f v) c d r (f w) → MergesSequence f (take n xs) c d r (take n (set xs (n - 1) w))
+pub merges_below : {E B : Type 0} (f : B → Change) (xs : List B) (v w : B) (n : ℕ) (c : Change) (d : DocumentParts) (r : Result Bool E) → 0 < n
+    → n ≤ length xs → v ≡ get_or xs (n - 1) v → FitsDown f (take n xs) (c.undone d) → MergesChange (f v) c d r (f w)
+    → MergesSequence f (take n xs) c d r (take n (set xs (n - 1) w))
 merges_below f xs v w n c d r p q k h m =
     rw (take_below xs v n p q k, take_below-set xs w n p q) (merges_end f (take (n - 1) xs) v w c d r (rw (take_below xs v n p q k) at h) m)
 
@@ -115,25 +123,31 @@ pub altered_none : {B : Type 0} (f : B → Change) (xs : List B) (d : DocumentPa
 altered_none f xs d h = record { down = h; base = refl; steps = refl }
 
 -- the last change of a sequence goes where it is obsolete
-before_last : {B : Type 0} (f : B → Change) (xs : List B) (v : B) (d : DocumentParts) → last_after (before f (xs ++ v ∷ []) d) (without_last (steps_down f (xs ++ v ∷ []) d)) ≡ (f v).undone d
-before_last f xs v d = rw (before-append f xs v d, steps_down-append f xs v d, without_last-append (steps_down f xs ((f v).undone d)) (step_named (f v).names d)) (last_after-down f xs ((f v).undone d))
+abbrev IsLastSettled : {B : Type 0} → (B → Change) → Bool → DocumentParts → List B → Type 0
+IsLastSettled f b d xs =
+    IsSettled (vanishing_of (last_step (steps_down f xs d))) b (last_after (before f xs d) (without_last (steps_down f xs d))) d
 
-settled_last : {B : Type 0} (f : B → Change) (xs : List B) (v : B) (d : DocumentParts) (b : Bool) → FitsDown f (xs ++ v ∷ []) d → IsLawful (f v) → (f v).obsolete ≡ b → IsSettled (vanishing_of (last_step (steps_down f (xs ++ v ∷ []) d))) b (last_after (before f (xs ++ v ∷ []) d) (without_last (steps_down f (xs ++ v ∷ []) d))) d
+before_last : {B : Type 0} (f : B → Change) (xs : List B) (v : B) (d : DocumentParts)
+    → last_after (before f (xs ++ v ∷ []) d) (without_last (steps_down f (xs ++ v ∷ []) d)) ≡ (f v).undone d
+before_last f xs v d =
+    let others = without_last-append (steps_down f xs ((f v).undone d)) (step_named (f v).names d) in
+    rw (before-append f xs v d, steps_down-append f xs v d, others) (last_after-down f xs ((f v).undone d))
+
+settled_last : {B : Type 0} (f : B → Change) (xs : List B) (v : B) (d : DocumentParts) (b : Bool) → FitsDown f (xs ++ v ∷ []) d → IsLawful (f v)
+    → (f v).obsolete ≡ b → IsLastSettled f b d (xs ++ v ∷ [])
 settled_last f xs v d b h law is =
     let one = law.undo d (FitsDown-pop f xs v d h).1 in
     rw (last_of f xs v d, before_last f xs v d) (settled-back (f v).names.vanishing b d ((f v).undone d) (rw is at one))
 
-pub settles_stays : {B : Type 0} (f : B → Change) (xs : List B) (v : B) (n : ℕ) (d : DocumentParts) → 0 < n → n ≡ length xs → v ≡ get_or xs (n - 1) v → IsLawful (f v) → (f v).obsolete ≡ false → FitsDown f xs d → SettlesSequence f false xs d xs
+pub settles_stays : {B : Type 0} (f : B → Change) (xs : List B) (v : B) (n : ℕ) (d : DocumentParts) → 0 < n → n ≡ length xs → v ≡ get_or xs (n - 1) v
+    → IsLawful (f v) → (f v).obsolete ≡ false → FitsDown f xs d → SettlesSequence f false xs d xs
 settles_stays f xs v n d p q k law is h =
-    let all : length xs ≤ n = omega arith in
-    let sequence : xs ≡ take (n - 1) xs ++ v ∷ [] = sym (take_all n xs all) ∙ take_below xs v n p (omega arith) k in
+    let sequence = last_sequence xs n p q v k in
     let one = settled_last f (take (n - 1) xs) v d false (rw sequence at h) law is in
-    record {
-      gone_where = subst (λ (ys : List _). IsSettled (vanishing_of (last_step (steps_down f ys d))) false (last_after (before f ys d) (without_last (steps_down f ys d))) d) (sym sequence) one;
-      sequence = altered_none f xs d h;
-    }
+    record { gone_where = subst (IsLastSettled f false d) (sym sequence) one; sequence = altered_none f xs d h }
 
-gone_sequence : {B : Type 0} (f : B → Change) (xs : List B) (v : B) (d : DocumentParts) → FitsDown f (xs ++ v ∷ []) d → (f v).undone d ≡ d → IsAltered f without_last (xs ++ v ∷ []) d xs d
+gone_sequence : {B : Type 0} (f : B → Change) (xs : List B) (v : B) (d : DocumentParts) → FitsDown f (xs ++ v ∷ []) d → (f v).undone d ≡ d
+    → IsAltered f without_last (xs ++ v ∷ []) d xs d
 gone_sequence f xs v d h same =
     let old = FitsDown-pop f xs v d h in
     record {
@@ -142,7 +156,8 @@ gone_sequence f xs v d h same =
       steps = rw (steps_down-append f xs v d, without_last-append (steps_down f xs ((f v).undone d)) (step_named (f v).names d), same) refl;
     }
 
-settles_end : {B : Type 0} (f : B → Change) (xs : List B) (v : B) (d : DocumentParts) → IsLawful (f v) → (f v).obsolete ≡ true → FitsDown f (xs ++ v ∷ []) d → SettlesSequence f true (xs ++ v ∷ []) d xs
+settles_end : {B : Type 0} (f : B → Change) (xs : List B) (v : B) (d : DocumentParts) → IsLawful (f v) → (f v).obsolete ≡ true → FitsDown f (xs ++ v ∷ []) d
+    → SettlesSequence f true (xs ++ v ∷ []) d xs
 settles_end f xs v d law is h =
     let one = law.undo d (FitsDown-pop f xs v d h).1 in
     let same : (f v).undone d ≡ d = settled-same (f v).names.vanishing d ((f v).undone d) (rw is at one) in
@@ -151,14 +166,16 @@ settles_end f xs v d law is h =
       sequence = gone_sequence f xs v d h same;
     }
 
-pub settles_gone : {B : Type 0} (f : B → Change) (xs : List B) (v : B) (n : ℕ) (d : DocumentParts) → 0 < n → n ≡ length xs → v ≡ get_or xs (n - 1) v → IsLawful (f v) → (f v).obsolete ≡ true → FitsDown f xs d → SettlesSequence f true xs d (take (n - 1) xs)
+pub settles_gone : {B : Type 0} (f : B → Change) (xs : List B) (v : B) (n : ℕ) (d : DocumentParts) → 0 < n → n ≡ length xs → v ≡ get_or xs (n - 1) v
+    → IsLawful (f v) → (f v).obsolete ≡ true → FitsDown f xs d → SettlesSequence f true xs d (take (n - 1) xs)
 settles_gone f xs v n d p q k law is h =
-    let all : length xs ≤ n = omega arith in
-    let sequence : xs ≡ take (n - 1) xs ++ v ∷ [] = sym (take_all n xs all) ∙ take_below xs v n p (omega arith) k in
-    subst (λ (ys : List _). SettlesSequence f true ys d (take (n - 1) xs)) (sym sequence) (settles_end f (take (n - 1) xs) v d law is (rw sequence at h))
+    let sequence = last_sequence xs n p q v k in
+    let gone = settles_end f (take (n - 1) xs) v d law is (rw sequence at h) in
+    subst (λ (ys : List _). SettlesSequence f true ys d (take (n - 1) xs)) (sym sequence) gone
 
 -- a sequence of which those that are done were altered, but for their steps
-pub altered_moved : {B : Type 0} (f : B → Change) (xs ys : List B) (n : ℕ) (d : DocumentParts) → IsAltered f (λ ss. ss) (take n xs) d (take n ys) d → drop n ys ≡ drop n xs → length ys ≡ length xs → FitsUp f (drop n xs) d → IsMoved f xs n d ys n d
+pub altered_moved : {B : Type 0} (f : B → Change) (xs ys : List B) (n : ℕ) (d : DocumentParts) → IsAltered f (λ ss. ss) (take n xs) d (take n ys) d
+    → drop n ys ≡ drop n xs → length ys ≡ length xs → FitsUp f (drop n xs) d → IsMoved f xs n d ys n d
 altered_moved f xs ys n d a past len up = record {
   same_length = len;
   down = a.down;

@@ -18,15 +18,18 @@ use Rattle.undo_stack.specs.declared.level.Level.{Level}
 abbrev pub open_of : {C : Type 0} → (C → Change) → Inner C → DocumentParts → Open
 open_of f l d = record { text = l.text; action = l.action; start = before (entry_change f) l.sequence d; steps = steps_down (entry_change f) l.sequence d }
 
-pub start_of-append : {C : Type 0} (f : C → Change) (ls : List (Inner C)) (l : Inner C) (d : DocumentParts) → start_of f (ls ++ l ∷ []) d ≡ start_of f ls (before (entry_change f) l.sequence d)
+pub start_of-append : {C : Type 0} (f : C → Change) (ls : List (Inner C)) (l : Inner C) (d : DocumentParts)
+    → start_of f (ls ++ l ∷ []) d ≡ start_of f ls (before (entry_change f) l.sequence d)
 start_of-append f [] l d = refl
 start_of-append f (m ∷ ls) l d = ap (before (entry_change f) m.sequence) (start_of-append f ls l d)
 
-pub opens-append : {C : Type 0} (f : C → Change) (ls : List (Inner C)) (l : Inner C) (d : DocumentParts) → opens f (ls ++ l ∷ []) d ≡ opens f ls (before (entry_change f) l.sequence d) ++ open_of f l d ∷ []
+pub opens-append : {C : Type 0} (f : C → Change) (ls : List (Inner C)) (l : Inner C) (d : DocumentParts)
+    → opens f (ls ++ l ∷ []) d ≡ opens f ls (before (entry_change f) l.sequence d) ++ open_of f l d ∷ []
 opens-append f [] l d = refl
 opens-append f (m ∷ ls) l d = rw (start_of-append f ls l d, opens-append f ls l d) refl
 
-pub level_nesting-append : {C : Type 0} (ls : List (Inner C)) (l : Inner C) (n : ℕ) → level_nesting ls ≤ n → length ls + sequence_nesting l.sequence + 1 ≤ n → level_nesting (ls ++ l ∷ []) ≤ n
+pub level_nesting-append : {C : Type 0} (ls : List (Inner C)) (l : Inner C) (n : ℕ) → level_nesting ls ≤ n → length ls + sequence_nesting l.sequence + 1 ≤ n
+    → level_nesting (ls ++ l ∷ []) ≤ n
 level_nesting-append [] l n h g = omega arith
 level_nesting-append (m ∷ ls) l n h g =
     let below : level_nesting ls ≤ n - 1 = omega arith in
@@ -37,12 +40,15 @@ pub level_nesting-without_last : {C : Type 0} (ls : List (Inner C)) (l : Inner C
 level_nesting-without_last [] l = omega arith
 level_nesting-without_last (m ∷ ls) l = let rest = level_nesting-without_last ls l in omega arith
 
-pub level_nesting-last : {C : Type 0} (ls : List (Inner C)) (l m : Inner C) → sequence_nesting m.sequence ≤ sequence_nesting l.sequence → level_nesting (ls ++ m ∷ []) ≤ level_nesting (ls ++ l ∷ [])
+pub level_nesting-last : {C : Type 0} (ls : List (Inner C)) (l m : Inner C) → sequence_nesting m.sequence ≤ sequence_nesting l.sequence
+    → level_nesting (ls ++ m ∷ []) ≤ level_nesting (ls ++ l ∷ [])
 level_nesting-last [] l m h = omega arith
 level_nesting-last (k ∷ ls) l m h = let rest = level_nesting-last ls l m h in omega arith
 
 -- an entry that is one deeper than the last level was put into the one around it
-pub level_nesting-closed : {C : Type 0} (ls : List (Inner C)) (v l m : Inner C) → sequence_nesting m.sequence ≤ max (sequence_nesting v.sequence) (sequence_nesting l.sequence + 1) → level_nesting (ls ++ m ∷ []) ≤ level_nesting ((ls ++ v ∷ []) ++ l ∷ [])
+pub level_nesting-closed : {C : Type 0} (ls : List (Inner C)) (v l m : Inner C)
+    → sequence_nesting m.sequence ≤ max (sequence_nesting v.sequence) (sequence_nesting l.sequence + 1)
+    → level_nesting (ls ++ m ∷ []) ≤ level_nesting ((ls ++ v ∷ []) ++ l ∷ [])
 level_nesting-closed [] v l m h = omega arith
 level_nesting-closed (k ∷ ls) v l m h = let rest = level_nesting-closed ls v l m h in omega arith
 
@@ -51,15 +57,18 @@ level_nesting-deep [] l = omega arith
 level_nesting-deep (m ∷ ls) l = let rest = level_nesting-deep ls l in omega arith
 
 -- levels that are held, and ready for those in them
-pub AreHeld-pop : {C : Type 0} (f : C → Change) (ms : List (Level C)) (v : Level C) (d : DocumentParts) → AreHeld f (ms ++ v ∷ []) d → AreHeld f ms (before (entry_change f) (inner_of v).sequence d) × IsHeld f d v.sequence × IsDone v.sequence
+pub AreHeld-pop : {C : Type 0} (f : C → Change) (ms : List (Level C)) (v : Level C) (d : DocumentParts) → AreHeld f (ms ++ v ∷ []) d
+    → AreHeld f ms (before (entry_change f) (inner_of v).sequence d) × IsHeld f d v.sequence × IsDone v.sequence
 AreHeld-pop f [] v d h = (tt, h.0, h.1)
 AreHeld-pop f (m ∷ ms) v d h =
     let rest = AreHeld-pop f ms v d h.2 in
     ((rw (map-append inner_of ms (v ∷ []), start_of-append f (map inner_of ms) (inner_of v) d) at h.0, h.1, rest.0), rest.1, rest.2)
 
-pub AreHeld-push : {C : Type 0} (f : C → Change) (ms : List (Level C)) (v : Level C) (d : DocumentParts) → AreHeld f ms (before (entry_change f) (inner_of v).sequence d) → IsHeld f d v.sequence → IsDone v.sequence → AreHeld f (ms ++ v ∷ []) d
+pub AreHeld-push : {C : Type 0} (f : C → Change) (ms : List (Level C)) (v : Level C) (d : DocumentParts)
+    → AreHeld f ms (before (entry_change f) (inner_of v).sequence d) → IsHeld f d v.sequence → IsDone v.sequence → AreHeld f (ms ++ v ∷ []) d
 AreHeld-push f [] v d h held done = (held, done, tt)
-AreHeld-push f (m ∷ ms) v d h held done = (rw (map-append inner_of ms (v ∷ []), start_of-append f (map inner_of ms) (inner_of v) d) h.0, h.1, AreHeld-push f ms v d h.2 held done)
+AreHeld-push f (m ∷ ms) v d h held done =
+    (rw (map-append inner_of ms (v ∷ []), start_of-append f (map inner_of ms) (inner_of v) d) h.0, h.1, AreHeld-push f ms v d h.2 held done)
 
 pub AreReady-pop : {C : Type 0} (q : Sequence C) (ms : List (Level C)) (v : Level C) → AreReady q (ms ++ v ∷ []) → AreReady q ms × IsReady (innermost_of q ms)
 AreReady-pop q [] v h = (tt, h.0)

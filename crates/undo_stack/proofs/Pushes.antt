@@ -1,5 +1,6 @@
 -- A push outside levels, of an edit that is not merged, seen on entries; and the limit.
-use Rattle.std.proofs.Common.{◌≡◌, ℕ, ◌+◌, ◌-◌, ◌<◌, ◌≤◌, max, zero, suc, List, [], ◌∷◌, ◌++◌, Option, Some, None, take, drop, length, map, refl, sym, ◌∙◌, ap, arith, Bool, true, false, leb, leb-true}
+use Rattle.std.proofs.Common.{◌≡◌, ℕ, ◌+◌, ◌-◌, ◌<◌, ◌≤◌, max, zero, suc, List, [], ◌∷◌, ◌++◌, Option, Some, None, take, drop, length, map, refl, sym, ◌∙◌}
+use Rattle.std.proofs.Common.{ap, arith, Bool, true, false, leb, leb-true}
 use Rattle.std.specs.Prelude.{if◌then◌else◌}
 use Rattle.std.proofs.lemmas.List.{append-nil, length-take-le, length-drop, take_all, drop_all, length-append, map-append}
 use Rattle.map_model.specs.Document.{DocumentParts}
@@ -10,10 +11,13 @@ use Rattle.undo_stack.specs.Pushing.{step_of, up_to, lowered, limited_to, with_a
 use Rattle.undo_stack.specs.Sequence.{before, steps_down, FitsDown}
 use Rattle.undo_stack.specs.Merging.{IsEntered}
 use Rattle.undo_stack.specs.Entries.{entry_change, nesting, greatest}
-use Rattle.undo_stack.specs.Sound.{Inner, history_of, IsTurnable, IsAtMost, sequence_nesting}
+use Rattle.undo_stack.specs.Held.{history_at}
+use Rattle.undo_stack.specs.Sound.{IsTurnable, IsAtMost, sequence_nesting}
 use Rattle.undo_stack.specs.declared.entry.Entry.{Entry}
-use Rattle.undo_stack.proofs.Sequences.{before-append, steps_down-append, FitsDown-push, last_after-down, length-down, take-steps, last_after-take, drop-steps_down}
-use Rattle.undo_stack.proofs.Views.{current-view}
+use Rattle.undo_stack.specs.declared.sequence.Sequence.{Sequence}
+use Rattle.undo_stack.proofs.Sequences.{before-append, steps_down-append, FitsDown-push, last_after-down, length-down, take-steps, last_after-take}
+use Rattle.undo_stack.proofs.Sequences.{drop-steps_down}
+use Rattle.undo_stack.proofs.Views.{history_with}
 
 -- an obsolete change leaves the document as it is
 pub settled-same : (v : Vanishing) (d e : DocumentParts) → IsSettled v true d e → e ≡ d
@@ -75,13 +79,26 @@ sequence_nesting-drop zero es = omega arith
 sequence_nesting-drop (suc k) [] = omega arith
 sequence_nesting-drop (suc k) (x ∷ es) = let h = sequence_nesting-drop k es in omega arith
 
--- entries that are all done
-pub done_view : {C : Type 0} (f : C → Change) (d : DocumentParts) (es : List (Entry C)) (n : ℕ) (clean : Option ℕ) (limit : ℕ) → length es ≡ n → history_of f d es n clean limit [] ≡ record { base = before (entry_change f) es d; steps = steps_down (entry_change f) es d; position = n; clean = clean; limit = limit; levels = [] }
-done_view f d es n clean limit h =
+-- ---- entries that are all done
+-- the history of the sequence q at the document d, but with these entries, which are all done, this index and this clean index
+abbrev pub done_with : {C : Type 0} → (C → Change) → DocumentParts → Sequence C → List (Entry C) → ℕ → Option ℕ → History
+done_with f d q es n mark = record {
+  base = before (entry_change f) es d;
+  steps = steps_down (entry_change f) es d;
+  position = n;
+  clean = mark;
+  limit = q.limit;
+  levels = [];
+}
+
+pub done_view : {C : Type 0} (f : C → Change) (d : DocumentParts) (q : Sequence C) (es : List (Entry C)) (n : ℕ) (mark : Option ℕ)
+    → length es ≡ n → history_with f d q es n mark ≡ done_with f d q es n mark
+done_view f d q es n mark h =
     let all : length es ≤ n = omega arith in
     rw (take_all n es all, drop_all n es all, append-nil (steps_down (entry_change f) es d)) refl
 
-pub done_sound : {C : Type 0} (f : C → Change) (d : DocumentParts) (es : List (Entry C)) (n : ℕ) (clean : Option ℕ) → length es ≡ n → FitsDown (entry_change f) es d → IsAtMost clean n → IsTurnable f d es n clean
+pub done_sound : {C : Type 0} (f : C → Change) (d : DocumentParts) (es : List (Entry C)) (n : ℕ) (clean : Option ℕ)
+    → length es ≡ n → FitsDown (entry_change f) es d → IsAtMost clean n → IsTurnable f d es n clean
 done_sound f d es n clean h p q =
     let all : length es ≤ n = omega arith in
     record {
@@ -91,73 +108,85 @@ done_sound f d es n clean h p q =
       up = rw (drop_all n es all) tt;
     }
 
--- the steps that are done are no more than the entries
-all_done : {C : Type 0} (f : C → Change) (d : DocumentParts) (es : List (Entry C)) (n : ℕ) → n ≤ length es → length (steps_down (entry_change f) (take n es) d) ≤ n
-all_done f d es n h = let steps = length-down (entry_change f) (take n es) d in let most = length-take-le n es h in omega arith
+-- ---- the entries of a sequence above the index go
+module _ {C : Type 0} (f : C → Change) (d : DocumentParts) (q : Sequence C) where
+  pub cut_sound : IsTurnable f d q.entries.items q.index q.clean → IsTurnable f d (take q.index q.entries.items) q.index (up_to q.index q.clean)
+  cut_sound s =
+      let long = length-take-le q.index q.entries.items s.within in
+      done_sound f d (take q.index q.entries.items) q.index (up_to q.index q.clean) long s.down (at_most-up_to q.index q.clean)
 
--- the history once it was cut, and its current document
-pub cut_done : {C : Type 0} (f : C → Change) (d : DocumentParts) (es : List (Entry C)) (n : ℕ) (clean : Option ℕ) (limit : ℕ) → n ≤ length es → cut (history_of f d es n clean limit []) ≡ record { base = before (entry_change f) (take n es) d; steps = steps_down (entry_change f) (take n es) d; position = n; clean = up_to n clean; limit = limit; levels = [] }
-cut_done f d es n clean limit h = rw (take-steps (entry_change f) es n d h) refl
+  module _ (within : q.index ≤ length q.entries.items) where
+    pub cut_done : cut (history_at f d q) ≡ done_with f d q (take q.index q.entries.items) q.index (up_to q.index q.clean)
+    cut_done = rw (take-steps (entry_change f) q.entries.items q.index d within) refl
 
-pub cut_view : {C : Type 0} (f : C → Change) (d : DocumentParts) (es : List (Entry C)) (n : ℕ) (clean : Option ℕ) (limit : ℕ) → n ≤ length es → cut (history_of f d es n clean limit []) ≡ history_of f d (take n es) n (up_to n clean) limit []
-cut_view f d es n clean limit h = cut_done f d es n clean limit h ∙ sym (done_view f d (take n es) n (up_to n clean) limit (length-take-le n es h))
+    pub cut_view : cut (history_at f d q) ≡ history_with f d q (take q.index q.entries.items) q.index (up_to q.index q.clean)
+    cut_view =
+        let long = length-take-le q.index q.entries.items within in
+        cut_done ∙ sym (done_view f d q (take q.index q.entries.items) q.index (up_to q.index q.clean) long)
 
-pub cut_sound : {C : Type 0} (f : C → Change) (d : DocumentParts) (es : List (Entry C)) (n : ℕ) (clean : Option ℕ) → IsTurnable f d es n clean → IsTurnable f d (take n es) n (up_to n clean)
-cut_sound f d es n clean s = done_sound f d (take n es) n (up_to n clean) (length-take-le n es s.within) s.down (at_most-up_to n clean)
-
-cut_current : {C : Type 0} (f : C → Change) (d : DocumentParts) (es : List (Entry C)) (n : ℕ) (clean : Option ℕ) (limit : ℕ) → n ≤ length es → current (cut (history_of f d es n clean limit [])) ≡ d
-cut_current f d es n clean limit h =
-    let sequence = steps_down (entry_change f) (take n es) d in
-    ap current (cut_done f d es n clean limit h) ∙ rw (take_all n sequence (all_done f d es n h)) (last_after-down (entry_change f) (take n es) d)
-
--- the current document stays where the steps past the position go
-pub current-cut : {C : Type 0} (f : C → Change) (d : DocumentParts) (es : List (Entry C)) (n : ℕ) (clean : Option ℕ) (limit : ℕ) (ls : List (Inner C)) → n ≤ length es → current (cut (history_of f d es n clean limit ls)) ≡ d
-current-cut f d es n clean limit [] h = cut_current f d es n clean limit h
-current-cut f d es n clean limit (l ∷ ls) h = current-view f d es n clean limit (l ∷ ls) h
+    -- the current document stays
+    pub current-cut : current (cut (history_at f d q)) ≡ d
+    current-cut =
+        let done = take q.index q.entries.items in
+        let steps = steps_down (entry_change f) done d in
+        let most : length steps ≤ q.index = omega (arith, length-down (entry_change f) done d, length-take-le q.index q.entries.items within) in
+        ap current cut_done ∙ rw (take_all q.index steps most) (last_after-down (entry_change f) done d)
 
 -- an edit that left the document as it is, and one that became a step
-pub entered_gone : (h : History) (s : Step) (n : History) (d : DocumentParts) → current (cut h) ≡ d → IsSettled s.names.vanishing true d s.after → n ≡ cut h → IsEntered true h s n
+pub entered_gone : (h : History) (s : Step) (n : History) (d : DocumentParts) → current (cut h) ≡ d → IsSettled s.names.vanishing true d s.after → n ≡ cut h
+    → IsEntered true h s n
 entered_gone h s n d at settled next = record { gone_where = rw at settled; next = next }
 
-pub entered_added : (h : History) (s : Step) (n : History) (d : DocumentParts) → current (cut h) ≡ d → IsSettled s.names.vanishing false d s.after → n ≡ (let k = cut h in with_added s k.levels k) → IsEntered false h s n
+pub entered_added : (h : History) (s : Step) (n : History) (d : DocumentParts) → current (cut h) ≡ d → IsSettled s.names.vanishing false d s.after
+    → n ≡ (let k = cut h in with_added s k.levels k) → IsEntered false h s n
 entered_added h s n d at settled next = record { gone_where = rw at settled; next = next }
 
 -- an entry x above the others, which are all done, led to e
-pub added_view : {C : Type 0} (f : C → Change) (e : DocumentParts) (es : List (Entry C)) (x : Entry C) (n : ℕ) (clean : Option ℕ) (limit : ℕ) → length es ≡ n → history_of f e (es ++ x ∷ []) (n + 1) clean limit [] ≡ (let h = history_of f ((entry_change f x).undone e) es n clean limit [] in record h { steps = h.steps ++ step_named (entry_change f x).names e ∷ []; position = h.position + 1 })
-added_view f e es x n clean limit len =
+pub added_view : {C : Type 0} (f : C → Change) (e : DocumentParts) (q : Sequence C) (x : Entry C) → length q.entries.items ≡ q.index
+    → history_with f e q (q.entries.items ++ x ∷ []) (q.index + 1) q.clean
+    ≡ (let h = history_at f ((entry_change f x).undone e) q in
+    record h { steps = h.steps ++ step_named (entry_change f x).names e ∷ []; position = h.position + 1 })
+added_view f e q x end =
     let k = entry_change f in
-    let sequence = es ++ x ∷ [] in
+    let es = q.entries.items in
     let d = (k x).undone e in
-    let more : length sequence ≡ n + 1 = length-append es (x ∷ []) ∙ ap (λ (m : ℕ). m + 1) len in
-    let make : DocumentParts → List Step → History = λ b ss. record { base = b; steps = ss; position = n + 1; clean = clean; limit = limit; levels = [] } in
+    let more : length (es ++ x ∷ []) ≡ q.index + 1 = length-append es (x ∷ []) ∙ ap (λ (m : ℕ). m + 1) end in
+    let make : DocumentParts → List Step → History = λ b ss. record (done_with f e q es (q.index + 1) q.clean) { base = b; steps = ss } in
     let grown : History → History = λ h. record h { steps = h.steps ++ step_named (k x).names e ∷ []; position = h.position + 1 } in
-    done_view f e sequence (n + 1) clean limit more
-    ∙ ap (λ (b : DocumentParts). make b (steps_down k sequence e)) (before-append k es x e)
+    done_view f e q (es ++ x ∷ []) (q.index + 1) q.clean more
+    ∙ ap (λ (b : DocumentParts). make b (steps_down k (es ++ x ∷ []) e)) (before-append k es x e)
     ∙ ap (make (before k es d)) (steps_down-append k es x e)
-    ∙ sym (ap grown (done_view f d es n clean limit len))
+    ∙ sym (ap grown (done_view f d q es q.index q.clean end))
 
-pub added_fits : {C : Type 0} (f : C → Change) (e : DocumentParts) (es : List (Entry C)) (x : Entry C) (n : ℕ) (clean : Option ℕ) → length es ≡ n → IsTurnable f ((entry_change f x).undone e) es n clean → (entry_change f x).fits_undo e → FitsDown (entry_change f) (es ++ x ∷ []) e
-added_fits f e es x n clean len s fits =
-    let all : length es ≤ n = omega arith in
-    FitsDown-push (entry_change f) es x e (rw (take_all n es all) at s.down) fits
+pub added_fits : {C : Type 0} (f : C → Change) (e : DocumentParts) (q : Sequence C) (x : Entry C) → length q.entries.items ≡ q.index
+    → IsTurnable f ((entry_change f x).undone e) q.entries.items q.index q.clean → (entry_change f x).fits_undo e
+    → FitsDown (entry_change f) (q.entries.items ++ x ∷ []) e
+added_fits f e q x end s fits =
+    let all : length q.entries.items ≤ q.index = omega arith in
+    FitsDown-push (entry_change f) q.entries.items x e (rw (take_all q.index q.entries.items all) at s.down) fits
 
 -- entries that are all done, without those that are more than the limit
-pub limited_view : {C : Type 0} (f : C → Change) (e : DocumentParts) (es : List (Entry C)) (n : ℕ) (clean : Option ℕ) (limit : ℕ) → length es ≡ n → 0 < limit → history_of f e (drop (n - limit) es) (n - (n - limit)) (lowered (n - limit) clean) limit [] ≡ limited_to limit (history_of f e es n clean limit [])
-limited_view f e es n clean zero len h = absurd (omega arith)
-limited_view f e es n clean (suc m) len h =
+limited_to-some : (limit : ℕ) (h : History) → 0 < limit → limited_to limit h ≡ dropped (length h.steps - limit) h
+limited_to-some zero h some = absurd (omega arith)
+limited_to-some (suc m) h some = refl
+
+pub limited_view : {C : Type 0} (f : C → Change) (e : DocumentParts) (q : Sequence C) (es : List (Entry C)) (n : ℕ) (mark : Option ℕ)
+    → length es ≡ n → 0 < q.limit
+    → history_with f e q (drop (n - q.limit) es) (n - (n - q.limit)) (lowered (n - q.limit) mark) ≡ limited_to q.limit (history_with f e q es n mark)
+limited_view f e q es n mark len some =
     let k = entry_change f in
-    let over = n - suc m in
+    let over = n - q.limit in
     let left : length (drop over es) ≡ n - over = omega (arith, length-drop over es) in
     let steps = steps_down k es e in
-    let whole : History = record { base = before k es e; steps = steps; position = n; clean = clean; limit = suc m; levels = [] } in
-    let same : length steps - suc m ≡ over = omega (arith, length-down k es e) in
-    let make : DocumentParts → List Step → History = λ b ss. record { base = b; steps = ss; position = n - over; clean = lowered over clean; limit = suc m; levels = [] } in
-    let gone : ℕ → History = λ j. dropped j whole in
-    done_view f e (drop over es) (n - over) (lowered over clean) (suc m) left
+    let whole = done_with f e q es n mark in
+    let same : length steps - q.limit ≡ over = omega (arith, length-down k es e) in
+    let make : DocumentParts → List Step → History = λ b ss. record whole { base = b; steps = ss; position = n - over; clean = lowered over mark } in
+    done_view f e q (drop over es) (n - over) (lowered over mark) left
     ∙ ap (λ (b : DocumentParts). make b (steps_down k (drop over es) e)) (sym (last_after-take k over es e))
     ∙ ap (make (last_after (before k es e) (take over steps))) (sym (drop-steps_down k over es e))
-    ∙ sym (ap gone same)
-    ∙ sym (ap (limited_to (suc m)) (done_view f e es n clean (suc m) len))
+    ∙ sym (ap (λ (j : ℕ). dropped j whole) same)
+    ∙ sym (limited_to-some q.limit whole some)
+    ∙ sym (ap (limited_to q.limit) (done_view f e q es n mark len))
 
 -- the step of a command, by what became of the command when it was redone
 pub redone_step : (v w : Change) (d e k : DocumentParts) → IsRedone v w d e → k ≡ d → step_of v k ≡ step_named w.names e

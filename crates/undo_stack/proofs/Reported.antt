@@ -1,7 +1,9 @@
 -- What turns make of a history, as the commands that are turned report it.
-use Rattle.std.proofs.Common.{◌≡◌, ℕ, ◌+◌, ◌-◌, ◌<◌, ◌≤◌, List, [], ◌∷◌, ◌++◌, Bool, true, false, ◌&&◌, take, drop, reverse, length, set, get_or, refl, sym, ◌∙◌, ap, subst, arith, length-set, min, zero, suc}
-use Rattle.std.proofs.lemmas.List.{drop_all, drop-append-le, get_or-set_same, length-drop, length-reverse, length-take, length-take-le, reverse-append, take-set}
-use Rattle.std.proofs.lemmas.List.Elements.{All-append, All-cons, All-drop, All-head, All-nil, All-tail, All-take}
+use Rattle.std.proofs.Common.{◌≡◌, ℕ, ◌+◌, ◌-◌, ◌<◌, ◌≤◌, List, [], ◌∷◌, ◌++◌, Bool, true, false, ◌&&◌, take, drop, reverse, length, set, get_or, refl, sym}
+use Rattle.std.proofs.Common.{◌∙◌, ap, subst, arith, length-set, min, zero, suc}
+use Rattle.std.proofs.lemmas.List.{drop_all, drop-append-le, get_or-set_same, length-drop, length-reverse, length-take, length-take-le, reverse-append}
+use Rattle.std.proofs.lemmas.List.{take-set}
+use Rattle.std.proofs.lemmas.List.Elements.{All-drop, All-head, All-push, All-tail, All-take}
 use Rattle.map_model.specs.Document.{DocumentParts}
 use Rattle.command_api.specs.Law.{Change, IsRedone, IsUndone}
 use Rattle.command_api.specs.Names.{Names, is_free}
@@ -13,14 +15,16 @@ use Rattle.undo_stack.specs.Moving.{positioned}
 use Rattle.undo_stack.specs.Reporting.{AreRedone, AreTurned, AreUndone, GoesBy, IsRedoneIn, IsUndoneIn, left_by}
 use Rattle.undo_stack.specs.declared.entry.Entry.{Entry}
 use Rattle.undo_stack.specs.declared.sequence.Sequence.{Sequence}
-use Rattle.undo_stack.proofs.Calm.{at_number}
+use Rattle.undo_stack.proofs.Calm.{Bound, at_number}
 use Rattle.undo_stack.proofs.Sequences.{drop_first, drop_past, take_last}
 
 -- as many as there are
 take_most : {X : Type 0} (k : ℕ) (xs : List X) → take (min k (length xs)) xs ≡ take k xs
 take_most zero xs = let none : min 0 (length xs) ≡ 0 = omega arith in ap (λ (m : ℕ). take m xs) none
 take_most {X} (suc k) [] = let none : min (suc k) 0 ≡ 0 = omega arith in ap (λ (m : ℕ). take {A = X} m []) none
-take_most {X} (suc k) (x ∷ xs) = let next : min (suc k) (suc (length xs)) ≡ suc (min k (length xs)) = omega arith in ap (λ (m : ℕ). take m (x ∷ xs)) next ∙ ap (λ (ys : List X). x ∷ ys) (take_most k xs)
+take_most {X} (suc k) (x ∷ xs) =
+    let next : min (suc k) (suc (length xs)) ≡ suc (min k (length xs)) = omega arith in
+    ap (λ (m : ℕ). take m (x ∷ xs)) next ∙ ap (λ (ys : List X). x ∷ ys) (take_most k xs)
 
 -- ---- one turn
 -- the history H is at the number where the step may go
@@ -38,101 +42,141 @@ module _ {C : Type 0} (f : C → Change) where
   goes_by IsTurned w false t = refl
 
   -- the turned entry has the names of the one before
-  goes_as : (IsTurned : Entry C → Type 0) (v w : Entry C) → (entry_change f w).names ≡ (entry_change f v).names → IsTurned w → GoesBy f (is_free (entry_change f v).names.vanishing) IsTurned (is_gone (entry_change f w))
-  goes_as IsTurned v w names t = subst (λ (n : Names). GoesBy f (is_free n.vanishing) IsTurned (is_gone (entry_change f w))) names (goes_by IsTurned w (is_free (entry_change f w).names.vanishing) t)
+  goes_as : (IsTurned : Entry C → Type 0) (v w : Entry C) → (entry_change f w).names ≡ (entry_change f v).names → IsTurned w
+      → GoesBy f (is_free (entry_change f v).names.vanishing) IsTurned (is_gone (entry_change f w))
+  goes_as IsTurned v w names t =
+      let goes : Names → Type 0 = λ n. GoesBy f (is_free n.vanishing) IsTurned (is_gone (entry_change f w)) in
+      subst goes names (goes_by IsTurned w (is_free (entry_change f w).names.vanishing) t)
 
   stays_by : (IsTurned : Entry C → Type 0) (b : Bool) → b ≡ false → GoesBy f b IsTurned false
   stays_by IsTurned true e = let bad : true ≡ false = e in let worse : ⊥ = cc in absurd worse
   stays_by IsTurned false e = refl
 
   -- where no entry is free, the one before the turn was not free either
-  pub bound_before : (at : ℕ) (v w : Entry C) (q m : Sequence C) → IsSetAt at v w q m → at < length q.entries.items → (entry_change f w).names ≡ (entry_change f v).names → NoneFree f m.entries.items
-      → is_free (entry_change f v).names.vanishing ≡ false
+  pub bound_before : (at : ℕ) (v w : Entry C) (q m : Sequence C) → IsSetAt at v w q m → at < length q.entries.items
+      → (entry_change f w).names ≡ (entry_change f v).names → NoneFree f m.entries.items → is_free (entry_change f v).names.vanishing ≡ false
   bound_before at v w q m put inside names none =
-      let bound : Entry C → Type 0 = λ (e : Entry C). is_free (entry_change f e).names.vanishing ≡ false in
-      let long : at < length (set q.entries.items at w) = rw (length-set q.entries.items at w) inside in
-      let here : w ≡ get_or (set q.entries.items at w) at w = sym (get_or-set_same q.entries.items at w w inside) in
-      let none_set : NoneFree f (set q.entries.items at w) = rw put.entries at none in
-      ap (λ (n : Names). is_free n.vanishing) (sym names) ∙ at_number f bound (set q.entries.items at w) w at long here none_set
+      let ts = set q.entries.items at w in
+      let long : at < length ts = rw (length-set q.entries.items at w) inside in
+      let here : w ≡ get_or ts at w = sym (get_or-set_same q.entries.items at w w inside) in
+      ap (λ (n : Names). is_free n.vanishing) (sym names) ∙ at_number f (Bound f) ts w at long here (rw put.entries at none)
 
   -- the entry below the index was undone, and its step stays, since it is not free
-  pub down_kept : (d e : DocumentParts) (q m : Sequence C) (u : UndoesLast f d q e m) → is_free (entry_change f u.before).names.vanishing ≡ false → m.index ≡ q.index - 1
+  pub down_kept : (d e : DocumentParts) (q m : Sequence C) (u : UndoesLast f d q e m)
+      → is_free (entry_change f u.before).names.vanishing ≡ false → m.index ≡ q.index - 1
       → history_at f e m ≡ positioned (q.index - 1) (history_at f d q) → StepsDown f d q e m
   down_kept d e q m u bound index seen = record {
     entry = u.before;
     was = u.put.was;
     document = u.undone.document;
-    undone = record { gone = false; goes = stays_by _ (is_free (entry_change f u.before).names.vanishing) bound; left = seen };
+    undone = record {
+      gone = false;
+      goes = stays_by _ (is_free (entry_change f u.before).names.vanishing) bound;
+      left = seen;
+    };
     index = index;
     rest = rw u.put.entries (take-set q.entries.items (q.index - 1) u.after);
   }
 
-  pub up_kept : (d e : DocumentParts) (q m : Sequence C) (u : RedoesNext f d q e m) → is_free (entry_change f u.before).names.vanishing ≡ false → m.index ≡ q.index + 1
+  pub up_kept : (d e : DocumentParts) (q m : Sequence C) (u : RedoesNext f d q e m)
+      → is_free (entry_change f u.before).names.vanishing ≡ false → m.index ≡ q.index + 1
       → history_at f e m ≡ positioned (q.index + 1) (history_at f d q) → StepsUp f d q e m
   up_kept d e q m u bound index seen = record {
     entry = u.before;
     was = u.put.was;
     document = u.redone.document;
-    redone = record { gone = false; goes = stays_by _ (is_free (entry_change f u.before).names.vanishing) bound; left = seen };
+    redone = record {
+      gone = false;
+      goes = stays_by _ (is_free (entry_change f u.before).names.vanishing) bound;
+      left = seen;
+    };
     rest = rw (index, u.put.entries) (drop_past q.entries.items u.after q.index);
   }
 
   -- the entry that was turned is the one that was looked at
   same_entry : (es ds : List (Entry C)) (at i : ℕ) (w x : Entry C) → ds ≡ set es at w → i ≡ at → at < length es → x ≡ get_or ds i x → x ≡ w
-  same_entry es ds at i w x is here inside found = found ∙ ap (λ (zs : List (Entry C)). get_or zs i x) is ∙ ap (λ (k : ℕ). get_or (set es at w) k x) here ∙ get_or-set_same es at w x inside
+  same_entry es ds at i w x is here inside found =
+      found
+      ∙ ap (λ (zs : List (Entry C)). get_or zs i x) is
+      ∙ ap (λ (k : ℕ). get_or (set es at w) k x) here
+      ∙ get_or-set_same es at w x inside
+
+  -- whether its step goes is what it reports
+  left_looked : (e : DocumentParts) (m : Sequence C) (n h : History) (at i j : ℕ) (w x : Entry C)
+      → n ≡ left_by (is_gone (entry_change f x)) i (history_at f e m) (history_at f e m) → x ≡ w → i ≡ at
+      → history_at f e m ≡ positioned j h → n ≡ left_by (is_gone (entry_change f w)) at h (positioned j h)
+  left_looked e m n h at i j w x left looked here seen =
+      let gone = is_gone (entry_change f w) in
+      let k = history_at f e m in
+      left
+      ∙ ap (λ (y : Entry C). left_by (is_gone (entry_change f y)) i k k) looked
+      ∙ ap (λ (a : ℕ). left_by gone a k k) here
+      ∙ ap (λ (y : History). left_by gone at y y) seen
+      ∙ left_by-positioned gone at h j
 
   -- the entry below the index was undone, and then looked at
-  pub down_looked : (d e : DocumentParts) (q m p : Sequence C) (u : UndoesLast f d q e m) → 0 < q.index → q.index ≤ length q.entries.items → m.index ≡ q.index - 1
-      → history_at f e m ≡ positioned (q.index - 1) (history_at f d q) → IsDroppedAt f e m.index m p → StepsDown f d q e p
+  pub down_looked : (d e : DocumentParts) (q m p : Sequence C) (u : UndoesLast f d q e m) → 0 < q.index → q.index ≤ length q.entries.items
+      → m.index ≡ q.index - 1 → history_at f e m ≡ positioned (q.index - 1) (history_at f d q) → IsDroppedAt f e m.index m p
+      → StepsDown f d q e p
   down_looked d e q m p u some within index seen r =
+      let es = q.entries.items in
       let at = q.index - 1 in
       let h = history_at f d q in
-      let looked : r.entry ≡ u.after = same_entry q.entries.items m.entries.items at m.index u.after r.entry u.put.entries index (omega (arith, some, within)) r.was in
       let gone = is_gone (entry_change f u.after) in
-      let left : history_at f e p ≡ left_by gone at h (positioned at h) =
-      r.left ∙ ap (λ (x : Entry C). left_by (is_gone (entry_change f x)) m.index (history_at f e m) (history_at f e m)) looked
-      ∙ ap (λ (n : ℕ). left_by gone n (history_at f e m) (history_at f e m)) index
-      ∙ ap (λ (x : History). left_by gone at x x) seen
-      ∙ left_by-positioned gone at h at in
+      let looked = same_entry es m.entries.items at m.index u.after r.entry u.put.entries index (omega (arith, some, within)) r.was in
+      let left = left_looked e m (history_at f e p) h at m.index at u.after r.entry r.left looked index seen in
+      let turned : DocumentParts → Type 0 = IsUndone (entry_change f u.before) (entry_change f u.after) d in
       record {
         entry = u.before;
         was = u.put.was;
         document = u.undone.document;
-        undone = record { gone = gone; goes = goes_as _ u.before u.after u.undone.names (subst (λ (x : DocumentParts). IsUndone (entry_change f u.before) (entry_change f u.after) d x) u.undone.document u.undone); left = left };
+        undone = record {
+          gone = gone;
+          goes = goes_as _ u.before u.after u.undone.names (subst turned u.undone.document u.undone);
+          left = left;
+        };
         index = ap (λ (x : History). x.position) left ∙ position-left_by gone at h (positioned at h) refl;
-        rest = ap (λ (n : ℕ). take n p.entries.items) (sym index) ∙ r.below ∙ ap (λ (n : ℕ). take n m.entries.items) index ∙ ap (take at) u.put.entries ∙ take-set q.entries.items at u.after;
+        rest =
+            ap (λ (n : ℕ). take n p.entries.items) (sym index)
+            ∙ r.below
+            ∙ ap (λ (n : ℕ). take n m.entries.items) index
+            ∙ ap (take at) u.put.entries
+            ∙ take-set es at u.after;
       }
 
   -- the entry above the index was redone, and then looked at
-  pub up_looked : (d e : DocumentParts) (q m p : Sequence C) (u : RedoesNext f d q e m) → q.index < length q.entries.items → m.index ≡ q.index + 1
-      → history_at f e m ≡ positioned (q.index + 1) (history_at f d q) → IsDroppedAt f e (m.index - 1) m p → StepsUp f d q e p
+  pub up_looked : (d e : DocumentParts) (q m p : Sequence C) (u : RedoesNext f d q e m) → q.index < length q.entries.items
+      → m.index ≡ q.index + 1 → history_at f e m ≡ positioned (q.index + 1) (history_at f d q) → IsDroppedAt f e (m.index - 1) m p
+      → StepsUp f d q e p
   up_looked d e q m p u inside index seen r =
+      let es = q.entries.items in
       let at = q.index in
-      let h = history_at f d q in
       let here : m.index - 1 ≡ at = omega (arith, index) in
-      let looked : r.entry ≡ u.after = same_entry q.entries.items m.entries.items at (m.index - 1) u.after r.entry u.put.entries here inside r.was in
-      let gone = is_gone (entry_change f u.after) in
-      let left : history_at f e p ≡ left_by gone at h (positioned (at + 1) h) =
-      r.left ∙ ap (λ (x : Entry C). left_by (is_gone (entry_change f x)) (m.index - 1) (history_at f e m) (history_at f e m)) looked
-      ∙ ap (λ (n : ℕ). left_by gone n (history_at f e m) (history_at f e m)) here
-      ∙ ap (λ (x : History). left_by gone at x x) seen
-      ∙ left_by-positioned gone at h (at + 1) in
       let next : m.index - 1 + 1 ≡ at + 1 = omega (arith, index) in
+      let looked = same_entry es m.entries.items at (m.index - 1) u.after r.entry u.put.entries here inside r.was in
+      let left = left_looked e m (history_at f e p) (history_at f d q) at (m.index - 1) (at + 1) u.after r.entry r.left looked here seen in
+      let turned : DocumentParts → Type 0 = IsRedone (entry_change f u.before) (entry_change f u.after) d in
       let above : drop p.index p.entries.items ≡ drop (m.index - 1 + 1) m.entries.items = r.above (omega (arith, index)) in
       record {
         entry = u.before;
         was = u.put.was;
         document = u.redone.document;
-        redone = record { gone = gone; goes = goes_as _ u.before u.after u.redone.names (subst (λ (x : DocumentParts). IsRedone (entry_change f u.before) (entry_change f u.after) d x) u.redone.document u.redone); left = left };
-        rest = above ∙ ap (λ (n : ℕ). drop n m.entries.items) next ∙ ap (drop (at + 1)) u.put.entries ∙ drop_past q.entries.items u.after at;
+        redone = record {
+          gone = is_gone (entry_change f u.after);
+          goes = goes_as _ u.before u.after u.redone.names (subst turned u.redone.document u.redone);
+          left = left;
+        };
+        rest = above ∙ ap (λ (n : ℕ). drop n m.entries.items) next ∙ ap (drop (at + 1)) u.put.entries ∙ drop_past es u.after at;
       }
 
   -- ---- turns of one entry after another
   -- the entries from the number a up to n + 1, last first
-  undone_first : (es : List (Entry C)) (v : Entry C) (a n : ℕ) → a ≤ n → n < length es → v ≡ get_or es n v → reverse (drop a (take (n + 1) es)) ≡ v ∷ reverse (drop a (take n es))
+  undone_first : (es : List (Entry C)) (v : Entry C) (a n : ℕ) → a ≤ n → n < length es → v ≡ get_or es n v
+      → reverse (drop a (take (n + 1) es)) ≡ v ∷ reverse (drop a (take n es))
   undone_first es v a n within inside at =
       let long = length-take-le n es (omega (arith, inside)) in
-      let cut : drop a (take (n + 1) es) ≡ drop a (take n es) ++ v ∷ [] = ap (drop a) (take_last es v n inside at) ∙ drop-append-le a (take n es) (v ∷ []) (omega (arith, within, long)) in
+      let cut : drop a (take (n + 1) es) ≡ drop a (take n es) ++ v ∷ [] =
+      ap (drop a) (take_last es v n inside at) ∙ drop-append-le a (take n es) (v ∷ []) (omega (arith, within, long)) in
       ap reverse cut ∙ reverse-append (drop a (take n es)) (v ∷ [])
 
   -- none is turned
@@ -143,120 +187,157 @@ module _ {C : Type 0} (f : C → Change) where
       rw none refl
 
   -- one more is undone
-  pub undone_more : (d e : DocumentParts) (q p : Sequence C) (a : ℕ) (n : History) → a < q.index → q.index ≤ length q.entries.items → StepsDown f d q e p
-      → AreUndone f (reverse (drop a (take p.index p.entries.items))) e (history_at f e p) n → AreUndone f (reverse (drop a (take q.index q.entries.items))) d (history_at f d q) n
+  pub undone_more : (d e : DocumentParts) (q p : Sequence C) (a : ℕ) (n : History) → a < q.index → q.index ≤ length q.entries.items
+      → StepsDown f d q e p → AreUndone f (reverse (drop a (take p.index p.entries.items))) e (history_at f e p) n
+      → AreUndone f (reverse (drop a (take q.index q.entries.items))) d (history_at f d q) n
   undone_more d e q p a n below within s rest =
+      let es = q.entries.items in
       let at = q.index - 1 in
+      let h = history_at f d q in
+      let m = history_at f e p in
       let top : at + 1 ≡ q.index = omega (arith, below) in
-      let first = undone_first q.entries.items s.entry a at (omega (arith, below)) (omega (arith, below, within)) s.was in
-      let same : take p.index p.entries.items ≡ take at q.entries.items = ap (λ (k : ℕ). take k p.entries.items) s.index ∙ s.rest in
-      let left : AreUndone f (reverse (drop a (take at q.entries.items))) ((entry_change f s.entry).undone d) (history_at f e p) n =
-      subst (λ (x : DocumentParts). AreUndone f (reverse (drop a (take at q.entries.items))) x (history_at f e p) n) s.document
-      (subst (λ (xs : List (Entry C)). AreUndone f (reverse (drop a xs)) e (history_at f e p) n) same rest) in
-      let all : AreUndone f (s.entry ∷ reverse (drop a (take at q.entries.items))) d (history_at f d q) n = (history_at f e p, s.undone, left) in
-      subst (λ (k : ℕ). AreUndone f (reverse (drop a (take k q.entries.items))) d (history_at f d q) n) top
-      (subst (λ (xs : List (Entry C)). AreUndone f xs d (history_at f d q) n) (sym first) all)
+      let first = undone_first es s.entry a at (omega (arith, below)) (omega (arith, below, within)) s.was in
+      let same : take p.index p.entries.items ≡ take at es = ap (λ (k : ℕ). take k p.entries.items) s.index ∙ s.rest in
+      let left = subst (λ (xs : List (Entry C)). AreUndone f (reverse (drop a xs)) e m n) same rest in
+      let onto = subst (λ (x : DocumentParts). AreUndone f (reverse (drop a (take at es))) x m n) s.document left in
+      let all : AreUndone f (s.entry ∷ reverse (drop a (take at es))) d h n = (m, s.undone, onto) in
+      subst (λ (k : ℕ). AreUndone f (reverse (drop a (take k es))) d h n) top
+      (subst (λ (xs : List (Entry C)). AreUndone f xs d h n) (sym first) all)
 
   -- one more is redone
-  pub redone_more : (d e : DocumentParts) (q p : Sequence C) (k : ℕ) (n : History) → 0 < k → q.index < length q.entries.items → StepsUp f d q e p
-      → AreRedone f (take (k - 1) (drop p.index p.entries.items)) e (history_at f e p) n → AreRedone f (take k (drop q.index q.entries.items)) d (history_at f d q) n
+  pub redone_more : (d e : DocumentParts) (q p : Sequence C) (k : ℕ) (n : History) → 0 < k → q.index < length q.entries.items
+      → StepsUp f d q e p → AreRedone f (take (k - 1) (drop p.index p.entries.items)) e (history_at f e p) n
+      → AreRedone f (take k (drop q.index q.entries.items)) d (history_at f d q) n
   redone_more d e q p k n some inside s rest =
+      let es = q.entries.items in
+      let h = history_at f d q in
+      let m = history_at f e p in
+      let above = drop (q.index + 1) es in
       let next : suc (k - 1) ≡ k = omega (arith, some) in
-      let first = drop_first q.entries.items s.entry q.index inside s.was in
-      let left : AreRedone f (take (k - 1) (drop (q.index + 1) q.entries.items)) ((entry_change f s.entry).redone d) (history_at f e p) n =
-      subst (λ (x : DocumentParts). AreRedone f (take (k - 1) (drop (q.index + 1) q.entries.items)) x (history_at f e p) n) s.document
-      (subst (λ (xs : List (Entry C)). AreRedone f (take (k - 1) xs) e (history_at f e p) n) s.rest rest) in
-      let all : AreRedone f (take (suc (k - 1)) (s.entry ∷ drop (q.index + 1) q.entries.items)) d (history_at f d q) n = (history_at f e p, s.redone, left) in
-      subst (λ (j : ℕ). AreRedone f (take j (drop q.index q.entries.items)) d (history_at f d q) n) next
-      (subst (λ (xs : List (Entry C)). AreRedone f (take (suc (k - 1)) xs) d (history_at f d q) n) (sym first) all)
+      let first = drop_first es s.entry q.index inside s.was in
+      let left = subst (λ (xs : List (Entry C)). AreRedone f (take (k - 1) xs) e m n) s.rest rest in
+      let onto = subst (λ (x : DocumentParts). AreRedone f (take (k - 1) above) x m n) s.document left in
+      let all : AreRedone f (take (suc (k - 1)) (s.entry ∷ above)) d h n = (m, s.redone, onto) in
+      subst (λ (j : ℕ). AreRedone f (take j (drop q.index es)) d h n) next
+      (subst (λ (xs : List (Entry C)). AreRedone f (take (suc (k - 1)) xs) d h n) (sym first) all)
 
   -- ---- entries of which none is free: no step goes
   NoneFree-reverse : (es : List (Entry C)) → NoneFree f es → NoneFree f (reverse es)
   NoneFree-reverse [] none = none
   NoneFree-reverse (v ∷ vs) none =
-      let bound : Entry C → Type 0 = λ (e : Entry C). is_free (entry_change f e).names.vanishing ≡ false in
       let last : reverse (v ∷ vs) ≡ reverse vs ++ v ∷ [] = reverse-append (v ∷ []) vs in
-      rw last (All-append bound (reverse vs) (v ∷ []) (NoneFree-reverse vs (All-tail bound v vs none)) (All-cons bound v [] (All-head bound v vs none) (All-nil bound)))
+      rw last (All-push (Bound f) (reverse vs) v (NoneFree-reverse vs (All-tail (Bound f) v vs none)) (All-head (Bound f) v vs none))
 
-  bound_undone : (vs : List (Entry C)) → NoneFree f vs → (d : DocumentParts) (h : History) → AreUndone f vs d h (positioned (h.position - length vs) h)
+  bound_undone : (vs : List (Entry C)) → NoneFree f vs → (d : DocumentParts) (h : History)
+      → AreUndone f vs d h (positioned (h.position - length vs) h)
   bound_undone [] none d h = let at : h.position - 0 ≡ h.position = omega arith in ap (λ (i : ℕ). positioned i h) at
   bound_undone (v ∷ vs) none d h =
-      let bound : Entry C → Type 0 = λ (e : Entry C). is_free (entry_change f e).names.vanishing ≡ false in
       let m = positioned (h.position - 1) h in
+      let e = (entry_change f v).undone d in
       let at : h.position - 1 - length vs ≡ h.position - suc (length vs) = omega arith in
-      let one : IsUndoneIn f v d h m = record { gone = false; goes = stays_by _ (is_free (entry_change f v).names.vanishing) (All-head bound v vs none); left = refl } in
-      (m, one, subst (λ (i : ℕ). AreUndone f vs ((entry_change f v).undone d) m (positioned i h)) at (bound_undone vs (All-tail bound v vs none) ((entry_change f v).undone d) m))
+      let bound = All-head (Bound f) v vs none in
+      let one : IsUndoneIn f v d h m = record {
+        gone = false;
+        goes = stays_by _ (is_free (entry_change f v).names.vanishing) bound;
+        left = refl;
+      } in
+      let rest = bound_undone vs (All-tail (Bound f) v vs none) e m in
+      (m, one, subst (λ (i : ℕ). AreUndone f vs e m (positioned i h)) at rest)
 
-  bound_redone : (vs : List (Entry C)) → NoneFree f vs → (d : DocumentParts) (h : History) → AreRedone f vs d h (positioned (h.position + length vs) h)
+  bound_redone : (vs : List (Entry C)) → NoneFree f vs → (d : DocumentParts) (h : History)
+      → AreRedone f vs d h (positioned (h.position + length vs) h)
   bound_redone [] none d h = let at : h.position + 0 ≡ h.position = omega arith in ap (λ (i : ℕ). positioned i h) at
   bound_redone (v ∷ vs) none d h =
-      let bound : Entry C → Type 0 = λ (e : Entry C). is_free (entry_change f e).names.vanishing ≡ false in
       let m = positioned (h.position + 1) h in
+      let e = (entry_change f v).redone d in
       let at : h.position + 1 + length vs ≡ h.position + suc (length vs) = omega arith in
-      let one : IsRedoneIn f v d h m = record { gone = false; goes = stays_by _ (is_free (entry_change f v).names.vanishing) (All-head bound v vs none); left = refl } in
-      (m, one, subst (λ (i : ℕ). AreRedone f vs ((entry_change f v).redone d) m (positioned i h)) at (bound_redone vs (All-tail bound v vs none) ((entry_change f v).redone d) m))
+      let bound = All-head (Bound f) v vs none in
+      let one : IsRedoneIn f v d h m = record {
+        gone = false;
+        goes = stays_by _ (is_free (entry_change f v).names.vanishing) bound;
+        left = refl;
+      } in
+      let rest = bound_redone vs (All-tail (Bound f) v vs none) e m in
+      (m, one, subst (λ (i : ℕ). AreRedone f vs e m (positioned i h)) at rest)
 
   -- turns to the number i where no entry is free
-  pub bound_turned : (es : List (Entry C)) (i : ℕ) (d : DocumentParts) (h n : History) → NoneFree f es → h.position ≤ length es → n ≡ positioned (min i (length es)) h → AreTurned f es i d h n
+  pub bound_turned : (es : List (Entry C)) (i : ℕ) (d : DocumentParts) (h n : History) → NoneFree f es → h.position ≤ length es
+      → n ≡ positioned (min i (length es)) h → AreTurned f es i d h n
   bound_turned es i d h n none within is =
-      let bound : Entry C → Type 0 = λ (e : Entry C). is_free (entry_change f e).names.vanishing ≡ false in
-      let below = reverse (drop i (take h.position es)) in
-      let above = take (i - h.position) (drop h.position es) in
-      let back = length-reverse (drop i (take h.position es)) in
-      let cut = length-drop i (take h.position es) in
+      let done = take h.position es in
+      let undone = drop h.position es in
+      let below = reverse (drop i done) in
+      let above = take (i - h.position) undone in
+      let back = length-reverse (drop i done) in
+      let cut = length-drop i done in
       let long = length-take-le h.position es within in
-      let on = length-take (i - h.position) (drop h.position es) in
+      let on = length-take (i - h.position) undone in
       let left = length-drop h.position es in
       let between = positioned (h.position - length below) h in
       let at : h.position - length below + length above ≡ min i (length es) = omega (arith, back, cut, long, on, left, within) in
-      record {
-        between = between;
-        back = bound_undone below (NoneFree-reverse (drop i (take h.position es)) (All-drop bound i (take h.position es) (All-take bound h.position es none))) d h;
-        on = rw is (subst (λ (k : ℕ). AreRedone f above d between (positioned k h)) at (bound_redone above (All-take bound (i - h.position) (drop h.position es) (All-drop bound h.position es none)) d between));
-      }
+      let none_below = NoneFree-reverse (drop i done) (All-drop (Bound f) i done (All-take (Bound f) h.position es none)) in
+      let none_above = All-take (Bound f) (i - h.position) undone (All-drop (Bound f) h.position es none) in
+      let turned = subst (λ (k : ℕ). AreRedone f above d between (positioned k h)) at (bound_redone above none_above d between) in
+      record { between = between; back = bound_undone below none_below d h; on = rw is turned }
 
   -- ---- turns to a number, back or on
   module _ (d : DocumentParts) (q : Sequence C) where
     abbrev h : History
     h = history_at f d q
 
-    -- nothing is redone on the way back
-    on_none : (i : ℕ) (n : History) → i ≤ q.index → AreRedone f (take (i - q.index) (drop q.index q.entries.items)) d n n
-    on_none i n below = let none : 0 ≡ i - q.index = omega (arith, below) in subst (λ (k : ℕ). AreRedone f (take k (drop q.index q.entries.items)) d n n) none refl
+    abbrev es : List (Entry C)
+    es = q.entries.items
 
-    pub turned_down : (i : ℕ) (n : History) → i ≤ q.index → AreUndone f (reverse (drop (q.index - (q.index - i)) (take q.index q.entries.items))) d h n → AreTurned f q.entries.items i d h n
+    -- nothing is redone on the way back
+    on_none : (i : ℕ) (n : History) → i ≤ q.index → AreRedone f (take (i - q.index) (drop q.index es)) d n n
+    on_none i n below =
+        let none : 0 ≡ i - q.index = omega (arith, below) in
+        subst (λ (k : ℕ). AreRedone f (take k (drop q.index es)) d n n) none refl
+
+    pub turned_down : (i : ℕ) (n : History) → i ≤ q.index → AreUndone f (reverse (drop (q.index - (q.index - i)) (take q.index es))) d h n
+        → AreTurned f es i d h n
     turned_down i n below back =
         let floor : q.index - (q.index - i) ≡ i = omega (arith, below) in
         record {
           between = n;
-          back = subst (λ (a : ℕ). AreUndone f (reverse (drop a (take q.index q.entries.items))) d h n) floor back;
+          back = subst (λ (a : ℕ). AreUndone f (reverse (drop a (take q.index es))) d h n) floor back;
           on = on_none i n below;
         }
 
-    pub turned_up : (i k : ℕ) (n : History) → q.index ≤ i → k ≡ min i (length q.entries.items) - q.index → AreRedone f (take k (drop q.index q.entries.items)) d h n → AreTurned f q.entries.items i d h n
+    pub turned_up : (i k : ℕ) (n : History) → q.index ≤ i → k ≡ min i (length es) - q.index
+        → AreRedone f (take k (drop q.index es)) d h n → AreTurned f es i d h n
     turned_up i k n above is on =
-        let long = length-drop q.index q.entries.items in
-        let most : k ≡ min (i - q.index) (length (drop q.index q.entries.items)) = omega (arith, is, long, above) in
-        let same : take k (drop q.index q.entries.items) ≡ take (i - q.index) (drop q.index q.entries.items) = ap (λ (m : ℕ). take m (drop q.index q.entries.items)) most ∙ take_most (i - q.index) (drop q.index q.entries.items) in
-        record { between = h; back = none_undone q.entries.items i q.index d h above; on = subst (λ (xs : List (Entry C)). AreRedone f xs d h n) same on }
+        let left = drop q.index es in
+        let long = length-drop q.index es in
+        let most : k ≡ min (i - q.index) (length left) = omega (arith, is, long, above) in
+        let same = ap (λ (m : ℕ). take m left) most ∙ take_most (i - q.index) left in
+        record {
+          between = h;
+          back = none_undone es i q.index d h above;
+          on = subst (λ (xs : List (Entry C)). AreRedone f xs d h n) same on;
+        }
 
     -- one step back, and one step on
-    pub turned_once_down : (e : DocumentParts) (p : Sequence C) → 0 < q.index → q.index ≤ length q.entries.items → StepsDown f d q e p → AreTurned f q.entries.items (q.index - 1) d h (history_at f e p)
+    pub turned_once_down : (e : DocumentParts) (p : Sequence C) → 0 < q.index → q.index ≤ length es → StepsDown f d q e p
+        → AreTurned f es (q.index - 1) d h (history_at f e p)
     turned_once_down e p some within s =
         let n = history_at f e p in
         let top : p.index ≤ q.index - 1 = omega (arith, s.index) in
+        let none = none_undone p.entries.items (q.index - 1) p.index e n top in
         record {
           between = n;
-          back = undone_more d e q p (q.index - 1) n (omega (arith, some)) within s (none_undone p.entries.items (q.index - 1) p.index e n top);
+          back = undone_more d e q p (q.index - 1) n (omega (arith, some)) within s none;
           on = on_none (q.index - 1) n (omega arith);
         }
 
-    pub turned_once_up : (e : DocumentParts) (p : Sequence C) → q.index < length q.entries.items → StepsUp f d q e p → AreTurned f q.entries.items (q.index + 1) d h (history_at f e p)
+    pub turned_once_up : (e : DocumentParts) (p : Sequence C) → q.index < length es → StepsUp f d q e p
+        → AreTurned f es (q.index + 1) d h (history_at f e p)
     turned_once_up e p inside s =
         let n = history_at f e p in
         let one : 1 ≡ q.index + 1 - q.index = omega arith in
+        let redone = redone_more d e q p 1 n (omega arith) inside s refl in
         record {
           between = h;
-          back = none_undone q.entries.items (q.index + 1) q.index d h (omega arith);
-          on = subst (λ (k : ℕ). AreRedone f (take k (drop q.index q.entries.items)) d h n) one (redone_more d e q p 1 n (omega arith) inside s refl);
+          back = none_undone es (q.index + 1) q.index d h (omega arith);
+          on = subst (λ (k : ℕ). AreRedone f (take k (drop q.index es)) d h n) one redone;
         }

@@ -19,7 +19,8 @@ both_ok P Q R (Ok u) h p q = h u p q
 both_ok P Q R (Err e) h p q = tt
 
 -- ---- a merge into the last entry of a sequence
-pub takes_in : {E C : Type 0} (f : C → Change) (c : C) (d : DocumentParts) (v w : Entry C) (xs ys : Option (Entry C)) (r : Result Bool E) → xs ≡ Some v → (r ≡ Ok true → ys ≡ Some w) → MergesChange (entry_change f v) (f c) d r (entry_change f w) → TakesIn f c d xs r ys
+pub takes_in : {E C : Type 0} (f : C → Change) (c : C) (d : DocumentParts) (v w : Entry C) (xs ys : Option (Entry C)) (r : Result Bool E) → xs ≡ Some v
+    → (r ≡ Ok true → ys ≡ Some w) → MergesChange (entry_change f v) (f c) d r (entry_change f w) → TakesIn f c d xs r ys
 takes_in f c d v w xs ys (Ok true) was is m = record { older = v; newer = w; was = was; is = is refl; joined = m.1 }
 takes_in f c d v w xs ys (Ok false) was is m = tt
 takes_in f c d v w xs ys (Err e) was is m = tt

@@ -11,17 +11,20 @@ pub before-append : {B : Type 0} (f : B → Change) (xs : List B) (x : B) (d : D
 before-append f [] x d = refl
 before-append f (y ∷ xs) x d = ap (f y).undone (before-append f xs x d)
 
-pub steps_down-append : {B : Type 0} (f : B → Change) (xs : List B) (x : B) (d : DocumentParts) → steps_down f (xs ++ x ∷ []) d ≡ steps_down f xs ((f x).undone d) ++ step_named (f x).names d ∷ []
+pub steps_down-append : {B : Type 0} (f : B → Change) (xs : List B) (x : B) (d : DocumentParts)
+    → steps_down f (xs ++ x ∷ []) d ≡ steps_down f xs ((f x).undone d) ++ step_named (f x).names d ∷ []
 steps_down-append f [] x d = refl
 steps_down-append f (y ∷ xs) x d = rw (before-append f xs x d, steps_down-append f xs x d) refl
 
-pub FitsDown-pop : {B : Type 0} (f : B → Change) (xs : List B) (x : B) (d : DocumentParts) → FitsDown f (xs ++ x ∷ []) d → FitsDown f xs ((f x).undone d) × (f x).fits_undo d
+pub FitsDown-pop : {B : Type 0} (f : B → Change) (xs : List B) (x : B) (d : DocumentParts) → FitsDown f (xs ++ x ∷ []) d
+    → FitsDown f xs ((f x).undone d) × (f x).fits_undo d
 FitsDown-pop f [] x d h = (tt, h.0)
 FitsDown-pop f (y ∷ xs) x d h =
     let rest = FitsDown-pop f xs x d h.1 in
     ((rw (before-append f xs x d) at h.0, rest.0), rest.1)
 
-pub FitsDown-push : {B : Type 0} (f : B → Change) (xs : List B) (x : B) (d : DocumentParts) → FitsDown f xs ((f x).undone d) → (f x).fits_undo d → FitsDown f (xs ++ x ∷ []) d
+pub FitsDown-push : {B : Type 0} (f : B → Change) (xs : List B) (x : B) (d : DocumentParts) → FitsDown f xs ((f x).undone d) → (f x).fits_undo d
+    → FitsDown f (xs ++ x ∷ []) d
 FitsDown-push f [] x d h g = (g, tt)
 FitsDown-push f (y ∷ xs) x d h g = (rw (before-append f xs x d) h.0, FitsDown-push f xs x d h.1 g)
 
@@ -40,10 +43,12 @@ length-up f (x ∷ xs) d = let h = length-up f xs ((f x).redone d) in omega arit
 
 pub length-steps : {B : Type 0} (f : B → Change) (xs : List B) (n : ℕ) (d : DocumentParts) → length (steps_of f xs n d) ≡ length xs
 length-steps f xs n d =
-    length-append (steps_down f (take n xs) d) (steps_up f (drop n xs) d) ∙ rw (length-down f (take n xs) d, length-up f (drop n xs) d, ← length-append (take n xs) (drop n xs), take-append-drop n xs) refl
+    length-append (steps_down f (take n xs) d) (steps_up f (drop n xs) d)
+    ∙ rw (length-down f (take n xs) d, length-up f (drop n xs) d, ← length-append (take n xs) (drop n xs), take-append-drop n xs) refl
 
 -- the steps that are done
-pub take-steps : {B : Type 0} (f : B → Change) (xs : List B) (n : ℕ) (d : DocumentParts) → n ≤ length xs → take n (steps_of f xs n d) ≡ steps_down f (take n xs) d
+pub take-steps : {B : Type 0} (f : B → Change) (xs : List B) (n : ℕ) (d : DocumentParts) → n ≤ length xs
+    → take n (steps_of f xs n d) ≡ steps_down f (take n xs) d
 take-steps f xs n d h = take_at (steps_down f (take n xs) d) (steps_up f (drop n xs) d) n (length-down f (take n xs) d ∙ length-take-le n xs h)
 
 -- the sequence up to a number, and from a number on
@@ -63,7 +68,8 @@ map-set_same k (x ∷ xs) v w zero h e = ap (λ a. a ∷ map k xs) (e ∙ ap k h
 map-set_same k (x ∷ xs) v w (suc j) h e = ap (λ rest. k x ∷ rest) (map-set_same k xs v w j h e)
 
 -- a sequence without its first changes: the document before it, its steps, and that it fits
-pub last_after-take : {B : Type 0} (f : B → Change) (k : ℕ) (xs : List B) (d : DocumentParts) → last_after (before f xs d) (take k (steps_down f xs d)) ≡ before f (drop k xs) d
+pub last_after-take : {B : Type 0} (f : B → Change) (k : ℕ) (xs : List B) (d : DocumentParts)
+    → last_after (before f xs d) (take k (steps_down f xs d)) ≡ before f (drop k xs) d
 last_after-take f zero xs d = refl
 last_after-take f (suc k) [] d = refl
 last_after-take f (suc k) (x ∷ xs) d = last_after-take f k xs d

@@ -1,19 +1,17 @@
 -- No call brings a step of a free command into a history, but a push of that command.
-use Rattle.std.proofs.Common.{◌≡◌, ℕ, ◌+◌, ◌-◌, ◌≤◌, List, [], ◌∷◌, ◌++◌, Bool, true, false, take, drop, length, map, min, Ok, Err, zero, suc, refl, arith}
+use Rattle.std.proofs.Common.{◌≡◌, ℕ, ◌+◌, ◌-◌, ◌≤◌, List, [], ◌∷◌, ◌++◌, Bool, true, false, take, drop, length, min, Ok, Err, zero, suc, refl, arith}
 use Rattle.map_model.specs.Document.{DocumentParts}
 use Rattle.command_api.specs.Law.{Change}
 use Rattle.command_api.specs.Names.{is_free}
-use Rattle.undo_stack.specs.Entries.{entry_change}
 use Rattle.undo_stack.specs.History.{Step, Open, History, new_history, innermost}
 use Rattle.undo_stack.specs.Pushing.{cut, without_last, led_to, limited_to, without_target, with_target_at, with_added, next_of, IsPushed}
 use Rattle.undo_stack.specs.Macros.{Begins, Ends, begun, ended_in, step_of_level}
 use Rattle.undo_stack.specs.Moving.{Answer, Leads, StepsBack, StepsOn, GoesTo, MarksClean, UnmarksClean, SetsLimit, Clears, positioned}
-use Rattle.undo_stack.specs.Sound.{start_of}
-use Rattle.undo_stack.specs.Stacks.{history, inner_of, Holds}
+use Rattle.undo_stack.specs.Stacks.{history, Holds}
 use Rattle.undo_stack.specs.Turning.{AreBound, IsSteady, SetsIndex}
 use Rattle.undo_stack.specs.declared.stack.Stack.{Stack}
-use Rattle.undo_stack.proofs.Sequences.{length-steps}
 use Rattle.undo_stack.proofs.Turnings.{SetsIndex-steady}
+use Rattle.undo_stack.proofs.Views.{length-own}
 
 -- ---- lists of steps
 pub AreBound-take : (n : ℕ) (ss : List Step) → AreBound ss → AreBound (take n ss)
@@ -57,7 +55,9 @@ with_target_at-steady d [] h steady = AreBound-led_to d h.steps steady
 with_target_at-steady d (l ∷ ls) h steady = steady
 
 with_added-steady : (s : Step) (ls : List Open) (h : History) → is_free s.names.vanishing ≡ false → IsSteady h → IsSteady (with_added s ls h)
-with_added-steady s [] h bound steady = limited_to-steady h.limit (record h { steps = h.steps ++ s ∷ []; position = h.position + 1 }) (AreBound-append h.steps (s ∷ []) steady (bound, tt))
+with_added-steady s [] h bound steady =
+    let grown = AreBound-append h.steps (s ∷ []) steady (bound, tt) in
+    limited_to-steady h.limit (record h { steps = h.steps ++ s ∷ []; position = h.position + 1 }) grown
 with_added-steady s (l ∷ ls) h bound steady = steady
 
 next_of-steady : (merged gone : Bool) (s : Step) (h : History) → is_free s.names.vanishing ≡ false → IsSteady h → IsSteady (next_of merged gone s h)
@@ -68,7 +68,9 @@ next_of-steady false false s h bound steady = with_added-steady s h.levels h bou
 
 ended_in-steady : (ls : List Open) (h : History) → IsSteady h → IsSteady (ended_in ls h)
 ended_in-steady [] h steady = steady
-ended_in-steady (l ∷ ls) h steady = with_added-steady (step_of_level (innermost l ls)) (without_last (l ∷ ls)) (record h { levels = without_last (l ∷ ls) }) refl steady
+ended_in-steady (l ∷ ls) h steady =
+    let os = without_last (l ∷ ls) in
+    with_added-steady (step_of_level (innermost l ls)) os (record h { levels = os }) refl steady
 
 Leads-steady : (answer : Answer) (h next n : History) → IsSteady h → IsSteady next → Leads answer h next n → IsSteady n
 Leads-steady (Ok done) h next n old new is = rw is new
@@ -110,8 +112,9 @@ Clears-steady h n c = rw c tt
 
 -- ---- a stack
 position-within : {C : Type 0} (f : C → Change) (s : Stack C) → Holds f s → (history f s).position ≤ length (history f s).steps
-position-within f s sound = omega (arith, sound.own.sound.turnable.within, length-steps (entry_change f) s.sequences.steps.entries.items s.sequences.steps.index (start_of f (map inner_of s.sequences.levels.items) s.document))
+position-within f s sound = omega (arith, sound.own.sound.turnable.within, length-own f s)
 
-pub stack-SetsIndex : {C : Type 0} (f : C → Change) (s : Stack C) (i : ℕ) (answer : Answer) (n : History) → Holds f s → IsSteady (history f s) → SetsIndex i (history f s) answer n
+pub stack-SetsIndex : {C : Type 0} (f : C → Change) (s : Stack C) (i : ℕ) (answer : Answer) (n : History) → Holds f s → IsSteady (history f s)
+    → SetsIndex i (history f s) answer n
     → GoesTo i (history f s) answer n
 stack-SetsIndex f s i answer n sound steady sets = SetsIndex-steady i (history f s) answer n steady (position-within f s sound) sets

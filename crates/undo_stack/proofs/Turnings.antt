@@ -1,5 +1,6 @@
 -- Turns of which a free step goes, and that none goes where no step is free.
-use Rattle.std.proofs.Common.{◌≡◌, ℕ, ◌+◌, ◌-◌, ◌<◌, ◌≤◌, List, [], ◌∷◌, Option, Some, None, Bool, true, false, length, min, slice_get, inl, inr, Ok, Err, zero, suc, refl, sym, ◌∙◌, ap, subst, arith}
+use Rattle.std.proofs.Common.{◌≡◌, ℕ, ◌+◌, ◌-◌, ◌<◌, ◌≤◌, List, [], ◌∷◌, Option, Some, None, Bool, true, false, length, min, slice_get, inl, inr, Ok, Err}
+use Rattle.std.proofs.Common.{zero, suc, refl, sym, ◌∙◌, ap, subst, arith}
 use Rattle.std.proofs.lemmas.List.Edits.{length-remove}
 use Rattle.map_model.specs.Document.{DocumentParts}
 use Rattle.command_api.specs.Law.{Change, IsLawful}
@@ -71,7 +72,8 @@ TurnsTo-steady i h n steady within t =
     let at : h.position - (h.position - i) + (min i (length h.steps) - h.position) ≡ min i (length h.steps) = omega (arith, within) in
     on ∙ ap (λ (m : History). positioned (m.position + (min i (length h.steps) - h.position)) m) back ∙ ap (λ (k : ℕ). positioned k h) at
 
-pub SetsIndex-steady : (i : ℕ) (h : History) (answer : _) (n : History) → IsSteady h → h.position ≤ length h.steps → SetsIndex i h answer n → GoesTo i h answer n
+pub SetsIndex-steady : (i : ℕ) (h : History) (answer : _) (n : History) → IsSteady h → h.position ≤ length h.steps → SetsIndex i h answer n
+    → GoesTo i h answer n
 SetsIndex-steady i h (Ok done) n steady within u = record { answered = u.answered; leads = TurnsTo-steady i h n steady within u.leads }
 SetsIndex-steady i h (Err fault) n steady within u = record { answered = u.answered; leads = u.leads }
 
@@ -133,7 +135,8 @@ room-TurnsOn h n k some room (inr gone) =
     rw gone.1 (omega (arith, some, room, less))
 
 -- steps on are left only where none went back
-pub room_back : (back on : ℕ) (h n : History) → TurnBy TurnsBack back h n → n.position ≤ length n.steps → (back ≡ 0 → h.position + on ≤ length h.steps) → (0 < back → on ≡ 0)
+pub room_back : (back on : ℕ) (h n : History) → TurnBy TurnsBack back h n → n.position ≤ length n.steps → (back ≡ 0 → h.position + on ≤ length h.steps)
+    → (0 < back → on ≡ 0)
     → n.position + on ≤ length n.steps
 room_back zero on h n t within room none = rw t (room refl)
 room_back (suc back) on h n t within room none = let no : on ≡ 0 = none (omega arith) in omega (arith, no, within)

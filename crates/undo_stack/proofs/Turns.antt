@@ -7,14 +7,17 @@ use Rattle.undo_stack.specs.Sequence.{FitsDown, FitsUp, IsMoved, Between, after,
 use Rattle.undo_stack.proofs.Sequences.{before-append, steps_down-append, FitsDown-pop, FitsDown-push, take_last, drop_first, drop_past}
 
 -- the change below the number fits, and so does the one at it
-pub fits_last : {B : Type 0} (f : B → Change) (xs : List B) (v : B) (j : ℕ) (d : DocumentParts) → FitsDown f (take (j + 1) xs) d → j < length xs → v ≡ get_or xs j v → (f v).fits_undo d
+pub fits_last : {B : Type 0} (f : B → Change) (xs : List B) (v : B) (j : ℕ) (d : DocumentParts) → FitsDown f (take (j + 1) xs) d → j < length xs
+    → v ≡ get_or xs j v → (f v).fits_undo d
 fits_last f xs v j d p h k = (FitsDown-pop f (take j xs) v d (rw (take_last xs v j h k) at p)).1
 
-pub fits_next : {B : Type 0} (f : B → Change) (xs : List B) (v : B) (j : ℕ) (d : DocumentParts) → FitsUp f (drop j xs) d → j < length xs → v ≡ get_or xs j v → (f v).fits_redo d
+pub fits_next : {B : Type 0} (f : B → Change) (xs : List B) (v : B) (j : ℕ) (d : DocumentParts) → FitsUp f (drop j xs) d → j < length xs → v ≡ get_or xs j v
+    → (f v).fits_redo d
 fits_next f xs v j d p h k = (rw (drop_first xs v j h k) at p).0
 
 -- the change below the number is undone
-pub moved_back : {B : Type 0} (f : B → Change) (xs : List B) (v w : B) (j : ℕ) (d e : DocumentParts) → FitsDown f (take (j + 1) xs) d → FitsUp f (drop (j + 1) xs) d → j < length xs → v ≡ get_or xs j v → IsUndone (f v) (f w) d e → IsMoved f xs (j + 1) d (set xs j w) j e
+pub moved_back : {B : Type 0} (f : B → Change) (xs : List B) (v w : B) (j : ℕ) (d e : DocumentParts) → FitsDown f (take (j + 1) xs) d
+    → FitsUp f (drop (j + 1) xs) d → j < length xs → v ≡ get_or xs j v → IsUndone (f v) (f w) d e → IsMoved f xs (j + 1) d (set xs j w) j e
 moved_back f xs v w j d e p q h k t =
     let took = take_last xs v j h k in
     let down = FitsDown-pop f (take j xs) v d (rw took at p) in
@@ -27,7 +30,8 @@ moved_back f xs v w j d e p q h k t =
     }
 
 -- the change at the number is redone
-pub moved_on : {B : Type 0} (f : B → Change) (xs : List B) (v w : B) (j : ℕ) (d e : DocumentParts) → FitsDown f (take j xs) d → FitsUp f (drop j xs) d → j < length xs → v ≡ get_or xs j v → IsRedone (f v) (f w) d e → IsMoved f xs j d (set xs j w) (j + 1) e
+pub moved_on : {B : Type 0} (f : B → Change) (xs : List B) (v w : B) (j : ℕ) (d e : DocumentParts) → FitsDown f (take j xs) d → FitsUp f (drop j xs) d
+    → j < length xs → v ≡ get_or xs j v → IsRedone (f v) (f w) d e → IsMoved f xs j d (set xs j w) (j + 1) e
 moved_on f xs v w j d e p q h k t =
     let first = drop_first xs v j h k in
     let up = rw first at q in
@@ -40,7 +44,8 @@ moved_on f xs v w j d e p q h k t =
     }
 
 -- the change below the number is undone, and the one at it is redone, in a sequence between two documents
-pub between_back : {B : Type 0} (f : B → Change) (xs : List B) (v w : B) (j : ℕ) (d e first last : DocumentParts) → Between f xs (j + 1) d first last → j < length xs → v ≡ get_or xs j v → IsUndone (f v) (f w) d e → Between f (set xs j w) j e first last
+pub between_back : {B : Type 0} (f : B → Change) (xs : List B) (v w : B) (j : ℕ) (d e first last : DocumentParts) → Between f xs (j + 1) d first last
+    → j < length xs → v ≡ get_or xs j v → IsUndone (f v) (f w) d e → Between f (set xs j w) j e first last
 between_back f xs v w j d e first last b h k t =
     let took = take_last xs v j h k in
     let down = FitsDown-pop f (take j xs) v d (rw took at b.down) in
@@ -52,7 +57,8 @@ between_back f xs v w j d e first last b h k t =
       ends = rw (drop-set xs j w h) (ap (after f (drop (j + 1) xs)) t.back ∙ b.ends);
     }
 
-pub between_on : {B : Type 0} (f : B → Change) (xs : List B) (v w : B) (j : ℕ) (d e first last : DocumentParts) → Between f xs j d first last → j < length xs → v ≡ get_or xs j v → IsRedone (f v) (f w) d e → Between f (set xs j w) (j + 1) e first last
+pub between_on : {B : Type 0} (f : B → Change) (xs : List B) (v w : B) (j : ℕ) (d e first last : DocumentParts) → Between f xs j d first last
+    → j < length xs → v ≡ get_or xs j v → IsRedone (f v) (f w) d e → Between f (set xs j w) (j + 1) e first last
 between_on f xs v w j d e first last b h k t =
     let first_is = drop_first xs v j h k in
     let up = rw first_is at b.up in
@@ -64,36 +70,44 @@ between_on f xs v w j d e first last b h k t =
     }
 
 -- the change below the number fits
-pub between_last : {B : Type 0} (f : B → Change) (xs : List B) (v : B) (j : ℕ) (d first last : DocumentParts) → Between f xs (j + 1) d first last → j < length xs → v ≡ get_or xs j v → (f v).fits_undo d
+pub between_last : {B : Type 0} (f : B → Change) (xs : List B) (v : B) (j : ℕ) (d first last : DocumentParts) → Between f xs (j + 1) d first last
+    → j < length xs → v ≡ get_or xs j v → (f v).fits_undo d
 between_last f xs v j d first last b h k = fits_last f xs v j d b.down h k
 
 -- the texts of a sequence say nothing of how it is turned
-pub redone_named : {B : Type 0} (f : B → Change) (t a : List ℕ) (xs ys : List B) (d e : DocumentParts) → IsRedone (sequence_change [] [] f xs) (sequence_change [] [] f ys) d e → IsRedone (sequence_change t a f xs) (sequence_change t a f ys) d e
+pub redone_named : {B : Type 0} (f : B → Change) (t a : List ℕ) (xs ys : List B) (d e : DocumentParts)
+    → IsRedone (sequence_change [] [] f xs) (sequence_change [] [] f ys) d e → IsRedone (sequence_change t a f xs) (sequence_change t a f ys) d e
 redone_named f t a xs ys d e r = record { document = r.document; fits = r.fits; back = r.back; names = refl }
 
-pub undone_named : {B : Type 0} (f : B → Change) (t a : List ℕ) (xs ys : List B) (d e : DocumentParts) → IsUndone (sequence_change [] [] f xs) (sequence_change [] [] f ys) d e → IsUndone (sequence_change t a f xs) (sequence_change t a f ys) d e
+pub undone_named : {B : Type 0} (f : B → Change) (t a : List ℕ) (xs ys : List B) (d e : DocumentParts)
+    → IsUndone (sequence_change [] [] f xs) (sequence_change [] [] f ys) d e → IsUndone (sequence_change t a f xs) (sequence_change t a f ys) d e
 undone_named f t a xs ys d e r = record { document = r.document; fits = r.fits; back = r.back; names = refl }
 
 -- the change right below a number fits, and undoing it leads to the number before
-pub fits_below : {B : Type 0} (f : B → Change) (xs : List B) (v : B) (i : ℕ) (d : DocumentParts) → 0 < i → i ≤ length xs → v ≡ get_or xs (i - 1) v → FitsDown f (take i xs) d → (f v).fits_undo d
+pub fits_below : {B : Type 0} (f : B → Change) (xs : List B) (v : B) (i : ℕ) (d : DocumentParts) → 0 < i → i ≤ length xs → v ≡ get_or xs (i - 1) v
+    → FitsDown f (take i xs) d → (f v).fits_undo d
 fits_below f xs v i d p q k =
     let same : i - 1 + 1 ≡ i = omega arith in
     let inside : i - 1 < length xs = omega arith in
     subst (λ (n : ℕ). FitsDown f (take n xs) d → (f v).fits_undo d) same (λ h. fits_last f xs v (i - 1) d h inside k)
 
-pub moved_below : {B : Type 0} (f : B → Change) (xs : List B) (v w : B) (i : ℕ) (d e : DocumentParts) → 0 < i → i ≤ length xs → v ≡ get_or xs (i - 1) v → FitsDown f (take i xs) d → FitsUp f (drop i xs) d → IsUndone (f v) (f w) d e → IsMoved f xs i d (set xs (i - 1) w) (i - 1) e
+pub moved_below : {B : Type 0} (f : B → Change) (xs : List B) (v w : B) (i : ℕ) (d e : DocumentParts) → 0 < i → i ≤ length xs → v ≡ get_or xs (i - 1) v
+    → FitsDown f (take i xs) d → FitsUp f (drop i xs) d → IsUndone (f v) (f w) d e → IsMoved f xs i d (set xs (i - 1) w) (i - 1) e
 moved_below f xs v w i d e p q k down up t =
     let same : i - 1 + 1 ≡ i = omega arith in
     let inside : i - 1 < length xs = omega arith in
-    let all = subst (λ (n : ℕ). FitsDown f (take n xs) d → FitsUp f (drop n xs) d → IsMoved f xs n d (set xs (i - 1) w) (i - 1) e) same (λ a b. moved_back f xs v w (i - 1) d e a b inside k t) in
+    let moves : ℕ → Type 0 = λ n. FitsDown f (take n xs) d → FitsUp f (drop n xs) d → IsMoved f xs n d (set xs (i - 1) w) (i - 1) e in
+    let all = subst moves same (λ a b. moved_back f xs v w (i - 1) d e a b inside k t) in
     all down up
 
 -- nothing is turned
-pub moved_none : {B : Type 0} (f : B → Change) (xs : List B) (i : ℕ) (d : DocumentParts) → FitsDown f (take i xs) d → FitsUp f (drop i xs) d → IsMoved f xs i d xs i d
+pub moved_none : {B : Type 0} (f : B → Change) (xs : List B) (i : ℕ) (d : DocumentParts) → FitsDown f (take i xs) d → FitsUp f (drop i xs) d
+    → IsMoved f xs i d xs i d
 moved_none f xs i d down up = record { same_length = refl; down = down; up = up; base = refl; steps = refl }
 
 -- one turn after another
-pub moved_more : {B : Type 0} (f : B → Change) (xs ys zs : List B) (i j k : ℕ) (c d e : DocumentParts) → IsMoved f xs i c ys j d → IsMoved f ys j d zs k e → IsMoved f xs i c zs k e
+pub moved_more : {B : Type 0} (f : B → Change) (xs ys zs : List B) (i j k : ℕ) (c d e : DocumentParts) → IsMoved f xs i c ys j d → IsMoved f ys j d zs k e
+    → IsMoved f xs i c zs k e
 moved_more f xs ys zs i j k c d e m n = record {
   same_length = n.same_length ∙ m.same_length;
   down = n.down;

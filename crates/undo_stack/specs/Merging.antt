@@ -24,15 +24,20 @@ MergesChange v c d (Ok false) w = (Joins v c → ⊥) × IsSame v w
 MergesChange v c d (Err e) w = IsSame v w
 
 -- the sequence ys, which led to e, is the sequence xs, which led to d, but for its steps, which were changed so
-pub record IsAltered {B : Type 0} (f : B → Change) (change : List Step → List Step) (xs : List B) (d : DocumentParts) (ys : List B) (e : DocumentParts) : Type 0 where
+pub record IsAltered {B : Type 0} (f : B → Change) (change : List Step → List Step) (xs : List B) (d : DocumentParts) (ys : List B)
+    (e : DocumentParts) : Type 0 where
   pub down : FitsDown f ys e
   pub base : before f ys e ≡ before f xs d
   pub steps : steps_down f ys e ≡ change (steps_down f xs d)
 
 -- merging the newer change c, which led to d, made ys of the sequence xs
 abbrev pub MergesSequence : {E B : Type 0} → (B → Change) → List B → Change → DocumentParts → Result Bool E → List B → Type 0
-MergesSequence f xs c d (Ok true) ys = Continues (last_step (steps_down f xs (c.undone d))) (step_named c.names d) × IsAltered f (led_to d) xs (c.undone d) ys d
-MergesSequence f xs c d (Ok false) ys = (Continues (last_step (steps_down f xs (c.undone d))) (step_named c.names d) → ⊥) × IsAltered f (λ ss. ss) xs (c.undone d) ys (c.undone d)
+MergesSequence f xs c d (Ok true) ys =
+    Continues (last_step (steps_down f xs (c.undone d))) (step_named c.names d) ×
+    IsAltered f (led_to d) xs (c.undone d) ys d
+MergesSequence f xs c d (Ok false) ys =
+    (Continues (last_step (steps_down f xs (c.undone d))) (step_named c.names d) → ⊥) ×
+    IsAltered f (λ ss. ss) xs (c.undone d) ys (c.undone d)
 MergesSequence f xs c d (Err e) ys = IsAltered f (λ ss. ss) xs (c.undone d) ys (c.undone d)
 
 -- the steps that are left where the last one is gone, and where it is not

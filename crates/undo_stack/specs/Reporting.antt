@@ -49,7 +49,8 @@ EndsIn false f c d v w = w ≡ Some (Command c)
 
 -- pushing the command x onto the history h, at the document d, where v is the entry of the target, gave the history n, at e.
 -- The step is gone exactly where the entry that x ended in is obsolete
-pub record IsReportedAt {C : Type 0} (f : C → Change) (x : C) (d : DocumentParts) (v : Option (Entry C)) (h : History) (e : DocumentParts) (n : History) : Type 0 where
+pub record IsReportedAt {C : Type 0} (f : C → Change) (x : C) (d : DocumentParts) (v : Option (Entry C)) (h : History)
+    (e : DocumentParts) (n : History) : Type 0 where
   pub command : C
   pub redone : IsRedone (f x) (f command) d e
   pub merged : Bool

@@ -91,7 +91,8 @@ impl<C: Command> Sequence<C> {
             (step_of (C.change command) (current (history_at C.change document.old self.old)))
             (history_at C.change document.new self.new)) }
         ensures nesting { sequence_nesting self.new.entries.items ≤ sequence_nesting self.old.entries.items }
-        ensures reported { IfOk result (λ _. IsReportedAt C.change command document.old (target_in self.old) (history_at C.change document.old self.old) document.new (history_at C.change document.new self.new)) }
+        ensures reported { IfOk result (λ _. IsReportedAt C.change command document.old (target_in self.old)
+            (history_at C.change document.old self.old) document.new (history_at C.change document.new self.new)) }
         ensures unchanged { IfErr result (λ _. history_at C.change document.new self.new ≡ history_at C.change document.old self.old) }
     {
         command.redo(document);
@@ -176,7 +177,8 @@ impl<C: Command> Sequence<C> {
     fn settle(&mut self)
         requires some { 0 < self.old.index }
         requires at_end { self.old.index ≡ length self.old.entries.items }
-        ensures { (d : DocumentParts) → IsHeldToLast C.change d self.old → HasTarget [] (history_at C.change d self.old) → IsSettledAt C.change d self.old self.new }
+        ensures { (d : DocumentParts) → IsHeldToLast C.change d self.old → HasTarget [] (history_at C.change d self.old)
+            → IsSettledAt C.change d self.old self.new }
     {
         let below = self.index - 1;
         if self.entries[below].obsolete() {
@@ -196,7 +198,8 @@ impl<C: Command> Sequence<C> {
             (history_at C.change ((C.change command).undone document.old) self.old)
             (step_named (C.change command).names document.old)
             (history_at C.change document.new self.new)) }
-        ensures unchanged { IfErr result (λ _. history_at C.change document.new self.new ≡ history_at C.change ((C.change command).undone document.old) self.old) }
+        ensures unchanged { IfErr result (λ _. history_at C.change document.new self.new
+            ≡ history_at C.change ((C.change command).undone document.old) self.old) }
     {
         if command.obsolete() {
             self.cut();
@@ -256,7 +259,8 @@ impl<C: Command> Sequence<C> {
         requires room { self.old.index < deque_capacity self.old.entries }
         requires nesting { nesting entry ≤ MAX_DEPTH }
         requires live { IsLive (entry_change C.change entry) }
-        ensures held { (d : DocumentParts) → (entry_change C.change entry).fits_undo d → IsHeld C.change ((entry_change C.change entry).undone d) self.old → IsHeld C.change d self.new }
+        ensures held { (d : DocumentParts) → (entry_change C.change entry).fits_undo d
+            → IsHeld C.change ((entry_change C.change entry).undone d) self.old → IsHeld C.change d self.new }
         ensures nesting { sequence_nesting self.new.entries.items ≤ max (sequence_nesting self.old.entries.items) (nesting entry) }
         ensures at_end { self.new.index ≡ length self.new.entries.items }
         ensures added { (d : DocumentParts) → history_at C.change d self.new
@@ -283,7 +287,8 @@ impl<C: Command> Sequence<C> {
         requires limit { 0 < self.old.limit }
         requires at_end { self.old.index ≡ length self.old.entries.items }
         requires count { self.old.index ≤ self.old.limit + 1 }
-        ensures { let k = self.old.index - self.old.limit in Becomes self.old (drop k self.old.entries.items) (self.old.index - k) (lowered k self.old.clean) self.new }
+        ensures { let k = self.old.index - self.old.limit in
+            Becomes self.old (drop k self.old.entries.items) (self.old.index - k) (lowered k self.old.clean) self.new }
     {
         if self.index > self.limit {
             let _ = self.entries.pop_front();

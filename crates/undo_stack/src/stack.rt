@@ -374,7 +374,8 @@ impl<C: Command> Stack<C> {
             sequences,
             alloc: _,
         } = self;
-        sequences.steps.clear();
-        sequences.levels.clear();
+        let Sequences { steps, levels } = sequences;
+        steps.clear();
+        levels.clear();
     }
 }

@@ -16,7 +16,8 @@ impl<C: Command> Sequence<C> {
     pub fn step_to(&mut self, document: &mut Document, index: usize)
         requires { IsHeld C.change document.old self.old }
         ensures held { IsHeld C.change document.new self.new }
-        ensures reported { AreTurned C.change self.old.entries.items index document.old (history_at C.change document.old self.old) (history_at C.change document.new self.new) }
+        ensures reported { AreTurned C.change self.old.entries.items index document.old
+            (history_at C.change document.old self.old) (history_at C.change document.new self.new) }
         ensures turned { TurnsTo index (history_at C.change document.old self.old) (history_at C.change document.new self.new) }
     {
         if index < self.index {
@@ -151,7 +152,8 @@ impl<C: Command> Sequence<C> {
         requires held { IsHeld C.change document.old self.old }
         requires bound { self.old.has_free ≡ false }
         ensures held { IsHeld C.change document.new self.new }
-        ensures reported { AreTurned C.change self.old.entries.items index document.old (history_at C.change document.old self.old) (history_at C.change document.new self.new) }
+        ensures reported { AreTurned C.change self.old.entries.items index document.old
+            (history_at C.change document.old self.old) (history_at C.change document.new self.new) }
         ensures history { history_at C.change document.new self.new
             ≡ positioned (min index (length (history_at C.change document.old self.old).steps)) (history_at C.change document.old self.old) }
     {
@@ -183,7 +185,8 @@ impl<C: Command> Sequence<C> {
         ensures sound { IsSoundAt C.change document.new self.new }
         ensures has_free { self.new.has_free ≡ self.old.has_free }
         ensures history { history_at C.change document.new self.new
-            ≡ positioned (max (min index (length (history_at C.change document.old self.old).steps)) self.old.index) (history_at C.change document.old self.old) }
+            ≡ positioned (max (min index (length (history_at C.change document.old self.old).steps)) self.old.index)
+            (history_at C.change document.old self.old) }
     {
         let index = index.min(self.entries.len()).max(self.index);
         self.redo_up_to(document, index);

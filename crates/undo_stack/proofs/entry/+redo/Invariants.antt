@@ -5,6 +5,8 @@ use Rattle.undo_stack.proofs.entry.+redo.Given as goal
 
 abbrev pub invariant-redo_all-loop-i : goal.invariant-redo_all-loop-i
 invariant-redo_all-loop-i g l =
+    let f = entry_change g.C.Command.change in
+    let last = after f l.initial.children.items l.initial.document in
     goal.unvisited-redo_all-loop-i g l ×
-    Between (entry_change g.C.Command.change) l.children.items l.i l.document l.initial.document (after (entry_change g.C.Command.change) l.initial.children.items l.initial.document) ×
+    Between f l.children.items l.i l.document l.initial.document last ×
     (map nesting l.children.items ≡ map nesting l.initial.children.items)

@@ -1,12 +1,11 @@
-use Rattle.std.proofs.Common.{rules, ◌≡◌, ℕ, ◌+◌, ◌-◌, ◌<◌, length, refl, ◌∙◌, ap, subst, get_or, arith, Box, Global, length-set, get_or-set_other}
+use Rattle.std.proofs.Common.{rules, ◌≡◌, ℕ, ◌+◌, ◌-◌, ◌<◌, length, refl, ◌∙◌, ap, subst, get_or, arith, length-set, get_or-set_other}
 use Rattle.undo_stack.specs.Entries.{entry_change, nesting}
 use Rattle.undo_stack.specs.Sequence.{Between, before}
-use Rattle.undo_stack.proofs.EntryChanges.{entry_change-Command, entry_change-Macro, nesting-Command, nesting-Macro}
+use Rattle.undo_stack.proofs.EntryChanges.{Contents, entry_change-Command, entry_change-Macro, nesting-Command, nesting-Macro}
 use Rattle.undo_stack.proofs.Sequences.{map-set_same}
 use Rattle.undo_stack.proofs.Turns.{undone_named, between_back, between_last}
 use Rattle.undo_stack.specs.declared.entry.Entry.TheVariants.{outs-Command, outs-Macro}
-use Rattle.undo_stack.specs.declared.entry.Entry.{Entry, size_is-Entry, size-Entry}
-use Rattle.undo_stack.specs.declared.entry.MacroContents.{MacroContents}
+use Rattle.undo_stack.specs.declared.entry.Entry.{size_is-Entry, size-Entry}
 use denote.Param.Weighed.{at_most}
 use Rattle.undo_stack.proofs.entry.+undo.Goals as goal
 
@@ -17,8 +16,10 @@ Entry::undo-undo-requires g t c =
 
 pub Entry::undo-returns-in-Command-clause-turned : goal.Entry::undo-returns-in-Command-clause-turned
 Entry::undo-returns-in-Command-clause-turned g t c =
-    let known = rw (c.in-Command.is, outs-Command c.in-Command.command) at c.undo.ensures in
-    rw (c.in-Command.is, outs-Command c.in-Command.command, entry_change-Command g.C.Command.change c.in-Command.command, entry_change-Command g.C.Command.change c.undo.new.self) known
+    let f = g.C.Command.change in
+    let old = c.in-Command.command in
+    let known = rw (c.in-Command.is, outs-Command old) at c.undo.ensures in
+    rw (c.in-Command.is, outs-Command old, entry_change-Command f old, entry_change-Command f c.undo.new.self) known
 
 pub Entry::undo-returns-in-Command-clause-nesting : goal.Entry::undo-returns-in-Command-clause-nesting
 Entry::undo-returns-in-Command-clause-nesting g t c =
@@ -30,24 +31,33 @@ Entry::undo-undo_all-requires g t c κs within =
     let whole = size_is-Entry g.row.C.Denot c.args.self.now in
     let size = rw (c.in-Macro.is, outs-Macro c.in-Macro.contents) at whole in
     let measure = rw c.in-Macro.is at c.decreases in
-    let same = c.deref_mut.ensures.value ∙ ap (λ (b : Box (MacroContents (Entry g.row.C.Denot)) Global). b.value) c.in-Macro.contents-is in
+    let same = c.deref_mut.ensures.value ∙ ap (λ (b : Contents g.row.C.Denot). b.value) c.in-Macro.contents-is in
     rw same (omega (arith, size), (search rules, known))
 
 pub Entry::undo-returns-in-Macro-clause-turned : goal.Entry::undo-returns-in-Macro-clause-turned
 Entry::undo-returns-in-Macro-clause-turned g t c =
     let f = g.C.Command.change in
     let contents = c.in-Macro.contents in
-    let same = c.deref_mut.ensures.value ∙ ap (λ (b : Box (MacroContents (Entry g.row.C.Denot)) Global). b.value) c.in-Macro.contents-is in
-    let new : Box (MacroContents (Entry g.row.C.Denot)) Global = record { ptr = contents.ptr; alloc = contents.alloc; value = record contents.value { children = c.undo_all.new.children } } in
+    let same = c.deref_mut.ensures.value ∙ ap (λ (b : Contents g.row.C.Denot). b.value) c.in-Macro.contents-is in
+    let new : Contents g.row.C.Denot = record {
+      ptr = contents.ptr;
+      alloc = contents.alloc;
+      value = record contents.value { children = c.undo_all.new.children };
+    } in
     let known = rw same at c.undo_all.ensures.turned in
-    rw (c.in-Macro.is, outs-Macro contents, same, entry_change-Macro f contents, entry_change-Macro f new)
-    (undone_named (entry_change f) contents.value.text contents.value.action contents.value.children.items c.undo_all.new.children.items c.args.document.now c.undo_all.new.document known)
+    let v = contents.value in
+    let turned = undone_named (entry_change f) v.text v.action v.children.items new.value.children.items c.args.document.now c.undo_all.new.document known in
+    rw (c.in-Macro.is, outs-Macro contents, same, entry_change-Macro f contents, entry_change-Macro f new) turned
 
 pub Entry::undo-returns-in-Macro-clause-nesting : goal.Entry::undo-returns-in-Macro-clause-nesting
 Entry::undo-returns-in-Macro-clause-nesting g t c =
     let contents = c.in-Macro.contents in
-    let same = c.deref_mut.ensures.value ∙ ap (λ (b : Box (MacroContents (Entry g.row.C.Denot)) Global). b.value) c.in-Macro.contents-is in
-    let new : Box (MacroContents (Entry g.row.C.Denot)) Global = record { ptr = contents.ptr; alloc = contents.alloc; value = record contents.value { children = c.undo_all.new.children } } in
+    let same = c.deref_mut.ensures.value ∙ ap (λ (b : Contents g.row.C.Denot). b.value) c.in-Macro.contents-is in
+    let new : Contents g.row.C.Denot = record {
+      ptr = contents.ptr;
+      alloc = contents.alloc;
+      value = record contents.value { children = c.undo_all.new.children };
+    } in
     let known = rw same at c.undo_all.ensures.nesting in
     rw (c.in-Macro.is, outs-Macro contents, same, nesting-Macro contents, nesting-Macro new, known) refl
 
@@ -67,7 +77,8 @@ undo_all-undo-requires g t c κs within =
     let is : v ≡ get_or olds (i - 1) v = c.index_mut.ensures.value ∙ c.loop-i.invariant.0.1 (i - 1) v (omega arith) in
     let sizes : size v ≡ size (get_or olds (i - 1) v) = ap size is in
     let most = at_most size olds (i - 1) v inside in
-    (omega (arith, sizes, most), (search rules, between_last f es c.index_mut.result.now (i - 1) c.loop-i.document first c.args.document.now known at c.index_mut.ensures.value))
+    let fits = between_last f es v (i - 1) c.loop-i.document first c.args.document.now known at c.index_mut.ensures.value in
+    (omega (arith, sizes, most), (search rules, fits))
 
 pub undo_all-loop-i-preserved : goal.undo_all-loop-i-preserved
 undo_all-loop-i-preserved g t c =
@@ -75,11 +86,15 @@ undo_all-loop-i-preserved g t c =
     let es = c.loop-i.children.items in
     let i = c.loop-i.i in
     let v = c.index_mut.result.now in
+    let w = c.undo.new.self in
+    let is = c.index_mut.ensures.value in
     let same : i ≡ i - 1 + 1 = omega arith in
     let at : i - 1 < length es = omega arith in
     let first = before f c.args.children.now.items c.args.document.now in
-    let known = subst (λ (n : ℕ). Between f es n c.loop-i.document first c.args.document.now) same c.loop-i.invariant.1 in (
-      (length-set es (i - 1) c.undo.new.self ∙ c.loop-i.invariant.0.0, λ k d h. get_or-set_other es (i - 1) k c.undo.new.self d (omega arith) ∙ c.loop-i.invariant.0.1 k d (omega arith)),
-      between_back f es v c.undo.new.self (i - 1) c.loop-i.document c.undo.new.document first c.args.document.now known at c.index_mut.ensures.value c.undo.ensures.turned,
-      map-set_same nesting es v c.undo.new.self (i - 1) c.index_mut.ensures.value c.undo.ensures.nesting ∙ c.loop-i.invariant.2,
+    let old = c.loop-i.invariant in
+    let last = c.args.document.now in
+    let known = subst (λ (n : ℕ). Between f es n c.loop-i.document first last) same old.1 in (
+      (length-set es (i - 1) w ∙ old.0.0, λ k d h. get_or-set_other es (i - 1) k w d (omega arith) ∙ old.0.1 k d (omega arith)),
+      between_back f es v w (i - 1) c.loop-i.document c.undo.new.document first last known at is c.undo.ensures.turned,
+      map-set_same nesting es v w (i - 1) is c.undo.ensures.nesting ∙ old.2,
     )

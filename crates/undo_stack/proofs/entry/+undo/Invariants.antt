@@ -5,6 +5,8 @@ use Rattle.undo_stack.proofs.entry.+undo.Given as goal
 
 abbrev pub invariant-undo_all-loop-i : goal.invariant-undo_all-loop-i
 invariant-undo_all-loop-i g l =
+    let f = entry_change g.C.Command.change in
+    let first = before f l.initial.children.items l.initial.document in
     goal.unvisited-undo_all-loop-i g l ×
-    Between (entry_change g.C.Command.change) l.children.items l.i l.document (before (entry_change g.C.Command.change) l.initial.children.items l.initial.document) l.initial.document ×
+    Between f l.children.items l.i l.document first l.initial.document ×
     (map nesting l.children.items ≡ map nesting l.initial.children.items)

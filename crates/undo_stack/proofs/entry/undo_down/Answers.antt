@@ -9,9 +9,12 @@ use Rattle.undo_stack.proofs.entry.undo_down.Goals as goal
 pub loop-left-init : goal.loop-left-init
 loop-left-init g c =
     let f = entry_change g.C.Command.change in
+    let xs = c.args.sequence.now in
+    let d = c.args.document.now in
     let same : c.args.from ≡ c.args.to + (c.args.from - c.args.to) = omega (arith, c.requires.order) in
+    let none = moved_none f xs c.args.from d c.requires.down c.requires.up in
     record {
-      moved = subst (λ (n : ℕ). IsMoved f c.args.sequence.now c.args.from c.args.document.now c.args.sequence.now n c.args.document.now) same (moved_none f c.args.sequence.now c.args.from c.args.document.now c.requires.down c.requires.up);
+      moved = subst (λ (n : ℕ). IsMoved f xs c.args.from d xs n d) same none;
       order = omega arith;
       within = omega (arith, c.requires.within, c.requires.order);
       nesting = refl;
@@ -48,8 +51,10 @@ loop-left-preserved g c =
     let w = c.undo.new.self in
     let up = subst (λ (n : ℕ). FitsUp f (drop n xs) d) same m.up in
     let before = subst (λ (n : ℕ). IsMoved f c.args.sequence.now c.args.from c.args.document.now xs n d) same m in
+    let e = c.undo.new.document in
+    let one = moved_back f xs v w j d e down up inside is c.undo.ensures.turned in
     record {
-      moved = moved_more f c.args.sequence.now xs _ c.args.from (j + 1) j c.args.document.now d c.undo.new.document before (moved_back f xs v w j d c.undo.new.document down up inside is c.undo.ensures.turned);
+      moved = moved_more f c.args.sequence.now xs _ c.args.from (j + 1) j c.args.document.now d e before one;
       order = omega (arith, c.loop-left.invariant.order);
       within = omega (arith, c.loop-left.invariant.within, length-set xs j w);
       nesting = map-set_same nesting xs v w j is c.undo.ensures.nesting ∙ c.loop-left.invariant.nesting;

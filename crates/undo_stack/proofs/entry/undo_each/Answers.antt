@@ -26,7 +26,9 @@ loop-at-preserved g c =
     let w = c.undo.new.self in
     let m = c.loop-at.invariant.moved in
     let inside : j < length xs = omega (arith, c.loop-at.invariant.within) in
-    let below = moved_below f xs v w i c.loop-at.document c.undo.new.document (omega arith) c.loop-at.invariant.within c.index_mut.ensures.value m.down m.up c.undo.ensures.turned in
+    let within = c.loop-at.invariant.within in
+    let is = c.index_mut.ensures.value in
+    let below = moved_below f xs v w i c.loop-at.document c.undo.new.document (omega arith) within is m.down m.up c.undo.ensures.turned in
     record {
       moved = moved_more f _ _ _ _ _ _ _ _ _ m below;
       above = omega arith;

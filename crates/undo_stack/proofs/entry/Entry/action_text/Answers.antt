@@ -8,4 +8,6 @@ pub returns-in-Command : goal.returns-in-Command
 returns-in-Command g c = rw (c.in-Command.is, entry_change-Command g.C.Command.change c.in-Command.command) c.action_text.ensures
 
 pub returns-in-Macro : goal.returns-in-Macro
-returns-in-Macro g c = rw (c.in-Macro.is, entry_change-Macro g.C.Command.change c.in-Macro.contents) (c.as_str.ensures ∙ ap (λ (b : MacroContents (Entry g.row.C.Denot)). b.action) c.deref.ensures)
+returns-in-Macro g c =
+    let told = c.as_str.ensures ∙ ap (λ (b : MacroContents (Entry g.row.C.Denot)). b.action) c.deref.ensures in
+    rw (c.in-Macro.is, entry_change-Macro g.C.Command.change c.in-Macro.contents) told

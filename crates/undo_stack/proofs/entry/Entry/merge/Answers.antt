@@ -10,8 +10,10 @@ merge_commands-requires-clause-older g c =
 
 pub returns-in-Command-clause-merged : goal.returns-in-Command-clause-merged
 returns-in-Command-clause-merged g c =
-    let known = rw (c.in-Command.is, outs-Command c.in-Command.older) at c.merge_commands.ensures in
-    rw (c.in-Command.is, outs-Command c.in-Command.older, entry_change-Command g.C.Command.change c.in-Command.older, entry_change-Command g.C.Command.change c.merge_commands.new.older) known
+    let f = g.C.Command.change in
+    let older = c.in-Command.older in
+    let known = rw (c.in-Command.is, outs-Command older) at c.merge_commands.ensures in
+    rw (c.in-Command.is, outs-Command older, entry_change-Command f older, entry_change-Command f c.merge_commands.new.older) known
 
 pub returns-in-Macro-clause-merged : goal.returns-in-Macro-clause-merged
 returns-in-Macro-clause-merged g c =

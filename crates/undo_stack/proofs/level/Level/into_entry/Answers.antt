@@ -1,4 +1,4 @@
-use Rattle.std.proofs.Common.{◌+◌, ◌∙◌, Box, Global, List, ap, map, subst, sym}
+use Rattle.std.proofs.Common.{◌+◌, ◌∙◌, List, ap, map, subst, sym}
 use Rattle.std.specs.Box.{with_value}
 use Rattle.command_api.specs.Law.{Change}
 use Rattle.command_api.specs.Names.{untagged, Never}
@@ -6,14 +6,15 @@ use Rattle.undo_stack.specs.Entries.{entry_change, greatest, nesting}
 use Rattle.undo_stack.specs.Sequence.{before}
 use Rattle.undo_stack.specs.declared.entry.Entry.{Entry}
 use Rattle.undo_stack.specs.declared.entry.MacroContents.{MacroContents}
-use Rattle.undo_stack.proofs.EntryChanges.{entry_change-Macro, nesting-Macro}
+use Rattle.undo_stack.proofs.EntryChanges.{Contents, entry_change-Macro, nesting-Macro}
 use Rattle.undo_stack.proofs.level.Level.into_entry.Goals as goal
 
 pub returns : goal.returns
 returns g c =
     let f = g.C.Command.change in
     let now = c.deref_mut.result.now in
-    let m : Box (MacroContents (Entry g.row.C.Denot)) Global = with_value c.args.self.contents (record { text = now.text; action = now.action; children = c.from.result }) in
+    let m : Contents g.row.C.Denot =
+    with_value c.args.self.contents (record { text = now.text; action = now.action; children = c.from.result }) in
     let items = c.from.ensures.0 in
     let change = entry_change-Macro f m in
     record {

@@ -4,35 +4,45 @@ use Rattle.undo_stack.proofs.Held.{most_kept, most_added, all_kept, all_added}
 use Rattle.undo_stack.proofs.Pushes.{sequence_nesting-append, sequence_nesting-drop}
 use Rattle.undo_stack.proofs.sequence.Sequence.add.Goals as goal
 
-items : (g : _) (c : goal.After-drop_surplus g) → c.drop_surplus.new.self.entries.items ≡ drop (c.args.self.now.index + 1 - c.args.self.now.limit) (c.args.self.now.entries.items ++ c.args.entry ∷ [])
+items : (g : _) (c : goal.After-drop_surplus g)
+    → c.drop_surplus.new.self.entries.items
+    ≡ drop (c.args.self.now.index + 1 - c.args.self.now.limit) (c.args.self.now.entries.items ++ c.args.entry ∷ [])
 items g c =
     let k = c.args.self.now.index + 1 - c.args.self.now.limit in
     c.drop_surplus.ensures.entries ∙ ap (λ (xs : List (Entry g.row.C.Denot)). drop k xs) c.push_back_reserved.ensures.items
 
 pub returns-then-self-ne0-clause-held : goal.returns-then-self-ne0-clause-held
 returns-then-self-ne0-clause-held g c =
+    let r = c.requires in
     let e = c.drop_surplus.ensures in
-    most_kept g.C.Command.change c.args.self.now c.drop_surplus.new.self c.args.entry c.requires.at_end e.limit (omega arith) (items g c, e.index, e.clean) (c.requires.nesting, c.requires.live, rw e.has_free c.is_free_with-self.ensures)
+    most_kept g.C.Command.change c.args.self.now c.drop_surplus.new.self c.args.entry r.at_end e.limit (omega arith)
+    (items g c, e.index, e.clean) (r.nesting, r.live, rw e.has_free c.is_free_with-self.ensures)
 
 pub returns-then-self-ne0-clause-added : goal.returns-then-self-ne0-clause-added
 returns-then-self-ne0-clause-added g c =
     let e = c.drop_surplus.ensures in
-    most_added g.C.Command.change c.args.self.now c.drop_surplus.new.self c.args.entry c.requires.at_end e.limit (omega arith) (items g c, e.index, e.clean)
+    most_added g.C.Command.change c.args.self.now c.drop_surplus.new.self c.args.entry c.requires.at_end e.limit (omega arith)
+    (items g c, e.index, e.clean)
 
 pub returns-else-self-ne0-clause-held : goal.returns-else-self-ne0-clause-held
 returns-else-self-ne0-clause-held g c =
-    all_kept g.C.Command.change c.args.self.now _ c.args.entry c.requires.at_end refl (omega arith) (c.push_back_reserved.ensures.items, refl, refl) (c.requires.nesting, c.requires.live, c.is_free_with-self.ensures)
+    let r = c.requires in
+    all_kept g.C.Command.change c.args.self.now _ c.args.entry r.at_end refl (omega arith)
+    (c.push_back_reserved.ensures.items, refl, refl) (r.nesting, r.live, c.is_free_with-self.ensures)
 
 pub returns-else-self-ne0-clause-added : goal.returns-else-self-ne0-clause-added
 returns-else-self-ne0-clause-added g c =
-    let s = c.args.self.now in
-    all_added g.C.Command.change s (record s { entries = c.push_back_reserved.new.self; index = s.index + 1; has_free = c.is_free_with-self.result }) c.args.entry c.requires.at_end refl (omega arith) (c.push_back_reserved.ensures.items, refl, refl)
+    let q = c.args.self.now in
+    all_added g.C.Command.change q
+    (record q { entries = c.push_back_reserved.new.self; index = q.index + 1; has_free = c.is_free_with-self.result })
+    c.args.entry c.requires.at_end refl (omega arith) (c.push_back_reserved.ensures.items, refl, refl)
 
 pub returns-then-self-ne0-clause-nesting : goal.returns-then-self-ne0-clause-nesting
 returns-then-self-ne0-clause-nesting g c =
-    let s = c.args.self.now in
-    let all = s.entries.items ++ c.args.entry ∷ [] in
-    rw (items g c) (omega (arith, sequence_nesting-drop (s.index + 1 - s.limit) all, sequence_nesting-append s.entries.items c.args.entry))
+    let q = c.args.self.now in
+    let left = sequence_nesting-drop (q.index + 1 - q.limit) (q.entries.items ++ c.args.entry ∷ []) in
+    rw (items g c) (omega (arith, left, sequence_nesting-append q.entries.items c.args.entry))
 
 pub returns-else-self-ne0-clause-nesting : goal.returns-else-self-ne0-clause-nesting
-returns-else-self-ne0-clause-nesting g c = rw c.push_back_reserved.ensures.items (omega (arith, sequence_nesting-append c.args.self.now.entries.items c.args.entry))
+returns-else-self-ne0-clause-nesting g c =
+    rw c.push_back_reserved.ensures.items (omega (arith, sequence_nesting-append c.args.self.now.entries.items c.args.entry))

@@ -1,10 +1,10 @@
 use Rattle.std.proofs.Common.{◌≡◌, ◌∙◌, ap, refl, Bool, true, false, Some, Ok}
 use Rattle.command_api.specs.Law.{Change}
 use Rattle.undo_stack.specs.History.{step_named, current}
-use Rattle.undo_stack.specs.Pushing.{step_of, IsPushed}
+use Rattle.undo_stack.specs.Pushing.{cut, step_of, IsPushed, Merges}
 use Rattle.undo_stack.specs.Entries.{entry_change}
-use Rattle.undo_stack.specs.Held.{history_at, target_in}
-use Rattle.undo_stack.specs.Merging.{IsEntered}
+use Rattle.undo_stack.specs.Held.{history_at, target_in, IsTakenInto, IsUnchangedAt}
+use Rattle.undo_stack.specs.Merging.{IsEntered, SettlesTarget}
 use Rattle.undo_stack.specs.Reporting.{reports, IsReportedAt}
 use Rattle.undo_stack.specs.declared.entry.Entry.TheVariants.{Command}
 use Rattle.undo_stack.proofs.EntryChanges.{entry_change-Command}
@@ -15,6 +15,16 @@ use Rattle.undo_stack.proofs.Sequences.{length-steps}
 use Rattle.undo_stack.proofs.Targets.{pushed_merged, merged_next}
 use Rattle.undo_stack.proofs.Turnings.{false-true}
 use Rattle.undo_stack.proofs.sequence.Sequence.push.Goals as goal
+
+-- ---- the command merged, and then the target was settled
+taken : (g : _) (c : goal.After-settle g)
+    → IsTakenInto g.C.Command.change c.redo.new.self c.redo.new.document c.args.self.now c.merge.new.self
+taken g c = rw (c.in-Ok-true.is ∙ ap (λ (b : Bool). Ok b) c.in-Ok-true.field-0-test) at c.merge.ensures.merged
+
+settled : (g : _) (c : goal.After-settle g) → let f = g.C.Command.change in
+    let e = c.redo.new.document in
+    SettlesTarget e (reports f (target_in c.merge.new.self)) (history_at f e c.merge.new.self) (history_at f e c.settle.new.self)
+settled g c = (c.settle.ensures c.redo.new.document (taken g c).held (taken g c).target).settled
 
 pub settle-requires-clause-at_end : goal.settle-requires-clause-at_end
 settle-requires-clause-at_end g c =
@@ -29,9 +39,11 @@ returns-in-Ok-true-clause-pushed g c =
     let y = c.redo.new.self in
     let e = c.redo.new.document in
     let t = c.merge.new.self in
-    let m = rw (c.in-Ok-true.is ∙ ap (λ (b : Bool). Ok b) c.in-Ok-true.field-0-test) at c.merge.ensures.merged in
-    pushed_at f c.args.command y q c.args.document.now e (history_at f e c.settle.new.self) c.redo.ensures c.requires.held.sound.turnable.within
-    (pushed_merged (reports f (target_in t)) (history_at f ((f y).undone e) q) (step_named (f y).names e) (history_at f e t) (history_at f e c.settle.new.self) m.merges m.next (c.settle.ensures e m.held m.target).settled)
+    let n = history_at f e c.settle.new.self in
+    let m = taken g c in
+    pushed_at f c.args.command y q c.args.document.now e n c.redo.ensures c.requires.held.sound.turnable.within
+    (pushed_merged (reports f (target_in t)) (history_at f ((f y).undone e) q) (step_named (f y).names e) (history_at f e t) n m.merges m.next
+    (settled g c))
 
 pub returns-in-Ok-true-clause-reported : goal.returns-in-Ok-true-clause-reported
 returns-in-Ok-true-clause-reported g c =
@@ -40,12 +52,20 @@ returns-in-Ok-true-clause-reported g c =
     let y = c.redo.new.self in
     let e = c.redo.new.document in
     let t = c.merge.new.self in
-    let ok = c.in-Ok-true.is ∙ ap (λ (b : Bool). Ok b) c.in-Ok-true.field-0-test in
-    let m = rw ok at c.merge.ensures.merged in
-    let joined = rw ok at c.merge.ensures.joined in
-    reported_at f c.args.command y q c.args.document.now e (history_at f e c.settle.new.self) true (target_in t) c.redo.ensures c.requires.held.sound.turnable.within
+    let n = history_at f e c.settle.new.self in
+    let m = taken g c in
+    let joined = rw (c.in-Ok-true.is ∙ ap (λ (b : Bool). Ok b) c.in-Ok-true.field-0-test) at c.merge.ensures.joined in
+    reported_at f c.args.command y q c.args.document.now e n c.redo.ensures c.requires.held.sound.turnable.within true (target_in t)
     ((λ _. m.merges), (λ _. refl)) joined
-    (merged_next (reports f (target_in t)) (history_at f ((f y).undone e) q) (step_named (f y).names e) (history_at f e t) (history_at f e c.settle.new.self) m.next (c.settle.ensures e m.held m.target).settled)
+    (merged_next (reports f (target_in t)) (history_at f ((f y).undone e) q) (step_named (f y).names e) (history_at f e t) n m.next (settled g c))
+
+-- ---- the command did not merge, and was entered
+apart : (g : _) (c : goal.After-enter g) → let f = g.C.Command.change in
+    let y = c.redo.new.self in
+    let b = (f y).undone c.redo.new.document in
+    (Merges (cut (history_at f b c.args.self.now)) (step_named (f y).names c.redo.new.document) → ⊥) ×
+    IsUnchangedAt f b c.args.self.now c.merge.new.self
+apart g c = rw (c.in-Ok-false.is ∙ ap (λ (b : Bool). Ok b) c.in-Ok-false.field-0-test) at c.merge.ensures.merged
 
 pub returns-in-Ok-false-clause-pushed : goal.returns-in-Ok-false-clause-pushed
 returns-in-Ok-false-clause-pushed g c =
@@ -55,12 +75,15 @@ returns-in-Ok-false-clause-pushed g c =
     let d = c.args.document.now in
     let y = c.redo.new.self in
     let e = c.redo.new.document in
-    let u = c.enter.new.self in
     let h = history_at f d q in
-    let m = rw (c.in-Ok-false.is ∙ ap (λ (b : Bool). Ok b) c.in-Ok-false.field-0-test) at c.merge.ensures.merged in
-    both_ok (λ _. c.enter.new.document ≡ e) (λ _. IsEntered (f y).obsolete (history_at f ((f y).undone e) c.merge.new.self) (step_named (f y).names e) (history_at f c.enter.new.document u)) (λ _. IsPushed h (step_of (f x) (current h)) (history_at f c.enter.new.document u)) c.enter.result
-    (λ _ document entered. pushed_at f x y q d e (history_at f c.enter.new.document u) c.redo.ensures c.requires.held.sound.turnable.within
-    (pushed_entered (f y).obsolete (history_at f ((f y).undone e) q) (step_named (f y).names e) (history_at f c.enter.new.document u) m.0 (rw m.1.same at entered)))
+    let s = step_named (f y).names e in
+    let n = history_at f c.enter.new.document c.enter.new.self in
+    let m = apart g c in
+    both_ok (λ _. c.enter.new.document ≡ e)
+    (λ _. IsEntered (f y).obsolete (history_at f ((f y).undone e) c.merge.new.self) s n)
+    (λ _. IsPushed h (step_of (f x) (current h)) n) c.enter.result
+    (λ _ document entered. pushed_at f x y q d e n c.redo.ensures c.requires.held.sound.turnable.within
+    (pushed_entered (f y).obsolete (history_at f ((f y).undone e) q) s n m.0 (rw m.1.same at entered)))
     c.enter.ensures.document c.enter.ensures.entered
 
 pub returns-in-Ok-false-clause-reported : goal.returns-in-Ok-false-clause-reported
@@ -72,10 +95,13 @@ returns-in-Ok-false-clause-reported g c =
     let y = c.redo.new.self in
     let e = c.redo.new.document in
     let u = c.enter.new.self in
-    let m = rw (c.in-Ok-false.is ∙ ap (λ (b : Bool). Ok b) c.in-Ok-false.field-0-test) at c.merge.ensures.merged in
+    let n = history_at f c.enter.new.document u in
+    let m = apart g c in
     let told : reports f (Some (Command y)) ≡ (f y).obsolete = ap (λ (v : Change). v.obsolete) (entry_change-Command f y) in
-    both_ok (λ _. c.enter.new.document ≡ e) (λ _. IsEntered (f y).obsolete (history_at f ((f y).undone e) c.merge.new.self) (step_named (f y).names e) (history_at f c.enter.new.document u)) (λ _. IsReportedAt f x d (target_in q) (history_at f d q) c.enter.new.document (history_at f c.enter.new.document u)) c.enter.result
-    (λ _ document entered. rw document (reported_at f x y q d e (history_at f e u) false (Some (Command y)) c.redo.ensures c.requires.held.sound.turnable.within
-    ((λ q. false-true q), (λ k. absurd (m.0 k))) refl
-    (rw told (rw (m.1.same, document) at entered).next)))
+    both_ok (λ _. c.enter.new.document ≡ e)
+    (λ _. IsEntered (f y).obsolete (history_at f ((f y).undone e) c.merge.new.self) (step_named (f y).names e) n)
+    (λ _. IsReportedAt f x d (target_in q) (history_at f d q) c.enter.new.document n) c.enter.result
+    (λ _ document entered. rw document
+    (reported_at f x y q d e (history_at f e u) c.redo.ensures c.requires.held.sound.turnable.within false (Some (Command y))
+    ((λ q. false-true q), (λ k. absurd (m.0 k))) refl (rw told (rw (m.1.same, document) at entered).next)))
     c.enter.ensures.document c.enter.ensures.entered

@@ -10,5 +10,6 @@ returns-clause-history g c =
     let q = c.args.self.now in
     let old = history_at g.C.Command.change c.args.document.now q in
     let all = length-steps (entry_change g.C.Command.change) q.entries.items q.index c.args.document.now in
-    let to : c.max-index.result ≡ max (min c.args.index (length old.steps)) q.index = omega (arith, all, c.len.ensures, c.min.ensures, c.max-index.ensures, q.entries.ok.0) in
+    let to : c.max-index.result ≡ max (min c.args.index (length old.steps)) q.index =
+    omega (arith, all, c.len.ensures, c.min.ensures, c.max-index.ensures, q.entries.ok.0) in
     c.redo_up_to.ensures.history ∙ ap (λ (n : ℕ). positioned n old) to

@@ -15,17 +15,23 @@ step_on_by-requires-clause-above g c =
 
 pub returns-then-index-self-clause-reported : goal.returns-then-index-self-clause-reported
 returns-then-index-self-clause-reported g c =
-    turned_down g.C.Command.change c.args.document.now c.args.self.now c.args.index (history_at g.C.Command.change c.step_back_by.new.document c.step_back_by.new.self) (omega (arith, c.if-index-self.true)) c.step_back_by.ensures.reported
+    let f = g.C.Command.change in
+    let n = history_at f c.step_back_by.new.document c.step_back_by.new.self in
+    turned_down f c.args.document.now c.args.self.now c.args.index n (omega (arith, c.if-index-self.true)) c.step_back_by.ensures.reported
 
 pub returns-then-index-self-clause-turned : goal.returns-then-index-self-clause-turned
 returns-then-index-self-clause-turned g c =
-    turned_only_back c.args.index (history_at g.C.Command.change c.args.document.now c.args.self.now) _ (omega (arith, c.if-index-self.true)) c.step_back_by.ensures.turned
+    let h = history_at g.C.Command.change c.args.document.now c.args.self.now in
+    turned_only_back c.args.index h _ (omega (arith, c.if-index-self.true)) c.step_back_by.ensures.turned
 
 pub returns-else-index-self-clause-reported : goal.returns-else-index-self-clause-reported
 returns-else-index-self-clause-reported g c =
+    let f = g.C.Command.change in
     let q = c.args.self.now in
-    let steps : c.min.result - q.index ≡ min c.args.index (length q.entries.items) - q.index = omega (arith, c.min.ensures, c.len.ensures, q.entries.ok.0) in
-    turned_up g.C.Command.change c.args.document.now q c.args.index _ (history_at g.C.Command.change c.step_on_by.new.document c.step_on_by.new.self) c.if-index-self.false steps c.step_on_by.ensures.reported
+    let n = history_at f c.step_on_by.new.document c.step_on_by.new.self in
+    let steps : c.min.result - q.index ≡ min c.args.index (length q.entries.items) - q.index =
+    omega (arith, c.min.ensures, c.len.ensures, q.entries.ok.0) in
+    turned_up f c.args.document.now q c.args.index _ n c.if-index-self.false steps c.step_on_by.ensures.reported
 
 pub returns-else-index-self-clause-turned : goal.returns-else-index-self-clause-turned
 returns-else-index-self-clause-turned g c =
@@ -34,5 +40,6 @@ returns-else-index-self-clause-turned g c =
     let h = history_at f c.args.document.now q in
     let n = history_at f c.step_on_by.new.document c.step_on_by.new.self in
     let all = length-steps (entry_change f) q.entries.items q.index c.args.document.now in
-    let steps : c.min.result - q.index ≡ min c.args.index (length h.steps) - q.index = omega (arith, all, c.min.ensures, c.len.ensures, q.entries.ok.0) in
+    let steps : c.min.result - q.index ≡ min c.args.index (length h.steps) - q.index =
+    omega (arith, all, c.min.ensures, c.len.ensures, q.entries.ok.0) in
     turned_only_on c.args.index h n c.if-index-self.false (subst (λ (k : ℕ). TurnBy TurnsOn k h n) steps c.step_on_by.ensures.turned)

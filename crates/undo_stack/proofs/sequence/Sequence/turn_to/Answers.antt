@@ -12,18 +12,28 @@ pub returns-clause-history : goal.returns-clause-history
 returns-clause-history g c =
     let f = g.C.Command.change in
     let q = c.args.self.now in
+    let h = history_at f c.args.document.now q in
+    let u = history_at f c.undo_to.new.document c.undo_to.new.self in
+    let n = history_at f c.redo_to.new.document c.redo_to.new.self in
     let all = length-steps (entry_change f) q.entries.items q.index c.args.document.now in
-    turned_view (history_at f c.args.document.now q) (history_at f c.undo_to.new.document c.undo_to.new.self) (history_at f c.redo_to.new.document c.redo_to.new.self) c.args.index (omega (arith, all, c.requires.held.sound.turnable.within)) c.undo_to.ensures.history c.redo_to.ensures.history
+    let within = c.requires.held.sound.turnable.within in
+    turned_view h u n c.args.index (omega (arith, all, within)) c.undo_to.ensures.history c.redo_to.ensures.history
 
 pub returns-clause-held : goal.returns-clause-held
 returns-clause-held g c =
-    moved_held g.C.Command.change c.args.self.now c.redo_to.new.self c.args.document.now c.redo_to.new.document _ c.requires.bound (returns-clause-history g c) c.requires.held c.redo_to.ensures.sound
+    let q = c.args.self.now in
+    let r = c.requires in
+    moved_held g.C.Command.change q c.redo_to.new.self c.args.document.now c.redo_to.new.document _ r.bound (returns-clause-history g c) r.held
+    c.redo_to.ensures.sound
 
 pub returns-clause-reported : goal.returns-clause-reported
 returns-clause-reported g c =
     let f = g.C.Command.change in
     let q = c.args.self.now in
-    let h = history_at f c.args.document.now q in
-    let all = length-steps (entry_change f) q.entries.items q.index c.args.document.now in
-    bound_turned f q.entries.items c.args.index c.args.document.now h (history_at f c.redo_to.new.document c.redo_to.new.self) (c.requires.held.none_free c.requires.bound) c.requires.held.sound.turnable.within
-    (returns-clause-history g c ∙ ap (λ (n : ℕ). positioned (min c.args.index n) h) all)
+    let d = c.args.document.now in
+    let h = history_at f d q in
+    let n = history_at f c.redo_to.new.document c.redo_to.new.self in
+    let held = c.requires.held in
+    let all = length-steps (entry_change f) q.entries.items q.index d in
+    let is = returns-clause-history g c ∙ ap (λ (k : ℕ). positioned (min c.args.index k) h) all in
+    bound_turned f q.entries.items c.args.index d h n (held.none_free c.requires.bound) held.sound.turnable.within is

@@ -8,24 +8,26 @@ use Rattle.undo_stack.proofs.stack.Stack.cut.Goals as goal
 pub returns-then-is_open-clause-cut : goal.returns-then-is_open-clause-cut
 returns-then-is_open-clause-cut g c =
     let s = c.args.self.now in
-    open_uncut g.C.Command.change s.document s.sequences.steps.entries.items s.sequences.steps.index s.sequences.steps.clean s.sequences.steps.limit s.sequences.levels.items c.if-is_open.ensures
+    open_uncut s.sequences.levels.items g.C.Command.change s.document s.sequences.steps c.if-is_open.ensures
 
 pub returns-then-is_open-clause-ready : goal.returns-then-is_open-clause-ready
-returns-then-is_open-clause-ready g c = open_ready g.C.Command.change c.args.self.now c.if-is_open.ensures c.requires.sound c.requires.room
+returns-then-is_open-clause-ready g c = open_ready c.requires.sound c.if-is_open.ensures c.requires.room
 
 pub returns-clause-sound : goal.returns-clause-sound
 returns-clause-sound g c =
     let f = g.C.Command.change in
     let s = c.args.self.now in
-    closed_holds f _ c.if-is_open.ensures (cut_held f s.sequences.steps c.cut.new.self c.cut.ensures.cut s.document (closed_held f s c.if-is_open.ensures c.requires.sound))
+    let none = c.if-is_open.ensures in
+    closed_holds f _ none (cut_held f s.sequences.steps c.cut.new.self c.cut.ensures.cut s.document (closed_held f s none c.requires.sound))
 
 pub returns-clause-cut : goal.returns-clause-cut
 returns-clause-cut g c =
     let f = g.C.Command.change in
     let s = c.args.self.now in
-    closed_history f (record s { sequences = record s.sequences { steps = c.cut.new.self } }) c.if-is_open.ensures
+    let none = c.if-is_open.ensures in
+    closed_history f (record s { sequences = record s.sequences { steps = c.cut.new.self } }) none
     ∙ cut_seen f s.sequences.steps c.cut.new.self c.cut.ensures.cut s.document c.requires.sound.own.sound.turnable.within
-    ∙ sym (ap cut (closed_history f s c.if-is_open.ensures))
+    ∙ sym (ap cut (closed_history f s none))
 
 pub returns-clause-ready : goal.returns-clause-ready
 returns-clause-ready g c =

@@ -1,43 +1,44 @@
 use Rattle.std.proofs.Common.{◌≡◌}
 use Rattle.std.proofs.lemmas.Result.{IfErr-weaker, IfOk-weaker}
-use Rattle.undo_stack.specs.History.{current}
 use Rattle.undo_stack.specs.Held.{history_at, target_in}
 use Rattle.undo_stack.specs.Lending.{innermost}
-use Rattle.undo_stack.specs.Pushing.{IsPushed, step_of}
 use Rattle.undo_stack.specs.Reporting.{IsReportedAt}
 use Rattle.undo_stack.specs.Stacks.{history, inners, IsReported}
-use Rattle.undo_stack.proofs.Innermost.{by_result, inner_held, led, pushed_led, reported_led, same_led}
+use Rattle.undo_stack.proofs.Innermost.{Pushes, by_result, inner_held, led, pushed_led, reported_led, same_led}
 use Rattle.undo_stack.proofs.Reports.{both_ok}
-use Rattle.undo_stack.proofs.Views.{current-view}
+use Rattle.undo_stack.proofs.Views.{current-history_in}
 use Rattle.undo_stack.proofs.stack.Stack.push.Goals as goal
 
 pub push-requires-clause-held : goal.push-requires-clause-held
-push-requires-clause-held g c = rw c.innermost.ensures.value (inner_held g.C.Command.change c.args.self.now c.requires.sound)
+push-requires-clause-held g c = rw c.innermost.ensures.value (inner_held c.requires.sound)
 
 pub push-requires-clause-fits : goal.push-requires-clause-fits
 push-requires-clause-fits g c =
     let s = c.args.self.now in
-    let q = s.sequences.steps in
-    rw (current-view g.C.Command.change s.document q.entries.items q.index q.clean q.limit (inners s) c.requires.sound.own.sound.turnable.within) at c.requires.fits
+    let within = c.requires.sound.own.sound.turnable.within in
+    rw (current-history_in (inners s) g.C.Command.change s.document s.sequences.steps within) at c.requires.fits
 
 pub returns-clause-sound : goal.returns-clause-sound
 returns-clause-sound g c =
+    let h = c.requires.sound in
+    let d = c.push.new.document in
+    let q = c.push.new.self in
     let e = rw c.innermost.ensures.value at c.push.ensures in
     by_result c.push.result e.pushed e.unchanged
-    (λ p. (pushed_led g.C.Command.change c.args.self.now c.requires.sound c.push.new.document c.push.new.self c.args.command e.held e.nesting p).0)
-    (λ same. (same_led g.C.Command.change c.args.self.now c.requires.sound c.push.new.document c.push.new.self e.held e.nesting same).0)
+    (λ p. (pushed_led h d q e.held e.nesting c.args.command p).0)
+    (λ same. (same_led h d q e.held e.nesting same).0)
 
 pub returns-clause-pushed : goal.returns-clause-pushed
 returns-clause-pushed g c =
     let f = g.C.Command.change in
     let s = c.args.self.now in
-    let w = f c.args.command in
+    let x = c.args.command in
     let d = c.push.new.document in
     let q = c.push.new.self in
     let e = rw c.innermost.ensures.value at c.push.ensures in
-    let h = history_at f s.document (innermost s.sequences) in
-    IfOk-weaker c.push.result (λ _. IsPushed h (step_of w (current h)) (history_at f d q)) (λ _. IsPushed (history f s) (step_of w (current (history f s))) (history f (led s d q)))
-    (λ _ p. (pushed_led f s c.requires.sound d q c.args.command e.held e.nesting p).1) e.pushed
+    let old = history_at f s.document (innermost s.sequences) in
+    IfOk-weaker c.push.result (λ _. Pushes (f x) old (history_at f d q)) (λ _. Pushes (f x) (history f s) (history f (led s d q)))
+    (λ _ p. (pushed_led c.requires.sound d q e.held e.nesting x p).1) e.pushed
 
 pub returns-clause-reported : goal.returns-clause-reported
 returns-clause-reported g c =
@@ -47,9 +48,11 @@ returns-clause-reported g c =
     let d = c.push.new.document in
     let q = c.push.new.self in
     let e = rw c.innermost.ensures.value at c.push.ensures in
-    let h = history_at f s.document (innermost s.sequences) in
-    both_ok (λ _. IsPushed h (step_of (f x) (current h)) (history_at f d q)) (λ _. IsReportedAt f x s.document (target_in (innermost s.sequences)) h d (history_at f d q)) (λ _. IsReported f x s (led s d q)) c.push.result
-    (λ _ p r. reported_led f s c.requires.sound d q x p r) e.pushed e.reported
+    let z = innermost s.sequences in
+    let old = history_at f s.document z in
+    let new = history_at f d q in
+    both_ok (λ _. Pushes (f x) old new) (λ _. IsReportedAt f x s.document (target_in z) old d new) (λ _. IsReported f x s (led s d q)) c.push.result
+    (λ _ p r. reported_led c.requires.sound d q e.held e.nesting x p r) e.pushed e.reported
 
 pub returns-clause-unchanged : goal.returns-clause-unchanged
 returns-clause-unchanged g c =
@@ -58,5 +61,6 @@ returns-clause-unchanged g c =
     let d = c.push.new.document in
     let q = c.push.new.self in
     let e = rw c.innermost.ensures.value at c.push.ensures in
-    IfErr-weaker c.push.result (λ _. history_at f d q ≡ history_at f s.document (innermost s.sequences)) (λ _. history f (led s d q) ≡ history f s)
-    (λ _ same. (same_led f s c.requires.sound d q e.held e.nesting same).1) e.unchanged
+    let old = history_at f s.document (innermost s.sequences) in
+    IfErr-weaker c.push.result (λ _. history_at f d q ≡ old) (λ _. history f (led s d q) ≡ history f s)
+    (λ _ same. (same_led c.requires.sound d q e.held e.nesting same).1) e.unchanged

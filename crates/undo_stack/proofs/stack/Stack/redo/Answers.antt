@@ -13,7 +13,7 @@ pub returns-then-self-len-clause-step : goal.returns-then-self-len-clause-step
 returns-then-self-len-clause-step g c =
     let s = c.args.self.now in
     record {
-      answered = sym (redo-refused g.C.Command.change s.document s.sequences.steps.entries.items s.sequences.steps.index s.sequences.steps.clean s.sequences.steps.limit s.sequences.levels.items c.if-is_open.ensures (omega (arith, s.sequences.steps.entries.ok.0)));
+      answered = sym (redo-refused g.C.Command.change s c.if-is_open.ensures (omega (arith, s.sequences.steps.entries.ok.0)));
       leads = refl;
     }
 
@@ -22,12 +22,16 @@ returns-then-is_open-clause-step g c =
     let f = g.C.Command.change in
     let s = c.args.self.now in
     let h = history f s in
-    record { answered = outside-open f s.sequences.levels.items s.document (if nat_lt h.position (length h.steps) then Ok tt else Err NothingToRedo) c.if-is_open.ensures; leads = refl }
+    record {
+      answered = outside-open f s c.if-is_open.ensures (if nat_lt h.position (length h.steps) then Ok tt else Err NothingToRedo);
+      leads = refl;
+    }
 
 pub step_on-requires-clause-above : goal.step_on-requires-clause-above
 step_on-requires-clause-above g c =
     let s = c.args.self.now in
-    step_above g.C.Command.change s.document s.sequences.steps.entries.items s.sequences.steps.index (omega (arith, c.requires.own.sound.turnable.within, s.sequences.steps.entries.ok.0))
+    let q = s.sequences.steps in
+    step_above g.C.Command.change s.document q (omega (arith, c.requires.own.sound.turnable.within, q.entries.ok.0))
 
 pub returns-clause-step : goal.returns-clause-step
 returns-clause-step g c =
@@ -35,8 +39,8 @@ returns-clause-step g c =
     let s = c.args.self.now in
     let none = c.if-is_open.ensures in
     record {
-      answered = sym (redo-accepted f s.document s.sequences.steps.entries.items s.sequences.steps.index s.sequences.steps.clean s.sequences.steps.limit s.sequences.levels.items none (omega (arith, c.requires.own.sound.turnable.within, s.sequences.steps.entries.ok.0)));
-      leads = closed_step f TurnsOn s (record s { document = c.step_on.new.document; sequences = record s.sequences { steps = c.step_on.new.self } }) none none c.step_on.ensures.turned;
+      answered = sym (redo-accepted f s none (omega (arith, c.requires.own.sound.turnable.within, s.sequences.steps.entries.ok.0)));
+      leads = closed_step f TurnsOn s c.step_on.new.document c.step_on.new.self none c.step_on.ensures.turned;
     }
 
 pub returns-clause-reported : goal.returns-clause-reported
@@ -44,7 +48,9 @@ returns-clause-reported g c =
     let f = g.C.Command.change in
     let s = c.args.self.now in
     let q = s.sequences.steps in
+    let p = c.step_on.new.self in
     let none = c.if-is_open.ensures in
+    let d = c.step_on.new.document in
     let inside : q.index < length q.entries.items = omega (arith, c.requires.own.sound.turnable.within, q.entries.ok.0) in
-    closed_step f (AreTurned f q.entries.items (q.index + 1) s.document) s (record s { document = c.step_on.new.document; sequences = record s.sequences { steps = c.step_on.new.self } }) none none
-    (turned_once_up f s.document q c.step_on.new.document c.step_on.new.self inside c.step_on.ensures.reported)
+    let turned = turned_once_up f s.document q d p inside c.step_on.ensures.reported in
+    closed_step f (AreTurned f q.entries.items (q.index + 1) s.document) s d p none turned

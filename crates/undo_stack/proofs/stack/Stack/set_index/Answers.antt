@@ -10,18 +10,20 @@ use Rattle.undo_stack.proofs.stack.Stack.set_index.Goals as goal
 
 pub returns-then-is_open-clause-step : goal.returns-then-is_open-clause-step
 returns-then-is_open-clause-step g c =
-    let s = c.args.self.now in
-    record { answered = outside-open g.C.Command.change s.sequences.levels.items s.document (Ok tt) c.if-is_open.ensures; leads = refl }
+    record { answered = outside-open g.C.Command.change c.args.self.now c.if-is_open.ensures (Ok tt); leads = refl }
 
 pub returns-else-self-clause-step : goal.returns-else-self-clause-step
 returns-else-self-clause-step g c =
     let f = g.C.Command.change in
     let s = c.args.self.now in
+    let q = s.sequences.steps in
     let none = c.if-is_open.ensures in
-    let n = history_at f c.turn_to.new.document c.turn_to.new.self in
-    let all = length-steps (entry_change f) s.sequences.steps.entries.items s.sequences.steps.index s.document in
+    let d = c.turn_to.new.document in
+    let p = c.turn_to.new.self in
+    let all = length-steps (entry_change f) q.entries.items q.index s.document in
+    let within = c.requires.own.sound.turnable.within in
+    let turned = turned_to c.args.index (history_at f s.document q) (history_at f d p) (omega (arith, all, within)) c.turn_to.ensures.history in
     record {
-      answered = sym (outside-closed f s.sequences.levels.items s.document (Ok tt) none);
-      leads = closed_step f (TurnsTo c.args.index) s (record s { document = c.turn_to.new.document; sequences = record s.sequences { steps = c.turn_to.new.self } }) none none
-          (turned_to c.args.index (history_at f s.document s.sequences.steps) n (omega (arith, all, c.requires.own.sound.turnable.within)) c.turn_to.ensures.history);
+      answered = sym (outside-closed f s none (Ok tt));
+      leads = closed_step f (TurnsTo c.args.index) s d p none turned;
     }

@@ -9,13 +9,16 @@ use Rattle.undo_stack.proofs.stack.Stack.undo.Goals as goal
 pub returns-then-is_open-clause-step : goal.returns-then-is_open-clause-step
 returns-then-is_open-clause-step g c =
     let s = c.args.self.now in
-    record { answered = outside-open g.C.Command.change s.sequences.levels.items s.document (undo_answer_at s.sequences.steps.index) c.if-is_open.ensures; leads = refl }
+    record { answered = outside-open g.C.Command.change s c.if-is_open.ensures (undo_answer_at s.sequences.steps.index); leads = refl }
 
 pub returns-clause-reported : goal.returns-clause-reported
 returns-clause-reported g c =
     let f = g.C.Command.change in
     let s = c.args.self.now in
     let q = s.sequences.steps in
+    let p = c.step_back.new.self in
     let none = c.if-is_open.ensures in
-    closed_step f (AreTurned f q.entries.items (q.index - 1) s.document) s (record s { document = c.step_back.new.document; sequences = record s.sequences { steps = c.step_back.new.self } }) none none
-    (turned_once_down f s.document q c.step_back.new.document c.step_back.new.self (omega arith) c.requires.own.sound.turnable.within c.step_back.ensures.reported)
+    let d = c.step_back.new.document in
+    let within = c.requires.own.sound.turnable.within in
+    let turned = turned_once_down f s.document q d p (omega arith) within c.step_back.ensures.reported in
+    closed_step f (AreTurned f q.entries.items (q.index - 1) s.document) s d p none turned

@@ -2,6 +2,4 @@ use Rattle.undo_stack.proofs.Views.{undo_text_of-open}
 use Rattle.undo_stack.proofs.stack.Stack.undo_text.Goals as goal
 
 pub returns-then-is_open : goal.returns-then-is_open
-returns-then-is_open g c =
-    let s = c.args.self.now in
-    undo_text_of-open g.C.Command.change s.document s.sequences.steps.entries.items s.sequences.steps.index s.sequences.steps.clean s.sequences.steps.limit s.sequences.levels.items c.if-is_open.ensures
+returns-then-is_open g c = undo_text_of-open g.C.Command.change c.args.self.now c.if-is_open.ensures
