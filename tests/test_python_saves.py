@@ -235,8 +235,9 @@ def test_what_killed_saves_left():
     """It is taken away, but for what another save has locked, and what is no file of this name."""
     with tempfile.TemporaryDirectory() as folder, Editor(folder=folder) as editor:
         editor.step('new m 4 3 16 16 m.tsj')
-        others = ['.other.tmj.0.new', f'.{NAME}.new', f'.{NAME}.x.new', f'.{NAME}.3.new']
-        for name in [*others, f'.{NAME}.0.new', f'.{NAME}.17.new']:
+        others = ['.other.tmj.0.new', f'.{NAME}.new', f'.{NAME}.x.new', f'.{NAME}.03.new', f'.{NAME}.3.new']
+        others.append(f'.{NAME}.{2**64}.new')
+        for name in [*others, f'.{NAME}.0.new', f'.{NAME}.17.new', f'.{NAME}.{2**64 - 1}.new']:
             (Path(folder) / name).write_text('left')
         with open(Path(folder) / f'.{NAME}.3.new') as locked:
             fcntl.flock(locked, fcntl.LOCK_EX)

@@ -8,6 +8,7 @@ import errno
 import fcntl
 import functools
 import os
+import re
 import stat
 from collections import deque
 from pathlib import Path
@@ -156,14 +157,14 @@ class Saving:
     # ---- new files
     def _clear(self) -> None:
         """Takes away the new files that killed saves have left, but for those that another save has locked."""
-        front = _front(self._name)
+        new = re.compile(f'{re.escape(_front(self._name))}(0|[1-9][0-9]*){re.escape(_END)}')
         try:
             names = os.listdir(self._folder[0])
         except OSError:
             return
         for name in names:
-            number = name[len(front):-len(_END)]
-            if name == f'{front}{number}{_END}' and number.isascii() and number.isdigit():
+            found = new.fullmatch(name)
+            if found and int(found[1]) < 2**64:
                 self._take_away(name)
 
     def _take_away(self, name: str) -> None:
