@@ -213,15 +213,19 @@ def handler(*_):
         except BaseException as fault:
             heard.append(repr(fault))
 signal.signal(signal.SIGALRM, handler)
-shown = editor.step('show')
-for _ in range(20):
-    # The alarm falls into the call of C, so the handler runs when that has ended, and `step` has not.
-    signal.setitimer(signal.ITIMER_REAL, 0.0005)
-    assert editor.step('show') == shown
-    while not heard:
-        time.sleep(0.001)
-    assert heard == ['refused'] * len(calls), heard
-    heard.clear()
+import roskevad.editor
+library_step, shown = roskevad.editor._STEP, editor.step('show')
+def interrupted(*words):
+    # The signal comes while the library is in the call, so the handler runs before `step` has ended.
+    size = library_step(*words)
+    signal.raise_signal(signal.SIGALRM)
+    return size
+roskevad.editor._STEP = interrupted
+assert editor.step('show') == shown
+assert editor.step_bytes(b'show') == shown.encode()
+assert heard == ['refused'] * 2 * len(calls), heard
+roskevad.editor._STEP = library_step
+heard.clear()
 assert editor.files() == [] and editor.step('status') == 'ok 0/0 clean 0'
 calls[:] = calls[:1]
 signal.raise_signal(signal.SIGALRM)

@@ -187,7 +187,7 @@ class Editor:
         reply = self._told('step', data, len(data)) or b''
         refusal = _REFUSAL.fullmatch(reply.decode()) if reply.startswith(b'no ') else None
         if refusal:
-            raise Refused(int(refusal[1]), refusal[2], call, ())
+            raise Refused(int(refusal[1]), refusal[2], call, forms=())
         return reply
 
     # ---- lines
@@ -361,9 +361,9 @@ class Editor:
         """Raises what a `save` would be refused with before it writes."""
         state = self._said('status', call)
         if state == b'ok none clean':
-            raise Refused(10, 'no active document', call, ())
+            raise Refused(10, 'no active document', call, forms=())
         if not state.endswith(b' 0'):
-            raise Refused(20, 'macro open', call, ())
+            raise Refused(20, 'macro open', call, forms=())
 
     def _mark_clean(self) -> None:
         self._told('step', b'clean', len(b'clean'))
@@ -454,7 +454,7 @@ class _Used:
 
 
 def _failed(call: str) -> Refused:
-    return Refused(51, 'store failed', call, ())
+    return Refused(51, 'store failed', call, forms=())
 
 
 def _drawn(layers: list[dict[str, Any]]) -> Iterable[dict[str, Any]]:
