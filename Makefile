@@ -1,4 +1,5 @@
 # Puts what stands in bin/, lib/, include/ and python/ where a Unix person looks for it, and takes it out again. Nothing is built.
+# It is for GNU make.
 #
 #   make install [PREFIX=/usr/local] [DESTDIR=]      programs, library, header, pkg-config file, man pages, licences
 #   make uninstall [PREFIX=/usr/local] [DESTDIR=]    takes out exactly these
@@ -28,7 +29,7 @@ FILES := bin/tile_editor bin/map_report bin/tile_page \
 FILL_IN = sed -e 's|@PREFIX@|$(PREFIX)|' -e 's|@VERSION@|$(VERSION)|'
 
 help:
-	@sed -n '3,6s/^# *//p' Makefile
+	@sed -n '4,7s/^# *//p' Makefile
 
 install:
 	@case '$(PREFIX)' in /*) ;; *) echo "make: PREFIX is an absolute path: $(PREFIX)" >&2; exit 1 ;; esac

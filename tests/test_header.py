@@ -10,7 +10,16 @@ from lib.places import LIB, NATIVE, TOP
 
 HEADER = (TOP / 'include' / 'roskevad.h').read_text()
 USE = NATIVE / 'header_use.c'
-BOTH = ['-Wall', '-Wextra', '-Wcast-qual', '-Wconversion', '-pedantic', '-Werror', '-Iinclude', '-fsyntax-only']
+BOTH = [
+    '-Wall',
+    '-Wextra',
+    '-Wcast-qual',
+    '-Wconversion',
+    '-pedantic',
+    '-Werror',
+    '-Iinclude',
+    '-fsyntax-only',
+]
 OF_CXX = ['-xc++', '-Wold-style-cast', '-Wzero-as-null-pointer-constant']
 STANDARDS = {
     ('cc', 'clang'): ('c99', 'c11', 'c17', 'c2x'),
@@ -43,7 +52,10 @@ def fault_of_use(case):
 
 
 def test_warnings():
-    cases = [Case(f'{compiler} -std={standard}', (compiler, standard), None) for compiler, standard in compilers()]
+    cases = [
+        Case(f'{compiler} -std={standard}', (compiler, standard), None)
+        for compiler, standard in compilers()
+    ]
     assert {case.given[1] for case in cases} >= {'c99', 'c++98', 'c++20'}, cases
     check_each(cases, fault_of_use)
 
@@ -51,7 +63,11 @@ def test_warnings():
 def test_each_name_is_used():
     """By the file that is compiled."""
     use = USE.read_text()
-    names = re.findall(r'^static inline size_t (roskevad_editor_\w+)|^#define (ROSKEVAD_\w+) ', HEADER, re.MULTILINE)
+    names = re.findall(
+        r'^static inline size_t (roskevad_editor_\w+)|^#define (ROSKEVAD_\w+) ',
+        HEADER,
+        re.MULTILINE,
+    )
     left = [name for pair in names for name in pair if name and name not in use]
     assert names and left == [], f'{USE.name} does not use {left}'
 
@@ -59,7 +75,10 @@ def test_each_name_is_used():
 def test_names_of_the_library():
     declared = re.findall(r'^(?:size_t|void) (roskevad_\w+)\(', HEADER, re.MULTILINE)
     told = subprocess.run(
-        ['nm', '-D', '--defined-only', LIB / 'libroskevad.so'], capture_output=True, text=True, check=True
+        ['nm', '-D', '--defined-only', LIB / 'libroskevad.so'],
+        capture_output=True,
+        text=True,
+        check=True,
     ).stdout
     given = re.findall(r' T (roskevad_\w+)', told)
     assert sorted(declared) == sorted(given), {*declared} ^ {*given}

@@ -1,7 +1,7 @@
 """Installs into an empty folder by the Makefile, and uses what is there: programs, library, header,
-pkg-config file, man pages and the page to draw on. `uninstall` takes out exactly that. The man pages
-have the options that the programs' help has. The example of a Makefile that builds maps is run as it
-stands on its page."""
+pkg-config file, man pages and the page to draw on. `uninstall` takes out exactly that. The man
+pages have the options that the programs' help has. The example of a Makefile that builds maps is
+run as it stands on its page."""
 import os
 import re
 import shutil
@@ -68,13 +68,23 @@ def test_what_is_installed():
             'lib/pkgconfig/roskevad.pc',
             'include/roskevad.h',
             *(f'share/man/man1/{name}.1' for name in PROGRAMS),
-            *(f'share/doc/roskevad/{name}' for name in ('LICENSE-APACHE', 'LICENSE-MIT', 'NOTICES.txt')),
+            *(
+                f'share/doc/roskevad/{name}'
+                for name in ('LICENSE-APACHE', 'LICENSE-MIT', 'NOTICES.txt')
+            ),
         ]
         fail_with(name for name in wanted if name not in names)
-        others = [name for name in names if name not in wanted and not name.startswith('share/roskevad/python/roskevad/')]
+        others = [
+            name
+            for name in names
+            if name not in wanted and not name.startswith('share/roskevad/python/roskevad/')
+        ]
         assert others == [], others
         cases = [
-            *(Case(name, (name, '--version'), (0, f'{name} {VERSION}\n', '')) for name in PROGRAMS[:2]),
+            *(
+                Case(name, (name, '--version'), (0, f'{name} {VERSION}\n', ''))
+                for name in PROGRAMS[:2]
+            ),
             Case('tile_page', ('tile_page', '--version'), (0, f'roskevad {VERSION}\n', '')),
             Case('pkg-config', ('pkg-config', '--modversion', 'roskevad'), (0, f'{VERSION}\n', '')),
         ]
@@ -95,11 +105,16 @@ def test_a_program_in_c():
 
 
 def test_uninstall():
-    """It takes out what was installed, and what Python keeps beside the package, and nothing else."""
+    """It takes out what was installed and what Python keeps beside the package, and no more."""
     with tempfile.TemporaryDirectory() as folder:
         prefix, stage = '/opt/roskevad', f'{folder}/stage'
         top = Path(f'{stage}{prefix}')
-        others = ['bin/other', 'lib/libroskevad.so.0.0.1', 'share/roskevad/mine', 'share/man/man1/a.1']
+        others = [
+            'bin/other',
+            'lib/libroskevad.so.0.0.1',
+            'share/roskevad/mine',
+            'share/man/man1/a.1',
+        ]
         for name in others:
             (top / name).parent.mkdir(parents=True, exist_ok=True)
             (top / name).write_text('mine')
@@ -117,11 +132,16 @@ def test_uninstall():
             (top / name).unlink()
         make('install', f'PREFIX={prefix}', f'DESTDIR={stage}')
         make('uninstall', f'PREFIX={prefix}', f'DESTDIR={stage}')
-        assert not (top / 'share' / 'roskevad').exists() and not (top / 'share' / 'doc' / 'roskevad').exists()
+        assert (
+            not (top / 'share' / 'roskevad').exists()
+            and not (top / 'share' / 'doc' / 'roskevad').exists()
+        )
 
 
 def test_a_prefix_that_is_no_path():
-    done = subprocess.run(['make', 'install', 'PREFIX=usr'], cwd=TOP, capture_output=True, text=True)
+    done = subprocess.run(
+        ['make', 'install', 'PREFIX=usr'], cwd=TOP, capture_output=True, text=True
+    )
     assert done.returncode != 0 and 'absolute' in done.stderr and not (TOP / 'usr').exists()
 
 
@@ -144,7 +164,9 @@ def rendered(path):
 
 def fault_of_options(case):
     program = TOP / case.name if case.name == 'tile_page' else BIN / case.name
-    help_text = came_of([program, '--help'])[1].partition('Session lines:')[0].partition('Exit status:')[0]
+    help_text = (
+        came_of([program, '--help'])[1].partition('Session lines:')[0].partition('Exit status:')[0]
+    )
     return unlike(options_in(help_text), options_in(rendered(MAN / f'{case.name}.1')))
 
 
@@ -157,10 +179,14 @@ def test_man_pages():
     sections = ['NAME', 'SYNOPSIS', 'DESCRIPTION', 'OPTIONS', 'EXIT STATUS', 'EXAMPLE', 'SEE ALSO']
     for name in PROGRAMS:
         text = (MAN / f'{name}.1').read_text()
-        assert [each for each in re.findall(r'^\.SH (.+)$', text, re.MULTILINE) if each != 'FILES'] == sections, name
+        assert [
+            each for each in re.findall(r'^\.SH (.+)$', text, re.MULTILINE) if each != 'FILES'
+        ] == sections, name
         if shutil.which('mandoc'):
             done = subprocess.run(
-                ['mandoc', '-T', 'lint', '-W', 'warning', MAN / f'{name}.1'], capture_output=True, text=True
+                ['mandoc', '-T', 'lint', '-W', 'warning', MAN / f'{name}.1'],
+                capture_output=True,
+                text=True,
             )
             assert done.returncode == 0, done.stdout
 
@@ -227,7 +253,5 @@ def test_the_makefile_of_the_page():
         work.change('stamp 1 21 3 2 4,4', 'stamp 1 21 3 2 5,5')
         changed = [work.make(), work.make()]
         wanted = session if work.keeps_times() else all_of_it
-        fault = unlike(
-            [[all_of_it, []], [wanted, []], [all_of_it, []]], [runs, again, changed]
-        )
+        fault = unlike([[all_of_it, []], [wanted, []], [all_of_it, []]], [runs, again, changed])
         assert not fault, fault

@@ -1,6 +1,6 @@
 """Tries the launchers `tile_editor`, `map_report` and `tile_page`: they are scripts for any
-`/bin/sh`, start nothing beside the program where `bin/` runs, take at most twice the time of a shell
-that becomes the program, and find their way where it does not run."""
+`/bin/sh`, start nothing beside the program where `bin/` runs, take at most twice the time of a
+shell that becomes the program, and find their way where it does not run."""
 import os
 import resource
 import shutil
@@ -28,7 +28,9 @@ def version(name):
 
 def shells():
     """The shells of this machine that a launcher may be run by."""
-    found = [[path] for path in map(shutil.which, ('dash', 'bash', 'busybox', 'ksh', 'zsh')) if path]
+    found = [
+        [path] for path in map(shutil.which, ('dash', 'bash', 'busybox', 'ksh', 'zsh')) if path
+    ]
     return [[*words, 'sh'] if words[0].endswith('busybox') else words for words in found]
 
 
@@ -76,7 +78,9 @@ def test_no_other_process():
         cases = [Case(name, name, version(name)) for name in PROGRAMS]
         check_each(
             cases,
-            lambda case: unlike(case.wanted, came_of([f'./{case.given}', '--version'], top, **more)),
+            lambda case: unlike(
+                case.wanted, came_of([f'./{case.given}', '--version'], top, **more)
+            ),
         )
 
 
@@ -87,7 +91,7 @@ def seconds_of(words):
 
 
 def test_their_time():
-    """At most twice that of a shell that becomes the program: the medians of runs that take turns."""
+    """At most twice that of a shell that becomes the program: the medians of runs in turns."""
     file = EXAMPLE_MAPS / 'house.tmj'
     pairs = [
         (['./tile_editor'], ['sh', '-c', 'exec bin/tile_editor']),
@@ -110,7 +114,9 @@ class Clone:
         self.top = Path(folder)
         text = (TOP / 'tile_editor').read_text()
         assert LOADER in text
-        (self.top / 'tile_editor').write_text(text if has_loader else text.replace(LOADER, '/no/loader'))
+        (self.top / 'tile_editor').write_text(
+            text if has_loader else text.replace(LOADER, '/no/loader')
+        )
         (self.top / 'tile_editor').chmod(0o755)
         (self.top / 'map_report').symlink_to('tile_editor')
         (self.top / 'crates.txt').touch()
@@ -167,10 +173,14 @@ def test_the_page():
     with tempfile.TemporaryDirectory() as folder:
         (Path(folder) / 'page').symlink_to(TOP / 'tile_page')
         (Path(folder) / 'again').symlink_to('page')
-        wanted = came_of([sys.executable, '-m', 'roskevad.page', '--version'], env={**os.environ, 'PYTHONPATH': 'python'})
+        wanted = came_of(
+            [sys.executable, '-m', 'roskevad.page', '--version'],
+            env={**os.environ, 'PYTHONPATH': 'python'},
+        )
         assert wanted[0] == 0, wanted
         cases = [Case(name, name, wanted) for name in ('./page', './again', f'{folder}/again')]
         env = {**os.environ, 'PYTHONPATH': folder}
         check_each(
-            cases, lambda case: unlike(case.wanted, came_of([case.given, '--version'], folder, env=env))
+            cases,
+            lambda case: unlike(case.wanted, came_of([case.given, '--version'], folder, env=env)),
         )

@@ -87,7 +87,9 @@ def test_the_same_bytes_twice():
 
 def fault_of_wheel(case):
     """What is wrong with what a wheel says of itself, or None."""
-    with tempfile.TemporaryDirectory() as folder, zipfile.ZipFile(built(case.given, folder)) as wheel:
+    with tempfile.TemporaryDirectory() as folder, zipfile.ZipFile(
+        built(case.given, folder)
+    ) as wheel:
         read = {name: wheel.read(name) for name in wheel.namelist()}
     said = email.message_from_bytes(read[f'{INFO}/METADATA'])
     programs = configparser.ConfigParser()
@@ -99,7 +101,10 @@ def fault_of_wheel(case):
         sorted(said.get_all('License-File')),
         bool(said['Summary']),
         dict(programs['console_scripts']),
-        {name: read[f'{INFO}/licenses/{name}'] == path.read_bytes() for name, path in LICENCES.items()},
+        {
+            name: read[f'{INFO}/licenses/{name}'] == path.read_bytes()
+            for name, path in LICENCES.items()
+        },
     )
     wanted = (
         'roskevad',
@@ -133,9 +138,18 @@ def test_the_source_archive():
 
 
 def pip(*words, folder):
-    env = {**os.environ, 'PIP_NO_INDEX': '1', 'PIP_DISABLE_PIP_VERSION_CHECK': '1', 'PIP_ROOT_USER_ACTION': 'ignore'}
+    env = {
+        **os.environ,
+        'PIP_NO_INDEX': '1',
+        'PIP_DISABLE_PIP_VERSION_CHECK': '1',
+        'PIP_ROOT_USER_ACTION': 'ignore',
+    }
     done = subprocess.run(
-        [f'{folder}/bin/python', '-m', 'pip', *words], capture_output=True, text=True, env=env, timeout=120
+        [f'{folder}/bin/python', '-m', 'pip', *words],
+        capture_output=True,
+        text=True,
+        env=env,
+        timeout=120,
     )
     assert done.returncode == 0, f'pip {words}: {done.stderr[-1500:]}'
 
@@ -186,7 +200,13 @@ def test_types():
         script.write_text(SCRIPT)
         env = {**os.environ, 'MYPYPATH': str(TOP / 'python'), 'MYPY_CACHE_DIR': f'{folder}/cache'}
         done = subprocess.run(
-            [mypy, '--strict', TOP / 'python' / 'roskevad', TOP / 'python' / 'build_backend.py', script],
+            [
+                mypy,
+                '--strict',
+                TOP / 'python' / 'roskevad',
+                TOP / 'python' / 'build_backend.py',
+                script,
+            ],
             capture_output=True,
             text=True,
             env=env,

@@ -22,7 +22,9 @@ EDITED = f'{NEW}\nstamp 1 0 0 1 5\n'
 def came_of(words, lines='', folder=TOP, **more):
     """The exit status of the prompt, and what it writes on both outputs."""
     options = {'capture_output': True, 'timeout': 60, 'env': ENV, **more}
-    done = subprocess.run([*WORDS, *words], input=lines.encode('utf-8', 'surrogateescape'), cwd=folder, **options)
+    done = subprocess.run(
+        [*WORDS, *words], input=lines.encode('utf-8', 'surrogateescape'), cwd=folder, **options
+    )
     return done.returncode, (done.stdout or b'').decode(), (done.stderr or b'').decode()
 
 
@@ -50,10 +52,18 @@ def test_command_lines():
             Case('a limit below 0', (['--limit', '-1'],), (2, 'a limit is from 0 to 1000000: -1')),
             Case('a limit that is too large', (['--limit', '1000001'],), (2, 'a limit is')),
             Case('a missing folder', (['--folder', 'no/maps'],), (2, 'no such folder: no/maps')),
-            Case('a file for a folder', (['--folder', 'README.md'],), (2, 'no such folder: README.md')),
+            Case(
+                'a file for a folder',
+                (['--folder', 'README.md'],),
+                (2, 'no such folder: README.md'),
+            ),
             Case('work that is not saved', ([], EDITED), (1, 'not saved: a\n')),
             Case('an open macro', ([], f'{NEW}\nbegin M\n'), (1, 'not saved: a\n')),
-            Case('two of three', ([], f'{EDITED}{NEW[:4]}b{NEW[5:]}\nbegin M\n{NEW[:4]}c{NEW[5:]}\n'), (1, 'not saved: a, b\n')),
+            Case(
+                'two of three',
+                ([], f'{EDITED}{NEW[:4]}b{NEW[5:]}\nbegin M\n{NEW[:4]}c{NEW[5:]}\n'),
+                (1, 'not saved: a, b\n'),
+            ),
             Case('all is clean', ([], f'{EDITED}clean\n'), (0, '')),
             Case('a line that is not UTF-8', ([], '\udcff\nstatus\n'), (0, '')),
         ],
@@ -75,7 +85,9 @@ def fault_of_output(case):
         timeout=60,
     )
     errors = done.stderr.decode()
-    return unlike((1, True, False), (done.returncode, 'write failed' in errors, 'Traceback' in errors))
+    return unlike(
+        (1, True, False), (done.returncode, 'write failed' in errors, 'Traceback' in errors)
+    )
 
 
 def test_outputs_that_take_nothing():
@@ -130,7 +142,10 @@ def test_files_of_any_name():
             (['open deep/c.tmj'], ['no 4 bad word', '  open DOC FILE']),
             (['open ../x.tmj'], ['no 4 bad word', '  open DOC FILE']),
             (['open deep'], ['no 51 store failed']),
-            ([NEW, 'save my a.tmj', 'open my a.tmj'], [opened, 'saved my a.tmj 386', opened, '  document my_a']),
+            (
+                [NEW, 'save my a.tmj', 'open my a.tmj'],
+                [opened, 'saved my a.tmj 386', opened, '  document my_a'],
+            ),
             ([NEW, 'save ../a.tmj'], [opened, 'no 4 bad word', '  save FILE']),
             ([NEW, 'save .a.tmj'], [opened, 'no 4 bad word', '  save FILE']),
             ([NEW, 'save a.tmj '], [opened, 'no 4 bad word', '  save FILE']),
@@ -170,8 +185,8 @@ class Terminal:
         return before + wanted
 
     def interrupt(self, wanted):
-        """Ctrl+C until this text comes: where it falls outside of its wait for a key, `readline` hears
-        of it at the next one."""
+        """Ctrl+C until this text comes: where it falls outside of its wait for a key, `readline`
+        hears of it at the next one."""
         for _ in range(10):
             self.type('\x03')
             try:

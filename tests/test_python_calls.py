@@ -100,7 +100,8 @@ def test_what_was_refused():
 def test_refusals_in_other_processes():
     """They are raised through a pool of either kind, which goes on."""
     for pool in ('multiprocessing.Pool(2)', 'concurrent.futures.ProcessPoolExecutor(2)'):
-        see(f'''
+        see(
+            f'''
 import concurrent.futures, multiprocessing
 def work(line):
     with Editor() as editor:
@@ -113,7 +114,8 @@ if __name__ == '__main__':
         except Refused as refusal:
             assert (refusal.code, refusal.line) == (10, 'undo'), refusal
         assert list(pool.map(work, ['list'])) == ['docs']
-''')
+'''
+        )
         passed()
 
 
@@ -154,10 +156,12 @@ assert status == 0, status
 assert editor.step('status') == 'ok 0/0 clean 0'
 '''
 CALLS = '''[
-    lambda: editor.step('status'), lambda: editor.step_bytes(b'status'), lambda: editor.put_file('a', b''),
-    lambda: editor.file('a'), lambda: editor.remove_file('a'), editor.files, lambda: editor.open_map('b', b'{'),
-    editor.save_map, lambda: editor.open_file('a'), lambda: editor.save_file('a'), editor.map, editor.selection,
-    editor.clean_index, lambda: editor.is_macro(0), lambda: editor.layer_id('a'), editor.last_layer_id, editor.unsaved,
+    lambda: editor.step('status'), lambda: editor.step_bytes(b'status'), editor.files,
+    lambda: editor.put_file('a', b''), lambda: editor.file('a'), lambda: editor.remove_file('a'),
+    lambda: editor.open_map('b', b'{'), lambda: editor.open_file('a'), editor.unsaved,
+    editor.save_map, lambda: editor.save_file('a'), editor.map, editor.selection,
+    editor.clean_index, lambda: editor.is_macro(0), lambda: editor.layer_id('a'),
+    editor.last_layer_id,
 ]'''
 
 
@@ -166,7 +170,8 @@ def test_forks_while_a_thread_is_in_a_call():
 
 
 def test_forks_in_the_midst_of_a_call():
-    see('''
+    see(
+        '''
 editor = Editor()
 editor.step('new a 1000 1000 16 16 a.tsj')
 ends = threading.Event()
@@ -189,7 +194,8 @@ for _ in range(20):
 ends.set()
 for thread in threads:
     thread.join()
-''')
+'''
+    )
 
 
 # ---- signal handlers
@@ -197,11 +203,15 @@ for thread in threads:
 
 def test_calls_from_a_signal_handler():
     """While the editor is in a call each raises and changes nothing; between calls it is done."""
-    see('''
+    see(
+        '''
 editor = Editor()
 editor.step('new a 1000 1000 16 16 a.tsj')
-calls = [lambda: editor.step('stamp 1 0 0 1 5'), lambda: editor.step_bytes(b'stamp 1 0 0 1 5'), editor.close,
-         lambda: editor.put_file('a.tmj', b'a'), lambda: editor.open_map('b', b'{'), editor.__exit__]
+line = 'stamp 1 0 0 1 5'
+calls = [
+    lambda: editor.step(line), lambda: editor.step_bytes(line.encode()), editor.close,
+    lambda: editor.put_file('a.tmj', b'a'), lambda: editor.open_map('b', b'{'), editor.__exit__,
+]
 heard = []
 def handler(*_):
     for call in calls:
@@ -216,7 +226,7 @@ signal.signal(signal.SIGALRM, handler)
 import roskevad.editor
 library_step, shown = roskevad.editor._STEP, editor.step('show')
 def interrupted(*words):
-    # The signal comes while the library is in the call, so the handler runs before `step` has ended.
+    # The signal comes in the call of the library, so the handler runs before `step` has ended.
     size = library_step(*words)
     signal.raise_signal(signal.SIGALRM)
     return size
@@ -230,12 +240,14 @@ assert editor.files() == [] and editor.step('status') == 'ok 0/0 clean 0'
 calls[:] = calls[:1]
 signal.raise_signal(signal.SIGALRM)
 assert heard == ['done'] and editor.step('status') == 'ok 1/1 dirty 0', heard
-''')
+'''
+    )
 
 
 def test_interrupts_at_random_points():
     """Whatever they fall into, the editor goes on, and nothing stays in the store."""
-    see('''
+    see(
+        '''
 import random
 class Cut(Exception): pass
 def ring(*_): raise Cut
@@ -260,7 +272,9 @@ with Editor() as editor:
             editor.step('discard b')
             editor.step('use a')
 assert cuts > 200, cuts
-''' % str(EXAMPLE_MAPS / 'house.tmj'))
+'''
+        % str(EXAMPLE_MAPS / 'house.tmj')
+    )
 
 
 # ---- threads
@@ -268,7 +282,14 @@ assert cuts > 200, cuts
 
 def test_threads_that_take_turns():
     """Each call behind the one before, each in another thread: the replies are those of one."""
-    lines = [b'new a 40 30 16 16 a.tsj', b'stamp 1 0 0 2 5,6', b'undo', b'redo', b'show', b'begin M']
+    lines = [
+        b'new a 40 30 16 16 a.tsj',
+        b'stamp 1 0 0 2 5,6',
+        b'undo',
+        b'redo',
+        b'show',
+        b'begin M',
+    ]
     lines += [b'stamp 1 %d 1 1 7' % x for x in range(40)] + [b'end', b'goto 0', b'show']
     with Editor() as one, Editor() as other:
         wanted, came = [one.step_bytes(line) for line in lines], []
@@ -304,8 +325,8 @@ def test_two_editors_in_two_threads():
 def test_what_is_said_of_threads():
     """The header, the package and its page say it in the same words."""
     words = (
-        'Several threads may use it in turn, each call behind the end of the one before, as a lock has it; '
-        'and two at the same time. Both are tested, and not proved.'
+        'Several threads may use it in turn, each call behind the end of the one before, as a lock '
+        'has it; and two at the same time. Both are tested, and not proved.'
     )
     header = ' '.join((TOP / 'include' / 'roskevad.h').read_text().replace('\n *', '\n').split())
     page = ' '.join((TOP / 'docs' / 'library.md').read_text().split())
@@ -319,9 +340,12 @@ def test_what_is_said_of_threads():
 
 
 def test_the_library_keeps_nothing_of_its_own():
-    """It has no data that it writes, and none of a thread: so editors know nothing of each other."""
+    """It has no data that it writes, and none of a thread; so editors are apart."""
     told = subprocess.run(
-        ['readelf', '-SW', TOP / 'lib' / 'libroskevad.so'], capture_output=True, text=True, check=True
+        ['readelf', '-SW', TOP / 'lib' / 'libroskevad.so'],
+        capture_output=True,
+        text=True,
+        check=True,
     ).stdout
     rows = [line.split('] ')[1].split() for line in told.splitlines() if '] .' in line]
     sizes = {row[0]: int(row[4], 16) for row in rows}
@@ -384,7 +408,11 @@ def test_values_of_other_types():
 def test_newlines_in_bytes():
     """There a byte 10 is one like any other, as the header says."""
     with Editor() as editor:
-        rows = [(b'list\n', b'no 3 unknown command'), (b'use -\n', b'no 4 bad word'), (b'# a\nlist', None)]
+        rows = [
+            (b'list\n', b'no 3 unknown command'),
+            (b'use -\n', b'no 4 bad word'),
+            (b'# a\nlist', None),
+        ]
         check_each(
             [Case(repr(line), line, reply) for line, reply in rows],
             lambda case: unlike(case.wanted, editor.step_bytes(case.given)),

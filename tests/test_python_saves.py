@@ -18,7 +18,7 @@ from pathlib import Path
 from unittest import mock
 
 from lib.cases import Case, check_each, fail_with, passed, unlike
-from lib.places import EXAMPLE_MAPS, IN_MEMORY, TOP
+from lib.places import EXAMPLE_MAPS, IN_MEMORY, TILE_EDITOR, TOP
 
 sys.path.insert(0, str(TOP / 'python'))
 from roskevad import Editor, Refused, document_name, saving  # noqa: E402
@@ -122,7 +122,7 @@ def test_alarms_at_random_points():
 
 # ---- an exception in place of a call, or behind it
 
-CALLS = ('lstat', 'stat', 'fstat', 'fchmod', 'write', 'fsync', 'rename', 'unlink', 'listdir')
+CALLS = ('stat', 'fstat', 'fchmod', 'write', 'fsync', 'rename', 'unlink', 'listdir')
 
 
 class Failing:
@@ -183,8 +183,8 @@ def test_exceptions_at_each_call():
 
 
 def test_calls_that_fail():
-    """A call that fails is a refusal, 51, or loses nothing. The file is the old one then, but for the
-    calls behind the rename, which see to it that it is kept."""
+    """A call that fails is a refusal, 51, or loses nothing. The file is the old one then, but for
+    the calls behind the rename, which see to it that it is kept."""
     with tempfile.TemporaryDirectory(dir=IN_MEMORY) as folder:
         saver = Saver(folder)
         refused = []
@@ -203,7 +203,7 @@ def test_calls_that_fail():
             assert state == 'dirty' and os.listdir(folder) == [NAME], (failing.name, state)
             assert now == (new if 'rename' in refused else old), failing.name
             refused.append(failing.name)
-        assert {'lstat', 'write', 'fsync', 'rename'} <= {*refused}, refused
+        assert {'stat', 'write', 'fsync', 'rename'} <= {*refused}, refused
         assert saver.editor.save_file(NAME).startswith('saved ')
 
 
@@ -240,7 +240,13 @@ def test_what_killed_saves_left():
     """It is taken away, but for what another save has locked, and what is no file of this name."""
     with tempfile.TemporaryDirectory() as folder, Editor(folder=folder) as editor:
         editor.step('new m 4 3 16 16 m.tsj')
-        others = ['.other.tmj.0.new', f'.{NAME}.new', f'.{NAME}.x.new', f'.{NAME}.03.new', f'.{NAME}.3.new']
+        others = [
+            '.other.tmj.0.new',
+            f'.{NAME}.new',
+            f'.{NAME}.x.new',
+            f'.{NAME}.03.new',
+            f'.{NAME}.3.new',
+        ]
         others.append(f'.{NAME}.{2**64}.new')
         for name in [*others, f'.{NAME}.0.new', f'.{NAME}.17.new', f'.{NAME}.{2**64 - 1}.new']:
             (Path(folder) / name).write_text('left')
@@ -272,6 +278,20 @@ def writer(folder, number, saves):
     return subprocess.Popen(words, env=env, **pipes)
 
 
+def program(folder, saves):
+    """The program saves the same name."""
+    lines = ['new m 200 200 16 16 m.tsj']
+    for at in range(saves):
+        lines += [f'stamp 1 0 1 1 {at % 9 + 1}', f'save {NAME}']
+    run = subprocess.Popen(
+        [TILE_EDITOR, '--folder', folder], stdin=subprocess.PIPE, stdout=subprocess.PIPE
+    )
+    # They are few enough for the pipe.
+    run.stdin.write('\n'.join(lines).encode())
+    run.stdin.close()
+    return run
+
+
 def is_whole(data):
     """Whether bytes are a map that a writer saves."""
     tree = json.loads(data)
@@ -279,14 +299,16 @@ def is_whole(data):
 
 
 def test_many_who_save_one_name():
-    """None is refused, also where some are killed; who reads meanwhile finds a whole map. What those
-    that were killed have left the next save takes away."""
+    """With the package and with the program, at once. None is refused, also where some are killed;
+    who reads meanwhile finds a whole map. What those that were killed have left the next save takes
+    away."""
     numbers = random.Random(3)
     with tempfile.TemporaryDirectory(dir=IN_MEMORY) as folder:
         file, saves = Path(folder) / NAME, 60
         writers = [writer(folder, number, saves) for number in range(6)]
         # Each has saved once.
         replies = [each.stdout.readline() for each in writers]
+        other = program(folder, saves)
         for killed in writers[:2]:
             time.sleep(numbers.uniform(0, 0.05))
             killed.kill()
@@ -300,6 +322,7 @@ def test_many_who_save_one_name():
             assert output.count(b'saved ') == saves - 1
         for each in writers[:2]:
             each.communicate()
+        assert other.stdout.read().count(b'saved ') == saves and other.wait() == 0
         assert all(reply.startswith(b'saved ') for reply in replies) and reads
         left = {*os.listdir(folder)} - {NAME}
         assert len(left) <= 2, left

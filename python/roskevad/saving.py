@@ -63,8 +63,8 @@ class Saving:
 
     def write(self) -> None:
         """Writes the new file and renames it, where the file that is there has not these bytes already. Raises OSError."""
-        access = self._access()
         self._open_folder()
+        access = self._access()
         self._clear()
         if access is not None and self._compares and self._has_bytes():
             self._is_unchanged = True
@@ -111,22 +111,23 @@ class Saving:
             if fault.errno != errno.EINVAL:
                 raise
 
+    def _there(self, name: str) -> Optional[os.stat_result]:
+        """What stands under a name of the folder, and not what a link leads to; `None` where nothing does."""
+        try:
+            return os.stat(name, dir_fd=self._folder[0], follow_symlinks=False)
+        except FileNotFoundError:
+            return None
+
     def _leads_to(self, name: str, handle: int) -> bool:
         """Whether an open file stands under a name of the folder."""
-        try:
-            there = os.stat(name, dir_fd=self._folder[0], follow_symlinks=False)
-        except FileNotFoundError:
-            return False
-        return os.path.samestat(there, os.fstat(handle))
+        there = self._there(name)
+        return there is not None and os.path.samestat(there, os.fstat(handle))
 
     # ---- the file that is there
     def _access(self) -> Optional[int]:
         """The access bits of the file that is replaced; none where there is none, or something else, as a link."""
-        try:
-            mode = os.lstat(self._path).st_mode
-        except FileNotFoundError:
-            return None
-        return mode & _ACCESS_BITS if stat.S_ISREG(mode) else None
+        there = self._there(self._name)
+        return there.st_mode & _ACCESS_BITS if there is not None and stat.S_ISREG(there.st_mode) else None
 
     def _open_regular(self, name: str) -> int:
         """Opens a file that is there to be read, and gives its handle and no other's. Raises OSError where it is no regular one,
