@@ -54,8 +54,11 @@ def entry_points() -> bytes:
 
 def beside(name: str) -> bytes:
     """A file that the package needs besides its own."""
-    here = HERE / name
-    return (here if here.exists() else HERE.parent / OF_CLONE.get(name, name)).read_bytes()
+    places = [HERE / name, HERE.parent / OF_CLONE.get(name, name)]
+    found = next((path for path in places if path.exists()), None)
+    if found is None:
+        raise FileNotFoundError(f'{places[1]} is not there: build in a clone, with pip 21.3 or later, or from a source archive')
+    return found.read_bytes()
 
 
 def sources() -> Dict[str, bytes]:
