@@ -167,6 +167,9 @@ class Terminal:
     def __init__(self, *words):
         self.process, self.shown = pty.fork()
         if self.process == 0:
+            # A run in the background may have its signals ignored.
+            for each in (signal.SIGINT, signal.SIGHUP):
+                signal.signal(each, signal.SIG_DFL)
             os.execve(sys.executable, [*WORDS, *words], ENV)
         self.text = ''
 
