@@ -5,18 +5,19 @@ from pathlib import PurePath
 from typing import Union
 
 _LONGEST_DOCUMENT, _LONGEST_FILE = 64, 100
-_DOCUMENT = re.compile(rf'[A-Za-z0-9_][A-Za-z0-9_.-]{{0,{_LONGEST_DOCUMENT - 1}}}')
-_FILE = re.compile(rf'[A-Za-z0-9_][A-Za-z0-9_.-]{{0,{_LONGEST_FILE - 1}}}')
+#: The names of documents and of files that a line can spell, as patterns.
+DOCUMENT = rf'[A-Za-z0-9_][A-Za-z0-9_.-]{{0,{_LONGEST_DOCUMENT - 1}}}'
+FILE = rf'[A-Za-z0-9_][A-Za-z0-9_.-]{{0,{_LONGEST_FILE - 1}}}'
 
 
 def is_document_name(word: str) -> bool:
     """Whether a line can name a document so."""
-    return _DOCUMENT.fullmatch(word) is not None
+    return re.fullmatch(DOCUMENT, word) is not None
 
 
 def is_file_name(word: str) -> bool:
     """Whether a line can name a file so."""
-    return _FILE.fullmatch(word) is not None
+    return re.fullmatch(FILE, word) is not None
 
 
 def document_name(path: Union[str, 'os.PathLike[str]']) -> str:
