@@ -9,8 +9,8 @@
  * What rests on the caller, and what nothing checks:
  *   - A slot is all zero before its first `roskevad_open` (ROSKEVAD_CLOSED, or static storage), and after that only as a call
  *     left it. It is never copied: the address that it was opened at is the one that it is used and closed at.
- *   - One call at a time for a slot, and all of its calls on one thread. Two slots know nothing of each other, but one thread
- *     for each of them at a time is all that is promised.
+ *   - One call at a time for a slot. Several threads may use it in turn, each call behind the end of the one before, as a lock
+ *     has it; and two slots at the same time. Both are tested, and not proved.
  *   - No call from a signal handler, nor from the forked child of a process that has threads.
  *   - Each pointer is to as many bytes as its length says. What a call writes to overlaps nothing else that it is given.
  *   - No null pointer for a slot or a run; none at all for the functions `roskevad_*`, also at length 0.
@@ -36,8 +36,20 @@ extern "C" {
 /* The greatest undo limit. */
 #define ROSKEVAD_GREATEST_LIMIT 1000000
 
+/* A cast, and a null pointer, as the language spells them. */
+#ifdef __cplusplus
+#define ROSKEVAD_CAST(type, value) (static_cast<type>(value))
+#else
+#define ROSKEVAD_CAST(type, value) ((type)(value))
+#endif
+#if defined(__cplusplus) && __cplusplus >= 201103L
+#define ROSKEVAD_NULL nullptr
+#else
+#define ROSKEVAD_NULL NULL
+#endif
+
 /* What is answered in place of a length, a number or a place. */
-#define ROSKEVAD_DONE ((size_t)0)                    /* it is done, or it is there */
+#define ROSKEVAD_DONE ROSKEVAD_CAST(size_t, 0)       /* it is done, or it is there */
 #define ROSKEVAD_NONE (SIZE_MAX)                     /* there is none: no reply to a quiet line, no such file or place */
 #define ROSKEVAD_IS_CLOSED (SIZE_MAX - 1)            /* the slot is closed */
 #define ROSKEVAD_NO_MEMORY (SIZE_MAX - 2)            /* no memory is left for it, and all is as it was */
@@ -50,7 +62,7 @@ typedef struct roskevad_slot {
     bool is_open;
 } roskevad_slot;
 
-#define ROSKEVAD_CLOSED { 0, 0 }
+#define ROSKEVAD_CLOSED { ROSKEVAD_NULL, false }
 
 /* A run of cells of a row: a row, the column of its first cell, and how many cells it has. */
 typedef struct roskevad_run {
@@ -90,11 +102,18 @@ void roskevad_close(roskevad_slot *slot);
 size_t roskevad_version(uint8_t *version, size_t room);
 
 /* ---- what to call */
-/* An address that is never null: that of a byte of the header's own where there is none. It is neither read nor written. */
-static inline uint8_t *roskevad_somewhere(const void *bytes)
+/* Where bytes stand that are read, or that are written: never null, but the address of a byte of the header's own where there
+ * is none. That byte is neither read nor written. */
+static inline const uint8_t *roskevad_bytes_at(const void *bytes)
+{
+    static const uint8_t nothing = 0;
+    return bytes ? ROSKEVAD_CAST(const uint8_t *, bytes) : &nothing;
+}
+
+static inline uint8_t *roskevad_room_at(void *room)
 {
     static uint8_t nothing;
-    return bytes ? (uint8_t *)bytes : &nothing;
+    return room ? ROSKEVAD_CAST(uint8_t *, room) : &nothing;
 }
 
 /* Opens a slot, closing it first where it is open. The limit is the undo limit of each document when it is made, where 0
@@ -104,17 +123,18 @@ static inline size_t roskevad_editor_open(roskevad_slot *slot, size_t limit)
     return roskevad_open(slot, limit);
 }
 
-/* Does what a line asks for; the line has no newline at its end. The reply's size, ROSKEVAD_NONE where the line is quiet, or
- * ROSKEVAD_IS_CLOSED. */
+/* Does what a line asks for. A byte 10 ends no line here: it is a byte like any other, and no command has one. So a line with a
+ * newline at its end is refused as 3 or 4, and one that begins with `#` is quiet. The reply's size, ROSKEVAD_NONE where the line
+ * is quiet, or ROSKEVAD_IS_CLOSED. */
 static inline size_t roskevad_editor_step(roskevad_slot *slot, const char *line, size_t line_length, char *reply, size_t room)
 {
-    return roskevad_step(slot, roskevad_somewhere(line), line_length, roskevad_somewhere(reply), room);
+    return roskevad_step(slot, roskevad_bytes_at(line), line_length, roskevad_room_at(reply), room);
 }
 
 /* The reply to the last line again. Its size, ROSKEVAD_NONE where there is none, or ROSKEVAD_IS_CLOSED. */
 static inline size_t roskevad_editor_reply(roskevad_slot *slot, char *reply, size_t room)
 {
-    return roskevad_reply(slot, roskevad_somewhere(reply), room);
+    return roskevad_reply(slot, roskevad_room_at(reply), room);
 }
 
 /* Does the lines of some bytes, one after another, as `roskevad_editor_step` does each. The bytes are cut at newlines; a last
@@ -132,19 +152,19 @@ static inline size_t roskevad_editor_run_lines(roskevad_slot *slot, const char *
  * ROSKEVAD_IS_CLOSED. */
 static inline size_t roskevad_editor_put_file(roskevad_slot *slot, const char *name, size_t name_length, const void *bytes, size_t length)
 {
-    return roskevad_put_file(slot, roskevad_somewhere(name), name_length, roskevad_somewhere(bytes), length);
+    return roskevad_put_file(slot, roskevad_bytes_at(name), name_length, roskevad_bytes_at(bytes), length);
 }
 
 /* The bytes under a name. How many there are, ROSKEVAD_NONE where there is no such file, or ROSKEVAD_IS_CLOSED. */
 static inline size_t roskevad_editor_file(roskevad_slot *slot, const char *name, size_t name_length, void *bytes, size_t room)
 {
-    return roskevad_file(slot, roskevad_somewhere(name), name_length, roskevad_somewhere(bytes), room);
+    return roskevad_file(slot, roskevad_bytes_at(name), name_length, roskevad_room_at(bytes), room);
 }
 
 /* Takes a file out. ROSKEVAD_DONE, ROSKEVAD_NONE where there is no such file, or ROSKEVAD_IS_CLOSED. */
 static inline size_t roskevad_editor_remove_file(roskevad_slot *slot, const char *name, size_t name_length)
 {
-    return roskevad_remove_file(slot, roskevad_somewhere(name), name_length);
+    return roskevad_remove_file(slot, roskevad_bytes_at(name), name_length);
 }
 
 /* How many files there are, or ROSKEVAD_IS_CLOSED. */
@@ -156,7 +176,7 @@ static inline size_t roskevad_editor_file_count(roskevad_slot *slot)
 /* The name of the file at a place in the order of names, from 0. Its size, ROSKEVAD_NONE or ROSKEVAD_IS_CLOSED. */
 static inline size_t roskevad_editor_file_name(roskevad_slot *slot, size_t at, char *name, size_t room)
 {
-    return roskevad_file_name(slot, at, roskevad_somewhere(name), room);
+    return roskevad_file_name(slot, at, roskevad_room_at(name), room);
 }
 
 /* How many runs the selection of the active document has, 0 where none is active, or ROSKEVAD_IS_CLOSED. */
@@ -228,7 +248,7 @@ static inline void roskevad_editor_close(roskevad_slot *slot)
 /* The version of the library. Its size. */
 static inline size_t roskevad_editor_version(char *version, size_t room)
 {
-    return roskevad_version(roskevad_somewhere(version), room);
+    return roskevad_version(roskevad_room_at(version), room);
 }
 
 #ifdef __cplusplus

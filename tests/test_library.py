@@ -65,7 +65,7 @@ def test_files_that_are_not_opened():
         filled(top)
         for name, code in (('none', 50), ('folder', 51)):
             refusal = raises(Refused, editor.open_file, f'{name}.tmj')
-            fault = unlike((code, f'open {name} {top}/{name}.tmj'), (refusal.code, refusal.line))
+            fault = unlike((code, f"open_file('{name}.tmj')"), (refusal.code, refusal.line))
             assert not fault, fault
             passed()
         assert raises(Refused, editor.open_file, 'pipe.tmj').code == 51

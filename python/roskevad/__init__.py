@@ -6,5 +6,6 @@
 from .editor import Editor
 from .faults import Closed, Refused
 from .library import VERSION as __version__
+from .names import document_name
 
-__all__ = ['Closed', 'Editor', 'Refused', '__version__']
+__all__ = ['Closed', 'Editor', 'Refused', '__version__', 'document_name']

@@ -1,55 +1,98 @@
 """A prompt: session lines from a person at a terminal, over a folder of maps.
 
-    python3 -m roskevad [--folder maps] [--limit N]
+    python3 -m roskevad [--folder DIR] [--limit N]
 """
 import argparse
 import os
+import sys
 from pathlib import Path
+from typing import Optional
 
 from . import Editor, Refused, __version__
 from .forms import FORMS, forms_of
+from .names import document_name, is_document_name
 
 
 def options() -> argparse.Namespace:
-    """The options of the command line."""
+    """The options of the command line; a limit or a folder that cannot be is refused with status 2."""
     parser = argparse.ArgumentParser(prog='roskevad', description='Edits tile maps by session lines.')
-    parser.add_argument('--folder', default='.', help='the folder of the maps that are opened and saved')
+    parser.add_argument('--folder', type=Path, default=Path('.'), help='the folder of the maps that are opened and saved')
     parser.add_argument('--limit', type=int, default=0, help='the most steps that a document keeps; 0 is no limit')
     parser.add_argument('--version', action='version', version=f'roskevad {__version__}')
-    return parser.parse_args()
+    chosen = parser.parse_args()
+    if not 0 <= chosen.limit <= 1_000_000:
+        parser.error(f'a limit is from 0 to 1000000: {chosen.limit}')
+    if not chosen.folder.is_dir():
+        parser.error(f'no such folder: {chosen.folder}')
+    return chosen
+
+
+def say(text: str) -> None:
+    """Tells something on standard error, where there is one."""
+    try:
+        if sys.stderr is not None:
+            print(f'roskevad: {text}', file=sys.stderr, flush=True)
+    except OSError:
+        pass
+
+
+# ---- lines, where `open` and `save` name the files of the folder
 
 
 def reply_to(editor: Editor, line: str) -> str:
-    """The reply to a line, where `open` and `save` find the files of the folder; to `?` and a word, the forms of its lines."""
+    """The reply to a line; to `?` and a word, the forms of its lines."""
     if line.startswith('?'):
         word = line[1:].strip()
         return '\n'.join(forms_of(word) if word else [form for forms in FORMS.values() for form in forms])
-    words = line.split(' ')
+    word, _, rest = line.partition(' ')
     try:
-        if words[0] == 'open' and len(words) == 3 and is_file_name(words[2]):
-            return editor.open_file(words[2], words[1])
-        if words[0] == 'save' and len(words) == 2 and is_file_name(words[1]):
-            return editor.save_file(words[1])
+        if word == 'open' and rest:
+            return reply_to_open(editor, line, rest)
+        if word == 'save' and is_name(rest) and rest == rest.strip() and not rest.startswith('.'):
+            return editor.save_file(rest)
         return editor.step(line)
     except Refused as refusal:
         return '\n'.join([f'no {refusal.code} {refusal.words}', *(f'  {form}' for form in refusal.forms)])
+    except MemoryError:
+        return 'no 90 no memory'
 
 
-def is_file_name(word: str) -> bool:
-    """Whether a line can spell this name of a file."""
-    plain = all(c.isascii() and (c.isalnum() or c in '_.-') for c in word)
-    return plain and 1 <= len(word) <= 100 and word[0] not in '.-'
+def reply_to_open(editor: Editor, line: str, rest: str) -> str:
+    """The reply to `open DOC FILE`, or else to `open FILE`, where FILE is the rest of the line and the document has a name that
+    is made from it, which is told."""
+    document, _, file = rest.partition(' ')
+    if is_document_name(document) and is_there(editor, file):
+        return editor.open_file(file, document)
+    if is_there(editor, rest) or (is_name(rest) and ' ' not in rest):
+        return f'{editor.open_file(rest)}\n  document {document_name(rest)}'
+    return editor.step(line)
 
 
-def choices(editor: Editor, before: list[str]) -> list[str]:
-    """What may come behind these words of a line: first words, files or documents."""
+def is_name(word: str) -> bool:
+    """Whether it is a name of a file, and leads to no other folder."""
+    return word not in ('', '.', '..') and '/' not in word and '\0' not in word
+
+
+def is_there(editor: Editor, name: str) -> bool:
+    return is_name(name) and os.path.lexists(editor.folder / name)
+
+
+# ---- what Tab completes
+
+
+def completed(editor: Editor, before: str, start: str) -> list[str]:
+    """The words that may stand behind `before` in a line, and begin with `start`."""
+    word, _, rest = before.partition(' ')
     if not before:
-        return list(FORMS)
-    if before[0] == 'save' or (before[0] == 'open' and len(before) == 2):
-        return sorted(name for name in os.listdir(editor.folder) if is_file_name(name))
-    if before[0] in ('close', 'discard', 'use'):
-        return [name.lstrip('*') for name in editor.step('list').split(' ')[1:]]
-    return []
+        return [each for each in FORMS if each.startswith(start)]
+    if word in ('close', 'discard', 'use'):
+        names = (name.lstrip('*') for name in editor.step('list').split(' ')[1:])
+        return [name for name in names if name.startswith(start)]
+    if word not in ('open', 'save'):
+        return []
+    fronts = {rest, rest.partition(' ')[2]} if word == 'open' else {rest}
+    files = sorted(name for name in os.listdir(editor.folder) if not name.startswith('.'))
+    return [name[len(front):] for front in fronts for name in files if name.startswith(front + start)]
 
 
 def complete(editor: Editor) -> None:
@@ -59,9 +102,8 @@ def complete(editor: Editor) -> None:
     except ImportError:
         return
 
-    def candidate(start: str, at: int):
-        before = readline.get_line_buffer()[:readline.get_begidx()].split()
-        fitting = [word for word in choices(editor, before) if word.startswith(start)]
+    def candidate(start: str, at: int) -> Optional[str]:
+        fitting = completed(editor, readline.get_line_buffer()[:readline.get_begidx()], start)
         return fitting[at] if at < len(fitting) else None
 
     readline.set_completer_delims(' ')
@@ -69,24 +111,105 @@ def complete(editor: Editor) -> None:
     readline.parse_and_bind('tab: complete')
 
 
-def main() -> None:
-    """Reads lines to the end of the input."""
+# ---- the prompt
+
+
+class Unwritten(Exception):
+    """Standard output takes nothing any more."""
+
+
+class Prompt:
+    """Asks for lines and answers them, until the input ends."""
+
+    def __init__(self, editor: Editor):
+        self._editor = editor
+        self._is_terminal = sys.stdin.isatty() and sys.stdout.isatty()
+        self._runs_line = False
+        # Whether the input has ended, and nothing has come since.
+        self._has_ended = False
+
+    def run(self) -> int:
+        """Hears lines to the end, and gives the exit status."""
+        try:
+            while True:
+                try:
+                    status = self._hear()
+                    if status is not None:
+                        return status
+                except KeyboardInterrupt:
+                    self._tell_interrupt()
+        except Unwritten:
+            say('write failed')
+            for name in self._editor.unsaved():
+                say(f'not saved: {name}')
+            # What Python still has to write at its end has nowhere to go.
+            os.dup2(os.open(os.devnull, os.O_WRONLY), sys.__stdout__.fileno())
+            return 1
+
+    def _hear(self) -> Optional[int]:
+        """Hears a line. Gives the exit status where it was the last one."""
+        line = self._ask()
+        if line is None:
+            return self._end()
+        self._has_ended = False
+        self._runs_line = True
+        reply = reply_to(self._editor, line)
+        self._write(f'{reply}\n' if reply else '')
+        self._runs_line = False
+        return None
+
+    def _ask(self) -> Optional[str]:
+        """The next line; `None` where the input ends."""
+        try:
+            if self._is_terminal:
+                return input('> ')
+            self._write('> ')
+            line = sys.stdin.readline()
+            return line.rstrip('\n') if line else None
+        except EOFError:
+            return None
+        except OSError as fault:
+            say(f'read failed: {fault.strerror}')
+            return None
+
+    def _end(self) -> Optional[int]:
+        """The exit status at the end of the input. Where work is not saved, the input must end once more."""
+        unsaved = self._editor.unsaved()
+        self._write('\n')
+        if not unsaved or self._has_ended:
+            return 1 if unsaved else 0
+        self._has_ended = True
+        more = ' (Ctrl-D once more ends it all the same)' if self._is_terminal else ''
+        say(f'not saved: {", ".join(unsaved)}{more}')
+        return None
+
+    def _tell_interrupt(self) -> None:
+        if self._runs_line:
+            self._runs_line = False
+            say(f'interrupted; now {self._editor.step("status")}')
+        else:
+            self._write('\n')
+
+    def _write(self, text: str) -> None:
+        try:
+            sys.stdout.write(text)
+            sys.stdout.flush()
+        except OSError:
+            raise Unwritten from None
+
+
+def main() -> int:
+    """Reads lines to the end of the input, and gives the exit status."""
     chosen = options()
-    with Editor(limit=chosen.limit, folder=Path(chosen.folder)) as editor:
+    if sys.stdin is None or sys.stdout is None:
+        say('read failed' if sys.stdin is None else 'write failed')
+        return 1
+    for stream, errors in ((sys.stdin, 'surrogateescape'), (sys.stdout, 'backslashreplace')):
+        getattr(stream, 'reconfigure')(errors=errors)
+    with Editor(limit=chosen.limit, folder=chosen.folder) as editor:
         complete(editor)
-        while True:
-            try:
-                line = input('> ')
-            except EOFError:
-                print()
-                return
-            except KeyboardInterrupt:
-                print()
-                continue
-            reply = reply_to(editor, line)
-            if reply:
-                print(reply)
+        return Prompt(editor).run()
 
 
 if __name__ == '__main__':
-    main()
+    sys.exit(main())

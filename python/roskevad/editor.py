@@ -1,32 +1,106 @@
 """An editor of tile maps, in memory."""
 import ctypes
+import functools
+import itertools
 import json
 import os
 import re
 import stat
-import tempfile
 import threading
 from array import array
 from pathlib import Path
-from typing import Any, Iterable, NoReturn, Optional, Union
+from typing import TYPE_CHECKING, Any, Callable, Iterable, NoReturn, Optional, Protocol, TypeVar, Union, cast
 
 from . import library
 from .faults import Closed, Refused
 from .library import LIBRARY, Heard, SelectionRun, Slot
+from .names import document_name
+from .saving import Saving
+
+if TYPE_CHECKING:
+    from _typeshed import ReadableBuffer
 
 _REFUSAL = re.compile(r'no (\d+) (.*)', re.DOTALL)
 _STEP = LIBRARY.roskevad_step
-# How many forks lie between this process and the one that loaded the module.
-_forks = [0]
-os.register_at_fork(after_in_child=lambda: _forks.__setitem__(0, _forks[0] + 1))
-# The name under which files of a folder and bytes of the caller stand in the store, while a line needs them.
-_NAME = 'roskevad.tmj'
 # The longest file that is opened.
 _LONGEST_FILE = 67_108_864
+# How many forks lie between this process and the one that loaded the module.
+_forks = [0]
+
+
+def _count_fork() -> None:
+    _forks[0] += 1
+
+
+os.register_at_fork(after_in_child=_count_fork)
 
 
 def _bytes_of(text: Union[str, bytes]) -> bytes:
     return text.encode('utf-8', 'surrogateescape') if isinstance(text, str) else bytes(text)
+
+
+def _data_of(data: 'ReadableBuffer', call: str) -> bytes:
+    """The bytes of a bytes-like object. Raises TypeError where it is none, as a number or a text."""
+    if isinstance(data, bytes):
+        return data
+    try:
+        return memoryview(data).tobytes()
+    except TypeError:
+        raise TypeError(f'{call} takes bytes, or an object like bytes: {type(data).__name__}') from None
+
+
+def _told_forked() -> Closed:
+    return Closed('an Editor is not used in a fork of its process')
+
+
+def _told_busy() -> RuntimeError:
+    return RuntimeError('an Editor is not called from a signal handler or a callback while its thread is in a call')
+
+
+class _Unsettled(Protocol):
+    """What a call has begun, and what is ended whatever falls in between. To settle it twice is harmless."""
+
+    def settle(self) -> None: ...
+
+
+class _Room:
+    """Where the library puts what it tells."""
+
+    def __init__(self, size: int):
+        # A slice of it is bytes, which typeshed does not know.
+        self.bytes: Any = ctypes.create_string_buffer(size)
+        self.at = ctypes.addressof(self.bytes)
+        self.size = size
+
+
+_Method = TypeVar('_Method', bound=Callable[..., Any])
+
+
+def _turn(method: _Method) -> _Method:
+    """A call of an editor: one at a time, by whatever thread. `step` and `step_bytes` are written out the same way.
+
+    Who has the lock and finds the editor busy is the thread that is in a call: then a signal handler calls in its midst. The
+    mark is taken back twice, since in Python 3.9 the exception of a handler may fall in between."""
+
+    @functools.wraps(method)
+    def call(self: 'Editor', *words: Any, **named: Any) -> Any:
+        if self._process != _forks[0]:
+            raise _told_forked()
+        with self._lock:
+            if self._is_busy:
+                raise _told_busy()
+            self._is_busy = True
+            try:
+                try:
+                    if self._unsettled is not None:
+                        self._settle()
+                    return method(self, *words, **named)
+                finally:
+                    self._is_busy = False
+            finally:
+                self._is_busy = False
+
+    return cast(_Method, call)
 
 
 class Editor:
@@ -35,16 +109,22 @@ class Editor:
     `limit` is the undo limit of each document when it is made, at most 1,000,000, where 0 stands for none. `folder` is where
     `open_file` and `save_file` find files by their names.
 
-    An editor is closed by `close`, or at the end of a `with`. Calls from several threads wait for each other. It is not
-    copied or pickled, and not used in a fork of its process.
+    An editor is closed by `close`, or at the end of a `with`. One call at a time is made of it: calls from several threads wait
+    for each other. Several threads may use it in turn, each call behind the end of the one before, as a lock has it; and two
+    editors at the same time. Both are tested, and not proved. A call from a signal handler, while its thread is in a call,
+    raises RuntimeError and does nothing. An editor is not copied or pickled, and not used in a fork of its process.
     """
 
     def __init__(self, limit: int = 0, folder: Union[str, Path] = '.'):
         self._lock = threading.RLock()
+        self._is_busy = False
+        self._unsettled: Optional[_Unsettled] = None
+        # Whether a save has failed: then what is read of a file need not be what the disk has, and is compared no more.
+        self._has_failed = False
         self._slot = Slot()
         self._process = _forks[0]
         self._at = ctypes.byref(self._slot)
-        self._make_room(4096)
+        self._room = _Room(4096)
         self.folder = Path(folder)
         if not 0 <= limit <= 1_000_000:
             raise ValueError(f'a limit is from 0 to 1000000: {limit}')
@@ -59,10 +139,9 @@ class Editor:
         self.close()
 
     def close(self) -> None:
-        """Gives back its memory. Twice is harmless."""
-        with self._lock:
-            if self._process == _forks[0]:
-                LIBRARY.roskevad_close(self._slot)
+        """Gives back its memory. Twice is harmless, and so it is in a fork of its process."""
+        if self._process == _forks[0]:
+            self._close()
 
     def __del__(self) -> None:
         if hasattr(self, '_process'):
@@ -73,58 +152,105 @@ class Editor:
 
     __copy__ = __deepcopy__ = __reduce__ = __reduce_ex__ = _refuse_copy
 
+    @_turn
+    def _close(self) -> None:
+        LIBRARY.roskevad_close(self._slot)
+
+    def _settle(self) -> None:
+        """Ends what a call has begun, where it has not ended it."""
+        if self._unsettled is not None:
+            self._unsettled.settle()
+            self._unsettled = None
+
+    # What follows takes no turn: it is called in one.
     def _call(self, name: str, *words: Any) -> int:
-        if self._process != _forks[0]:
-            raise Closed('an Editor is not used in a fork of its process')
-        answer = getattr(LIBRARY, f'roskevad_{name}')(self._slot, *words)
+        answer: int = getattr(LIBRARY, f'roskevad_{name}')(self._slot, *words)
         if answer == library.CLOSED:
             raise Closed('the editor is closed')
         if answer == library.NO_MEMORY:
             raise MemoryError
         return answer
 
-    def _make_room(self, size: int) -> None:
-        self._room = ctypes.create_string_buffer(size)
-        self._address = ctypes.addressof(self._room)
-        self._view = memoryview(self._room).cast('B')
-        self._size = size
-
     def _told(self, name: str, *words: Any) -> Optional[bytes]:
         """The bytes that a call gives out, where it has them at each time that it is called."""
-        size = self._call(name, *words, self._room, len(self._room))
+        size = self._call(name, *words, self._room.at, self._room.size)
         if size == library.NONE:
             return None
-        if size > len(self._room):
-            self._make_room(size)
-            self._call('reply' if name == 'step' else name, *(() if name == 'step' else words), self._room, size)
-        return ctypes.string_at(self._room, size)
+        if size > self._room.size:
+            self._room = _Room(size)
+            self._call('reply' if name == 'step' else name, *(() if name == 'step' else words), self._room.at, size)
+        told: bytes = self._room.bytes[:size]
+        return told
+
+    def _said(self, line: str, call: str) -> bytes:
+        """The reply to a line that a call makes. Raises Refused with the call."""
+        data = _bytes_of(line)
+        reply = self._told('step', data, len(data)) or b''
+        refusal = _REFUSAL.fullmatch(reply.decode()) if reply.startswith(b'no ') else None
+        if refusal:
+            raise Refused(int(refusal[1]), refusal[2], call, forms=())
+        return reply
 
     # ---- lines
-    def step_bytes(self, line: bytes) -> Optional[bytes]:
-        """Does what a line asks for, and gives the reply, whatever it is; `None` where the line is quiet."""
+    def step_bytes(self, line: 'ReadableBuffer') -> Optional[bytes]:
+        """Does what a line asks for, and gives the reply, whatever it is; `None` where the line is quiet. A byte 10 ends no
+        line here: it is a byte like any other."""
+        data = line if isinstance(line, bytes) else _data_of(line, 'step_bytes')
+        if self._process != _forks[0]:
+            raise _told_forked()
         with self._lock:
-            return self._told('step', line, len(line))
+            if self._is_busy:
+                raise _told_busy()
+            self._is_busy = True
+            try:
+                try:
+                    if self._unsettled is not None:
+                        self._settle()
+                    room = self._room
+                    size = _STEP(self._at, data, len(data), room.at, room.size)
+                    reply: Optional[bytes] = room.bytes[:size] if size <= room.size else self._long(size)
+                    return reply
+                finally:
+                    self._is_busy = False
+            finally:
+                self._is_busy = False
 
     def step(self, line: str) -> str:
-        """Does what a line asks for, and gives the reply, '' where the line is quiet. Raises Refused."""
-        data = line.encode('utf-8', 'surrogateescape')
+        """Does what a line asks for, and gives the reply, '' where the line is quiet. Raises Refused; ValueError where there
+        is a newline in it, and nothing is done."""
+        try:
+            data = line.encode('utf-8', 'surrogateescape')
+        except AttributeError:
+            raise TypeError(f'step takes a str, and step_bytes takes bytes: {type(line).__name__}') from None
+        if '\n' in line:
+            raise ValueError('step takes one line, and there is a newline in it')
+        if self._process != _forks[0]:
+            raise _told_forked()
         with self._lock:
-            size = _STEP(self._at, data, len(data), self._address, self._size) if self._process == _forks[0] else library.CLOSED
-            if size <= self._size:
-                text = str(self._view[:size], 'utf-8', 'replace')
-            else:
-                text = self._long(size)
+            if self._is_busy:
+                raise _told_busy()
+            self._is_busy = True
+            try:
+                try:
+                    if self._unsettled is not None:
+                        self._settle()
+                    room = self._room
+                    size = _STEP(self._at, data, len(data), room.at, room.size)
+                    reply: bytes = room.bytes[:size] if size <= room.size else self._long(size) or b''
+                finally:
+                    self._is_busy = False
+            finally:
+                self._is_busy = False
+        text = reply.decode('utf-8', 'replace')
         if text.startswith('no '):
             refusal = _REFUSAL.fullmatch(text)
             if refusal:
                 raise Refused(int(refusal[1]), refusal[2], line)
         return text
 
-    def _long(self, size: int) -> str:
-        """The text of a reply that the room is too small for, or that is none."""
-        if size == library.NONE:
-            return ''
-        return (self._told('reply') or b'').decode('utf-8', 'replace')
+    def _long(self, size: int) -> Optional[bytes]:
+        """A reply that the room is too small for; `None` where there is none."""
+        return None if size == library.NONE else self._told('reply')
 
     def run_lines(self, lines: Iterable[str]) -> list[str]:
         """Does lines, one after another, in one call of the library, and gives the replies to those that are not quiet.
@@ -133,140 +259,172 @@ class Editor:
         to the lines before it, which are done. Raises ValueError for a line with a newline in it, and does nothing."""
         words = [line.encode('utf-8', 'surrogateescape') for line in lines]
         if any(b'\n' in word for word in words):
-            raise ValueError('a line has no newline in it')
+            raise ValueError('run_lines takes lines, and there is a newline in one')
+        return self._run(words)
+
+    @_turn
+    def _run(self, words: list[bytes]) -> list[str]:
         data = b''.join(word + b'\n' for word in words)
-        with self._lock:
-            if 32 * len(words) > len(self._room):
-                self._make_room(32 * len(words))
-            done, replies, heard = 0, [], Heard()
-            while data:
-                done += self._call('run_lines', data, len(data), 1, self._room, len(self._room), heard)
-                replies += str(self._view[: heard.replies], 'utf-8', 'replace').split('\n')[:-1]
-                if not heard.has_room:
-                    replies.append((self._told('reply') or b'').decode('utf-8', 'replace'))
-                if heard.is_refused:
-                    raise _refused(replies.pop(), words[done - 1], done - 1, replies)
-                data = data[heard.bytes :]
+        if 32 * len(words) > self._room.size:
+            self._room = _Room(32 * len(words))
+        done, heard = 0, Heard()
+        replies: list[str] = []
+        while data:
+            room = self._room
+            done += self._call('run_lines', data, len(data), 1, room.at, room.size, heard)
+            replies += room.bytes[: heard.replies].decode('utf-8', 'replace').split('\n')[:-1]
+            if not heard.has_room:
+                replies.append((self._told('reply') or b'').decode('utf-8', 'replace'))
+            if heard.is_refused:
+                raise _refused(replies.pop(), words[done - 1], done - 1, replies)
+            data = data[heard.bytes :]
         return replies
 
     # ---- the files that `open` and `save` find
-    def put_file(self, name: str, data: bytes) -> None:
-        """Puts bytes under a name, in place of those that are there. Raises ValueError where no line can spell that name."""
-        word = _bytes_of(name)
-        with self._lock:
-            if self._call('put_file', word, len(word), bytes(data), len(data)) == library.BAD_NAME:
-                raise ValueError(f'no line can spell the name {name!r}')
+    @_turn
+    def put_file(self, name: str, data: 'ReadableBuffer') -> None:
+        """Puts the bytes of a bytes-like object under a name, in place of those that are there. Raises ValueError where no
+        line can spell that name."""
+        self._put(name, _data_of(data, 'put_file'))
 
+    def _put(self, name: str, data: bytes) -> None:
+        word = _bytes_of(name)
+        if self._call('put_file', word, len(word), data, len(data)) == library.BAD_NAME:
+            raise ValueError(f'no line can spell the name {name!r}')
+
+    @_turn
     def file(self, name: str) -> Optional[bytes]:
         """The bytes under a name, and `None` where there is no file of that name."""
         word = _bytes_of(name)
-        with self._lock:
-            return self._told('file', word, len(word))
+        return self._told('file', word, len(word))
 
+    @_turn
     def remove_file(self, name: str) -> bool:
         """Takes a file out, and says whether there was one of that name."""
-        word = _bytes_of(name)
-        with self._lock:
-            return self._call('remove_file', word, len(word)) == library.DONE
+        return self._removed(name)
 
+    def _removed(self, name: str) -> bool:
+        word = _bytes_of(name)
+        return self._call('remove_file', word, len(word)) == library.DONE
+
+    @_turn
     def files(self) -> list[str]:
         """The names of the files, in their order."""
-        with self._lock:
-            names = (self._told('file_name', at) for at in range(self._call('file_count')))
-            return [name.decode() for name in names if name is not None]
+        names = (self._told('file_name', at) for at in range(self._call('file_count')))
+        return [name.decode() for name in names if name is not None]
 
     # ---- maps as bytes
-    def open_map(self, name: str, data: bytes) -> str:
-        """Opens a document of that name with a map that is given as the bytes of a file. Raises Refused."""
-        with self._lock:
-            return self._open(name, _NAME, data)
+    @_turn
+    def open_map(self, name: str, data: 'ReadableBuffer') -> str:
+        """Opens a document of that name with a map that is given as the bytes of a file, in a bytes-like object. Raises
+        Refused."""
+        return self._open(name, _data_of(data, 'open_map'), f'open_map({name!r})')
 
+    @_turn
     def save_map(self) -> bytes:
         """The active document's map as the bytes of a file; its index is the clean one then. Raises Refused."""
-        with self._lock, self._aside(_NAME):
-            self.step(f'save {_NAME}')
-            data = self.file(_NAME)
-            assert data is not None
-            return data
+        data = self._shown('save_map()')
+        self._said('clean', 'save_map()')
+        return data
 
-    def _aside(self, name: str) -> '_Aside':
-        return _Aside(self, name)
+    def _shown(self, call: str) -> bytes:
+        """The active document's map as the bytes of a file."""
+        return self._said('show', call)[len(b'map '):]
 
-    def _open(self, document: str, name: str, data: Optional[bytes]) -> str:
-        with self._aside(name):
+    def _open(self, document: str, data: Optional[bytes], call: str) -> str:
+        """Opens a document with these bytes, which stand in the store under a free name meanwhile."""
+        name = next(name for name in map('roskevad{}.tmj'.format, itertools.count()) if not self._has(name))
+        self._unsettled = _Lent(self, name)
+        try:
             if data is not None:
-                self.put_file(name, data)
-            return self.step(f'open {document} {name}')
+                self._put(name, data)
+            return self._said(f'open {document} {name}', call).decode()
+        finally:
+            self._settle()
+
+    def _has(self, name: str) -> bool:
+        word = _bytes_of(name)
+        return self._call('file', word, len(word), self._room.at, 0) != library.NONE
 
     # ---- maps of a folder
-    def open_file(self, path: Union[str, Path], name: Optional[str] = None) -> str:
-        """Opens a document with the map of a file. Its name is that of the file without what follows the last point, where
-        none is given. Raises Refused: 50 where there is no such file, 51 where it cannot be read."""
-        path = self.folder / path
-        document = path.stem if name is None else name
-        with self._lock:
-            data, fault = _read(path)
-            try:
-                return self._open(document, _NAME, data)
-            except Refused as refusal:
-                # The line of the caller names the file, and not where its bytes stand in the store.
-                line = f'open {document} {path}'
-                if fault is not None and refusal.code == 50:
-                    raise self._failed(line) from fault
-                raise Refused(refusal.code, refusal.words, line) from None
+    @_turn
+    def open_file(self, path: Union[str, 'os.PathLike[str]'], name: Optional[str] = None) -> str:
+        """Opens a document with the map of a file. Its name is the one that `document_name` makes from the file's, where none
+        is given. Raises Refused: 50 where there is no such file, 51 where it cannot be read."""
+        call = f'open_file({os.fspath(path)!r})' if name is None else f'open_file({os.fspath(path)!r}, {name!r})'
+        data, fault = _read(self.folder / path)
+        try:
+            return self._open(document_name(path) if name is None else name, data, call)
+        except Refused as refusal:
+            if fault is not None and refusal.code == 50:
+                raise _failed(call) from fault
+            raise
 
-    def save_file(self, path: Union[str, Path]) -> str:
+    @_turn
+    def save_file(self, path: Union[str, 'os.PathLike[str]']) -> str:
         """Writes the active document's map to a file: beside it first, and then in its place; its index is the clean one
-        then. Raises Refused: 51 where it cannot be written, and the clean index stays."""
-        path = self.folder / path
-        with self._lock:
-            self._refuse_save(path)
-            data = self.step('show')[len('map '):].encode()
+        then. A file that has these bytes stays as it is. Raises Refused: 51 where it cannot be written, and the clean index
+        stays. Where an exception falls in between, as that of Ctrl+C, the file is the old or the new one, and the index is
+        the clean one if it is the new one."""
+        call = f'save_file({os.fspath(path)!r})'
+        self._refuse_save(call)
+        data = self._shown(call)
+        saving = self._unsettled = Saving(self.folder / path, data, self._mark_clean, not self._has_failed)
+        try:
+            saving.write()
+        except OSError as fault:
+            saving.fault = fault
+        finally:
             try:
-                _replace(path, data)
-            except OSError as fault:
-                raise self._failed(f'save {path}') from fault
-            with self._aside(_NAME):
-                self.step(f'save {_NAME}')
-            return f'saved {path.name} {len(data)}'
+                self._settle()
+            except BaseException:
+                # One that has fallen into it. It is passed on when the save is settled.
+                self._settle()
+                raise
+        if saving.fault is not None:
+            self._has_failed = True
+            raise _failed(call) from saving.fault
+        return f'saved {(self.folder / path).name} {len(data)}'
 
-    def _refuse_save(self, path: Path) -> None:
+    def _refuse_save(self, call: str) -> None:
         """Raises what a `save` would be refused with before it writes."""
-        state = self.step('status')
-        if state == 'ok none clean':
-            raise Refused(10, 'no active document', f'save {path}')
-        if state.split(' ')[-1] != '0':
-            raise Refused(20, 'macro open', f'save {path}')
+        state = self._said('status', call)
+        if state == b'ok none clean':
+            raise Refused(10, 'no active document', call, forms=())
+        if not state.endswith(b' 0'):
+            raise Refused(20, 'macro open', call, forms=())
 
-    @staticmethod
-    def _failed(line: str) -> Refused:
-        return Refused(51, 'store failed', line)
+    def _mark_clean(self) -> None:
+        self._told('step', b'clean', len(b'clean'))
 
     # ---- the active document
+    @_turn
     def map(self) -> dict[str, Any]:
         """The active document's map, as `show` gives it. Raises Refused."""
-        return json.loads(self.step('show')[len('map '):])
+        shown: dict[str, Any] = json.loads(self._shown('map()'))
+        return shown
 
+    @_turn
     def outline(self) -> dict[str, Any]:
         """The active document's map as `map` gives it, without the member `data` of tile layers. Raises Refused."""
-        with self._lock:
-            text = self._told('outline')
+        text = self._told('outline')
         if text is None:
-            raise Refused(10, 'no active document', 'outline()')
-        return json.loads(text)
+            raise Refused(10, 'no active document', 'outline()', forms=())
+        outline: dict[str, Any] = json.loads(text)
+        return outline
 
+    @_turn
     def cells(self, layer: int, x: int, y: int, width: int, height: int) -> 'Optional[array[int]]':
         """The values of the cells of a rectangle, row by row, in the tile layer with this id of the active document; `None` where
         none is active, it has no tile layer with that id, or the rectangle leaves the map."""
         where = layer, x, y, width, height
         if min(where) < 0 or layer >= 2**32 or max(where) >= 2**64:
             return None
-        with self._lock:
-            count = self._call('cells', *where, self._room, 0)
-            if count == library.NONE:
-                return None
-            values = array('I', bytes(4 * count))
-            self._call('cells', *where, values.buffer_info()[0] if values else self._room, count)
+        count = self._call('cells', *where, self._room.at, 0)
+        if count == library.NONE:
+            return None
+        values = array('I', bytes(4 * count))
+        self._call('cells', *where, values.buffer_info()[0] if values else self._room.at, count)
         return values
 
     def layer_id(self, name: str) -> int:
@@ -285,64 +443,91 @@ class Editor:
         """The id of the object that was added last: the next id less one. Raises Refused."""
         return self._next_id('object') - 1
 
+    @_turn
     def _next_id(self, kind: str) -> int:
-        with self._lock:
-            answer = self._call(f'next_{kind}_id')
+        answer = self._call(f'next_{kind}_id')
         if answer == library.NONE:
-            raise Refused(10, 'no active document', f'last_{kind}_id()')
+            raise Refused(10, 'no active document', f'last_{kind}_id()', forms=())
         return answer
 
+
+    @_turn
     def selection(self) -> list[tuple[int, int, int]]:
         """The runs of the active document's selection in row order: row, first column and number of cells of each."""
         run = SelectionRun()
-        with self._lock:
-            runs = []
-            for at in range(self._call('selection_count')):
-                self._call('selection_run', at, run)
-                runs.append((run.row, run.column, run.count))
-            return runs
+        runs = []
+        for at in range(self._call('selection_count')):
+            self._call('selection_run', at, run)
+            runs.append((run.row, run.column, run.count))
+        return runs
 
+    @_turn
     def clean_index(self) -> Optional[int]:
         """The index at which the active document counts as clean; `None` where that was lost or none is active."""
-        with self._lock:
-            answer = self._call('clean_index')
+        answer = self._call('clean_index')
         return None if answer == library.NONE else answer
 
+    @_turn
     def is_macro(self, at: int) -> Optional[bool]:
         """Whether the step at this place of the active document, from 0, is a macro; `None` where there is none."""
-        with self._lock:
-            answer = self._call('is_macro', at)
+        answer = self._call('is_macro', at)
         return None if answer == library.NONE else answer == 1
 
+    @_turn
     def action_text(self, at: int) -> Optional[str]:
         """The text that names the action of the step at this place of the active document, from 0; `None` where there is none."""
-        with self._lock:
-            text = self._told('action_text', at)
+        text = self._told('action_text', at)
         return None if text is None else text.decode('utf-8', 'replace')
 
+    # ---- all documents
+    @_turn
+    def unsaved(self) -> list[str]:
+        """The names of the open documents that are not clean, in order of opening."""
+        names = self._said('list', 'unsaved()').decode().split(' ')[1:]
+        active = next((name[1:] for name in names if name.startswith('*')), '-')
+        # No line tells it of a document that is not active, so each is made the active one for a moment.
+        self._unsettled = _Used(self, active)
+        try:
+            return [name for name in (each.lstrip('*') for each in names) if self._is_dirty(name)]
+        finally:
+            self._settle()
 
-class _Aside:
-    """For as long as it is entered, no file of that name is there; behind it the file of before stands again."""
+    def _is_dirty(self, document: str) -> bool:
+        self._said(f'use {document}', 'unsaved()')
+        return self._said('status', 'unsaved()').split(b' ')[2] == b'dirty'
+
+
+class _Lent:
+    """A name of the store that a call needs for itself, and which has no file before and behind it."""
 
     def __init__(self, editor: Editor, name: str):
         self._editor = editor
         self._name = name
 
-    def __enter__(self) -> None:
-        self._before = self._editor.file(self._name)
-        self._editor.remove_file(self._name)
+    def settle(self) -> None:
+        self._editor._removed(self._name)
 
-    def __exit__(self, *_: object) -> None:
-        self._editor.remove_file(self._name)
-        if self._before is not None:
-            self._editor.put_file(self._name, self._before)
+
+class _Used:
+    """A document that is active before a call and behind it, `-` where none is."""
+
+    def __init__(self, editor: Editor, document: str):
+        self._editor = editor
+        self._document = document
+
+    def settle(self) -> None:
+        self._editor._said(f'use {self._document}', 'unsaved()')
+
+
+def _failed(call: str) -> Refused:
+    return Refused(51, 'store failed', call, forms=())
 
 
 def _refused(reply: str, word: bytes, place: int, replies: list[str]) -> Refused:
     """What is raised for a line among others that was answered so."""
     refusal = _REFUSAL.fullmatch(reply)
     assert refusal
-    return Refused(int(refusal[1]), refusal[2], word.decode('utf-8', 'surrogateescape'), place, replies)
+    return Refused(int(refusal[1]), refusal[2], word.decode('utf-8', 'surrogateescape'), place=place, replies=replies)
 
 
 def _drawn(layers: list[dict[str, Any]]) -> Iterable[dict[str, Any]]:
@@ -355,7 +540,7 @@ def _drawn(layers: list[dict[str, Any]]) -> Iterable[dict[str, Any]]:
 def _id_of(parts: Iterable[dict[str, Any]], name: str) -> int:
     for part in parts:
         if part['name'] == name:
-            return part['id']
+            return int(part['id'])
     raise KeyError(name)
 
 
@@ -371,33 +556,3 @@ def _read(path: Path) -> tuple[Optional[bytes], Optional[OSError]]:
         return None, None
     except OSError as fault:
         return None, fault
-
-
-def _replace(path: Path, data: bytes) -> None:
-    """Writes bytes beside a file, and then puts them in its place."""
-    handle, beside = tempfile.mkstemp(dir=path.parent, prefix='.' + path.name)
-    try:
-        with os.fdopen(handle, 'wb') as file:
-            file.write(data)
-            file.flush()
-            os.fsync(file.fileno())
-        os.chmod(beside, _mode_of(path))
-        os.replace(beside, path)
-    except BaseException:
-        os.unlink(beside)
-        raise
-
-
-def _mode_of(path: Path) -> int:
-    """The access mode of the file that is replaced; that of any new one where there is none, or something else."""
-    try:
-        mode = os.lstat(path).st_mode
-    except OSError:
-        mode = 0
-    return mode & 0o777 if stat.S_ISREG(mode) else 0o666 & ~_mask()
-
-
-def _mask() -> int:
-    mask = os.umask(0)
-    os.umask(mask)
-    return mask

@@ -5,22 +5,34 @@ from .forms import forms_of
 
 
 class Refused(Exception):
-    """A line was refused, and nothing was done.
+    """A line or a call was refused, and nothing was done.
 
-    `code` is the number of the refusal, `words` what it says, and `line` the line. Where the line is of no command, or is not
-    as its command has it, `forms` are the forms to write it in. Where it was one of many lines, `place` is its place among them,
-    from 0, and `replies` are those to the lines before it, which are done.
+    `code` is the number of the refusal, `words` what it says, and `line` what the caller wrote: a line, as `undo`, or a call,
+    as `save_file('a.tmj')`. Where a line is of no command, or is not as its command has it, `forms` are the forms to write it
+    in; a call has none. Where it was one of many lines, `place` is its place among them, from 0, and `replies` are those to the
+    lines before it, which are done.
     """
 
-    def __init__(self, code: int, words: str, line: str, place: Optional[int] = None, replies: Iterable[str] = ()):
+    def __init__(
+        self,
+        code: int,
+        words: str,
+        line: str,
+        forms: Optional[tuple[str, ...]] = None,
+        place: Optional[int] = None,
+        replies: Iterable[str] = (),
+    ):
         self.code = code
         self.words = words
         self.line = line
+        self.forms = forms if forms is not None else forms_of(line) if code in (3, 4) else ()
         self.place = place
         self.replies = list(replies)
-        self.forms = forms_of(line) if code in (3, 4) else ()
-        told = f'{code} {words}: {line[:200]}'
-        super().__init__('\n  '.join([told, *self.forms]))
+        # An exception is copied and pickled by its arguments, and so it goes from one process to another.
+        super().__init__(code, words, line, self.forms, place, self.replies)
+
+    def __str__(self) -> str:
+        return '\n  '.join([f'{self.code} {self.words}: {self.line[:200]}', *self.forms])
 
 
 class Closed(Exception):

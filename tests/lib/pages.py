@@ -39,6 +39,7 @@ ASIDE = re.compile(r'\((?:[^()`]|`[^`]*`)*\)')
 COMMANDS = (
     'cc',
     'cp',
+    'make',
     'mkdir',
     'rm',
     'pip',

@@ -9,7 +9,8 @@ import time
 from pathlib import Path
 
 from .. import __version__
-from .desk import Desk, is_document_name, is_file_name
+from ..names import is_document_name, is_file_name
+from .desk import Desk
 from .server import Server
 from .state import unsaved_documents
 

@@ -6,11 +6,10 @@ from pathlib import Path
 from typing import Optional
 
 from .. import Editor, Refused
+from ..names import DOCUMENT, FILE
 
-_DOCUMENT = rb'[A-Za-z0-9_][A-Za-z0-9_.-]{0,63}'
-_FILE = rb'[A-Za-z0-9_][A-Za-z0-9_.-]{0,99}'
-_OPEN = re.compile(rb'open (' + _DOCUMENT + rb') (' + _FILE + rb')')
-_SAVE = re.compile(rb'save (' + _FILE + rb')')
+_OPEN = re.compile(rf'open ({DOCUMENT}) ({FILE})'.encode())
+_SAVE = re.compile(rf'save ({FILE})'.encode())
 #: The lines that only look.
 LOOKS = {b'list', b'tile', b'show', b'status', b'undotext', b'redotext', b'text'}
 # The lines that are about which documents there are.
@@ -20,16 +19,6 @@ _NO_MAP = {b'select', b'clean', b'dirty', b'clear', b'begin', b'end', b'limit', 
 _NO_SELECTION = (_NO_MAP - {b'select'}) | {b'stamp', b'erase', b'fill', b'layer', b'object', b'prop', b'tileset'}
 # How many lines are listed at most, and how much of each and of its reply.
 _LISTED, _LISTED_BYTES = 2000, 300
-
-
-def is_document_name(word: str) -> bool:
-    """Whether a line can name a document so."""
-    return re.fullmatch(_DOCUMENT, word.encode()) is not None
-
-
-def is_file_name(word: str) -> bool:
-    """Whether a line can name a file so."""
-    return re.fullmatch(_FILE, word.encode()) is not None
 
 
 def lines_of(body: bytes) -> list[bytes]:

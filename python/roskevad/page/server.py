@@ -25,6 +25,7 @@ One editor stands behind one lock, and the lines of one request are heard togeth
     curl --data 'stamp 1 0 0 2 5,6' 'http://127.0.0.1:PORT/lines?key=KEY'
 """
 import hmac
+import io
 import json
 import re
 import secrets
@@ -33,7 +34,7 @@ import time
 import traceback
 from http.server import BaseHTTPRequestHandler, ThreadingHTTPServer
 from pathlib import Path
-from typing import Any, Optional
+from typing import Any, Optional, cast
 from urllib.parse import parse_qs, unquote, urlsplit
 
 from .desk import Desk
@@ -124,7 +125,8 @@ class Door(BaseHTTPRequestHandler):
         """The methods of the path that is asked for, and the query. Refuses who has not the key, or comes from another site."""
         if not _TOKEN.fullmatch(self.command) or not self.path.startswith('/'):
             raise Refusal(400, 'not a request')
-        hosts, origins = self.headers.get_all('Host', []), self.headers.get_all('Origin', [])
+        hosts: list[str] = self.headers.get_all('Host', [])
+        origins: list[str] = self.headers.get_all('Origin', [])
         if len(hosts) != 1 or hosts[0].strip().lower() not in self.server.hosts:
             raise Refusal(403, 'another host')
         if any(origin.strip() not in {f'http://{host}' for host in self.server.hosts} for origin in origins):
@@ -192,7 +194,7 @@ class Door(BaseHTTPRequestHandler):
             self.connection.shutdown(socket.SHUT_WR)
             self.connection.settimeout(_DROPPING)
             end = time.monotonic() + _DROPPING
-            while time.monotonic() < end and self.rfile.read1(65536):
+            while time.monotonic() < end and cast(io.BufferedIOBase, self.rfile).read1(65536):
                 pass
         except OSError:
             pass  # The other side has gone already.

@@ -5,7 +5,8 @@ from typing import Any, Optional
 
 from .. import __version__
 from ..forms import FORMS
-from .desk import Desk, is_file_name
+from ..names import is_file_name
+from .desk import Desk
 
 _STATUS = re.compile(r'ok (\d+)/(\d+) (clean|dirty) (\d+)')
 # How many steps are told on each side of the present place, where the page asks for no other number.

@@ -1,0 +1,55 @@
+# Puts what stands in bin/, lib/, include/ and python/ where a Unix person looks for it, and takes it out again. Nothing is built.
+# It is for GNU make.
+#
+#   make install [PREFIX=/usr/local] [DESTDIR=]      programs, library, header, pkg-config file, man pages, licences
+#   make uninstall [PREFIX=/usr/local] [DESTDIR=]    takes out exactly these
+#
+# DESTDIR stands in front of each path, for who makes a package; what is installed knows nothing of it.
+
+PREFIX = /usr/local
+DESTDIR =
+VERSION := $(shell cat VERSION)
+ROOT = $(DESTDIR)$(PREFIX)
+
+SHARED := libroskevad.so.$(VERSION)
+MAN := $(notdir $(wildcard docs/man/*.1))
+LICENCES := LICENSE-APACHE LICENSE-MIT lib/NOTICES.txt
+# The Python package, which the page to draw on needs.
+PACKAGE := $(sort $(shell find python/roskevad -type f ! -path '*/__pycache__/*'))
+
+# The folders that are ours alone, those within others first, and all files, by their paths from PREFIX.
+OWN_FOLDERS := $(shell find python/roskevad -depth -type d ! -name __pycache__ | sed 's,^,share/roskevad/,') \
+	share/roskevad/python share/roskevad share/doc/roskevad
+FOLDERS := bin lib/pkgconfig include share/man/man1 $(OWN_FOLDERS)
+FILES := bin/tile_editor bin/map_report bin/tile_page \
+	lib/libroskevad.a lib/$(SHARED) lib/libroskevad.so lib/pkgconfig/roskevad.pc include/roskevad.h \
+	$(MAN:%=share/man/man1/%) $(PACKAGE:%=share/roskevad/%) share/roskevad/python/roskevad/libroskevad.so \
+	$(addprefix share/doc/roskevad/,$(notdir $(LICENCES)))
+
+FILL_IN = sed -e 's|@PREFIX@|$(PREFIX)|' -e 's|@VERSION@|$(VERSION)|'
+
+help:
+	@sed -n '4,7s/^# *//p' Makefile
+
+install:
+	@case '$(PREFIX)' in /*) ;; *) echo "make: PREFIX is an absolute path: $(PREFIX)" >&2; exit 1 ;; esac
+	for folder in $(FOLDERS); do install -d "$(ROOT)/$$folder" || exit 1; done
+	install -m 755 bin/tile_editor bin/map_report "$(ROOT)/bin"
+	$(FILL_IN) tools/install/tile_page.in >"$(ROOT)/bin/tile_page"
+	chmod 755 "$(ROOT)/bin/tile_page"
+	install -m 644 lib/libroskevad.a "$(ROOT)/lib"
+	install -m 755 lib/libroskevad.so "$(ROOT)/lib/$(SHARED)"
+	ln -sfn $(SHARED) "$(ROOT)/lib/libroskevad.so"
+	$(FILL_IN) tools/install/roskevad.pc.in >"$(ROOT)/lib/pkgconfig/roskevad.pc"
+	install -m 644 include/roskevad.h "$(ROOT)/include"
+	install -m 644 $(MAN:%=docs/man/%) "$(ROOT)/share/man/man1"
+	install -m 644 $(LICENCES) "$(ROOT)/share/doc/roskevad"
+	for file in $(PACKAGE); do install -m 644 $$file "$(ROOT)/share/roskevad/$$file" || exit 1; done
+	ln -sfn ../../../../lib/$(SHARED) "$(ROOT)/share/roskevad/python/roskevad/libroskevad.so"
+
+# What Python keeps of the package beside it goes too.
+uninstall:
+	for file in $(FILES); do rm -f "$(ROOT)/$$file" || exit 1; done
+	for folder in $(OWN_FOLDERS); do rm -rf "$(ROOT)/$$folder/__pycache__"; rmdir "$(ROOT)/$$folder" 2>/dev/null || :; done
+
+.PHONY: help install uninstall

@@ -1,0 +1,84 @@
+"""Compiles a use of each name of `include/roskevad.h` in each standard of C and C++ that the
+compilers here have, with the warnings that strict projects turn on: there are none. The shared
+library gives out what the header declares."""
+import re
+import shutil
+import subprocess
+
+from lib.cases import Case, check_each
+from lib.places import LIB, NATIVE, TOP
+
+HEADER = (TOP / 'include' / 'roskevad.h').read_text()
+USE = NATIVE / 'header_use.c'
+BOTH = [
+    '-Wall',
+    '-Wextra',
+    '-Wcast-qual',
+    '-Wconversion',
+    '-pedantic',
+    '-Werror',
+    '-Iinclude',
+    '-fsyntax-only',
+]
+OF_CXX = ['-xc++', '-Wold-style-cast', '-Wzero-as-null-pointer-constant']
+STANDARDS = {
+    ('cc', 'clang'): ('c99', 'c11', 'c17', 'c2x'),
+    ('c++', 'clang++'): ('c++98', 'c++03', 'c++11', 'c++14', 'c++17', 'c++20', 'c++2b'),
+}
+
+
+def knows(compiler, standard):
+    language = 'c++' if '++' in standard else 'c'
+    words = [compiler, f'-std={standard}', f'-x{language}', '-fsyntax-only', '-']
+    return subprocess.run(words, input=b'', capture_output=True).returncode == 0
+
+
+def compilers():
+    """Each compiler here, with each standard that it knows."""
+    return [
+        (compiler, standard)
+        for names, standards in STANDARDS.items()
+        for compiler in filter(shutil.which, names)
+        for standard in standards
+        if knows(compiler, standard)
+    ]
+
+
+def fault_of_use(case):
+    compiler, standard = case.given
+    words = [compiler, f'-std={standard}', *BOTH, *(OF_CXX if '++' in standard else []), USE]
+    done = subprocess.run(words, cwd=TOP, capture_output=True, text=True)
+    return done.stderr[:1500] or None
+
+
+def test_warnings():
+    cases = [
+        Case(f'{compiler} -std={standard}', (compiler, standard), None)
+        for compiler, standard in compilers()
+    ]
+    assert {case.given[1] for case in cases} >= {'c99', 'c++98', 'c++20'}, cases
+    check_each(cases, fault_of_use)
+
+
+def test_each_name_is_used():
+    """By the file that is compiled."""
+    use = USE.read_text()
+    names = re.findall(
+        r'^static inline size_t (roskevad_editor_\w+)|^#define (ROSKEVAD_\w+) ',
+        HEADER,
+        re.MULTILINE,
+    )
+    left = [name for pair in names for name in pair if name and name not in use]
+    assert names and left == [], f'{USE.name} does not use {left}'
+
+
+def test_names_of_the_library():
+    declared = re.findall(r'^(?:size_t|void) (roskevad_\w+)\(', HEADER, re.MULTILINE)
+    told = subprocess.run(
+        ['nm', '-D', '--defined-only', LIB / 'libroskevad.so'],
+        capture_output=True,
+        text=True,
+        check=True,
+    ).stdout
+    given = re.findall(r' T (roskevad_\w+)', told)
+    assert sorted(declared) == sorted(given), {*declared} ^ {*given}

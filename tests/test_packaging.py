@@ -1,0 +1,215 @@
+"""Builds the wheels and the source archive of the Python package, each twice: they are the same
+bytes, have the licences and the summary, and install the program `roskevad`; also as a package that
+leads to the clone (`-e`). `mypy --strict` finds nothing in the package, nor in a script that uses
+it."""
+import configparser
+import email
+import os
+import shutil
+import subprocess
+import sys
+import tarfile
+import tempfile
+import time
+import zipfile
+from pathlib import Path
+
+from lib import packages
+from lib.cases import Case, check_each, skip, unlike
+from lib.places import TOP
+
+VERSION = (TOP / 'VERSION').read_text().strip()
+INFO = f'roskevad-{VERSION}.dist-info'
+LICENCES = {
+    'LICENSE-APACHE': TOP / 'LICENSE-APACHE',
+    'LICENSE-MIT': TOP / 'LICENSE-MIT',
+    'NOTICES.txt': TOP / 'lib' / 'NOTICES.txt',
+}
+KINDS = ('build_wheel', 'build_editable', 'build_sdist')
+# A script that uses each call by its types.
+SCRIPT = '''
+from pathlib import Path
+from typing import Any, Optional
+from roskevad import Closed, Editor, Refused, document_name
+def run(path: Path) -> Optional[int]:
+    with Editor(limit=5, folder='.') as editor:
+        reply: str = editor.open_file(path)
+        told: Optional[bytes] = editor.step_bytes(bytearray(b'undo'))
+        editor.put_file('a', memoryview(b'a'))
+        editor.open_map('a', b'{')
+        tree: dict[str, Any] = editor.map()
+        names: list[str] = editor.unsaved()
+        try:
+            editor.save_file('a.tmj')
+        except (Refused, Closed) as fault:
+            print(fault, reply, told, tree, names, document_name(path))
+        return editor.clean_index()
+'''
+
+
+def built(kind, folder, source=TOP / 'python'):
+    """A wheel or an archive of the package in a folder."""
+    code = f'import build_backend; print(build_backend.{kind}({str(folder)!r}))'
+    env = {**os.environ, 'PYTHONPATH': str(source), 'PYTHONDONTWRITEBYTECODE': '1'}
+    done = subprocess.run(
+        [sys.executable, '-c', code], capture_output=True, text=True, env=env, cwd=folder
+    )
+    assert done.returncode == 0, done.stderr
+    return Path(folder) / done.stdout.strip()
+
+
+def copy_of_the_clone(folder):
+    """What the package is built from, elsewhere, with other dates, modes and order of its files."""
+    clone = Path(folder) / 'clone'
+    ignored = shutil.ignore_patterns('__pycache__')
+    for name in ('lib', 'python'):
+        shutil.copytree(TOP / name, clone / name, ignore=ignored, copy_function=shutil.copyfile)
+    for name in ('LICENSE-APACHE', 'LICENSE-MIT'):
+        shutil.copyfile(TOP / name, clone / name)
+    for path in sorted(clone.rglob('*'), reverse=True):
+        path.chmod(0o700)
+        os.utime(path, (time.time() - 10_000_000, time.time() - 10_000_000))
+    return clone / 'python'
+
+
+def fault_of_twice(case):
+    with tempfile.TemporaryDirectory() as first, tempfile.TemporaryDirectory() as second:
+        one, other = built(case.given, first), built(case.given, second, copy_of_the_clone(second))
+        if case.given == 'build_editable':
+            # It has the place of its folder.
+            return unlike(one.name, other.name)
+        return unlike((one.name, True), (other.name, one.read_bytes() == other.read_bytes()))
+
+
+def test_the_same_bytes_twice():
+    check_each([Case(kind, kind, None) for kind in KINDS], fault_of_twice)
+
+
+def fault_of_wheel(case):
+    """What is wrong with what a wheel says of itself, or None."""
+    with tempfile.TemporaryDirectory() as folder, zipfile.ZipFile(
+        built(case.given, folder)
+    ) as wheel:
+        read = {name: wheel.read(name) for name in wheel.namelist()}
+    said = email.message_from_bytes(read[f'{INFO}/METADATA'])
+    programs = configparser.ConfigParser()
+    programs.read_string(read[f'{INFO}/entry_points.txt'].decode())
+    came = (
+        said['Name'],
+        said['Version'],
+        said['License-Expression'],
+        sorted(said.get_all('License-File')),
+        bool(said['Summary']),
+        dict(programs['console_scripts']),
+        {
+            name: read[f'{INFO}/licenses/{name}'] == path.read_bytes()
+            for name, path in LICENCES.items()
+        },
+    )
+    wanted = (
+        'roskevad',
+        VERSION,
+        'MIT OR Apache-2.0',
+        sorted(LICENCES),
+        True,
+        {'roskevad': 'roskevad.__main__:main'},
+        {name: True for name in LICENCES},
+    )
+    return unlike(wanted, came)
+
+
+def test_what_wheels_say():
+    check_each([Case(kind, kind, None) for kind in KINDS[:2]], fault_of_wheel)
+
+
+def test_the_source_archive():
+    """A wheel that is built of it is the clone's."""
+    with tempfile.TemporaryDirectory() as folder:
+        with tarfile.open(built('build_sdist', folder)) as archive:
+            archive.extractall(folder)
+        top = Path(folder) / f'roskevad-{VERSION}'
+        assert (top / 'PKG-INFO').exists() and all((top / name).exists() for name in LICENCES)
+        (Path(folder) / 'own').mkdir()
+        own, clones = built('build_wheel', f'{folder}/own', top), built('build_wheel', folder)
+        assert own.read_bytes() == clones.read_bytes()
+
+
+# ---- with pip
+
+
+def pip(*words, folder):
+    env = {
+        **os.environ,
+        'PIP_NO_INDEX': '1',
+        'PIP_DISABLE_PIP_VERSION_CHECK': '1',
+        'PIP_ROOT_USER_ACTION': 'ignore',
+    }
+    done = subprocess.run(
+        [f'{folder}/bin/python', '-m', 'pip', *words],
+        capture_output=True,
+        text=True,
+        env=env,
+        timeout=120,
+    )
+    assert done.returncode == 0, f'pip {words}: {done.stderr[-1500:]}'
+
+
+def environment(folder):
+    """Makes a virtual environment. Where there can be none, the test is left out."""
+    for _ in range(2):
+        made = subprocess.run(
+            [sys.executable, '-m', 'venv', folder], capture_output=True, text=True
+        )
+        if made.returncode == 0:
+            return
+        packages.install('python3-venv')
+    skip(f'no virtual environment can be made: {made.stdout[-200:]}')
+
+
+def test_pip():
+    """It installs the package, and leads to the clone with `-e`; and takes all out again."""
+    env = {name: value for name, value in os.environ.items() if name != 'PYTHONPATH'}
+    with tempfile.TemporaryDirectory() as folder:
+        environment(folder)
+
+        def fault_of(case):
+            pip('install', *case.given, TOP / 'python', folder=folder)
+            program, module = [f'{folder}/bin/roskevad'], [f'{folder}/bin/python', '-m', 'roskevad']
+            versions = [
+                subprocess.run([*words, '--version'], capture_output=True, env=env, cwd='/').stdout
+                for words in (program, module)
+            ]
+            where = f'{folder}/bin/python', '-c', 'import roskevad; print(roskevad.__file__)'
+            place = subprocess.run(where, capture_output=True, text=True, env=env, cwd='/').stdout
+            pip('uninstall', '-y', 'roskevad', folder=folder)
+            left = [str(path) for path in Path(folder).rglob('*roskevad*')]
+            wanted = [f'roskevad {VERSION}\n'.encode()] * 2, case.wanted, []
+            return unlike(wanted, (versions, place.startswith(str(TOP)), left))
+
+        check_each([Case('a wheel', [], False), Case('the clone', ['-e'], True)], fault_of)
+
+
+# ---- types
+
+
+def test_types():
+    """The package, what builds it, and a script that uses it."""
+    mypy = packages.program_of('mypy')
+    with tempfile.TemporaryDirectory() as folder:
+        script = Path(folder) / 'script.py'
+        script.write_text(SCRIPT)
+        env = {**os.environ, 'MYPYPATH': str(TOP / 'python'), 'MYPY_CACHE_DIR': f'{folder}/cache'}
+        done = subprocess.run(
+            [
+                mypy,
+                '--strict',
+                TOP / 'python' / 'roskevad',
+                TOP / 'python' / 'build_backend.py',
+                script,
+            ],
+            capture_output=True,
+            text=True,
+            env=env,
+            cwd=folder,
+        )
+    assert done.returncode == 0, done.stdout
