@@ -4,7 +4,6 @@ import json
 import os
 import re
 import stat
-import tempfile
 import threading
 from pathlib import Path
 from typing import Any, Iterable, NoReturn, Optional, Union
@@ -12,6 +11,7 @@ from typing import Any, Iterable, NoReturn, Optional, Union
 from . import library
 from .faults import Closed, Refused
 from .library import LIBRARY, SelectionRun, Slot
+from .saving import replace
 
 _REFUSAL = re.compile(r'no (\d+) (.*)', re.DOTALL)
 _STEP = LIBRARY.roskevad_step
@@ -199,7 +199,7 @@ class Editor:
             self._refuse_save(path)
             data = self.step('show')[len('map '):].encode()
             try:
-                _replace(path, data)
+                replace(path, data)
             except OSError as fault:
                 raise self._failed(f'save {path}') from fault
             with self._aside(_NAME):
@@ -305,33 +305,3 @@ def _read(path: Path) -> tuple[Optional[bytes], Optional[OSError]]:
         return None, None
     except OSError as fault:
         return None, fault
-
-
-def _replace(path: Path, data: bytes) -> None:
-    """Writes bytes beside a file, and then puts them in its place."""
-    handle, beside = tempfile.mkstemp(dir=path.parent, prefix='.' + path.name)
-    try:
-        with os.fdopen(handle, 'wb') as file:
-            file.write(data)
-            file.flush()
-            os.fsync(file.fileno())
-        os.chmod(beside, _mode_of(path))
-        os.replace(beside, path)
-    except BaseException:
-        os.unlink(beside)
-        raise
-
-
-def _mode_of(path: Path) -> int:
-    """The access mode of the file that is replaced; that of any new one where there is none, or something else."""
-    try:
-        mode = os.lstat(path).st_mode
-    except OSError:
-        mode = 0
-    return mode & 0o777 if stat.S_ISREG(mode) else 0o666 & ~_mask()
-
-
-def _mask() -> int:
-    mask = os.umask(0)
-    os.umask(mask)
-    return mask
