@@ -54,11 +54,19 @@ fn clear<F: SaveFolder>(alloc: Global, folder: &mut F, front: &str)
     }
 }
 
-// Whether the file under the path has these bytes already, and the system keeps it so.
-fn is_unchanged<F: SaveFolder>(folder: &mut F, path: &str, bytes: &[u8]) -> bool
+// Whether a file is under the path, and has these bytes already, and the system keeps it so.
+fn is_unchanged<F: SaveFolder>(
+    folder: &mut F,
+    path: &str,
+    access: Option<u32>,
+    bytes: &[u8],
+) -> bool
     ensures safe { LosesNothing NoPath path.now bytes.now (F.log folder.old) (F.log folder.new) }
     ensures kept { IsTrue result → IsKept path.now bytes.now (F.log folder.new) }
 {
+    if access.is_none() {
+        return false;
+    }
     if !folder.compare(path, bytes) {
         return false;
     }
@@ -158,7 +166,7 @@ fn save_open<F: SaveFolder>(
     let access = folder.access(path)?;
     folder.open_folder()?;
     clear(alloc, folder, front);
-    if access.is_some() && is_unchanged(folder, path, bytes) {
+    if is_unchanged(folder, path, access, bytes) {
         return Ok(());
     }
     replace(alloc, folder, path, front, access, bytes)

@@ -2,6 +2,7 @@
 use Rattle.std.proofs.Common.{◌≡◌, List, ◌∷◌, is_ok, sym, ap, subst, ◌∙◌}
 use Rattle.atomic_save.specs.Crash.{Call}
 use Rattle.atomic_save.specs.Saving.{LosesNothing, NoPath}
+use Rattle.atomic_save.proofs.Calls.{none}
 use Rattle.atomic_save.proofs.Filled.{compared_exit, compared_synced_exit, compared_kept_exit}
 use Rattle.atomic_save.proofs.saves.is_unchanged.Goals as goal
 
@@ -25,3 +26,6 @@ returns-clause-safe g c =
     let old = g.F.SaveFolder.log c.args.folder.now in
     subst (λ (l : List Call). LosesNothing NoPath c.args.path.now c.args.bytes.now old l) (sym (also (also c.compare.ensures.noted c.sync.ensures) c.sync_folder.ensures))
     (compared_kept_exit c.args.path.now c.args.bytes.now c.compare.result (is_ok c.sync.result) (is_ok c.sync_folder.result) old)
+
+pub returns-then-is_none-clause-safe : goal.returns-then-is_none-clause-safe
+returns-then-is_none-clause-safe g c = none NoPath c.args.path.now c.args.bytes.now (g.F.SaveFolder.log c.args.folder.now)
