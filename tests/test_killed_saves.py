@@ -16,7 +16,7 @@ import tempfile
 from dataclasses import dataclass
 from pathlib import Path
 
-from lib.cases import CORES, check_each, passed
+from lib.cases import CORES, Case, check_each, passed, unlike
 from lib.native import interposed
 from lib.places import SESSION_MAPS, TILE_EDITOR
 from lib.refusals import refusal
@@ -384,3 +384,42 @@ def fault_of(place):
 def test_saves_that_are_stopped():
     """Each kind of file is a case, and each run of the program a check besides."""
     check_each(PLACES, fault_of, CORES)
+
+
+def after_refused_sync(saver, sessions):
+    """The replies and calls of runs over a new folder, in the first of which the folder's first
+    sync fails."""
+    Place('no file').make(saver.folder, saver.user)
+    env = {'LD_PRELOAD': str(saver.library)}
+    stops = {'STOP_NAME': 'fsync_folder', 'STOP_BY': str(errno.EIO)}
+    replies, calls = [], []
+    for number, session in enumerate(sessions):
+        done = saver.heard(PLACES[0], session, {**env, **(stops if number == 0 else {})})
+        replies += done.stdout.split(b'\n')[:-1]
+        calls.append(done.stderr.decode().rpartition('calls:')[2].split())
+    return replies, calls
+
+
+def test_save_after_a_refused_sync():
+    """A save whose folder could not be synced is refused. To save the same again is no `saved`
+    without a sync of the file and the folder, in the same run and in the next one."""
+    again = [b'save m.tmj']
+    reopened = [b'open town m.tmj', b'save m.tmj']
+    refused = [*EDITED, refusal(51).encode()]
+    cases = [
+        Case('in the same run', [EDITS + again], [*refused, b'saved m.tmj 389']),
+        Case('in the next run', [EDITS, reopened], [*refused, b'ok 0/0 clean 0', b'saved m.tmj 389']),
+    ]
+
+    def fault_after(case):
+        with tempfile.TemporaryDirectory() as top:
+            replies, calls = after_refused_sync(Saver(Path(top)), case.given)
+        if replies != case.wanted:
+            return unlike(case.wanted, replies)
+        last = calls[-1]
+        if len(calls) == 1:
+            last = last[last.index('fsync_folder') + 1 :]
+        syncs = [name for name in last if name.startswith('fsync')]
+        return unlike(['fsync', 'fsync_folder'], syncs)
+
+    check_each(cases, fault_after)

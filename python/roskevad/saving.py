@@ -56,12 +56,13 @@ def _fill(file, data: bytes, mode: Optional[int], beside: Path, path: Path) -> N
 
 def _clear(path: Path) -> None:
     """Takes away the new files that killed runs left, as far as nobody else has them locked."""
-    name = re.compile(r'\.' + re.escape(path.name) + r'\.[0-9]+\.new')
+    name = re.compile(re.escape(f'.{path.name}.') + r'(0|[1-9][0-9]{0,19})\.new')
     for left in [path.with_name(found) for found in os.listdir(path.parent) if name.fullmatch(found)]:
         try:
             if stat.S_ISREG(left.lstat().st_mode):
                 _take_away(left)
         except OSError:
+            # What can't be locked stays.
             pass
 
 

