@@ -1,8 +1,10 @@
 """Runs the program on folders that are not as they should be, or have more in them than maps:
-missing ones, pipes, links, files that are too long, a full disk, and permissions. Each case is a
+missing ones, pipes, links, files that are too long, full disks, and permissions. Each case is a
 function that prepares a folder, and gives rows of a session with its replies, and what must stand
 in the folder then. A case on permissions runs as the user nobody where it would otherwise run as
 root, whom no permission stops."""
+import errno
+import fcntl
 import os
 import resource
 import shutil
@@ -101,38 +103,64 @@ def empty(folder):
 
 
 def left_behind(folder):
-    """A file that a run left behind when it was killed in a save of this map, and one of another
+    """Files that runs left behind when they were killed in a save of this map, and one of another
     map."""
     (folder / 'm.tmj').write_bytes(MAP)
-    (folder / '.m.tmj.new').write_bytes(NEW[:100])
-    (folder / '.n.tmj.new').write_bytes(NEW[:100])
-    return OPEN_AND_SAVE, {'m.tmj': MAP, '.n.tmj.new': NEW[:100]}
+    for name in ['.m.tmj.0.new', '.m.tmj.7.new', '.m.tmj.18446744073709551615.new']:
+        (folder / name).write_bytes(NEW[:100])
+    (folder / '.n.tmj.0.new').write_bytes(NEW[:100])
+    return OPEN_AND_SAVE, {'m.tmj': MAP, '.n.tmj.0.new': NEW[:100]}
+
+
+def not_left_behind(folder):
+    """Files whose names are like those that a killed run leaves, and are none of them."""
+    names = ['.m.tmj.new', '.m.tmj..new', '.m.tmj.a.new', '.m.tmj.0.new.new', '.m.tmj.0.0.new']
+    names += ['.m.tmj.18446744073709551616.new', '.m.tmj.0.old', 'm.tmj.0.new', '.m.tmj.']
+    files = {name: name.encode() for name in names}
+    for name, data in files.items():
+        (folder / name).write_bytes(data)
+    return NEW_AND_SAVE, {**files, 'm.tmj': NEW}
 
 
 def left_behind_and_opened(folder):
     """A file that a killed run left behind, where nothing is saved."""
-    (folder / '.m.tmj.new').write_bytes(MAP)
-    return [f'open m m.tmj => {refusal(50)}', 'list => docs'], {'.m.tmj.new': MAP}
+    (folder / '.m.tmj.0.new').write_bytes(MAP)
+    return [f'open m m.tmj => {refusal(50)}', 'list => docs'], {'.m.tmj.0.new': MAP}
+
+
+def locked(folder):
+    """A new file that another run has locked: it stays, and the save takes the next name."""
+    (folder / '.m.tmj.0.new').write_bytes(MAP)
+    HELD.append(open(folder / '.m.tmj.0.new', 'rb'))
+    fcntl.flock(HELD[-1], fcntl.LOCK_EX)
+    return NEW_AND_SAVE, {'.m.tmj.0.new': MAP, 'm.tmj': NEW}
 
 
 def folder_left_behind(folder):
-    """A folder where a save makes its new file: nothing is saved."""
-    (folder / '.m.tmj.new').mkdir()
-    return NOT_SAVED, {'.m.tmj.new': {}}
+    """A folder where a save makes its new file: it stays, and the save takes the next name."""
+    (folder / '.m.tmj.0.new').mkdir()
+    return NEW_AND_SAVE, {'.m.tmj.0.new': {}, 'm.tmj': NEW}
 
 
 def pipe_left_behind(folder):
-    """A pipe where a save makes its new file: it is removed, and not written into."""
-    os.mkfifo(folder / '.m.tmj.new')
-    return NEW_AND_SAVE, {'m.tmj': NEW}
+    """A pipe where a save makes its new file: it stays, and is not written into."""
+    os.mkfifo(folder / '.m.tmj.0.new')
+    return NEW_AND_SAVE, {'.m.tmj.0.new': 'pipe', 'm.tmj': NEW}
 
 
 def link_left_behind(folder):
-    """A symbolic link where a save makes its new file: it is removed, and what it leads to
-    stays."""
+    """A symbolic link where a save makes its new file: it stays, and so does what it leads to."""
     (folder / 'far').write_bytes(MAP)
-    (folder / '.m.tmj.new').symlink_to('far')
-    return NEW_AND_SAVE, {'far': MAP, 'm.tmj': NEW}
+    (folder / '.m.tmj.0.new').symlink_to('far')
+    return NEW_AND_SAVE, {'far': MAP, '.m.tmj.0.new': 'link', 'm.tmj': NEW}
+
+
+def longest_name(folder):
+    """A map whose name has as many bytes as one may have, and a file that was left behind."""
+    name = 'm' * 96 + '.tmj'
+    (folder / f'.{name}.18446744073709551615.new').write_bytes(MAP)
+    rows = ['new town 4 3 16 16 town.tsj => ok 0/0 clean 0', f'save {name} => saved {name} 389']
+    return rows, {name: NEW}
 
 
 def device(folder):
@@ -209,6 +237,15 @@ def unwritable(folder):
     }
 
 
+def unlisted(folder):
+    """A folder whose names may not be read, so that it can't be synced: its maps are opened."""
+    (folder / 'm.tmj').write_bytes(MAP)
+    folder.chmod(0o300)
+    return ['open m m.tmj => ok 0/0 clean 0', 'discard m => ok none clean', *NOT_SAVED], {
+        'm.tmj': MAP
+    }
+
+
 def unsearchable(folder):
     """A folder in which nothing may be looked for."""
     (folder / 'm.tmj').write_bytes(MAP)
@@ -229,16 +266,21 @@ FOLDERS = [
     longest_map,
     empty,
     left_behind,
+    not_left_behind,
     left_behind_and_opened,
+    locked,
     folder_left_behind,
     pipe_left_behind,
     link_left_behind,
+    longest_name,
     link,
     hard_link,
     link_to_nothing,
     link_to_itself,
 ]
-ON_PERMISSIONS = [unreadable, unwritable, unsearchable]
+ON_PERMISSIONS = [unreadable, unwritable, unlisted, unsearchable]
+# Files that the cases keep locked.
+HELD = []
 # What standard error says at the start.
 MISSING_FOLDERS = {missing: b'No such file or directory', file_for_folder: b'Not a directory'}
 # What it says of the map.
@@ -253,6 +295,7 @@ REASONS = {
     link_to_itself: b'/m.tmj: Too many levels of symbolic links\n',
     unreadable: b'/m.tmj: Permission denied\n',
     unwritable: b'/m.tmj: Permission denied\n',
+    unlisted: b'/m.tmj: Permission denied\n',
     unsearchable: b'/m.tmj: Permission denied\n',
 }
 # A file of the program may have no more bytes than this in the case `full`: MAP has fewer, and NEW
@@ -368,3 +411,47 @@ def test_permissions():
         skip('root can be no other user here')
     user = NOBODY if os.getuid() == 0 else None
     check_each(cases_of(ON_PERMISSIONS), lambda case: fault_of(case, user))
+
+
+# Mounts a disk of so many blocks in memory, which only the command after it sees.
+WITH_DISK = 'mount -t tmpfs -o size={size} none "$0" && exec "$@"'
+SAVES = [b'new town 4 3 16 16 town.tsj', b'save m.tmj', b'stamp 1 0 0 1 5', b'save m.tmj', b'status']
+
+
+def saves_on_disk(top, size, before):
+    """The replies to saves into a folder that is a disk of its own, and what stands there then,
+    after a command has run in it."""
+    maps = top / 'maps'
+    maps.mkdir()
+    program = f'{before}; {TILE_EDITOR} --folder maps; ls -A maps; cat maps/m.tmj'
+    words = ['sh', '-c', WITH_DISK.format(size=size), maps, 'sh', '-c', program]
+    apart = ['--mount'] if os.getuid() == 0 else ['--user', '--map-root-user', '--mount']
+    done = subprocess.run(
+        ['unshare', *apart, *words], input=joined(SAVES), capture_output=True, timeout=60, cwd=top
+    )
+    return done.stdout, done.stderr.decode()
+
+
+def test_full_disk():
+    """On a disk that is full a save is refused and leaves the old file, with nothing beside it."""
+    page = os.sysconf('SC_PAGE_SIZE')
+    first = [b'ok 0/0 clean 0', b'saved m.tmj 389', b'ok 1/1 dirty 0']
+    stamped = NEW.replace(b'"data":[0,', b'"data":[5,')
+    cases = [
+        Case('room for two files', 2, [*first, b'saved m.tmj 389', b'ok 1/1 clean 0', stamped]),
+        Case('room for one file', 1, [*first, refusal(51).encode(), b'ok 1/1 dirty 0', NEW]),
+    ]
+
+    def fault_of_disk(case):
+        with tempfile.TemporaryDirectory() as top:
+            output, errors = saves_on_disk(Path(top), (case.given + 1) * page, 'head -c 1 /dev/zero >maps/n')
+        if 'unshare' in errors or 'mount' in errors:
+            skip(f'no disk can be mounted here: {errors}')
+        *replies, file = case.wanted
+        wanted = joined([*replies, b'm.tmj', b'n']) + file
+        reason = os.strerror(errno.ENOSPC)
+        if (reason in errors) != (case.given == 1):
+            return errors
+        return unlike(wanted, output)
+
+    check_each(cases, fault_of_disk)

@@ -1,9 +1,11 @@
-"""Kills the program at each step of a save, and makes each call of a save on files fail, over files
-of several modes. However a save ends, the file under its name is the old one or the new one, whole,
-and has the old one's mode; no file has a wider mode meanwhile, and the next save of that name takes
-away what is left beside it. A save that fails is answered so, and leaves the document as it was. It
-runs as the user nobody where it would otherwise run as root, whom no permission stops.
-native/interpose_saves.c kills and makes calls fail."""
+"""Kills the program at each step of a save, and makes each call of a save on files and their folder
+fail, over files of several modes. However a save ends, the file under its name is the old one or
+the new one, whole, and has the old one's mode; no file has a wider mode meanwhile, and the next
+save of that name takes away what is left beside it. A save that fails is answered so, and leaves
+the document as it was. The file is synced before it takes its place, and the folder behind that. A
+save that changes nothing leaves the file alone, and syncs it and the folder. It runs as the user
+nobody where it would otherwise run as root, whom no permission stops. native/interpose_saves.c
+kills and makes calls fail."""
 import errno
 import os
 import shutil
@@ -14,7 +16,7 @@ import tempfile
 from dataclasses import dataclass
 from pathlib import Path
 
-from lib.cases import CORES, check_each, passed
+from lib.cases import CORES, Case, check_each, passed, unlike
 from lib.native import interposed
 from lib.places import SESSION_MAPS, TILE_EDITOR
 from lib.refusals import refusal
@@ -25,7 +27,7 @@ OLD = (SESSION_MAPS / 'two_cells.tmj').read_bytes()
 EMPTY = (SESSION_MAPS / 'town.tmj').read_bytes()
 # The map with its first cell stamped, which is one digit for another.
 NEW = EMPTY.replace(b'"data":[0,', b'"data":[5,')
-NAME, BESIDE, FAR = 'm.tmj', '.m.tmj.new', 'far'
+NAME, BESIDE, FAR = 'm.tmj', '.m.tmj.0.new', 'far'
 # The bits of a mode that a save keeps.
 ACCESS = 0o777
 
@@ -52,10 +54,49 @@ NEXT_SESSION = [b'new town 4 3 16 16 town.tsj', b'save m.tmj', b'status']
 NEXT_SAVED = [b'ok 0/0 clean 0', b'saved m.tmj 389', b'ok 0/0 clean 0']
 
 ERRORS = [errno.EIO, errno.ENOSPC, errno.EACCES]
-# The steps that every save has, and those whose failure loses nothing: there was no file left
-# behind, and the file is synced.
-NEEDED = ['open', 'write', 'fsync', 'rename']
-HARMLESS = ['unlink', 'close', 'reply']
+# The calls of a save over a file of another length, but for those that give it its mode.
+CHANGED = [
+    'statx',
+    'open_folder',
+    'list',
+    'statx',
+    'open_new',
+    'flock',
+    'statx_new',
+    'fstat',
+    'write',
+    'fsync',
+    'rename',
+    'fsync_folder',
+    'close',
+    'close_folder',
+    'reply',
+]
+# The calls of a save where there is no file, or what is there is no regular one.
+FIRST = CHANGED[:3] + CHANGED[4:]
+# The calls of a save over a file of the same bytes.
+UNCHANGED = [
+    'statx',
+    'open_folder',
+    'list',
+    'statx',
+    'open',
+    'read',
+    'read',
+    'statx',
+    'fstat',
+    'fsync',
+    'fsync_folder',
+    'close',
+    'close_folder',
+    'reply',
+]
+# The calls that give a file its mode.
+MODES = ['fstat', 'fchmod']
+# The calls whose failure loses nothing.
+HARMLESS = ['list', 'flock', 'close', 'close_folder', 'reply']
+# What may fail where a file is only compared: it is then replaced.
+COMPARING = ['statx', 'open', 'read', 'fstat', 'fsync', 'fsync_folder']
 
 
 class Fault(Exception):
@@ -70,6 +111,7 @@ class Place:
     mode: int = None
     mask: int = 0o022
     is_link: bool = False
+    data: bytes = OLD
 
     def make(self, folder, user):
         """Makes a folder anew, with this in it."""
@@ -77,7 +119,7 @@ class Place:
         folder.mkdir()
         file = folder / (FAR if self.is_link else NAME)
         if self.mode is not None:
-            file.write_bytes(OLD)
+            file.write_bytes(self.data)
             if user is not None:
                 os.chown(file, user, user)
             file.chmod(self.mode)
@@ -88,7 +130,8 @@ class Place:
 
     def before(self):
         """What stands in the folder before a save."""
-        file = {} if self.mode is None else {FAR if self.is_link else NAME: (self.mode, OLD)}
+        name = FAR if self.is_link else NAME
+        file = {} if self.mode is None else {name: (self.mode, self.data)}
         return {**file, NAME: FAR} if self.is_link else file
 
     def new_mode(self):
@@ -100,11 +143,19 @@ class Place:
         """What stands in the folder after a save of these bytes."""
         return {**self.before(), NAME: (self.new_mode(), data)}
 
-    def after_next(self, found):
-        """What stands there after one more save, where this was found before it."""
-        stood = found.get(NAME)
+    def after_next(self, found, is_root):
+        """What stands there after one more save, where this was found before it. What is left
+        beside the file is taken away, but where it can't be opened, so that it can't be locked."""
+        stood, rest = found.get(NAME), found.get(BESIDE)
         mode = stood[0] & ACCESS if isinstance(stood, tuple) else self.new_mode()
-        return {**self.before(), NAME: (mode, EMPTY)}
+        stays = {BESIDE: rest} if rest and not rest[0] & 0o400 and not is_root else {}
+        return {**self.before(), **stays, NAME: (mode, EMPTY)}
+
+    def calls(self):
+        """The calls of a save, but for those that give the file its mode."""
+        if self.mode is None or self.is_link:
+            return FIRST
+        return UNCHANGED if self.data == NEW else CHANGED
 
 
 PLACES = [
@@ -119,6 +170,7 @@ PLACES = [
     Place('a file of mode 4755', 0o4755),
     Place('a link to a file of mode 600', 0o600, is_link=True),
     Place('a link to nothing', is_link=True),
+    *(Place(f'the same file, of mode {mode:o}', mode, data=NEW) for mode in (0o644, 0o400)),
 ]
 
 
@@ -195,7 +247,8 @@ class Saver:
         replies = done.stdout.split(b'\n')[:-1]
         if done.returncode != 0 or replies != NEXT_SAVED:
             raise Fault(f'the next save: {replies}')
-        if entries(self.folder) != place.after_next(found):
+        is_root = os.getuid() == 0 and self.user is None
+        if entries(self.folder) != place.after_next(found, is_root):
             raise Fault(f'the next save: {in_words(entries(self.folder))}')
 
 
@@ -220,23 +273,36 @@ def see_folder(place, found, may_be_old, may_be_new, may_have_rest):
         raise Fault(f'{BESIDE} has {data[:80]!r}')
 
 
+def without_modes(calls):
+    """The calls but for those that give a file its mode, between the looks at its name and the
+    first write."""
+    if 'write' not in calls:
+        return calls
+    named, write = calls.index('statx_new') + 2, calls.index('write')
+    return calls[:named] + [name for name in calls[named:write] if name not in MODES] + calls[write:]
+
+
 def see_saved(saver, place):
     """Sees that a save that nothing stops works, and gives the names of its calls."""
     done, calls = saver.stopped(place)
     if done.returncode != 0 or done.stdout.split(b'\n')[:-1] != SAVED:
         raise Fault(f'status {done.returncode}, {done.stdout}')
     see_folder(place, entries(saver.folder), False, True, False)
-    missing = [name for name in NEEDED if name not in calls]
-    if missing or calls[-1] != 'reply':
-        raise Fault(f'no {missing} seen among {calls}')
-    last_write, sync, rename = (
-        len(calls) - calls[::-1].index('write') - 1,
-        calls.index('fsync'),
-        calls.index('rename'),
-    )
-    if not last_write < sync < rename:
-        raise Fault(f'not synced between the last write and the rename: {calls}')
+    if without_modes(calls) != place.calls():
+        raise Fault(f'the calls are {calls}, and are to be {place.calls()}')
     return calls
+
+
+def see_same_file(saver, place):
+    """Sees that a save of the same bytes leaves the file alone, with its times."""
+    place.make(saver.folder, saver.user)
+    before = (saver.folder / NAME).stat()
+    done = saver.heard(place, SESSION, {})
+    after = (saver.folder / NAME).stat()
+    if done.stdout.split(b'\n')[:-1] != SAVED:
+        raise Fault(f'{done.stdout}')
+    if (before.st_ino, before.st_mtime_ns) != (after.st_ino, after.st_mtime_ns):
+        raise Fault('the file was replaced or written')
 
 
 def see_killed(saver, place, at, by):
@@ -256,11 +322,22 @@ def see_failed(saver, place, at, error, stops_all):
     is_saved = replies == SAVED
     if done.returncode != 0 or not (is_saved or replies == NOT_SAVED):
         raise Fault(f'status {done.returncode}, {replies}')
-    if is_saved and (stops_all or calls[at - 1] not in HARMLESS):
+    if is_saved and (stops_all or not is_harmless(place, calls, at)):
         raise Fault('the save is said to have worked')
     found = entries(saver.folder)
-    see_folder(place, dict(found), not is_saved, is_saved, stops_all)
+    # Where only the folder could not be synced, which comes last, the new file stands.
+    is_new = is_saved or calls[at - 1] == 'fsync_folder'
+    see_folder(place, dict(found), not is_new, is_new, stops_all)
     saver.save_again(place, found)
+
+
+def is_harmless(place, calls, at):
+    """Whether a save works though a call of it fails. The first look is at the old file's mode, and
+    further ones are for a comparison."""
+    name = calls[at - 1]
+    if name == 'statx':
+        return at > 1
+    return name in HARMLESS or (place.data == NEW and name in COMPARING and 'write' not in calls[:at])
 
 
 def stops_of(calls):
@@ -276,7 +353,7 @@ def stops_of(calls):
                 error,
                 False,
             )
-        if name not in ('close', 'reply'):
+        if name not in ('close', 'close_folder', 'reply'):
             yield f'all calls from {at}, {name}, give EIO', see_failed, (at, errno.EIO, True)
 
 
@@ -287,6 +364,11 @@ def faults_in(saver, place):
     except Fault as fault:
         yield str(fault)
         return
+    if place.calls() == UNCHANGED:
+        try:
+            see_same_file(saver, place)
+        except Fault as fault:
+            yield f'nothing stops it: {fault}'
     for title, see, arguments in stops_of(calls):
         try:
             see(saver, place, *arguments)
@@ -302,3 +384,42 @@ def fault_of(place):
 def test_saves_that_are_stopped():
     """Each kind of file is a case, and each run of the program a check besides."""
     check_each(PLACES, fault_of, CORES)
+
+
+def after_refused_sync(saver, sessions):
+    """The replies and calls of runs over a new folder, in the first of which the folder's first
+    sync fails."""
+    Place('no file').make(saver.folder, saver.user)
+    env = {'LD_PRELOAD': str(saver.library)}
+    stops = {'STOP_NAME': 'fsync_folder', 'STOP_BY': str(errno.EIO)}
+    replies, calls = [], []
+    for number, session in enumerate(sessions):
+        done = saver.heard(PLACES[0], session, {**env, **(stops if number == 0 else {})})
+        replies += done.stdout.split(b'\n')[:-1]
+        calls.append(done.stderr.decode().rpartition('calls:')[2].split())
+    return replies, calls
+
+
+def test_save_after_a_refused_sync():
+    """A save whose folder could not be synced is refused. To save the same again is no `saved`
+    without a sync of the file and the folder, in the same run and in the next one."""
+    again = [b'save m.tmj']
+    reopened = [b'open town m.tmj', b'save m.tmj']
+    refused = [*EDITED, refusal(51).encode()]
+    cases = [
+        Case('in the same run', [EDITS + again], [*refused, b'saved m.tmj 389']),
+        Case('in the next run', [EDITS, reopened], [*refused, b'ok 0/0 clean 0', b'saved m.tmj 389']),
+    ]
+
+    def fault_after(case):
+        with tempfile.TemporaryDirectory() as top:
+            replies, calls = after_refused_sync(Saver(Path(top)), case.given)
+        if replies != case.wanted:
+            return unlike(case.wanted, replies)
+        last = calls[-1]
+        if len(calls) == 1:
+            last = last[last.index('fsync_folder') + 1 :]
+        syncs = [name for name in last if name.startswith('fsync')]
+        return unlike(['fsync', 'fsync_folder'], syncs)
+
+    check_each(cases, fault_after)

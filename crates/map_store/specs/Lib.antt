@@ -1,4 +1,5 @@
 pub mod Files
 pub mod Storing
 pub mod Stored
+pub mod Paths
 pub mod Fuse

@@ -1,17 +1,18 @@
-ghost use Rattle.std.specs.Prelude.{◌≡◌, ◌+◌, ◌-◌, ◌^◌, ◌<◌, ◌≤◌, ◌⊎◌, IfOk, IfSome, IfNone, IsErrOf, IsTrue, OnOk, [], vec_len, length, take, slice_range};
+ghost use Rattle.std.specs.Prelude.{◌≡◌, ℕ, List, ◌+◌, ◌-◌, ◌^◌, ◌<◌, ◌≤◌, ◌⊎◌, IfOk, IfSome, IfNone, IsErrOf, IsTrue, OnOk, [], vec_len, length, take, slice_range, string_bytes};
 ghost use Rattle.std.specs.Io.KnownBytes.{Consumes, IsAtEnd};
+ghost use Rattle.atomic_save.specs.Saving.{IsBeside};
 ghost use Rattle.map_store.specs.Files.{HasFailed};
+ghost use Rattle.map_store.specs.Paths.{path_to, front_of, IsName};
 ghost use Rattle.map_store.specs.Storing.{Loads};
 
 use crate::map_store::{MapStore, StoreFault};
 use crate::reason::Reason;
+use atomic_save::{LockFile, SaveError, SystemFolder, save};
 use std::alloc::{AllocError, Global};
 use std::fmt::Display;
-use std::fs::{OpenFile, OpenOptions, Permissions};
-use std::io::{ErrorKind, Read, Write};
-use std::os::unix::fs::{MetadataExt, OpenOptionsExt, PermissionsExt};
+use std::fs;
+use std::io::{ErrorKind, Read};
 use std::rt::Files;
-use std::{fs, io};
 use thiserror::Error;
 
 /// The bytes of the longest file that is loaded.
@@ -23,22 +24,17 @@ const MORE_ROOM: usize = 65_536;
 /// The calls of `read` that a load makes at most.
 const MAX_CALLS: u64 = 4_294_967_296;
 
-/// The bits of a file's mode that say who may read, write and run it.
-const ACCESS_BITS: u32 = 0o777;
-
-/// The mode that a new file is asked for where it replaces none. The system takes away what the process's mask says.
-const NEW_FILE_MODE: u32 = 0o666;
-
 /// The files of a folder of the system. Nothing is claimed of them, since other programs reach them too.
 ///
 /// A file's path is the folder's, a slash and its name. The name has no slash and no dot at its front. Where a file can't be
 /// loaded or saved, a line on standard error says why: the program's name, the path and the system's reason.
 #[derive(Drop)]
-pub struct FolderStore<'a, R> {
+pub struct FolderStore<'a, R: Files> {
     rt: &'a R,
     // What stands before each reason.
     program: &'a str,
     folder: &'a str,
+    saves: SystemFolder<'a, R>,
     failures: u64,
 }
 
@@ -143,55 +139,15 @@ fn read_whole<F: Read>(alloc: Global, file: &mut F, size: usize) -> Result<Vec<u
     Err(LoadError::TooLong)
 }
 
-// The access bits of the file at a path. There are none if nothing is there, or what is there is no file, as a link.
-fn access_of<R: Files>(rt: &R, path: &str) -> io::Result<Option<u32>> {
-    match fs::symlink_metadata(rt, path) {
-        Ok(metadata) if metadata.is_file() => Ok(Some(metadata.mode() & ACCESS_BITS)),
-        Ok(_) => Ok(None),
-        Err(error) if error.kind() == ErrorKind::NotFound => Ok(None),
-        Err(error) => Err(error),
-    }
-}
+/// No new file that stands beside a file, while that is stored, has the path of a file of the store.
+pub fn new_files_are_apart()
+    ensures { (folder name other : List ℕ) → IsName other → IsBeside (front_of folder name) (path_to folder other) → ⊥ }
+{}
 
-// Gives a file these access bits. Where it has them nothing is set, since not every file system can.
-fn set_access<F: OpenFile>(file: &F, access: u32) -> io::Result<()> {
-    if file.metadata()?.mode() & ACCESS_BITS == access {
-        return Ok(());
-    }
-    file.set_permissions(Permissions::from_mode(access))
-}
-
-// Makes a file that is not there yet, with these access bits or those of any new file. Its mode is wider at no time.
-fn create_new<R: Files>(rt: &R, path: &str, access: Option<u32>) -> io::Result<R::File> {
-    let file = OpenOptions::new()
-        .write(true)
-        .create_new(true)
-        .mode(access.unwrap_or(NEW_FILE_MODE))
-        .open(rt, path)?;
-    // The process's mask may have taken some away.
-    if let Some(access) = access {
-        set_access(&file, access)?;
-    }
-    Ok(file)
-}
-
-// Writes a file that is not there yet, and has the system keep it.
-fn write_new<R: Files>(rt: &R, path: &str, access: Option<u32>, bytes: &[u8]) -> io::Result<()> {
-    let mut file = create_new(rt, path, access)?;
-    file.write_all(bytes)?;
-    file.sync_all()
-}
-
-// Puts bytes into a file by way of a new one, which takes its place when it is whole. The access bits stay.
-fn replace<R: Files>(rt: &R, new_path: &str, path: &str, bytes: &[u8]) -> io::Result<()> {
-    let access = access_of(rt, path)?;
-    // What a run that was killed left behind. What can't be removed is seen when the new file is made.
-    let _ = fs::remove_file(rt, new_path);
-    write_new(rt, new_path, access, bytes)?;
-    fs::rename(rt, new_path, path)
-}
-
-impl<'a, R: Files + Eprint> FolderStore<'a, R> {
+impl<'a, R: Files + Eprint> FolderStore<'a, R>
+where
+    R::File: LockFile,
+{
     ghost use Rattle.std.specs.Prelude.{false};
     ghost use Rattle.std.specs.FinMap.{empty};
 
@@ -204,19 +160,25 @@ impl<'a, R: Files + Eprint> FolderStore<'a, R> {
             rt,
             program,
             folder,
+            saves: SystemFolder::new(rt, folder),
             failures: 0,
         }
     }
 
-    fn path_of(&self, alloc: Global, name: &str) -> Result<String, AllocError> {
+    fn path_of(&self, alloc: Global, name: &str) -> Result<String, AllocError>
+        ensures { IfOk result (λ path. string_bytes path ≡ path_to self.now.folder.now name.now) }
+    {
         let folder = self.folder;
         format!(in alloc; "{folder}/{name}")
     }
 
-    // Where a file is written before it takes its place. Its name begins with a dot, so it is no file of the store.
-    fn new_path_of(&self, alloc: Global, name: &str) -> Result<String, AllocError> {
+    // What the paths of the new files begin with, by which a save replaces a file. Their names begin with a dot, so they are
+    // no files of the store.
+    fn front(&self, alloc: Global, name: &str) -> Result<String, AllocError>
+        ensures { IfOk result (λ front. string_bytes front ≡ front_of self.now.folder.now name.now) }
+    {
         let folder = self.folder;
-        format!(in alloc; "{folder}/.{name}.new")
+        format!(in alloc; "{folder}/.{name}.")
     }
 
     // Says on standard error what went wrong with a file.
@@ -256,7 +218,10 @@ impl<'a, R: Files + Eprint> FolderStore<'a, R> {
     }
 }
 
-impl<'a, R: Files + Eprint> MapStore for FolderStore<'a, R> {
+impl<'a, R: Files + Eprint> MapStore for FolderStore<'a, R>
+where
+    R::File: LockFile,
+{
     ghost use Rattle.std.specs.Prelude.{false};
     ghost use Rattle.std.specs.FinMap.{empty};
 
@@ -290,16 +255,18 @@ impl<'a, R: Files + Eprint> MapStore for FolderStore<'a, R> {
         }
     }
 
+    #[tactic(auto, using(crate::proofs::Names::path_apart))]
     fn store(&mut self, alloc: Global, name: &str, bytes: &[u8]) -> Result<(), StoreFault> {
-        let (Ok(path), Ok(new_path)) = (self.path_of(alloc, name), self.new_path_of(alloc, name))
-        else {
+        let (Ok(path), Ok(front)) = (self.path_of(alloc, name), self.front(alloc, name)) else {
             return Err(StoreFault::Memory);
         };
-        let Err(error) = replace(self.rt, new_path.as_str(), path.as_str(), bytes) else {
-            return Ok(());
-        };
-        let _ = fs::remove_file(self.rt, new_path.as_str());
-        self.report(path.as_str(), Reason::of(error));
-        Err(self.counted(StoreFault::Device))
+        match save(alloc, &mut self.saves, path.as_str(), front.as_str(), bytes) {
+            Ok(()) => Ok(()),
+            Err(SaveError::Memory(_)) => Err(StoreFault::Memory),
+            Err(SaveError::Refused(error)) => {
+                self.report(path.as_str(), Reason::of(error));
+                Err(self.counted(StoreFault::Device))
+            }
+        }
     }
 }

@@ -7,7 +7,7 @@ mod map_store;
 mod memory_store;
 mod reason;
 
-pub use folder_store::FolderStore;
+pub use folder_store::{FolderStore, new_files_are_apart};
 pub use fuse_store::FuseStore;
 pub use map_store::{MapStore, StoreFault};
 pub use memory_store::MemoryStore;
