@@ -98,20 +98,24 @@ listed_option_passes cmd k a x m plain no-globals lt elem rules only named own q
     (λ v pass. passes_read cmd m p k a lt only auto q is-q a.id.now v (sym same-id) pass) given in
     subst (λ (b : Bool). Accepts b q t) (ap (λ (y : Arg). y.ignore_case) elem ∙ rules.ignore_case) accepts
 
--- of three arguments with different ids each is the only one with its id
-first_of_three : (x y z d : Arg) → (x.id.now ≡ y.id.now → ⊥) → (x.id.now ≡ z.id.now → ⊥) → (j : ℕ) (e : Arg) → j < length (x ∷ y ∷ z ∷ [])
-    → bytes_eq (slice_index_or (x ∷ y ∷ z ∷ []) j e).id.now x.id.now ≡ true → j ≡ 0
-first_of_three x y z d differ other zero e lt same = refl
-first_of_three x y z d differ other (suc zero) e lt same = absurd (differ (sym ((bytes_eq-Decides y.id.now x.id.now).0 same)))
-first_of_three x y z d differ other (suc (suc zero)) e lt same = absurd (other (sym ((bytes_eq-Decides z.id.now x.id.now).0 same)))
-first_of_three x y z d differ other (suc (suc (suc n))) e lt same = absurd (omega (arith, lt))
+-- of four arguments with different ids each is the only one with its id
+first_of_four : (w x y z d : Arg) → (w.id.now ≡ x.id.now → ⊥) → (w.id.now ≡ y.id.now → ⊥) → (w.id.now ≡ z.id.now → ⊥)
+    → (j : ℕ) (e : Arg) → j < length (w ∷ x ∷ y ∷ z ∷ [])
+    → bytes_eq (slice_index_or (w ∷ x ∷ y ∷ z ∷ []) j e).id.now w.id.now ≡ true → j ≡ 0
+first_of_four w x y z d w-x w-y w-z zero e lt same = refl
+first_of_four w x y z d w-x w-y w-z (suc zero) e lt same = absurd (w-x (sym ((bytes_eq-Decides x.id.now w.id.now).0 same)))
+first_of_four w x y z d w-x w-y w-z (suc (suc zero)) e lt same = absurd (w-y (sym ((bytes_eq-Decides y.id.now w.id.now).0 same)))
+first_of_four w x y z d w-x w-y w-z (suc (suc (suc zero))) e lt same = absurd (w-z (sym ((bytes_eq-Decides z.id.now w.id.now).0 same)))
+first_of_four w x y z d w-x w-y w-z (suc (suc (suc (suc n)))) e lt same = absurd (omega (arith, lt))
 
-second_of_three : (x y z d : Arg) → (x.id.now ≡ y.id.now → ⊥) → (y.id.now ≡ z.id.now → ⊥) → (j : ℕ) (e : Arg) → j < length (x ∷ y ∷ z ∷ [])
-    → bytes_eq (slice_index_or (x ∷ y ∷ z ∷ []) j e).id.now y.id.now ≡ true → j ≡ 1
-second_of_three x y z d differ other zero e lt same = absurd (differ ((bytes_eq-Decides x.id.now y.id.now).0 same))
-second_of_three x y z d differ other (suc zero) e lt same = refl
-second_of_three x y z d differ other (suc (suc zero)) e lt same = absurd (other (sym ((bytes_eq-Decides z.id.now y.id.now).0 same)))
-second_of_three x y z d differ other (suc (suc (suc n))) e lt same = absurd (omega (arith, lt))
+second_of_four : (w x y z d : Arg) → (w.id.now ≡ x.id.now → ⊥) → (x.id.now ≡ y.id.now → ⊥) → (x.id.now ≡ z.id.now → ⊥)
+    → (j : ℕ) (e : Arg) → j < length (w ∷ x ∷ y ∷ z ∷ [])
+    → bytes_eq (slice_index_or (w ∷ x ∷ y ∷ z ∷ []) j e).id.now x.id.now ≡ true → j ≡ 1
+second_of_four w x y z d w-x x-y x-z zero e lt same = absurd (w-x ((bytes_eq-Decides w.id.now x.id.now).0 same))
+second_of_four w x y z d w-x x-y x-z (suc zero) e lt same = refl
+second_of_four w x y z d w-x x-y x-z (suc (suc zero)) e lt same = absurd (x-y (sym ((bytes_eq-Decides y.id.now x.id.now).0 same)))
+second_of_four w x y z d w-x x-y x-z (suc (suc (suc zero))) e lt same = absurd (x-z (sym ((bytes_eq-Decides z.id.now x.id.now).0 same)))
+second_of_four w x y z d w-x x-y x-z (suc (suc (suc (suc n)))) e lt same = absurd (omega (arith, lt))
 
 -- what an option must be, so that its values are known to have passed its parser
 pub record IsOption (a : Arg) (q : ValueParser) : Type 0 where
@@ -121,33 +125,53 @@ pub record IsOption (a : Arg) (q : ValueParser) : Type 0 where
   pub own : IsAuto a → ⊥
   pub parser : a.value_parser ≡ Some q
 
--- each value that was given to one of the first two of three options of a command passed its parser
-pub two_options_pass : (start mid more cmd : Command) (a b d : Arg) (q r : ValueParser) → AddsArg start a mid → AddsArg mid b more → AddsArg more d cmd
-    → args_of start ≡ [] → groups_of start ≡ [] → (out-Command start).has_globals ≡ false → IsOption a q → IsOption b r → IsPlainArg d → d.global ≡ false
-    → (a.id.now ≡ b.id.now → ⊥) → (a.id.now ≡ d.id.now → ⊥) → (b.id.now ≡ d.id.now → ⊥)
+-- what an argument without a value must be
+pub record IsSwitch (a : Arg) : Type 0 where
+  pub plain : IsPlainArg a
+  pub local : a.global ≡ false
+
+-- the first two of four arguments have ids of their own
+pub record AreApart (a b d e : Arg) : Type 0 where
+  pub a-b : a.id.now ≡ b.id.now → ⊥
+  pub a-d : a.id.now ≡ d.id.now → ⊥
+  pub a-e : a.id.now ≡ e.id.now → ⊥
+  pub b-d : b.id.now ≡ d.id.now → ⊥
+  pub b-e : b.id.now ≡ e.id.now → ⊥
+
+-- each value that was given to one of the first two of four arguments of a command passed its parser
+pub two_options_pass : (start mid more last cmd : Command) (a b d e : Arg) (q r : ValueParser)
+    → AddsArg start a mid → AddsArg mid b more → AddsArg more d last → AddsArg last e cmd
+    → args_of start ≡ [] → groups_of start ≡ [] → (out-Command start).has_globals ≡ false
+    → IsOption a q → IsOption b r → IsSwitch d → IsSwitch e → AreApart a b d e
     → (m : ArgMatches) (t : List ℕ) → IsParsedFrom cmd m
     → (first_value (found_of m) a.id.now ≡ Some t → Accepts a.ignore_case q t) × (first_value (found_of m) b.id.now ≡ Some t → Accepts b.ignore_case r t)
-two_options_pass start mid more cmd a b d q r one two three args groups globals is-a is-b plain-d local-d a-b a-d b-d m t p =
-    let list : args_of cmd ≡ one.arg ∷ two.arg ∷ three.arg ∷ [] =
-    three.args ∙ ap (λ l. l ++ three.arg ∷ []) (two.args ∙ ap (λ l. l ++ two.arg ∷ []) (one.args ∙ ap (λ l. l ++ one.arg ∷ []) args)) in
-    let start-plain : IsPlain start = (subst (All IsPlainArg) (sym args) (All-nil IsPlainArg), groups) in
-    let plain : IsPlain cmd = added_plain more cmd d three (added_plain mid more b two (added_plain start mid a one start-plain is-a.plain) is-b.plain) plain-d in
-    let no-global : (out-Command mid).has_globals ≡ false = one.globals ∙ (ap (λ g. g || a.global) globals ∙ ap (λ g. false || g) is-a.local) in
-    let none-global : (out-Command more).has_globals ≡ false = two.globals ∙ (ap (λ g. g || b.global) no-global ∙ ap (λ g. false || g) is-b.local) in
-    let no-globals : (out-Command cmd).has_globals ≡ false = three.globals ∙ (ap (λ g. g || d.global) none-global ∙ ap (λ g. false || g) local-d) in
+two_options_pass start mid more last cmd a b d e q r one two three four args groups globals is-a is-b is-d is-e apart m t p =
+    let list : args_of cmd ≡ one.arg ∷ two.arg ∷ three.arg ∷ four.arg ∷ [] =
+    four.args ∙ ap (λ l. l ++ four.arg ∷ [])
+    (three.args ∙ ap (λ l. l ++ three.arg ∷ []) (two.args ∙ ap (λ l. l ++ two.arg ∷ []) (one.args ∙ ap (λ l. l ++ one.arg ∷ []) args))) in
+    let plain-start : IsPlain start = (subst (All IsPlainArg) (sym args) (All-nil IsPlainArg), groups) in
+    let plain-more : IsPlain more = added_plain mid more b two (added_plain start mid a one plain-start is-a.plain) is-b.plain in
+    let plain : IsPlain cmd = added_plain last cmd e four (added_plain more last d three plain-more is-d.plain) is-e.plain in
+    let none-mid : (out-Command mid).has_globals ≡ false = one.globals ∙ (ap (λ g. g || a.global) globals ∙ ap (λ g. false || g) is-a.local) in
+    let none-more : (out-Command more).has_globals ≡ false = two.globals ∙ (ap (λ g. g || b.global) none-mid ∙ ap (λ g. false || g) is-b.local) in
+    let none-last : (out-Command last).has_globals ≡ false = three.globals ∙ (ap (λ g. g || d.global) none-more ∙ ap (λ g. false || g) is-d.local) in
+    let no-globals : (out-Command cmd).has_globals ≡ false = four.globals ∙ (ap (λ g. g || e.global) none-last ∙ ap (λ g. false || g) is-e.local) in
     let id-a : one.arg.id.now ≡ a.id.now = ap (λ (y : Bor (List ℕ)). y.now) one.rules.id in
     let id-b : two.arg.id.now ≡ b.id.now = ap (λ (y : Bor (List ℕ)). y.now) two.rules.id in
     let id-d : three.arg.id.now ≡ d.id.now = ap (λ (y : Bor (List ℕ)). y.now) three.rules.id in
-    let apart-a-b : one.arg.id.now ≡ two.arg.id.now → ⊥ = λ e. a-b (sym id-a ∙ e ∙ id-b) in
-    let apart-a-d : one.arg.id.now ≡ three.arg.id.now → ⊥ = λ e. a-d (sym id-a ∙ e ∙ id-d) in
-    let apart-b-d : two.arg.id.now ≡ three.arg.id.now → ⊥ = λ e. b-d (sym id-b ∙ e ∙ id-d) in
-    let only-a = subst (λ l. (j : ℕ) (e : Arg) → j < length l → bytes_eq (slice_index_or l j e).id.now (slice_index_or l 0 a).id.now ≡ true → j ≡ 0) (sym list)
-    (first_of_three one.arg two.arg three.arg a apart-a-b apart-a-d) in
-    let only-b = subst (λ l. (j : ℕ) (e : Arg) → j < length l → bytes_eq (slice_index_or l j e).id.now (slice_index_or l 1 b).id.now ≡ true → j ≡ 1) (sym list)
-    (second_of_three one.arg two.arg three.arg b apart-a-b apart-b-d) in
-    let three-long : length (args_of cmd) ≡ 3 = ap length list in (
-      listed_option_passes cmd 0 a one.arg m plain no-globals (omega (arith, three-long)) (ap (λ l. slice_index_or l 0 a) list) one.rules only-a is-a.named is-a.own q is-a.parser p t,
-      listed_option_passes cmd 1 b two.arg m plain no-globals (omega (arith, three-long)) (ap (λ l. slice_index_or l 1 b) list) two.rules only-b is-b.named is-b.own r is-b.parser p t,
+    let id-e : four.arg.id.now ≡ e.id.now = ap (λ (y : Bor (List ℕ)). y.now) four.rules.id in
+    let apart-a-b : one.arg.id.now ≡ two.arg.id.now → ⊥ = λ s. apart.a-b (sym id-a ∙ s ∙ id-b) in
+    let apart-a-d : one.arg.id.now ≡ three.arg.id.now → ⊥ = λ s. apart.a-d (sym id-a ∙ s ∙ id-d) in
+    let apart-a-e : one.arg.id.now ≡ four.arg.id.now → ⊥ = λ s. apart.a-e (sym id-a ∙ s ∙ id-e) in
+    let apart-b-d : two.arg.id.now ≡ three.arg.id.now → ⊥ = λ s. apart.b-d (sym id-b ∙ s ∙ id-d) in
+    let apart-b-e : two.arg.id.now ≡ four.arg.id.now → ⊥ = λ s. apart.b-e (sym id-b ∙ s ∙ id-e) in
+    let only-a = subst (λ l. (j : ℕ) (x : Arg) → j < length l → bytes_eq (slice_index_or l j x).id.now (slice_index_or l 0 a).id.now ≡ true → j ≡ 0) (sym list)
+    (first_of_four one.arg two.arg three.arg four.arg a apart-a-b apart-a-d apart-a-e) in
+    let only-b = subst (λ l. (j : ℕ) (x : Arg) → j < length l → bytes_eq (slice_index_or l j x).id.now (slice_index_or l 1 b).id.now ≡ true → j ≡ 1) (sym list)
+    (second_of_four one.arg two.arg three.arg four.arg b apart-a-b apart-b-d apart-b-e) in
+    let four-long : length (args_of cmd) ≡ 4 = ap length list in (
+      listed_option_passes cmd 0 a one.arg m plain no-globals (omega (arith, four-long)) (ap (λ l. slice_index_or l 0 a) list) one.rules only-a is-a.named is-a.own q is-a.parser p t,
+      listed_option_passes cmd 1 b two.arg m plain no-globals (omega (arith, four-long)) (ap (λ l. slice_index_or l 1 b) list) two.rules only-b is-b.named is-b.own r is-b.parser p t,
     )
 
 -- what holds of each value of an `Ok`

@@ -32,11 +32,18 @@ strict_option = record (new_rule (codes "strict")) {
   action = Some SetTrue;
 }
 
+-- `--all-maps`
+abbrev pub all_maps_option : Rule
+all_maps_option = record (new_rule (codes "all_maps")) {
+  long = Some (codes "all-maps");
+  action = Some SetTrue;
+}
+
 -- the command: those options, and those for help and for the version
 abbrev pub command : App
 command =
-    with_rule (with_rule (with_rule (on_top (λ shape. record shape { has_version = true }) (new_app (codes "tile_editor"))) folder_option)
-    limit_option) strict_option
+    with_rule (with_rule (with_rule (with_rule (on_top (λ shape. record shape { has_version = true }) (new_app (codes "tile_editor"))) folder_option)
+    limit_option) strict_option) all_maps_option
 
 -- the folder that the words name, and `.` where they name none; the first word is the program's name
 abbrev pub folder_of : List Text → Text
@@ -53,6 +60,10 @@ limit_of words = value_or_zero (first_of (codes "limit") (matches_of command wor
 -- what the words say of `--strict`: `true` where they have it, and else `false` or nothing
 abbrev pub strict_text : List Text → Option Text
 strict_text words = one_of (codes "strict") (matches_of command words)
+
+-- what the words say of `--all-maps`, in the same way
+abbrev pub all_maps_text : List Text → Option Text
+all_maps_text words = one_of (codes "all_maps") (matches_of command words)
 
 -- an option is given where its text is `true`
 abbrev pub IsFlag : Option Text → Bool → Type 0

@@ -1,19 +1,23 @@
 //! The program: session lines from standard input, and a reply to each on standard output.
 #![tactic(auto)]
 
+ghost use Rattle.std.specs.Prelude.{◌≤◌};
+ghost use Rattle.undo_stack.specs.declared.limits.TheConstants.{MAX_LIMIT};
+
 mod options;
 mod reports;
 
-use crate::options::parse_options;
-use crate::reports::{ErrorLines, look_at_folder};
+use crate::options::{Options, parse_options};
+use crate::reports::{ErrorLines, FolderFaults, look_at_folder};
 use clap::error::ErrorKind;
-use map_store::FolderStore;
+use map_store::{FolderStore, MapStore};
 use session_run::{RunFault, run};
 use std::env::Env;
 use std::fmt::Display;
 use std::io::BufWriter;
 use std::process::ExitCode;
 use std::{env, io};
+use tiled_store::TiledStore;
 
 /// The status after a command line that is refused.
 const REFUSED: u8 = 2;
@@ -63,21 +67,15 @@ fn ends_with_answer(rt: &(impl Print + Eprint), answer: &clap::Error) -> ExitCod
     }
 }
 
-fn main(rt: HostRuntime) -> ExitCode {
-    let words = match read_words(&rt) {
-        Ok(words) => words,
-        Err(error) => return ends_without_words(&rt, &error),
-    };
-    let options = match parse_options(rt.alloc(), words.as_slice()) {
-        Ok(options) => options,
-        Err(answer) => return ends_with_answer(&rt, &answer),
-    };
+// Answers the lines of standard input, with the files of a store.
+fn answer_lines<S: MapStore>(rt: &HostRuntime, options: &Options<'_>, store: &mut S) -> ExitCode
+    requires { options.now.limit ≤ MAX_LIMIT }
+{
     let Ok(mut writer) = BufWriter::new(rt.alloc(), rt.stdout()) else {
-        return ends(&rt, RunFault::Memory, FAILED);
+        return ends(rt, RunFault::Memory, FAILED);
     };
-    look_at_folder(&rt, options.folder);
-    let mut store = FolderStore::new(&rt, "tile_editor", options.folder);
-    let report = ErrorLines(&rt);
+    look_at_folder(rt, options.folder);
+    let report = ErrorLines(rt);
     let strict = if options.is_strict {
         Some(&report)
     } else {
@@ -87,12 +85,30 @@ fn main(rt: HostRuntime) -> ExitCode {
         rt.alloc(),
         &mut rt.stdin(),
         &mut writer,
-        &mut store,
+        store,
         options.limit,
         strict,
     ) {
         Ok(_) => ExitCode::SUCCESS,
         Err(RunFault::Refused | RunFault::Unsaved) => ExitCode::from(NOT_DONE),
-        Err(fault) => ends(&rt, fault, FAILED),
+        Err(fault) => ends(rt, fault, FAILED),
+    }
+}
+
+fn main(rt: HostRuntime) -> ExitCode {
+    let words = match read_words(&rt) {
+        Ok(words) => words,
+        Err(error) => return ends_without_words(&rt, &error),
+    };
+    let options = match parse_options(rt.alloc(), words.as_slice()) {
+        Ok(options) => options,
+        Err(answer) => return ends_with_answer(&rt, &answer),
+    };
+    let mut files = FolderStore::new(&rt, "tile_editor", options.folder);
+    if options.opens_all_maps {
+        let report = FolderFaults::new(&rt, options.folder);
+        answer_lines(&rt, &options, &mut TiledStore::new(files, report))
+    } else {
+        answer_lines(&rt, &options, &mut files)
     }
 }

@@ -1,6 +1,6 @@
 ghost use Rattle.std.specs.Prelude.{◌≡◌, ◌<◌, ◌≤◌, IfOk, IfSome, false, codes, length, map, option_map};
 ghost use Rattle.clap.specs.Words.{FailsBy, IsPlainArg, IsUnsignedIn, app_of, fault_of, rule_of};
-ghost use Rattle.tile_editor.specs.Options.{command, folder_of, folder_option, limit_of, limit_option, strict_option, strict_text, value_or_zero, GivesOnly, IsFlag};
+ghost use Rattle.tile_editor.specs.Options.{all_maps_option, all_maps_text, command, folder_of, folder_option, limit_of, limit_option, strict_option, strict_text, value_or_zero, GivesOnly, IsFlag};
 ghost use Rattle.undo_stack.specs.declared.limits.TheConstants.{MAX_LIMIT};
 
 use clap::builder::ValueParser;
@@ -87,6 +87,8 @@ pub struct Options<'a> {
     pub limit: usize,
     /// Whether the first refused line ends the program, and unsaved changes are a failure.
     pub is_strict: bool,
+    /// Whether maps with fractions are opened, too.
+    pub opens_all_maps: bool,
 }
 
 // The option that names the folder.
@@ -127,6 +129,18 @@ fn strict_arg<'a>(alloc: Global) -> Arg<'a>
         .help("Stops at the first refused line, and fails where a document is left unsaved")
 }
 
+// The option that opens maps with fractions.
+fn all_maps_arg<'a>(alloc: Global) -> Arg<'a>
+    ensures rule { rule_of result ≡ all_maps_option }
+    ensures plain { IsPlainArg result }
+    ensures local { result.global ≡ false }
+{
+    Arg::new(alloc, "all_maps")
+        .long("all-maps")
+        .action(ArgAction::SetTrue)
+        .help("Opens maps with fractions, too, and puts back on saving what no edit changed")
+}
+
 // The command with its options.
 fn whole_command<'a>(alloc: Global) -> Result<Command<'a>, AllocError>
     ensures app { IfOk result (λ c. app_of c ≡ command) }
@@ -139,7 +153,8 @@ fn whole_command<'a>(alloc: Global) -> Result<Command<'a>, AllocError>
         .after_help(AFTER_HELP)
         .arg(folder_arg(alloc))?;
     let with_limit = with_folder.arg(limit_arg(alloc))?;
-    with_limit.arg(strict_arg(alloc))
+    let with_strict = with_limit.arg(strict_arg(alloc))?;
+    with_strict.arg(all_maps_arg(alloc))
 }
 
 // The number that the value of `--limit` writes, and 0 where none is given.
@@ -165,6 +180,7 @@ pub fn parse_options<'a, S: AsStr>(alloc: Global, words: &'a [S]) -> Result<Opti
     ensures limit { IfOk result (λ o. o.limit ≡ limit_of (map S.text words.entry.now)) }
     ensures within { IfOk result (λ o. o.limit ≤ MAX_LIMIT) }
     ensures strict { IfOk result (λ o. IsFlag (strict_text (map S.text words.entry.now)) o.is_strict) }
+    ensures all_maps { IfOk result (λ o. IsFlag (all_maps_text (map S.text words.entry.now)) o.opens_all_maps) }
 {
     let command = whole_command(alloc)?;
     match command.try_get_matches_from(words) {
@@ -172,6 +188,7 @@ pub fn parse_options<'a, S: AsStr>(alloc: Global, words: &'a [S]) -> Result<Opti
             folder: matches.get_str("folder").unwrap_or("."),
             limit: limit_in(matches.get_str("limit")),
             is_strict: matches.get_flag("strict"),
+            opens_all_maps: matches.get_flag("all_maps"),
         }),
         Err(error) => Err(error),
     }

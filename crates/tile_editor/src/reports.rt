@@ -5,6 +5,8 @@ use session_run::{Report, Unsaved};
 use std::fmt::{Display, Formatter, Write};
 use std::rt::Files;
 use std::{fmt, fs};
+use tiled_maps::Fault;
+use tiled_store::FaultReport;
 
 /// The text of a session line, its control characters as escapes: a carriage return would hide what stands before it.
 #[derive(Drop)]
@@ -46,6 +48,28 @@ impl<'a, R: Eprint> Report for ErrorLines<'a, R> {
             Unsaved::Changes => "unsaved changes",
         };
         let _ = eprintln!(self.0; "tile_editor: end of input: {document}: {what}");
+    }
+}
+
+/// Says on standard error why a file of a folder is not loaded.
+#[derive(Drop)]
+pub struct FolderFaults<'a, R> {
+    rt: &'a R,
+    folder: &'a str,
+}
+
+impl<'a, R: Eprint> FolderFaults<'a, R> {
+    /// Of the folder at a path.
+    pub fn new(rt: &'a R, folder: &'a str) -> FolderFaults<'a, R> {
+        FolderFaults { rt, folder }
+    }
+}
+
+impl<'a, R: Eprint> FaultReport for FolderFaults<'a, R> {
+    fn refused(&self, name: &str, fault: Fault) {
+        let folder = self.folder;
+        let reason = fault.words();
+        let _ = eprintln!(self.rt; "tile_editor: {folder}/{name}: {reason}");
     }
 }
 

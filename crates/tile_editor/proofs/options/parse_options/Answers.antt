@@ -44,4 +44,16 @@ returns-in-Ok-clause-strict g c =
     let rows = (c.in-Ok.ensures.matches (ap is_simple made ∙ command_is_simple)).0 ∙ ap (λ (a : App). matches_of a words) made in
     let read : one_text (found_of c.in-Ok.matches) (codes "strict") ≡ one_of (codes "strict") (matches_of command words) =
     one_text-rows (found_of c.in-Ok.matches) (codes "strict") ∙ ap (one_of (codes "strict")) rows in
-    subst (λ (o : Option Text). IsFlag o c.get_flag.result) read (read_IsFlag (one_text (found_of c.in-Ok.matches) (codes "strict")) c.get_flag.result c.get_flag.ensures.none c.get_flag.ensures.value c.get_flag.ensures.other)
+    subst (λ (o : Option Text). IsFlag o c.get_flag.result) read
+    (read_IsFlag (one_text (found_of c.in-Ok.matches) (codes "strict")) c.get_flag.result c.get_flag.ensures.none c.get_flag.ensures.value c.get_flag.ensures.other)
+
+pub returns-in-Ok-clause-all_maps : goal.returns-in-Ok-clause-all_maps
+returns-in-Ok-clause-all_maps g c =
+    let made = c.in_ok-command.ensures.app in
+    let words : List Text = map g.S.AsStr.text c.args.words.now in
+    let rows = (c.in-Ok.ensures.matches (ap is_simple made ∙ command_is_simple)).0 ∙ ap (λ (a : App). matches_of a words) made in
+    let flag = c.get_flag-in-Ok in
+    let read : one_text (found_of c.in-Ok.matches) (codes "all_maps") ≡ one_of (codes "all_maps") (matches_of command words) =
+    one_text-rows (found_of c.in-Ok.matches) (codes "all_maps") ∙ ap (one_of (codes "all_maps")) rows in
+    subst (λ (o : Option Text). IsFlag o flag.result) read
+    (read_IsFlag (one_text (found_of c.in-Ok.matches) (codes "all_maps")) flag.result flag.ensures.none flag.ensures.value flag.ensures.other)

@@ -1,4 +1,4 @@
-use Rattle.std.proofs.Common.{◌≡◌, ◌∙◌, ℕ, false, [], slice_index, ap, sym, inl, inr, arith, codes}
+use Rattle.std.proofs.Common.{◌≡◌, ◌<◌, ◌∙◌, ℕ, false, [], slice_index, ap, sym, inl, inr, arith, codes, lit<}
 use Rattle.clap.specs.Words.{IsPlainArg, Text, first_value, found_of, rule_of}
 use Rattle.clap.specs.Walk.{Rule}
 use Rattle.clap.specs.declared.builder.arg.Arg.{Arg}
@@ -6,8 +6,8 @@ use Rattle.clap.specs.declared.builder.command.Command.{Command}
 use Rattle.clap.specs.declared.builder.command.Command.TheOpen.{Command-F}
 use Rattle.clap.specs.declared.builder.value_parser.ValueParser.TheVariants as parser
 use Rattle.undo_stack.specs.declared.limits.TheConstants.{MAX_LIMIT}
-use Rattle.tile_editor.specs.Options.{folder_option, limit_option, strict_option}
-use Rattle.tile_editor.proofs.CommandLines.{IsOption, if_ok, texts_added, two_options_pass}
+use Rattle.tile_editor.specs.Options.{folder_option, limit_option, strict_option, all_maps_option}
+use Rattle.tile_editor.proofs.CommandLines.{AreApart, IsOption, if_ok, texts_added, two_options_pass}
 use Rattle.tile_editor.proofs.options.whole_command.Goals as goal
 
 id_of : (a : Arg) (r : Rule) → rule_of a ≡ r → a.id.now ≡ r.id
@@ -41,33 +41,39 @@ is_limit a rule plain local = record {
   parser = ap (λ (x : Rule). x.parser) rule;
 }
 
-folder_is_not_limit : (a b : Arg) → rule_of a ≡ folder_option → rule_of b ≡ limit_option → a.id.now ≡ b.id.now → ⊥
-folder_is_not_limit a b is-a is-b e =
-    let bad : ◌≡◌ {A = ℕ} 102 108 = first_byte (codes "folder") (codes "limit") (sym (id_of a folder_option is-a) ∙ e ∙ id_of b limit_option is-b) in absurd (omega (arith, bad))
+-- two ids that begin with different bytes
+apart : (a b : Arg) (r s : Rule) → rule_of a ≡ r → rule_of b ≡ s → (slice_index r.id 0 ≡ slice_index s.id 0 → ⊥) → a.id.now ≡ b.id.now → ⊥
+apart a b r s is-a is-b differ e = differ (first_byte r.id s.id (sym (id_of a r is-a) ∙ e ∙ id_of b s is-b))
 
-folder_is_not_strict : (a b : Arg) → rule_of a ≡ folder_option → rule_of b ≡ strict_option → a.id.now ≡ b.id.now → ⊥
-folder_is_not_strict a b is-a is-b e =
-    let bad : ◌≡◌ {A = ℕ} 102 115 = first_byte (codes "folder") (codes "strict") (sym (id_of a folder_option is-a) ∙ e ∙ id_of b strict_option is-b) in absurd (omega (arith, bad))
+differ : (m n : ℕ) → m < n → m ≡ n → ⊥
+differ m n less same = absurd (omega (arith, less, same))
 
-limit_is_not_strict : (a b : Arg) → rule_of a ≡ limit_option → rule_of b ≡ strict_option → a.id.now ≡ b.id.now → ⊥
-limit_is_not_strict a b is-a is-b e =
-    let bad : ◌≡◌ {A = ℕ} 108 115 = first_byte (codes "limit") (codes "strict") (sym (id_of a limit_option is-a) ∙ e ∙ id_of b strict_option is-b) in absurd (omega (arith, bad))
+are_apart : (a b d e : Arg) → rule_of a ≡ folder_option → rule_of b ≡ limit_option → rule_of d ≡ strict_option → rule_of e ≡ all_maps_option → AreApart a b d e
+are_apart a b d e is-a is-b is-d is-e = record {
+  a-b = apart a b folder_option limit_option is-a is-b (differ 102 108 (lit< tt));
+  a-d = apart a d folder_option strict_option is-a is-d (differ 102 115 (lit< tt));
+  a-e = apart a e folder_option all_maps_option is-a is-e (λ s. differ 97 102 (lit< tt) (sym s));
+  b-d = apart b d limit_option strict_option is-b is-d (differ 108 115 (lit< tt));
+  b-e = apart b e limit_option all_maps_option is-b is-e (λ s. differ 97 108 (lit< tt) (sym s));
+}
 
 pub returns-clause-folder : goal.returns-clause-folder
 returns-clause-folder c =
     let a = c.folder_arg in
     let b = c.limit_arg in
     let d = c.strict_arg in
+    let e = c.all_maps_arg in
     let texts = texts_added c.new.result c.version.result c.about.result c.after_help.result _ _ _ c.version.ensures c.about.ensures c.after_help.ensures in
-    if_ok c.arg-3.result _ _ c.arg-3.ensures (λ cmd three m t p given.
-    (two_options_pass c.after_help.result c.in_ok-with_folder.with_folder c.in_ok-with_limit.with_limit cmd a.result b.result d.result parser.NonEmptyString (parser.Unsigned 0 MAX_LIMIT)
-    c.in_ok-with_folder.ensures c.in_ok-with_limit.ensures three
+    if_ok c.arg-4.result _ _ c.arg-4.ensures (λ cmd four m t p given.
+    (two_options_pass c.after_help.result c.in_ok-with_folder.with_folder c.in_ok-with_limit.with_limit c.in_ok-with_strict.with_strict cmd
+    a.result b.result d.result e.result parser.NonEmptyString (parser.Unsigned 0 MAX_LIMIT)
+    c.in_ok-with_folder.ensures c.in_ok-with_limit.ensures c.in_ok-with_strict.ensures four
     (ap (λ (f : Command-F Command). f.args.items) texts ∙ c.new.ensures.empty.0)
     (ap (λ (f : Command-F Command). f.groups.items) texts ∙ c.new.ensures.empty.1)
     (ap (λ (f : Command-F Command). f.has_globals) texts ∙ c.new.ensures.local)
     (is_folder a.result a.ensures.rule a.ensures.plain a.ensures.local) (is_limit b.result b.ensures.rule b.ensures.plain b.ensures.local)
-    d.ensures.plain d.ensures.local (folder_is_not_limit a.result b.result a.ensures.rule b.ensures.rule) (folder_is_not_strict a.result d.result a.ensures.rule d.ensures.rule)
-    (limit_is_not_strict b.result d.result b.ensures.rule d.ensures.rule) m t p).0
+    (record { plain = d.ensures.plain; local = d.ensures.local }) (record { plain = e.ensures.plain; local = e.ensures.local })
+    (are_apart a.result b.result d.result e.result a.ensures.rule b.ensures.rule d.ensures.rule e.ensures.rule) m t p).0
     (ap (first_value (found_of m)) (id_of a.result folder_option a.ensures.rule) ∙ given))
 
 pub returns-clause-limit : goal.returns-clause-limit
@@ -75,14 +81,16 @@ returns-clause-limit c =
     let a = c.folder_arg in
     let b = c.limit_arg in
     let d = c.strict_arg in
+    let e = c.all_maps_arg in
     let texts = texts_added c.new.result c.version.result c.about.result c.after_help.result _ _ _ c.version.ensures c.about.ensures c.after_help.ensures in
-    if_ok c.arg-3.result _ _ c.arg-3.ensures (λ cmd three m t p given.
-    (two_options_pass c.after_help.result c.in_ok-with_folder.with_folder c.in_ok-with_limit.with_limit cmd a.result b.result d.result parser.NonEmptyString (parser.Unsigned 0 MAX_LIMIT)
-    c.in_ok-with_folder.ensures c.in_ok-with_limit.ensures three
+    if_ok c.arg-4.result _ _ c.arg-4.ensures (λ cmd four m t p given.
+    (two_options_pass c.after_help.result c.in_ok-with_folder.with_folder c.in_ok-with_limit.with_limit c.in_ok-with_strict.with_strict cmd
+    a.result b.result d.result e.result parser.NonEmptyString (parser.Unsigned 0 MAX_LIMIT)
+    c.in_ok-with_folder.ensures c.in_ok-with_limit.ensures c.in_ok-with_strict.ensures four
     (ap (λ (f : Command-F Command). f.args.items) texts ∙ c.new.ensures.empty.0)
     (ap (λ (f : Command-F Command). f.groups.items) texts ∙ c.new.ensures.empty.1)
     (ap (λ (f : Command-F Command). f.has_globals) texts ∙ c.new.ensures.local)
     (is_folder a.result a.ensures.rule a.ensures.plain a.ensures.local) (is_limit b.result b.ensures.rule b.ensures.plain b.ensures.local)
-    d.ensures.plain d.ensures.local (folder_is_not_limit a.result b.result a.ensures.rule b.ensures.rule) (folder_is_not_strict a.result d.result a.ensures.rule d.ensures.rule)
-    (limit_is_not_strict b.result d.result b.ensures.rule d.ensures.rule) m t p).1
+    (record { plain = d.ensures.plain; local = d.ensures.local }) (record { plain = e.ensures.plain; local = e.ensures.local })
+    (are_apart a.result b.result d.result e.result a.ensures.rule b.ensures.rule d.ensures.rule e.ensures.rule) m t p).1
     (ap (first_value (found_of m)) (id_of b.result limit_option b.ensures.rule) ∙ given))

@@ -1,0 +1,6 @@
+pub mod MembersLemmas
+pub mod ReadTrees
+pub mod Walks
+pub mod Law
+pub mod Whole
+pub mod Answered

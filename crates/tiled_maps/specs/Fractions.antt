@@ -1,0 +1,34 @@
+-- Fractions: numbers that are no whole numbers of 64 bits.
+use Rattle.std.specs.Prelude.{Bool, false, ◌||◌}
+use Rattle.serde_json.specs.Data.{Num, Data, null, boolean, number, string, array, object, Items, no_items, item, Members, no_members, member}
+use Rattle.serde_json.specs.Find.{is_float}
+use Rattle.tiled_maps.specs.declared.place.Place.{Place}
+use Rattle.tiled_maps.specs.declared.place.Place.TheVariants.{Map, Layer, Object, Coordinate, Version, Elsewhere}
+use Rattle.tiled_maps.specs.Places.{below, inside}
+
+-- the version of a map may be any number
+abbrev pub is_fraction : Place → Num → Bool
+is_fraction Map n = is_float n
+is_fraction Layer n = is_float n
+is_fraction Object n = is_float n
+is_fraction Coordinate n = is_float n
+is_fraction Version n = false
+is_fraction Elsewhere n = is_float n
+
+-- whether a fraction stands anywhere but as that version
+abbrev mutual
+  pub has_fraction : Place → Data → Bool
+  has_fraction p null = false
+  has_fraction p (boolean b) = false
+  has_fraction p (number n) = is_fraction p n
+  has_fraction p (string s) = false
+  has_fraction p (array ds) = items_have_fraction (inside p) ds
+  has_fraction p (object ms) = members_have_fraction p ms
+
+  pub items_have_fraction : Place → Items → Bool
+  items_have_fraction p no_items = false
+  items_have_fraction p (item d ds) = has_fraction p d || items_have_fraction p ds
+
+  pub members_have_fraction : Place → Members → Bool
+  members_have_fraction p no_members = false
+  members_have_fraction p (member k d ms) = has_fraction (below p k) d || members_have_fraction p ms

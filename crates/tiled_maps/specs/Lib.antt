@@ -1,0 +1,6 @@
+pub mod Members
+pub mod Places
+pub mod Fractions
+pub mod Aside
+pub mod Back
+pub mod Texts

@@ -1,0 +1,14 @@
+//! Maps as Tiled saves them: what the editor's format refuses is set aside before it is read, and put back when it is saved.
+#![tactic(auto)]
+
+mod aside;
+mod back;
+mod fault;
+mod fraction;
+mod fractions;
+mod members;
+mod place;
+mod text;
+
+pub use fault::Fault;
+pub use text::{put_back, set_aside};

@@ -1,0 +1,104 @@
+// Members of an object, found by name, taken out and looked through.
+ghost use Rattle.std.specs.Prelude.{◌≡◌, option_map, nat_le};
+ghost use Rattle.serde_json.specs.Data.{depth, items_depth, members_depth};
+ghost use Rattle.serde_json.specs.Find.{get_member};
+ghost use Rattle.serde_json.specs.View.{view as data_of, items_view, members_view};
+ghost use Rattle.tiled_maps.specs.Back.{is_alone};
+ghost use Rattle.tiled_maps.specs.Members.{without, has_name, items_have_name, members_have_name};
+
+use serde_json::{Map, Value};
+
+/// The value of a member.
+pub fn found<'a>(members: &'a Map<String, Value>, name: &str) -> Option<&'a Value>
+    ensures { option_map (λ value. data_of value.now) result
+        ≡ get_member name.now (members_view members.now.entries) }
+{
+    members.get(name)
+}
+
+/// Whether an object has just one member.
+pub fn is_alone(members: &Map<String, Value>) -> bool
+    ensures { result ≡ is_alone (members_view members.now.entries) }
+{
+    members.len() == 1
+}
+
+/// Takes a member out, and drops it.
+pub fn remove(members: &mut Map<String, Value>, name: &str)
+    ensures { members_view members.new.entries
+        ≡ without name.now (members_view members.old.entries) }
+{
+    drop(members.remove(name));
+}
+
+/// Whether a member of this name stands anywhere in a tree.
+#[cycle(names)]
+pub fn has_name(name: &str, value: &Value) -> bool
+    ensures { result ≡ has_name name.now (data_of value.now) }
+{
+    match value {
+        Value::Null | Value::Bool(_) | Value::Number(_) | Value::String(_) => false,
+        Value::Array(items) => items_have_name(name, items),
+        Value::Object(members) => members_have_name(name, members),
+    }
+}
+
+#[cycle(names)]
+fn items_have_name(name: &str, items: &Vec<Value>) -> bool
+    ensures { result ≡ items_have_name name.now (items_view items.now.items) }
+{
+    for item in items {
+        if has_name(name, item) {
+            return true;
+        }
+    }
+    false
+}
+
+#[cycle(names)]
+fn members_have_name(name: &str, members: &Map<String, Value>) -> bool
+    ensures { result ≡ members_have_name name.now (members_view members.now.entries) }
+{
+    for (key, member) in members.iter() {
+        if name == key.as_str() || has_name(name, member) {
+            return true;
+        }
+    }
+    false
+}
+
+/// Whether arrays and objects nest no deeper than so many levels.
+#[cycle(levels)]
+pub fn is_within(levels: u8, value: &Value) -> bool
+    ensures { result ≡ nat_le (depth (data_of value.now)) levels }
+{
+    match value {
+        Value::Null | Value::Bool(_) | Value::Number(_) | Value::String(_) => true,
+        Value::Array(items) => levels > 0 && items_are_within(levels - 1, items),
+        Value::Object(members) => levels > 0 && members_are_within(levels - 1, members),
+    }
+}
+
+#[cycle(levels)]
+fn items_are_within(levels: u8, items: &Vec<Value>) -> bool
+    ensures { result ≡ nat_le (items_depth (items_view items.now.items)) levels }
+{
+    for item in items {
+        if !is_within(levels, item) {
+            return false;
+        }
+    }
+    true
+}
+
+#[cycle(levels)]
+fn members_are_within(levels: u8, members: &Map<String, Value>) -> bool
+    ensures { result ≡ nat_le (members_depth (members_view members.now.entries)) levels }
+{
+    for (_key, member) in members.iter() {
+        if !is_within(levels, member) {
+            return false;
+        }
+    }
+    true
+}

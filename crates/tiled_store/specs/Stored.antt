@@ -1,0 +1,43 @@
+-- What is loaded from a store below and stored to it, if that is honest.
+use Rattle.std.specs.Prelude.{◌≡◌, ◌⊎◌, ℕ, List, Bool, true, false, Option, Result, Ok, Err, Some, None, Vec}
+use Rattle.std.specs.Global.{Global}
+use Rattle.std.specs.FinMap.{get, insert}
+use Rattle.map_store.specs.Files.{StoreParts, HasFailed, SameOthers}
+use Rattle.map_store.specs.declared.map_store.StoreFault.{StoreFault}
+use Rattle.map_store.specs.declared.map_store.StoreFault.TheVariants.{Missing, Device, Memory}
+use Rattle.tiled_maps.specs.declared.fault.Fault.TheVariants as fault
+use Rattle.tiled_maps.specs.Texts.{SetsAside, PutsBack, text_or}
+
+-- What is given for a file: its text with its fractions set aside, or the file itself if it is no JSON. If nothing was ever set
+-- aside, it is the file itself.
+pub record GivesFor (file text : List ℕ) (has_set_aside : Bool) : Type 0 where
+  pub given : ((own : Option (Vec ℕ Global)) × (text ≡ text_or file own) × SetsAside file (Ok own)) ⊎ ((text ≡ file) × SetsAside file (Err fault.NotJson))
+  pub as_it_is : has_set_aside ≡ false → text ≡ file
+
+-- the file has a member of the reserved name, or would nest too deep
+abbrev pub IsRefused : List ℕ → Type 0
+IsRefused file = SetsAside file (Err fault.NameTaken) ⊎ SetsAside file (Err fault.TooDeep)
+
+-- loading: what is given for the file, or there is none of that name, or the store below has failed or the file is refused; the
+-- files stay
+abbrev pub LoadsFrom : List ℕ → StoreParts → Result (Vec ℕ Global) StoreFault → StoreParts → Bool → Type 0
+LoadsFrom name old (Ok text) new has_set_aside =
+    ((file : List ℕ) × (get old.files name ≡ Some file) × GivesFor file text.items has_set_aside) × (new.files ≡ old.files)
+LoadsFrom name old (Err Missing) new has_set_aside = (get old.files name ≡ None) × (new.files ≡ old.files)
+LoadsFrom name old (Err Device) new has_set_aside =
+    (HasFailed old new ⊎ ((file : List ℕ) × (get old.files name ≡ Some file) × IsRefused file)) × (new.files ≡ old.files)
+LoadsFrom name old (Err Memory) new has_set_aside = new.files ≡ old.files
+
+-- what is put for a text: itself if nothing was ever set aside; else the text in which what was set aside is put back, or itself
+-- if it is no JSON
+abbrev pub PutsFor : Bool → List ℕ → List ℕ → Type 0
+PutsFor false bytes file = file ≡ bytes
+PutsFor true bytes file =
+    ((own : Option (Vec ℕ Global)) × (file ≡ text_or bytes own) × PutsBack bytes (Ok own)) ⊎ ((file ≡ bytes) × PutsBack bytes (Err fault.NotJson))
+
+-- storing: the name has what is put for the text; after a failure of the store below that one file may hold anything or be absent
+abbrev pub StoresTo : Bool → List ℕ → List ℕ → StoreParts → Result (Unit {0}) StoreFault → StoreParts → Type 0
+StoresTo has_set_aside name bytes old (Ok done) new = (file : List ℕ) × PutsFor has_set_aside bytes file × (new.files ≡ insert old.files name file)
+StoresTo has_set_aside name bytes old (Err Missing) new = ⊥
+StoresTo has_set_aside name bytes old (Err Device) new = HasFailed old new × SameOthers name old.files new.files
+StoresTo has_set_aside name bytes old (Err Memory) new = new.files ≡ old.files

@@ -1,0 +1,141 @@
+ghost use Rattle.std.specs.Prelude.{◌≡◌, ◌-◌, ◌^◌, ◌<◌, ◌≤◌, ◌⊎◌, IsErrOf, IsTrue, false};
+ghost use Rattle.map_store.specs.Files.{HasFailed};
+ghost use Rattle.tiled_store.specs.Stored.{LoadsFrom, StoresTo};
+
+use crate::fault_report::FaultReport;
+use map_store::{MapStore, StoreFault};
+use std::alloc::Global;
+use tiled_maps::{Fault, put_back, set_aside};
+
+/// The files of another store. A load sets the fractions of a map aside, and a store puts them back.
+///
+/// A file is loaded as it is if it is no JSON, so that its reader refuses it. If a member has the reserved name, or the file would
+/// nest too deep, the load is refused as `Device`, and the report is told why. Nothing is claimed of the files themselves.
+#[derive(Drop)]
+pub struct TiledStore<S, T> {
+    /// The other store.
+    pub store: S,
+    /// Whether a load has set anything aside. Until one has, texts are stored as they are.
+    pub has_set_aside: bool,
+    report: T,
+    // How often this store has answered `Device`.
+    failures: u64,
+}
+
+impl<S: MapStore, T: FaultReport> TiledStore<S, T> {
+    /// Over a store, and with a report of what is refused.
+    pub fn new(store: S, report: T) -> TiledStore<S, T>
+        ensures store { result.store ≡ store }
+        ensures none { result.has_set_aside ≡ false }
+    {
+        TiledStore {
+            store,
+            has_set_aside: false,
+            report,
+            failures: 0,
+        }
+    }
+
+    // Tells the report of a file that is refused, and gives the answer.
+    fn refused(&self, name: &str, fault: Fault) -> StoreFault
+        ensures { result ≡ StoreFault.Device }
+    {
+        self.report.refused(name, fault);
+        StoreFault::Device
+    }
+
+    // Counts a fault of the device.
+    fn counted(&mut self, fault: StoreFault) -> StoreFault
+        ensures value { result ≡ fault }
+        ensures raised { result ≡ StoreFault.Device → (self.old.failures < self.new.failures) ⊎ (self.old.failures ≡ 2 ^ 64 - 1) }
+        ensures count { self.old.failures ≤ self.new.failures }
+        ensures store { self.new.store ≡ self.old.store }
+        ensures aside { self.new.has_set_aside ≡ self.old.has_set_aside }
+    {
+        if fault == StoreFault::Device {
+            self.failures = self.failures.saturating_add(1);
+        }
+        fault
+    }
+
+    // Loads a file, and sets its fractions aside. A fault is not counted yet.
+    fn loaded(&mut self, alloc: Global, name: &str) -> Result<Vec<u8>, StoreFault>
+        ensures loads { IsTrue (S.stored self.old.store).honest
+            → LoadsFrom name.now (S.stored self.old.store) result (S.stored self.new.store) self.new.has_set_aside }
+        ensures aside { IsTrue self.old.has_set_aside → IsTrue self.new.has_set_aside }
+        ensures failures { self.new.failures ≡ self.old.failures }
+    {
+        let bytes = self.store.load(alloc, name)?;
+        match set_aside(alloc, bytes.as_slice()) {
+            Ok(Some(text)) => {
+                self.has_set_aside = true;
+                Ok(text)
+            }
+            Ok(None) => Ok(bytes),
+            Err(Fault::NotJson) => Ok(bytes),
+            Err(Fault::Memory) => Err(StoreFault::Memory),
+            Err(Fault::NameTaken) => Err(self.refused(name, Fault::NameTaken)),
+            Err(Fault::TooDeep) => Err(self.refused(name, Fault::TooDeep)),
+        }
+    }
+
+    // Puts back what is set aside in a text, and stores it. A fault is not counted yet.
+    fn put(&mut self, alloc: Global, name: &str, bytes: &[u8]) -> Result<(), StoreFault>
+        ensures stores { IsTrue (S.stored self.old.store).honest
+            → StoresTo self.old.has_set_aside name.now bytes.now (S.stored self.old.store) result (S.stored self.new.store) }
+        ensures found { IsErrOf result StoreFault.Missing → ⊥ }
+        ensures aside { self.new.has_set_aside ≡ self.old.has_set_aside }
+        ensures failures { self.new.failures ≡ self.old.failures }
+    {
+        if !self.has_set_aside {
+            return self.store.store(alloc, name, bytes);
+        }
+        match put_back(alloc, bytes) {
+            Ok(Some(text)) => self.store.store(alloc, name, text.as_slice()),
+            Ok(None) => self.store.store(alloc, name, bytes),
+            Err(Fault::Memory) => Err(StoreFault::Memory),
+            Err(Fault::NotJson | Fault::NameTaken | Fault::TooDeep) => {
+                self.store.store(alloc, name, bytes)
+            }
+        }
+    }
+}
+
+impl<S: MapStore, T: FaultReport> MapStore for TiledStore<S, T> {
+    ghost use Rattle.std.specs.Prelude.{false};
+
+    ghost stored = { λ s. record { files = (S.stored s.store).files; failures = s.failures; honest = false } };
+
+    fn load(&mut self, alloc: Global, name: &str) -> Result<Vec<u8>, StoreFault>
+        ensures loads_from { IsTrue (S.stored self.old.store).honest
+            → LoadsFrom name.now (S.stored self.old.store) result (S.stored self.new.store) self.new.has_set_aside }
+        ensures aside { IsTrue self.old.has_set_aside → IsTrue self.new.has_set_aside }
+
+        // The clauses of the trait.
+        ensures device { IsErrOf result StoreFault.Device
+            → HasFailed (⟦<TiledStore<S, T> as MapStore>⟧.stored self.old) (⟦<TiledStore<S, T> as MapStore>⟧.stored self.new) }
+        ensures count { (⟦<TiledStore<S, T> as MapStore>⟧.stored self.old).failures ≤ (⟦<TiledStore<S, T> as MapStore>⟧.stored self.new).failures }
+    {
+        match self.loaded(alloc, name) {
+            Ok(bytes) => Ok(bytes),
+            Err(fault) => Err(self.counted(fault)),
+        }
+    }
+
+    fn store(&mut self, alloc: Global, name: &str, bytes: &[u8]) -> Result<(), StoreFault>
+        ensures stores_to { IsTrue (S.stored self.old.store).honest
+            → StoresTo self.old.has_set_aside name.now bytes.now (S.stored self.old.store) result (S.stored self.new.store) }
+        ensures aside { self.new.has_set_aside ≡ self.old.has_set_aside }
+
+        // The clauses of the trait.
+        ensures found { IsErrOf result StoreFault.Missing → ⊥ }
+        ensures device { IsErrOf result StoreFault.Device
+            → HasFailed (⟦<TiledStore<S, T> as MapStore>⟧.stored self.old) (⟦<TiledStore<S, T> as MapStore>⟧.stored self.new) }
+        ensures count { (⟦<TiledStore<S, T> as MapStore>⟧.stored self.old).failures ≤ (⟦<TiledStore<S, T> as MapStore>⟧.stored self.new).failures }
+    {
+        match self.put(alloc, name, bytes) {
+            Ok(()) => Ok(()),
+            Err(fault) => Err(self.counted(fault)),
+        }
+    }
+}
