@@ -1,5 +1,5 @@
 -- Members taken out of an object, beside the entries of the map that holds them.
-use Rattle.std.proofs.Common.{◌≡◌, ℕ, List, [], ◌∷◌, Option, Some, None, option_map, Ordering, Less, Equal, Greater, string_bytes, nat_cmp, is_eq, cond, bytes_eq, refl, sym, ap, ◌∙◌}
+use Rattle.std.proofs.Common.{◌≡◌, ℕ, List, [], ◌∷◌, Some, None, option_map, Ordering, Less, Equal, Greater, string_bytes, nat_cmp, is_eq, cond, refl, sym, ap, ◌∙◌}
 use Rattle.std.proofs.lemmas.Map.Text.{is_eq-slice_cmp}
 use Rattle.std.specs.Cmp.Lexicographic.{slice_cmp}
 use Rattle.std.specs.Map.{remove_entry, lookup}

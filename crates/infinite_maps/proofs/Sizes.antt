@@ -1,5 +1,5 @@
 -- Products of small numbers fit, and rows of a rectangle.
-use Rattle.std.proofs.Common.{ℕ, ◌+◌, ◌*◌, ◌/◌, ◌^◌, ◌<◌, ◌≤◌, max, arith}
+use Rattle.std.proofs.Common.{ℕ, ◌+◌, ◌*◌, ◌/◌, ◌^◌, ◌<◌, max, arith}
 use Rattle.std.proofs.lemmas.Nat.{mul-lt, row-Below}
 use Rattle.std.proofs.Math.Nat.{div-le_self}
 

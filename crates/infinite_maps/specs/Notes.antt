@@ -1,7 +1,7 @@
 -- What is noted of an infinite map while it is finite.
-use Rattle.std.specs.Prelude.{ℕ, ◌+◌, ◌^◌, min, max, List, [], ◌∷◌, codes, ℤ, pos, ◌&&◌, nat_lt, Option, Some, None, option_and_then, unwrap_or, if◌then◌else◌}
+use Rattle.std.specs.Prelude.{ℕ, ◌+◌, min, max, List, [], ◌∷◌, codes, ℤ, pos, nat_lt, Option, Some, None, option_and_then, unwrap_or, if◌then◌else◌}
 use Rattle.serde_json.specs.Data.{Data, Items, no_items, item, Members}
-use Rattle.serde_json.specs.Find.{get, at, get_member, as_number, as_u64, as_i64}
+use Rattle.serde_json.specs.Find.{get, at, get_member, as_number, as_i64}
 use Rattle.infinite_maps.specs.declared.rectangle.Rectangle.{Rectangle}
 use Rattle.infinite_maps.specs.declared.plane.Plane.{Plane}
 use Rattle.infinite_maps.specs.Rectangles.{area}
