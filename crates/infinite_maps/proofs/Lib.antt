@@ -1,0 +1,5 @@
+pub mod MembersLemmas
+pub mod Walks
+pub mod Sizes
+pub mod Words
+pub mod Loops

@@ -1,0 +1,22 @@
+//! Infinite maps as finite ones, and back.
+#![tactic(auto)]
+
+mod cells;
+mod cover;
+mod fault;
+mod finite;
+mod growth;
+mod layer;
+mod members;
+mod notes;
+mod part;
+mod pasting;
+mod plane;
+mod rectangle;
+mod same;
+mod spread;
+mod survey;
+
+pub use fault::Fault;
+pub use finite::made_finite;
+pub use spread::made_infinite;

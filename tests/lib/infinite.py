@@ -1,0 +1,394 @@
+"""Infinite maps as finite ones, and back: the rules of the crate infinite_maps, as a plain program
+with one entry for each cell, and infinite maps that are made and edited by chance."""
+import base64
+import binascii
+import copy
+import struct
+
+from lib.maps import cells_of, packed
+
+MARK = 'roskevad'
+MOST_SIDE, MOST_CELLS, MOST_LAYER_CELLS, MOST_PLACE = 4096, 1048576, 16777216, 1 << 31
+USUAL_CHUNK, LEAST_CHUNK = 16, 4
+BOUNDS = ('width', 'height', 'startx', 'starty')
+
+
+class Fault(Exception):
+    """A map that is refused; its text is the name of the fault."""
+
+
+# ---- an infinite map as a finite one
+
+
+def is_whole(value, least, most):
+    return type(value) is int and least <= value <= most
+
+
+def rectangle_of(chunk):
+    """The place and size of a chunk: left, top, width, height."""
+    if type(chunk) is not dict:
+        raise Fault('BadChunk')
+    places = [chunk.get(name) for name in ('x', 'y')]
+    sizes = [chunk.get(name) for name in ('width', 'height')]
+    if not all(is_whole(place, -MOST_PLACE, MOST_PLACE) for place in places):
+        raise Fault('BadChunk')
+    if not all(is_whole(size, 1, MOST_PLACE) for size in sizes):
+        raise Fault('BadChunk')
+    return (*places, *sizes)
+
+
+def chunk_cells(chunk, is_text, count):
+    """The values of a chunk, of which there must be so many."""
+    data = chunk.get('data')
+    if is_text:
+        try:
+            plain = base64.b64decode(data, validate=True) if type(data) is str else None
+        except (binascii.Error, ValueError):
+            raise Fault('BadChunk') from None
+        if plain is None or base64.b64encode(plain).decode() != data or len(plain) != 4 * count:
+            raise Fault('BadChunk')
+        return struct.unpack(f'<{count}I', plain)
+    if type(data) is not list or len(data) != count:
+        raise Fault('BadChunk')
+    if not all(is_whole(value, 0, (1 << 64) - 1) for value in data):
+        raise Fault('BadChunk')
+    return data
+
+
+def chunked_layers(layers):
+    """The layers that have chunks, and those within groups."""
+    for layer in layers:
+        if 'chunks' in layer:
+            yield layer
+        yield from chunked_layers(layer.get('layers', []))
+
+
+def box_of(tree):
+    """The left, top, right and bottom of all chunks, from an even column and row on."""
+    found = []
+    for layer in chunked_layers(tree['layers']):
+        if type(layer['chunks']) is not list:
+            raise Fault('BadChunk')
+        found += [rectangle_of(chunk) for chunk in layer['chunks']]
+    if not found:
+        return 0, 0, 1, 1
+    left, top = (min(places) // 2 * 2 for places in list(zip(*found))[:2])
+    right = max(x + width for x, _, width, _ in found)
+    return left, top, right, max(y + height for _, y, _, height in found)
+
+
+def chunk_side(tree, name):
+    side = tree.get('editorsettings', {}).get('chunksize', {}).get(name, 0)
+    return min(max(side, LEAST_CHUNK), MOST_SIDE) if side else USUAL_CHUNK
+
+
+def data_of(values, is_text):
+    return packed(values) if is_text else list(values)
+
+
+def finite_layer(layer, left, top, width, height):
+    """Makes a layer finite, in place."""
+    if 'chunks' not in layer or layer.get('compression', '') != '':
+        return
+    is_text = layer.get('encoding') == 'base64'
+    cells, taken, places = [0] * (width * height), set(), []
+    for chunk in layer['chunks']:
+        x, y, across, down = rectangle_of(chunk)
+        places.append([x - left, y - top, across, down])
+        for k, value in enumerate(chunk_cells(chunk, is_text, across * down)):
+            at = (y - top + k // across) * width + x - left + k % across
+            if at in taken:
+                raise Fault('Overlap')
+            taken.add(at)
+            cells[at] = value
+    del layer['chunks']
+    layer[MARK] = {
+        'chunks': places,
+        **{name: layer.pop(name) for name in BOUNDS if name in layer},
+    }
+    layer.update(data=data_of(cells, is_text), width=width, height=height)
+
+
+def move_objects(layers, x, y):
+    for layer in layers:
+        for item in layer.get('objects', []):
+            for name, by in (('x', x), ('y', y)):
+                if type(item.get(name)) is int:
+                    item[name] += by
+        move_objects(layer.get('layers', []), x, y)
+
+
+def every_layer(layers):
+    for layer in layers:
+        yield layer
+        yield from every_layer(layer.get('layers', []))
+
+
+def finite_of(tree):
+    """The finite map of an infinite one; None for a map that is not infinite."""
+    if tree.get('infinite') is not True:
+        return None
+    tree = copy.deepcopy(tree)
+    left, top, right, bottom = box_of(tree)
+    width, height = right - left, bottom - top
+    is_small = max(width, height) <= MOST_SIDE and width * height <= MOST_CELLS
+    across, down = chunk_side(tree, 'width'), chunk_side(tree, 'height')
+    note = {'x': left, 'y': top}
+    if is_small:
+        if len(list(chunked_layers(tree['layers']))) * width * height > MOST_LAYER_CELLS:
+            raise Fault('TooLarge')
+        moved = [0, 0]
+        if tree.get('orientation', 'orthogonal') == 'orthogonal':
+            moved = [left * tree.get('tilewidth', 0), top * tree.get('tileheight', 0)]
+        note.update(chunkwidth=across, chunkheight=down, lostx=left % across, losty=top % down)
+        note.update(movedx=moved[0], movedy=moved[1])
+        for layer in every_layer(tree['layers']):
+            finite_layer(layer, left, top, width, height)
+        move_objects(tree['layers'], -moved[0], -moved[1])
+    else:
+        names = ('chunkwidth', 'chunkheight', 'lostx', 'losty', 'movedx', 'movedy')
+        note.update({name: 0 for name in names})
+    note.update({name: tree[name] for name in ('width', 'height') if name in tree})
+    tree.update(width=width, height=height, infinite=False)
+    tree[MARK] = {'infinite': note}
+    return tree
+
+
+# ---- back
+
+
+def spans(side, lost, limit):
+    """The blocks of a side, as far as they lie on the map."""
+    edges = range(-lost, limit, side)
+    return [(max(edge, 0), min(edge + side, limit)) for edge in edges]
+
+
+def cells_in(rectangle):
+    left, top, right, bottom = rectangle
+    return [(x, y) for y in range(top, bottom) for x in range(left, right)]
+
+
+def around(rectangles):
+    sides = list(zip(*rectangles))
+    return min(sides[0]), min(sides[1]), max(sides[2]), max(sides[3])
+
+
+def new_rectangles(note, width, height, cells, covered):
+    """Rectangles for the cells that are not 0 and that none covers."""
+    found = []
+    for top, bottom in spans(note['chunkheight'], note['losty'], height):
+        for left, right in spans(note['chunkwidth'], note['lostx'], width):
+            block = left, top, right, bottom
+            news = [
+                (x, y, x + 1, y + 1)
+                for x, y in cells_in(block)
+                if cells[y * width + x] and (x, y) not in covered
+            ]
+            if not news:
+                continue
+            for whole in (block, around(news)):
+                if covered.isdisjoint(cells_in(whole)):
+                    news = [whole]
+                    break
+            found += news
+    return found
+
+
+def infinite_layer(layer, note, width, height):
+    """Puts the cells of a layer into chunks, in place."""
+    if 'data' not in layer:
+        return
+    cells = cells_of(layer)
+    is_text = type(layer['data']) is str
+    if len(cells) != width * height:
+        return
+    own = layer.pop(MARK, None)
+    rectangles = []
+    for x, y, across, down in own['chunks'] if own else []:
+        right, bottom = min(x + across, width), min(y + down, height)
+        if x < right and y < bottom:
+            rectangles.append((x, y, right, bottom))
+    covered = {cell for rectangle in rectangles for cell in cells_in(rectangle)}
+    news = new_rectangles(note, width, height, cells, covered)
+    rectangles += news
+    for name in ('data', 'width', 'height'):
+        layer.pop(name, None)
+    layer['chunks'] = [
+        {
+            'data': data_of([cells[y * width + x] for x, y in cells_in(rectangle)], is_text),
+            'height': rectangle[3] - rectangle[1],
+            'width': rectangle[2] - rectangle[0],
+            'x': note['x'] + rectangle[0],
+            'y': note['y'] + rectangle[1],
+        }
+        for rectangle in rectangles
+    ]
+    if own and not news:
+        layer.update({name: own[name] for name in BOUNDS if name in own})
+        return
+    left, top, right, bottom = around(rectangles) if rectangles else (0, 0, 0, 0)
+    layer.update(width=right - left, height=bottom - top)
+    layer.update(startx=note['x'] + left, starty=note['y'] + top)
+
+
+def infinite_of(tree):
+    """The infinite map that a finite one is; None for one that was not infinite."""
+    if MARK not in tree:
+        return None
+    tree = copy.deepcopy(tree)
+    note = tree.pop(MARK)['infinite']
+    width, height = tree.pop('width'), tree.pop('height')
+    for layer in every_layer(tree['layers']):
+        infinite_layer(layer, note, width, height)
+    move_objects(tree['layers'], note['movedx'], note['movedy'])
+    tree.update({name: note[name] for name in ('width', 'height') if name in note})
+    tree['infinite'] = True
+    return tree
+
+
+# ---- what must be so of an edited map
+
+
+def cell_places(layer):
+    """The place on the plane of each cell that a chunk of a layer covers, with its value."""
+    found = {}
+    for chunk in layer['chunks']:
+        x, y, width, height = rectangle_of(chunk)
+        values = chunk_cells(chunk, layer.get('encoding') == 'base64', width * height)
+        for k, value in enumerate(values):
+            place = x + k % width, y + k // width
+            assert place not in found, f'two chunks cover {place}'
+            found[place] = value
+    return found
+
+
+def wrong_cells(finite, infinite):
+    """Where a cell of an edited finite map is not where it stood, as text, or None."""
+    note, width = finite[MARK]['infinite'], finite['width']
+    layers = zip(every_layer(finite['layers']), every_layer(infinite['layers']))
+    for layer, spread in layers:
+        if 'data' not in layer:
+            continue
+        found = cell_places(spread)
+        for at, value in enumerate(cells_of(layer)):
+            place = note['x'] + at % width, note['y'] + at // width
+            if found.pop(place, 0) != value:
+                return f'layer {layer["id"]}: the cell at {place} is not {value}'
+        if found:
+            return f'layer {layer["id"]}: cells outside the map, as at {min(found)}'
+    return None
+
+
+# ---- maps by chance
+
+
+def apart(rectangles, new):
+    left, top, width, height = new
+    return all(
+        left + width <= x or x + across <= left or top + height <= y or y + down <= top
+        for x, y, across, down in rectangles
+    )
+
+
+def some_chunks(chosen, is_text, is_grid):
+    """Chunks that do not overlap, on the grid of 16 or anywhere, some of them empty."""
+    rectangles = []
+    for _ in range(chosen.randint(0, 5)):
+        if is_grid:
+            new = 16 * chosen.randint(-2, 2), 16 * chosen.randint(-2, 2), 16, 16
+        else:
+            places = chosen.randint(-20, 20), chosen.randint(-20, 20)
+            new = (*places, chosen.randint(1, 9), chosen.randint(1, 9))
+        if apart(rectangles, new):
+            rectangles.append(new)
+    chunks = []
+    for x, y, width, height in rectangles:
+        most = chosen.choice((0, 3, (1 << 32) - 1))
+        values = [chosen.randint(0, most) for _ in range(width * height)]
+        data = data_of(values, is_text)
+        chunks.append({'data': data, 'height': height, 'width': width, 'x': x, 'y': y})
+    return chunks
+
+
+def some_layers(chosen, ids, depth):
+    layers = []
+    for _ in range(chosen.randint(1, 3)):
+        layer = {'id': next(ids), 'name': 'layer', 'opacity': 1, 'visible': True, 'x': 0, 'y': 0}
+        kind = chosen.choice(('tilelayer', 'tilelayer', 'objectgroup', 'group', 'imagelayer'))
+        if kind == 'group' and depth == 0:
+            kind = 'tilelayer'
+        layer['type'] = kind
+        if kind == 'tilelayer':
+            is_text = chosen.random() < 0.5
+            layer['chunks'] = some_chunks(chosen, is_text, chosen.random() < 0.5)
+            if is_text:
+                layer.update(encoding='base64', compression='')
+            for name in BOUNDS:
+                if chosen.random() < 0.9:
+                    layer[name] = chosen.randint(-40, 40)
+        elif kind == 'objectgroup':
+            layer['objects'] = [
+                {
+                    'id': next(ids),
+                    'name': 'thing',
+                    'x': chosen.choice((chosen.randint(-900, 900), 10.1, -0.5, 3.25)),
+                    'y': chosen.randint(-900, 900),
+                    'polygon': [{'x': 1, 'y': 2}, {'x': 0.5, 'y': -4}],
+                }
+                for _ in range(chosen.randint(0, 3))
+            ]
+        elif kind == 'group':
+            layer['layers'] = some_layers(chosen, ids, depth - 1)
+        layers.append(layer)
+    return layers
+
+
+def some_map(chosen):
+    """An infinite map that is made by chance."""
+    ids = iter(range(1, 1000))
+    tree = {
+        'height': chosen.randint(1, 40),
+        'infinite': True,
+        'layers': some_layers(chosen, ids, 2),
+        'nextlayerid': 1000,
+        'nextobjectid': 1000,
+        'orientation': chosen.choice(('orthogonal', 'orthogonal', 'isometric', 'staggered')),
+        'tileheight': chosen.randint(1, 20),
+        'tilesets': [],
+        'tilewidth': chosen.randint(1, 20),
+        'type': 'map',
+        'version': chosen.choice(('1.10', 1.5)),
+        'width': chosen.randint(1, 40),
+    }
+    if chosen.random() < 0.5:
+        sides = {'width': chosen.randint(0, 30), 'height': chosen.randint(0, 30)}
+        tree['editorsettings'] = {'chunksize': sides}
+    return tree
+
+
+def edit(chosen, tree):
+    """Edits a finite map by chance, in place: cells, its size, objects, a layer more."""
+    width, height = tree['width'], tree['height']
+    if chosen.random() < 0.4:
+        width, height = (max(1, side + chosen.randint(-9, 9)) for side in (width, height))
+    for layer in every_layer(tree['layers']):
+        for item in layer.get('objects', []):
+            if chosen.random() < 0.3:
+                item['x'] = chosen.randint(-99, 99)
+        if 'data' not in layer:
+            continue
+        old, was = cells_of(layer), tree['width']
+        cells = [
+            old[y * was + x] if x < was and y < tree['height'] else 0
+            for y in range(height)
+            for x in range(width)
+        ]
+        for _ in range(chosen.choice((0, 1, 5, 60))):
+            cells[chosen.randrange(len(cells))] = chosen.randint(0, 9)
+        layer.update(data=data_of(cells, type(layer['data']) is str), width=width, height=height)
+    tree.update(width=width, height=height)
+    if chosen.random() < 0.3:
+        cells = [chosen.choice((0, 0, 0, 7)) for _ in range(width * height)]
+        layer = {'data': cells, 'height': height, 'id': 999, 'name': 'new', 'opacity': 1}
+        layer.update(type='tilelayer', visible=True, width=width, x=0, y=0)
+        tree['layers'].append(layer)
