@@ -1,0 +1,58 @@
+"""Finds the programs of Debian's packages that steps need, and installs those packages where they are
+missing and this is root."""
+import os
+import shutil
+import subprocess
+import sys
+
+SELENIUM = 'python3-selenium'
+# The command that each package brings.
+COMMANDS = {
+    'chromium': 'chromium',
+    'chromium-driver': 'chromedriver',
+    'firefox-esr': 'firefox-esr',
+    'node-typescript': 'tsc',
+    'nodejs': 'node',
+}
+# What the steps in Chromium need.
+BROWSER = ('chromium', 'chromium-driver', SELENIUM)
+
+
+def pythons():
+    """The interpreters here that have selenium: this one, or Debian's own."""
+    for path in (sys.executable, '/usr/bin/python3'):
+        if (
+            os.path.exists(path)
+            and subprocess.run(
+                [path, '-c', 'import selenium'], stderr=subprocess.DEVNULL
+            ).returncode
+            == 0
+        ):
+            yield path
+
+
+def python(packages):
+    """An interpreter for a step that needs these packages: one with selenium where that is among
+    them."""
+    return next(pythons(), sys.executable) if SELENIUM in packages else sys.executable
+
+
+def is_there(package):
+    return any(pythons()) if package == SELENIUM else bool(shutil.which(COMMANDS[package]))
+
+
+def missing(packages):
+    return [package for package in packages if not is_there(package)]
+
+
+def install(packages):
+    """Installs those that are missing, where it can. What is still missing then fails the steps that
+    need it."""
+    wanted = missing(sorted(set(packages)))
+    if not wanted or os.getuid() != 0 or not shutil.which('apt-get'):
+        return
+    print('installing', *wanted, flush=True)
+    env = {**os.environ, 'DEBIAN_FRONTEND': 'noninteractive'}
+    waits = ['-o', 'DPkg::Lock::Timeout=300', '-o', 'Acquire::Retries=3']
+    for words in (['update'], ['install', '-y', '--no-install-recommends', *wanted]):
+        subprocess.run(['apt-get', '-q', *waits, *words], env=env, stdout=subprocess.DEVNULL)
