@@ -44,9 +44,9 @@ export class Broken extends Error {}
 /** What was given is not the module of this package: it was cut short, or is of another version. */
 export class BadModule extends Error {}
 
-// The types of the host, where it has them.
+// WebAssembly.Module, where the types of the host have it; it declares no members.
 type Compiled = typeof globalThis extends { WebAssembly: { Module: { prototype: infer Type } } }
-  ? Type
+  ? Type & object
   : never;
 
 /** Bytes, or a text, which stands for its UTF-8. */

@@ -76,7 +76,8 @@ export class Editor {
 
   /** Does what a line asks for, and gives the reply, "" where the line is quiet. Throws Refused. */
   step(line) {
-    const reply = this._module.toldText(...this._saying(line)) ?? "";
+    const [say, again] = this._saying(line);
+    const reply = this._module.toldText(say, again) ?? "";
     const refusal = reply.startsWith("no ") && REFUSAL.exec(reply);
     if (refusal) {
       throw new Refused(Number(refusal[1]), refusal[2], line);
@@ -89,7 +90,8 @@ export class Editor {
    * line is quiet.
    */
   stepBytes(line) {
-    return this._module.told(...this._saying(line));
+    const [say, again] = this._saying(line);
+    return this._module.told(say, again);
   }
 
   // The call that hears a line and copies its reply, and the one that copies the reply again.

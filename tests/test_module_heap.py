@@ -11,7 +11,7 @@ SANITIZED = ['-fsanitize=undefined', '-fno-sanitize-recover=all', '-g']
 # The module's memory lies below 4 GiB, and that of the program must, too.
 PLACED = ['-no-pie', '-Wl,--defsym=__heap_base=0x40000123']
 # A seed, how many calls, and how many pages there are.
-RUNS = [('1', '300000', '32768'), ('2', '300000', '3000'), ('3', '300000', '200'), ('4', '9', '1')]
+RUNS = [('1', '200000', '32768'), ('2', '200000', '1000'), ('3', '200000', '200'), ('4', '9', '1')]
 
 
 def fault_of(case):

@@ -30,7 +30,7 @@ def large_map(is_packed):
 def stamps():
     yield 'new m 256 256 16 16 t.tsj'
     for at in range(200_000):
-        yield f'stamp 1 {at * 7 % 256} {at % 251} 1 {at % 60000 + 1}'
+        yield f'stamp 1 {at * 7 % 256} {at % 251} 1 {at + 1}'
 
 
 def fills():
@@ -55,8 +55,8 @@ def fault_of(case):
         if case.wanted is not None:
             (Path(top) / 'm.tmj').write_bytes(large_map(case.wanted))
             files = ['m.tmj', f'{top}/m.tmj']
-        program = c_program(NATIVE / 'library_peak.c', '-O2')
-        of_library = int(subprocess.check_output([program, session, *files]))
+        program = c_program(NATIVE / 'library_session.c', '-O2')
+        of_library = int(subprocess.check_output([program, 'peak', session, *files]))
         of_module = int(ran('memory.mjs', 'peak', session, *files))
     ratio = of_module / of_library
     print(f'{case.name}: {of_module / 1e6:.1f} MB, {ratio:.2f} of the library\'s')

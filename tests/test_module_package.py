@@ -92,11 +92,8 @@ def test_names_that_are_declared():
 
 
 def fault_of_types(case):
-    words = ['tsc', '--noEmit', '--strict', '--target', 'es2022', '--lib', case.given]
-    words += ['--module', 'node16', '--moduleResolution', 'node16', '--types', '']
-    done = subprocess.run(
-        [*words, TESTS / 'module' / 'types.ts'], cwd=TOP, capture_output=True, text=True
-    )
+    words = ['tsc', '--project', TESTS / 'module', '--lib', case.given]
+    done = subprocess.run(words, cwd=TOP, capture_output=True, text=True)
     return None if done.returncode == 0 else f'{done.stdout[-2000:]}{done.stderr[-500:]}'
 
 

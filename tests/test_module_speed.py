@@ -23,7 +23,8 @@ def stamps():
     chosen = random.Random(SEED)
     yield 'new m 256 256 16 16 t.tsj'
     for at in range(200_000):
-        yield f'stamp 1 {chosen.randrange(256)} {chosen.randrange(256)} 1 {at % 60000 + 1}'
+        # No other stamp has this value, so each changes its cell.
+        yield f'stamp 1 {chosen.randrange(256)} {chosen.randrange(256)} 1 {at + 1}'
     yield from ['undo'] * 200_000
     yield from ['redo'] * 200_000
 
@@ -38,9 +39,9 @@ def questions():
 
 def of_library(file):
     """The milliseconds of the quickest turn on the library."""
-    program = c_program(NATIVE / 'library_speed.c', '-O2')
-    done = subprocess.run([program, file, str(TURNS)], capture_output=True, text=True, check=True)
-    return min(float(line) for line in done.stdout.split()) / 1e6
+    program = c_program(NATIVE / 'library_session.c', '-O2')
+    printed = subprocess.check_output([program, 'time', str(TURNS), file], text=True)
+    return min(float(line) for line in printed.split()) / 1e6
 
 
 def tell(name, count, base, times):

@@ -59,6 +59,15 @@ def asked(run):
     return packed({'limit': limit.encode(), 'session': run.session, **files})
 
 
+class Quiet(ThreadingHTTPServer):
+    """A server that tells nothing of a browser that has ended."""
+
+    daemon_threads = True
+
+    def handle_error(self, *_):
+        """Tells nothing."""
+
+
 class Server:
     """A server of runs on this machine, which keeps what came of each: its replies and its files. Other
     texts are served by their paths."""
@@ -89,8 +98,7 @@ class Server:
             def log_message(self, *_):
                 """Tells nothing."""
 
-        self.server = ThreadingHTTPServer(('127.0.0.1', 0), Handler)
-        self.server.daemon_threads = True
+        self.server = Quiet(('127.0.0.1', 0), Handler)
         self.address = f'http://127.0.0.1:{self.server.server_address[1]}'
 
     def __enter__(self):

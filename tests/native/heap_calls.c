@@ -49,7 +49,7 @@ static u64 random_size(void)
     int kind = rand() % 1000;
     if (kind < 900)
         return rand() % 300;
-    return kind < 995 ? rand() % 70000 : rand() % 30000000;
+    return kind < 998 ? rand() % 70000 : rand() % 4000000;
 }
 
 static void fill(held *it, u8 *at, u64 size)

@@ -227,13 +227,13 @@ static int start(void)
     return 1;
 }
 
-/* Asks the engine for a 16th of the memory that is there, and for no less than is missing. So the
+/* Asks the engine for a 32nd of the memory that is there, and for no less than is missing. So the
  * memory is seldom moved, where an engine moves it. */
 static int grow(u32 missing)
 {
     u64 had = __builtin_wasm_memory_size(0);
     u64 least = ((u64)missing + PAGE - 1) / PAGE;
-    u64 pages = had / 16 > least ? had / 16 : least;
+    u64 pages = had / 32 > least ? had / 32 : least;
     if (had + least > MOST_PAGES)
         return 0;
     if (had + pages > MOST_PAGES)

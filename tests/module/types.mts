@@ -31,7 +31,7 @@ async function used(bytes: Uint8Array): Promise<void> {
   const second = new Editor(module, { limit: 5 });
   const third = await Editor.create({ module });
   const fourth = await Editor.create({ module: bytes });
-  const fifth = await Editor.create({ module: new URL("file:///roskevad.wasm") });
+  const fifth = await Editor.create({ module: { href: "file:///roskevad.wasm" } });
   const isBroken: boolean = module.isBroken;
   const refused = new Refused(4, "bad word", "undo undo");
   const faults: Error[] = [refused, new Closed(), new NoMemory(), new Broken(), new BadModule()];
