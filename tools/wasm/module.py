@@ -11,6 +11,7 @@ The kit's own target for WebAssembly refuses every crate with a heap. No step de
 done or when, so the same crates give the same bytes."""
 import os
 import subprocess
+import sys
 from pathlib import Path
 
 from . import lower, retarget
@@ -58,7 +59,10 @@ def keeping_toolchain(toolchain, folder, kept):
 
 
 def run(*words, folder):
-    subprocess.run([str(word) for word in words], cwd=folder, check=True, capture_output=True)
+    words = [str(word) for word in words]
+    done = subprocess.run(words, cwd=folder, capture_output=True, text=True)
+    if done.returncode != 0:
+        sys.exit(f'{words[0]}: status {done.returncode}: {done.stderr[-3000:]}')
 
 
 def compile_module(clang, bitcode, folder):
