@@ -6,7 +6,7 @@
 - each command in the pages at the top and in `docs/` ends with status 0, and each block of
   `console` prints what stands there; but not the commands of the gate itself, which docs/GATE.md
   has, those that need Tiled or a network, and the tutorials, which have a step of their own; each
-  program in Python that stands there ends with status 0;
+  program in Python or JavaScript that stands there ends with status 0;
 - docs/refusals.md has the codes and words of the program's source, and docs/map-files.md those of
   maps that are refused;
 - the help of the program has each form of a line that docs/session-lines.md has, and no other;
@@ -14,10 +14,10 @@
 - docs/GATE.md has each step of the tests.
 
 How the pages are laid out, test_docs_layout.py sees."""
+import os
 import re
 import shutil
 import subprocess
-import sys
 
 from lib.cases import CORES, Case, check_each, fail_with, passed, skip, unlike
 from lib.forms import HELP, spread
@@ -26,6 +26,7 @@ from lib.places import BIN, EXAMPLES, TOP
 from lib.refusals import OF_MAPS, ROWS
 from lib.runner import all_steps
 
+PACKAGES = ('nodejs',)
 GATE = TOP / 'docs' / 'GATE.md'
 LINES = TOP / 'docs' / 'session-lines.md'
 TUTORIALS = TOP / 'docs' / 'tutorials'
@@ -126,12 +127,12 @@ def runs_command(clone, page, command):
     return unlike(wanted, told) and f'{command}: {unlike(wanted, told)}'
 
 
-def fault_of_program(clone, program):
-    """What is wrong with a program in Python, or None."""
+def fault_of_program(clone, words, program):
+    """What is wrong with a program, which these words run, or None."""
     clone.maps.mkdir(exist_ok=True)
-    env = {'PYTHONPATH': 'python', 'PYTHONDONTWRITEBYTECODE': '1'}
+    env = {**os.environ, 'PYTHONPATH': 'python', 'PYTHONDONTWRITEBYTECODE': '1'}
     done = subprocess.run(
-        [sys.executable, '-c', program.replace('/tmp/maps', str(clone.maps))],
+        [*words, program.replace('/tmp/maps', str(clone.maps))],
         cwd=clone.folder,
         env=env,
         capture_output=True,
@@ -156,7 +157,7 @@ def fault_of_commands(page):
         for console in page.consoles():
             clone.clear()
             faults.append(clone.fault_of_console(console))
-        faults += [fault_of_program(clone, program) for program in page.programs()]
+        faults += [fault_of_program(clone, *program) for program in page.programs()]
     return '\n    '.join(filter(None, faults)) or None
 
 

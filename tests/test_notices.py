@@ -1,4 +1,4 @@
-"""Compares `bin/NOTICES.txt` and `lib/NOTICES.txt` with the notices of the licences of all crates
+"""Compares the `NOTICES.txt` of `bin/`, `lib/` and `js/` with the notices of the licences of all crates
 of the Rattle kit that are linked there, as `tools/notices` makes them from the kit's own files. If
 crates were added, or the kit has changed, run `tools/notices`."""
 from lib.cases import Case, check_each, unlike

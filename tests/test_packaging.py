@@ -14,9 +14,10 @@ import time
 import zipfile
 from pathlib import Path
 
-from lib import packages
-from lib.cases import Case, check_each, skip, unlike
+from lib.cases import Case, check_each, unlike
 from lib.places import TOP
+
+PACKAGES = ('mypy', 'python3-venv')
 
 VERSION = (TOP / 'VERSION').read_text().strip()
 INFO = f'roskevad-{VERSION}.dist-info'
@@ -154,23 +155,11 @@ def pip(*words, folder):
     assert done.returncode == 0, f'pip {words}: {done.stderr[-1500:]}'
 
 
-def environment(folder):
-    """Makes a virtual environment. Where there can be none, the test is left out."""
-    for _ in range(2):
-        made = subprocess.run(
-            [sys.executable, '-m', 'venv', folder], capture_output=True, text=True
-        )
-        if made.returncode == 0:
-            return
-        packages.install('python3-venv')
-    skip(f'no virtual environment can be made: {made.stdout[-200:]}')
-
-
 def test_pip():
     """It installs the package, and leads to the clone with `-e`; and takes all out again."""
     env = {name: value for name, value in os.environ.items() if name != 'PYTHONPATH'}
     with tempfile.TemporaryDirectory() as folder:
-        environment(folder)
+        subprocess.run([sys.executable, '-m', 'venv', folder], check=True)
 
         def fault_of(case):
             pip('install', *case.given, TOP / 'python', folder=folder)
@@ -194,14 +183,13 @@ def test_pip():
 
 def test_types():
     """The package, what builds it, and a script that uses it."""
-    mypy = packages.program_of('mypy')
     with tempfile.TemporaryDirectory() as folder:
         script = Path(folder) / 'script.py'
         script.write_text(SCRIPT)
         env = {**os.environ, 'MYPYPATH': str(TOP / 'python'), 'MYPY_CACHE_DIR': f'{folder}/cache'}
         done = subprocess.run(
             [
-                mypy,
+                'mypy',
                 '--strict',
                 TOP / 'python' / 'roskevad',
                 TOP / 'python' / 'build_backend.py',

@@ -1,15 +1,21 @@
-"""Compares the library in `lib/` with the one that `tools/build_library` builds over what `rt ci`
-has proved, byte for byte. Its bytes depend on the binutils: those in `lib/` are of 2.40, of Debian
-12. Besides, it sees which glibc the library needs, and that it gives out no names but its own. If
-the library has changed, look at the change and run `tools/build_library lib`."""
+"""Compares the library in `lib/`, its WebAssembly module included, with the one that
+`tools/build_library` builds over what `rt ci` has proved, byte for byte. The bytes of the archive and
+of the shared library depend on the binutils: those in `lib/` are of 2.40, of Debian 12. Besides, it
+sees which glibc the library needs, that it gives out no names but its own, and that the module has
+the calls of the header. If the library has changed, look at the change and run
+`tools/build_library lib`."""
 import re
 import subprocess
+import sys
 import tempfile
 from pathlib import Path
 
-from lib.cases import Case, check_each
-from lib.kit import need_built, need_kit
+from lib.cases import Case, check_each, unlike
+from lib.kit import need_built, need_kit, tool
 from lib.places import LIB, TOP
+
+sys.path.insert(0, str(TOP / 'tools'))
+from wasm import lower  # noqa: E402
 
 IS_LONG = True
 SHARED = LIB / 'libroskevad.so'
@@ -48,7 +54,7 @@ def test_library_that_was_proved():
         check_each(
             [
                 Case(f'lib/{name}', LIB / name, Path(folder) / name)
-                for name in ('libroskevad.a', 'libroskevad.so')
+                for name in tool('build_library').FILES
             ],
             fault_of,
         )
@@ -66,3 +72,13 @@ def test_names_that_it_gives_out():
     ]
     others = [name for name in names if not name.startswith(('roskevad_', 'ROSKEVAD_'))]
     assert names and not others, f'it gives out {others}'
+
+
+def test_calls_that_the_module_has():
+    """Those of the header, with what the host takes memory by, and no more; and it imports nothing."""
+    sections = lower.Lowering((LIB / 'roskevad.wasm').read_bytes())
+    header = (TOP / 'include' / 'roskevad.h').read_text()
+    calls = re.findall(r'^(?:size_t|void) (roskevad_\w+)\(', header, re.MULTILINE)
+    fault = unlike(sorted([*calls, 'alloc', 'free']), sorted(sections.exports))
+    assert not fault, fault
+    assert lower.Lowering.IMPORTS not in sections.sections, 'the module has imports'

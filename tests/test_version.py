@@ -1,6 +1,6 @@
 """Compares the version in the file VERSION with every place that names it: what the programs and
-the Python package print, the header, the names of the shared library, the package's own metadata,
-the page of the library, and the newest heading of CHANGELOG.md, where that is there."""
+the Python package print, the header, the names of the shared library, the metadata of both
+packages, the page of the library, and the newest heading of CHANGELOG.md, where that is there."""
 import os
 import re
 import sys
@@ -15,6 +15,8 @@ IN_FILES = [
     Case('the header', 'include/roskevad.h', r'ROSKEVAD_VERSION "(.*)"'),
     Case('the page of the library', 'docs/library.md', r'libroskevad\.so\.(\d[\d.]*\d)'),
     Case('the Python project', 'python/pyproject.toml', r'(?m)^version = "(.*)"'),
+    Case('the package for JavaScript', 'js/package.json', r'(?m)^  "version": "(.*)"'),
+    Case('its code', 'js/module.js', r'VERSION = "(.*)"'),
 ]
 
 

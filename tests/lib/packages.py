@@ -1,28 +1,67 @@
-"""Packages of Debian that some tests need, which are installed where they are missing and this is
-root."""
+"""Finds the programs of Debian's packages that steps need, and installs those packages where they are
+missing and this is root."""
+import importlib.util
 import os
 import shutil
 import subprocess
+import sys
 
-from lib.cases import skip
+SELENIUM = 'python3-selenium'
+# The command that each package brings.
+COMMANDS = {
+    'chromium': 'chromium',
+    'chromium-driver': 'chromedriver',
+    'firefox-esr': 'firefox-esr',
+    'mypy': 'mypy',
+    'node-typescript': 'tsc',
+    'nodejs': 'node',
+    'tiled': 'tiled',
+}
+# The module that this interpreter has with each package.
+MODULES = {'python3-venv': 'ensurepip'}
+# What the steps in Chromium need.
+BROWSER = ('chromium', 'chromium-driver', SELENIUM)
 
 
-def install(package):
-    """Installs a package, where it can."""
-    if os.getuid() != 0 or not shutil.which('apt-get'):
+def pythons():
+    """The interpreters here that have selenium: this one, or Debian's own."""
+    for path in (sys.executable, '/usr/bin/python3'):
+        if (
+            os.path.exists(path)
+            and subprocess.run(
+                [path, '-c', 'import selenium'], stderr=subprocess.DEVNULL
+            ).returncode
+            == 0
+        ):
+            yield path
+
+
+def python(packages):
+    """An interpreter for a step that needs these packages: one with selenium where that is among
+    them."""
+    return next(pythons(), sys.executable) if SELENIUM in packages else sys.executable
+
+
+def is_there(package):
+    if package == SELENIUM:
+        return any(pythons())
+    if package in MODULES:
+        return importlib.util.find_spec(MODULES[package]) is not None
+    return bool(shutil.which(COMMANDS[package]))
+
+
+def missing(packages):
+    return [package for package in packages if not is_there(package)]
+
+
+def install(packages):
+    """Installs those that are missing, where it can. What is still missing then fails the steps that
+    need it."""
+    wanted = missing(sorted(set(packages)))
+    if not wanted or os.getuid() != 0 or not shutil.which('apt-get'):
         return
+    print('installing', *wanted, flush=True)
     env = {**os.environ, 'DEBIAN_FRONTEND': 'noninteractive'}
     waits = ['-o', 'DPkg::Lock::Timeout=300', '-o', 'Acquire::Retries=3']
-    for words in (['update'], ['install', '-y', '--no-install-recommends', package]):
-        subprocess.run(['apt-get', '-q', *waits, *words], env=env, capture_output=True)
-
-
-def program_of(package):
-    """The path of the program that has its package's name. Where it can't be had, the test is left
-    out."""
-    if not shutil.which(package):
-        install(package)
-    found = shutil.which(package)
-    if not found:
-        skip(f'{package} is not here: it is a package of Debian')
-    return found
+    for words in (['update'], ['install', '-y', '--no-install-recommends', *wanted]):
+        subprocess.run(['apt-get', '-q', *waits, *words], env=env, stdout=subprocess.DEVNULL)

@@ -17,6 +17,7 @@ import os
 import re
 import shutil
 import subprocess
+import sys
 import tempfile
 from pathlib import Path
 
@@ -28,7 +29,7 @@ COMMENT = re.compile(r'<!-- transcript\n(.*?)-->', re.DOTALL)
 LINK = re.compile(r'\]\(([^)\s]+)\)')
 # A path of the repository, in text or as code.
 NAMED = re.compile(
-    r'(?<![\w./-])((?:docs|crates|examples|sessions|include|lib|bin|python|tests|tools|\.ci)/'
+    r'(?<![\w./-])((?:docs|crates|examples|sessions|include|lib|bin|js|python|tests|tools|\.ci)/'
     r'[\w./*-]*[\w/*])'
 )
 # A file of a crate, on that crate's page.
@@ -53,6 +54,9 @@ COMMANDS = (
     'tests/run',
     '/tmp/maps/fence',
 )
+# The words of the commands that run a program of a page, which follows them.
+IN_PYTHON = (sys.executable, '-c')
+IN_NODE = ('node', '--input-type=module', '--eval')
 NEW_MAP = 'new town 4 3 16 16 town.tsj'
 
 
@@ -137,11 +141,14 @@ class Page:
                 yield command
 
     def programs(self):
-        """The indented blocks that are programs in Python."""
+        """The indented blocks that are programs in Python or in JavaScript, each behind the words of
+        the command that runs it."""
         for block in re.findall(r'(?:^    .*\n|^\n)+', self.text, re.MULTILINE):
             lines = [line[4:] for line in block.strip('\n').split('\n')]
-            if lines[0].startswith(('from ', 'import ')):
-                yield '\n'.join(lines)
+            if lines[0].startswith('import {'):
+                yield IN_NODE, '\n'.join(lines)
+            elif lines[0].startswith(('from ', 'import ')):
+                yield IN_PYTHON, '\n'.join(lines)
 
     def transcripts(self):
         """The transcripts of the page."""
@@ -235,6 +242,7 @@ def pages():
     folders = (
         'docs/**/*.md',
         'examples/**/*.md',
+        'js/*.md',
         'sessions/*.md',
         'tests/**/*.md',
         'crates/*/README.md',

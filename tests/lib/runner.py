@@ -8,6 +8,7 @@ say
     ALONE = True            it times something or bounds memory, so no other step runs beside it
     IS_LONG = True          it is among the first that start
     NEEDS_BROWSER = True    it needs Chromium, its driver and selenium
+    PACKAGES = (..)         it needs these packages of Debian, beside Python
 
 Each step runs in a process of its own, in which `run_step` writes what came of it."""
 import argparse
@@ -28,7 +29,7 @@ from concurrent.futures import ThreadPoolExecutor
 from dataclasses import asdict, dataclass, field
 from pathlib import Path
 
-from lib import browser_packages, cases, native
+from lib import cases, native, packages
 from lib.places import GATE, TESTS, TOP
 
 RUN = TESTS / 'run'
@@ -42,7 +43,7 @@ class Step:
     about: str
     is_alone: bool
     is_long: bool
-    needs_browser: bool
+    packages: tuple
 
 
 @dataclass
@@ -72,6 +73,7 @@ def read_step(path):
     def is_set(name):
         return name in said and ast.literal_eval(said[name]) is True
 
+    needed = ast.literal_eval(said['PACKAGES']) if 'PACKAGES' in said else ()
     about = ' '.join((ast.get_docstring(tree) or '').partition('\n\n')[0].split())
     first = about.partition('. ')[0].rstrip('.:') + '.'
     return Step(
@@ -79,7 +81,7 @@ def read_step(path):
         first,
         is_set('ALONE'),
         is_set('IS_LONG'),
-        is_set('NEEDS_BROWSER'),
+        (*(packages.BROWSER if is_set('NEEDS_BROWSER') else ()), *needed),
     )
 
 
@@ -187,15 +189,13 @@ class Runner:
         self.tell(step, outcome, time.monotonic() - began)
 
     def came_of(self, step):
-        python = sys.executable
-        if step.needs_browser:
-            python, missing = browser_packages.python()
-            if missing:
-                told = f'missing are of Debian\'s packages: {", ".join(missing)}\n'
-                return Outcome(failed=1, told=told)
+        missing = packages.missing(step.packages)
+        if missing:
+            told = f'missing are of Debian\'s packages: {", ".join(missing)}\n'
+            return Outcome(failed=1, told=told)
         file = self.folder / f'{step.name}.json'
         process = subprocess.Popen(
-            [python, RUN, '--step', step.name, '--outcome', file],
+            [packages.python(step.packages), RUN, '--step', step.name, '--outcome', file],
             env=self.env,
             cwd=TOP,
             text=True,
@@ -270,8 +270,7 @@ def main(words):
     if said.list:
         print(*(f'{step.name}: {step.about}' for step in steps), sep='\n')
         return 0
-    if any(step.needs_browser for step in steps):
-        browser_packages.install()
+    packages.install(package for step in steps for package in step.packages)
     with tempfile.TemporaryDirectory(prefix='roskevad_tests_') as folder:
         runner = Runner(folder, said.gate)
         try:

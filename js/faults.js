@@ -1,0 +1,56 @@
+// What an editor throws.
+import { formsOf } from "./forms.js";
+
+/**
+ * A line was refused, and nothing was done.
+ *
+ * `code` is the number of the refusal, `words` what it says, and `line` the line. Where the line is of
+ * no command, or is not as its command has it, `forms` are the forms to write it in. Where it was one of
+ * many lines, `place` is its place among them, from 0, and `replies` are those to the lines before it,
+ * which are done.
+ */
+export class Refused extends Error {
+  constructor(code, words, line, place = null, replies = []) {
+    const forms = code === 3 || code === 4 ? formsOf(line) : [];
+    super([`${code} ${words}: ${line.slice(0, 200)}`, ...forms].join("\n  "));
+    Object.assign(this, { name: "Refused", code, words, line, forms, place, replies });
+  }
+}
+
+/** The editor was closed. */
+export class Closed extends Error {
+  constructor() {
+    super("the editor is closed");
+    this.name = "Closed";
+  }
+}
+
+/**
+ * The module's memory has no room for that, and it cannot grow. Nothing was done; but a line that only
+ * its reply has no room for is done.
+ */
+export class NoMemory extends Error {
+  constructor() {
+    super("no memory is left");
+    this.name = "NoMemory";
+  }
+}
+
+/**
+ * The engine broke a call off, so the module's memory may be half written. Nothing is called in it any
+ * more: each later call of each of its editors throws this. `cause` is what the engine threw.
+ */
+export class Broken extends Error {
+  constructor(cause) {
+    super(`the module was broken off: ${cause}`, { cause });
+    this.name = "Broken";
+  }
+}
+
+/** What was given is not the module of this package: it was cut short, or is of another version. */
+export class BadModule extends Error {
+  constructor(what, cause) {
+    super(`this is not the module of this package: ${what}`, { cause });
+    this.name = "BadModule";
+  }
+}

@@ -1,0 +1,59 @@
+// The forms of the session lines, by their first words, as docs/session-lines.md lists them.
+
+/** The forms of the lines that begin with a word. */
+export const FORMS = new Map([
+  ["new", ["new DOC WIDTH HEIGHT TILE_WIDTH TILE_HEIGHT SOURCE"]],
+  ["open", ["open DOC FILE"]],
+  ["save", ["save FILE"]],
+  ["close", ["close DOC"]],
+  ["discard", ["discard DOC"]],
+  ["use", ["use DOC", "use -"]],
+  ["list", ["list"]],
+  ["stamp", ["stamp LAYER X Y WIDTH TILES", "stamp+ LAYER X Y WIDTH TILES"]],
+  ["erase", ["erase LAYER X Y WIDTH HEIGHT", "erase+ LAYER X Y WIDTH HEIGHT"]],
+  ["fill", ["fill LAYER X Y TILE"]],
+  ["select", ["select replace|add|subtract|intersect X Y WIDTH HEIGHT", "select none"]],
+  ["tile", ["tile LAYER X Y"]],
+  ["layer", [
+    "layer add tile|object NAME", "layer remove LAYER", "layer rename LAYER NAME",
+    "layer show LAYER yes|no", "layer move LAYER PLACE",
+  ]],
+  ["resize", ["resize WIDTH HEIGHT X Y"]],
+  ["object", [
+    "object add LAYER X Y WIDTH HEIGHT NAME", "object move OBJECT X Y", "object move+ OBJECT X Y",
+    "object resize OBJECT WIDTH HEIGHT", "object remove OBJECT",
+  ]],
+  ["prop", [
+    "prop set OWNER KEY string|file TEXT", "prop set OWNER KEY int NUMBER",
+    "prop set OWNER KEY bool true|false", "prop set OWNER KEY color COLOUR",
+    "prop set OWNER KEY object OBJECT", "prop set+ OWNER KEY TYPE VALUE", "prop remove OWNER KEY",
+  ]],
+  ["tileset", ["tileset add FIRST SOURCE", "tileset remove FIRST"]],
+  ["undo", ["undo"]],
+  ["redo", ["redo"]],
+  ["goto", ["goto INDEX"]],
+  ["clean", ["clean"]],
+  ["dirty", ["dirty"]],
+  ["clear", ["clear"]],
+  ["begin", ["begin TEXT", "begin TEXT || ACTION"]],
+  ["end", ["end"]],
+  ["limit", ["limit NUMBER"]],
+  ["show", ["show"]],
+  ["status", ["status"]],
+  ["undotext", ["undotext"]],
+  ["redotext", ["redotext"]],
+  ["text", ["text PLACE"]],
+]);
+
+/**
+ * The forms of the command that a line begins with; where it begins with none, those that begin with
+ * its first letter.
+ */
+export function formsOf(line) {
+  const word = line.trim().split(" ")[0].replace(/\++$/, "");
+  if (FORMS.has(word)) {
+    return [...FORMS.get(word)];
+  }
+  const letter = word.charAt(0).toLowerCase();
+  return [...FORMS].flatMap(([name, forms]) => (name.charAt(0) === letter ? forms : []));
+}

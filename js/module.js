@@ -1,0 +1,279 @@
+// The module of the proved library: how it is loaded, and how it is called.
+import { BadModule, Broken, NoMemory } from "./faults.js";
+
+/** The version of this package, which that of the module must be. */
+export const VERSION = "0.2.0";
+
+// What a call answers in place of a length, a number or a place. include/roskevad.h says more.
+export const DONE = 0;
+export const NONE = 2 ** 32 - 1;
+export const CLOSED = NONE - 1;
+export const NO_MEMORY = NONE - 2;
+export const BAD_NAME = NONE - 4;
+
+// The module beside this file, and the section with the version at its end.
+const BESIDE = new URL("./roskevad.wasm", import.meta.url);
+const MARK = "roskevad";
+// The bytes of the place that what is not longer is copied through, each way.
+const ROOM = 65_536;
+// The bytes of what is told of many lines.
+const HEARD_BYTES = 32;
+const NEWLINE = 10;
+// The characters of a short text.
+const SHORT = 100;
+
+const encoder = new TextEncoder();
+const decoder = new TextDecoder("utf-8", { ignoreBOM: true });
+
+/**
+ * A module that is loaded. It holds any number of editors, which share its memory and nothing else.
+ */
+export class Module {
+  /** Use `load`. */
+  constructor(exports) {
+    this._fault = null;
+    this._memory = exports.memory;
+    this._bytes = new Uint8Array(this._memory.buffer);
+    /** The calls of the library, by their names without `roskevad_`. */
+    this.calls = {};
+    for (const [name, call] of Object.entries(exports)) {
+      if (name.startsWith("roskevad_")) {
+        this.calls[name.slice("roskevad_".length)] = this._guarded(call);
+      }
+    }
+    this._takeMemory = this._guarded(exports.alloc);
+    this._giveMemory = this._guarded(exports.free);
+    this._line = this.take(ROOM);
+    this._reply = this.take(ROOM);
+    this._heard = this.take(HEARD_BYTES);
+  }
+
+  /**
+   * Loads the module from its bytes, from where a URL or a path leads, from a Blob or a Response, or
+   * from a WebAssembly.Module; without a source, the one of this package. Throws BadModule where it is
+   * cut short or of another version.
+   */
+  static async load(source = BESIDE) {
+    const compiled = source instanceof WebAssembly.Module ? source : await compiledFrom(source);
+    const [mark] = WebAssembly.Module.customSections(compiled, MARK);
+    if (!mark) {
+      throw new BadModule("it is cut short, or another one");
+    }
+    see(decoder.decode(mark));
+    const module = new Module((await WebAssembly.instantiate(compiled, {})).exports);
+    see(decoder.decode(module.told((at, room) => module.calls.version(at, room))));
+    return module;
+  }
+
+  // A call that answers a number from 0. Where the engine breaks it off, memory may be half written,
+  // and no call is made any more.
+  _guarded(call) {
+    return (a, b, c, d, e, f, g, h) => {
+      if (this._fault) {
+        throw new Broken(this._fault);
+      }
+      try {
+        return call(a, b, c, d, e, f, g, h) >>> 0;
+      } catch (fault) {
+        this._fault = fault;
+        throw new Broken(fault);
+      }
+    };
+  }
+
+  /** Whether a call was broken off. */
+  get isBroken() {
+    return this._fault !== null;
+  }
+
+  /** The whole memory as it is now. When it grows, a view of before has no bytes any more. */
+  bytes() {
+    if (this._bytes.length === 0) {
+      this._bytes = new Uint8Array(this._memory.buffer);
+    }
+    return this._bytes;
+  }
+
+  /** A place of so many bytes. Throws NoMemory. */
+  take(size) {
+    const at = this._takeMemory(size);
+    if (at === 0) {
+      throw new NoMemory();
+    }
+    return at;
+  }
+
+  /** Gives a place back. */
+  giveBack(at) {
+    this._giveMemory(at);
+  }
+
+  /** What `use` gives with a place of so many bytes, which is given back then. Throws NoMemory. */
+  holding(size, use) {
+    const at = this.take(size);
+    try {
+      return use(at);
+    } finally {
+      if (!this.isBroken) {
+        this.giveBack(at);
+      }
+    }
+  }
+
+  /** Makes a call on a text or bytes, with their place and their size. Throws NoMemory. */
+  given(data, call) {
+    if (typeof data === "string" && data.length * 3 <= ROOM) {
+      return call(this._line, this._write(data));
+    }
+    const given = bytesOf(data);
+    const put = (at) => {
+      this.bytes().set(given, at);
+      return call(at, given.length);
+    };
+    return given.length <= ROOM ? put(this._line) : this.holding(given.length, put);
+  }
+
+  // Writes a text to the place of lines, and gives its size. Most are short and plain: those are written
+  // here, which is quicker than by the encoder.
+  _write(text) {
+    const bytes = this.bytes();
+    const at = this._line;
+    let all = 0;
+    if (text.length <= SHORT) {
+      for (let index = 0; index < text.length; index++) {
+        const code = text.charCodeAt(index);
+        bytes[at + index] = code;
+        all |= code;
+      }
+      if (all < 128) {
+        return text.length;
+      }
+    }
+    return encoder.encodeInto(text, bytes.subarray(at, at + ROOM)).written;
+  }
+
+  /**
+   * The bytes that a call copies to a place with room for so many items, of `unit` bytes each; null
+   * where there are none. Where they do not fit, `again` copies them to a larger place. Throws NoMemory.
+   */
+  told(call, again = call, unit = 1) {
+    const count = this.number(call(this._reply, ROOM / unit));
+    if (count === null) {
+      return null;
+    }
+    const copied = (at) => this.bytes().slice(at, at + count * unit);
+    if (count * unit <= ROOM) {
+      return copied(this._reply);
+    }
+    return this.holding(count * unit, (at) => {
+      again(at, count);
+      return copied(at);
+    });
+  }
+
+  /** The same as a text. */
+  toldText(call, again = call) {
+    const size = this.number(call(this._reply, ROOM));
+    if (size === null) {
+      return null;
+    }
+    return size <= ROOM
+      ? decoder.decode(this.bytes().subarray(this._reply, this._reply + size))
+      : decoder.decode(this.told(again));
+  }
+
+  /**
+   * Does lines that stand at a place, and hands their replies on, each with a newline; these bytes stay
+   * until the next call. It may end behind any line: the answer tells how many lines and bytes are done,
+   * and whether the last line was refused. Throws NoMemory.
+   */
+  ran(slot, at, size, stop, take) {
+    const { run_lines, reply } = this.calls;
+    const lines = run_lines(slot, at, size, stop ? 1 : 0, this._reply, ROOM, this._heard);
+    // Four numbers of 64 bits, below 2^32.
+    const heard = new Uint32Array(this._memory.buffer, this._heard, HEARD_BYTES / 4);
+    const [bytes, , replies, , isRefused, , hasRoom] = heard;
+    take(this.bytes().subarray(this._reply, this._reply + replies));
+    if (!hasRoom) {
+      take(withNewline(this.told((to, room) => reply(slot, to, room))));
+    }
+    return { lines, bytes, isRefused: isRefused === 1 };
+  }
+
+  /** What a call answers, where that is a number, and null where there is none. Throws NoMemory. */
+  number(answer) {
+    if (answer === NO_MEMORY) {
+      throw new NoMemory();
+    }
+    return answer === NONE ? null : answer;
+  }
+}
+
+function withNewline(bytes) {
+  const all = new Uint8Array(bytes.length + 1);
+  all.set(bytes);
+  all[bytes.length] = NEWLINE;
+  return all;
+}
+
+/** The text of bytes in UTF-8. */
+export function textOf(bytes) {
+  return decoder.decode(bytes);
+}
+
+/** Bytes as they are, and a text as UTF-8. */
+export function bytesOf(data) {
+  if (typeof data === "string") {
+    return encoder.encode(data);
+  }
+  if (ArrayBuffer.isView(data)) {
+    return new Uint8Array(data.buffer, data.byteOffset, data.byteLength);
+  }
+  if (data instanceof ArrayBuffer) {
+    return new Uint8Array(data);
+  }
+  throw new TypeError("bytes or a text are wanted");
+}
+
+function see(version) {
+  if (version !== VERSION) {
+    throw new BadModule(`its version is ${version}, and that of the package ${VERSION}`);
+  }
+}
+
+async function compiledFrom(source) {
+  const bytes = await read(source);
+  try {
+    return await WebAssembly.compile(bytes);
+  } catch (fault) {
+    throw new BadModule(`it is cut short, or another one: ${fault.message}`, fault);
+  }
+}
+
+// The bytes that a source has, or that stand where it leads.
+async function read(source) {
+  if (typeof source?.arrayBuffer === "function") {
+    return source.arrayBuffer();
+  }
+  if (typeof source === "string" || typeof source?.href === "string") {
+    return fetched(source.href ?? source);
+  }
+  return bytesOf(source);
+}
+
+// In Node, a path leads to a file, as do addresses of files, which its `fetch` does not read.
+async function fetched(place) {
+  const isPath = !/^[a-z]{2,}:/i.test(place);
+  const isFile = isPath || place.startsWith("file:");
+  if (isFile && typeof process === "object" && process.versions?.node) {
+    // The name is no constant, so that no bundler looks for it.
+    const files = "node:fs/promises";
+    const { readFile } = await import(/* @vite-ignore */ /* webpackIgnore: true */ files);
+    return readFile(isPath ? place : new URL(place));
+  }
+  const response = await fetch(place);
+  if (!response.ok) {
+    throw new Error(`${place}: ${response.status} ${response.statusText}`);
+  }
+  return response.arrayBuffer();
+}

@@ -1,0 +1,169 @@
+/** The version of this package. */
+export const VERSION: string;
+
+/** The forms of the lines that begin with a word. */
+export const FORMS: ReadonlyMap<string, readonly string[]>;
+
+/**
+ * The forms of the command that a line begins with; where it begins with none, those that begin with
+ * its first letter.
+ */
+export function formsOf(line: string): string[];
+
+/** A line was refused, and nothing was done. */
+export class Refused extends Error {
+  constructor(code: number, words: string, line: string, place?: number | null, replies?: string[]);
+  /** The number of the refusal: docs/refusals.md lists them. */
+  readonly code: number;
+  /** What the refusal says. */
+  readonly words: string;
+  readonly line: string;
+  /** Where the line is of no command, or is not as its command has it: the forms to write it in. */
+  readonly forms: readonly string[];
+  /** Of a line among many: its place, from 0; else null. */
+  readonly place: number | null;
+  /** The replies to the lines before it, which are done. */
+  readonly replies: readonly string[];
+}
+
+/** The editor was closed. */
+export class Closed extends Error {}
+
+/**
+ * The module's memory has no room for that, and it cannot grow. Nothing was done; but a line that only
+ * its reply has no room for is done.
+ */
+export class NoMemory extends Error {}
+
+/**
+ * The engine broke a call off. Nothing is called in that module any more: each later call of each of
+ * its editors throws this.
+ */
+export class Broken extends Error {}
+
+/** What was given is not the module of this package: it was cut short, or is of another version. */
+export class BadModule extends Error {}
+
+// WebAssembly.Module, where the types of the host have it; it declares no members.
+type Compiled = typeof globalThis extends { WebAssembly: { Module: { prototype: infer Type } } }
+  ? Type & object
+  : never;
+
+/** Bytes, or a text, which stands for its UTF-8. */
+export type Data = string | ArrayBuffer | ArrayBufferView;
+
+/**
+ * Where the module is: its bytes, a URL, a path (in Node of a file, in a page of what it is served
+ * with), a Blob, a Response, or a WebAssembly.Module.
+ */
+export type Source =
+  | string
+  | { readonly href: string }
+  | ArrayBuffer
+  | ArrayBufferView
+  | { arrayBuffer(): Promise<ArrayBuffer> }
+  | Compiled;
+
+/** A module that is loaded. It holds any number of editors, which share its memory and nothing else. */
+export class Module {
+  private constructor();
+  /**
+   * Loads the module; without a source, the one of this package. Throws BadModule where it is cut short
+   * or of another version.
+   */
+  static load(source?: Source): Promise<Module>;
+  /** Whether the engine broke a call off. */
+  readonly isBroken: boolean;
+}
+
+/** A run of selected cells: its row, its first column and its number of cells. */
+export type SelectionRun = [row: number, column: number, count: number];
+
+/**
+ * An editor of tile maps: a session in memory, which does the lines that docs/session-lines.md lists.
+ *
+ * Its calls throw Closed behind `close`, Broken where the engine broke a call of its module off, and
+ * NoMemory where the module has no memory for what they give.
+ */
+export class Editor {
+  /**
+   * An editor over a module of its own, which is loaded from `module` as `Module.load` does it, or over
+   * a Module that is loaded. `limit` is the undo limit of each document when it is made, at most
+   * 1,000,000, where 0 stands for none.
+   */
+  static create(options?: { limit?: number; module?: Source | Module }): Promise<Editor>;
+  /** An editor over a module that is loaded. */
+  constructor(module: Module, options?: { limit?: number });
+
+  /** Gives back its memory. Twice is harmless. */
+  close(): void;
+  /** The same, for `using`, where the engine has that. */
+  [Symbol.dispose](): void;
+
+  /** Does what a line asks for, and gives the reply, "" where the line is quiet. Throws Refused. */
+  step(line: string): string;
+  /**
+   * Does what a line of bytes asks for, and gives the bytes of the reply, whatever it is; null where the
+   * line is quiet.
+   */
+  stepBytes(line: Data): Uint8Array | null;
+
+  /**
+   * Does lines, one after another, with less work for each than by `step`, and gives the replies to
+   * those that are not quiet. Throws Refused at the first one that is refused, with its place and the
+   * replies before it. Throws RangeError for a line with a newline in it, and does nothing.
+   */
+  runLines(lines: readonly string[]): string[];
+  /**
+   * Does the lines of a session, which is cut at newlines, and gives the replies, whatever they are, each
+   * with a newline.
+   */
+  runBytes(session: Data): Uint8Array;
+
+  /**
+   * Puts bytes, or a text, under a name, in place of those that are there. Throws RangeError where no
+   * line can spell that name.
+   */
+  putFile(name: string, data: Data): void;
+  /** The bytes under a name, and null where there is no file of that name. */
+  file(name: string): Uint8Array | null;
+  /** Takes a file out, and says whether there was one of that name. */
+  removeFile(name: string): boolean;
+  /** The names of the files, in their order. */
+  files(): string[];
+
+  /** The active document's map, as `show` gives it. Throws Refused. */
+  map(): Record<string, unknown>;
+  /** The same without the `data` of tile layers, which is quicker. Throws Refused. */
+  outline(): Record<string, unknown>;
+  /**
+   * The cells of a rectangle of the tile layer with this id, row by row; null where no document is
+   * active, no tile layer has that id, or the rectangle leaves the map.
+   */
+  cells(layer: number, x: number, y: number, width: number, height: number): Uint32Array | null;
+  /**
+   * The id of the first layer of that name, in drawing order, groups and what stands in them too. Throws
+   * RangeError where there is none.
+   */
+  layerId(name: string): number;
+  /** The id of the first object of that name, in drawing order. Throws RangeError where there is none. */
+  objectId(name: string): number;
+  /** The id of the layer that was added last: the next id less one. Throws Refused. */
+  lastLayerId(): number;
+  /** The id of the object that was added last: the next id less one. Throws Refused. */
+  lastObjectId(): number;
+  /** The runs of the active document's selection in row order. */
+  selection(): SelectionRun[];
+  /** The index at which the active document counts as clean; null where that was lost or none is active. */
+  cleanIndex(): number | null;
+  /** Whether the step at this place of the active document, from 0, is a macro; null where there is none. */
+  isMacro(at: number): boolean | null;
+  /** The text for the action of the step at this place, from 0; null where there is none. */
+  actionText(at: number): string | null;
+}
+
+declare global {
+  interface SymbolConstructor {
+    readonly dispose: unique symbol;
+  }
+}

@@ -1,0 +1,347 @@
+// The map editor, called in a page, in a worker or in Node:
+//
+//   const editor = await Editor.create({ limit: 0 });
+//   editor.step("new town 4 3 16 16 town.tsj");
+import { Closed, NoMemory, Refused } from "./faults.js";
+import { BAD_NAME, DONE, Module, NONE, bytesOf, textOf } from "./module.js";
+
+export { BadModule, Broken, Closed, NoMemory, Refused } from "./faults.js";
+export { FORMS, formsOf } from "./forms.js";
+export { Module, VERSION } from "./module.js";
+
+const REFUSAL = /^no (\d+) (.*)$/s;
+const GREATEST_LIMIT = 1_000_000;
+// The bytes of what a session is kept in, and of a run of the selection.
+const SLOT_BYTES = 16;
+const RUN_BYTES = 12;
+const CELL_BYTES = 4;
+// The characters of lines that are handed on at once.
+const PART = 20_000;
+
+/**
+ * An editor of tile maps: a session in memory, which does the lines that docs/session-lines.md lists.
+ *
+ * Its calls throw Closed behind `close`, Broken where the engine broke a call of its module off, and
+ * NoMemory where the module has no memory for what they give.
+ */
+export class Editor {
+  /**
+   * An editor over a module that `Module.load` gave. `limit` is the undo limit of each document when it
+   * is made, at most 1,000,000, where 0 stands for none.
+   */
+  constructor(module, { limit = 0 } = {}) {
+    if (!Number.isInteger(limit) || limit < 0 || limit > GREATEST_LIMIT) {
+      throw new RangeError(`a limit is from 0 to ${GREATEST_LIMIT}: ${limit}`);
+    }
+    this._module = module;
+    this._slot = module.take(SLOT_BYTES);
+    module.bytes().fill(0, this._slot, this._slot + SLOT_BYTES);
+    if (module.calls.open(this._slot, limit) !== DONE) {
+      this.close();
+      throw new NoMemory();
+    }
+  }
+
+  /**
+   * An editor over a module of its own, which is loaded from `module` as `Module.load` does it, or over
+   * a Module that is loaded.
+   */
+  static async create({ limit = 0, module } = {}) {
+    return new Editor(module instanceof Module ? module : await Module.load(module), { limit });
+  }
+
+  /** Gives back its memory. Twice is harmless. */
+  close() {
+    const [module, slot] = [this._module, this._slot];
+    this._slot = 0;
+    if (slot !== 0 && !module.isBroken) {
+      module.calls.close(slot);
+      module.giveBack(slot);
+    }
+  }
+
+  // What a call of this name answers.
+  _call(name, ...words) {
+    return this._module.calls[name](this._open(), ...words);
+  }
+
+  _open() {
+    if (this._slot === 0) {
+      throw new Closed();
+    }
+    return this._slot;
+  }
+
+  // ---- lines
+
+  /** Does what a line asks for, and gives the reply, "" where the line is quiet. Throws Refused. */
+  step(line) {
+    const [say, again] = this._saying(line);
+    const reply = this._module.toldText(say, again) ?? "";
+    const refusal = reply.startsWith("no ") && REFUSAL.exec(reply);
+    if (refusal) {
+      throw new Refused(Number(refusal[1]), refusal[2], line);
+    }
+    return reply;
+  }
+
+  /**
+   * Does what a line of bytes asks for, and gives the bytes of the reply, whatever it is; null where the
+   * line is quiet.
+   */
+  stepBytes(line) {
+    const [say, again] = this._saying(line);
+    return this._module.told(say, again);
+  }
+
+  // The call that hears a line and copies its reply, and the one that copies the reply again.
+  _saying(line) {
+    const [module, slot] = [this._module, this._open()];
+    const { step, reply } = module.calls;
+    return [
+      (to, room) => module.given(line, (at, size) => step(slot, at, size, to, room)),
+      (to, room) => reply(slot, to, room),
+    ];
+  }
+
+  /**
+   * Does lines, one after another, with less work for each than by `step`, and gives the replies to
+   * those that are not quiet. Throws Refused at the first one that is refused: `place` is its place among
+   * the lines, from 0, and `replies` are those to the lines before it, which are done. Throws RangeError
+   * for a line with a newline in it, and does nothing.
+   */
+  runLines(lines) {
+    this._open();
+    if (lines.some((line) => line.includes("\n"))) {
+      throw new RangeError("a line has no newline in it");
+    }
+    const replies = [];
+    const take = (bytes) => replies.push(...textOf(bytes).split("\n").slice(0, -1));
+    let done = 0;
+    for (const part of partsOf(lines)) {
+      const came = this._run(part, true, take);
+      done += came.lines;
+      if (came.isRefused) {
+        const [, code, words] = REFUSAL.exec(replies.pop());
+        throw new Refused(Number(code), words, lines[done - 1], done - 1, replies);
+      }
+    }
+    return replies;
+  }
+
+  /**
+   * Does the lines of a session, which is cut at newlines, and gives the replies, whatever they are, each
+   * with a newline.
+   */
+  runBytes(session) {
+    const parts = [];
+    this._run(session, false, (bytes) => parts.push(bytes.slice()));
+    return joined(parts);
+  }
+
+  // Does lines that are cut at newlines, perhaps to the first refused one. Gives how many are done, and
+  // whether the last one was refused. `take` gets the replies, part by part.
+  _run(session, stop, take) {
+    const [module, slot] = [this._module, this._open()];
+    return module.given(session, (at, size) => {
+      const end = at + size;
+      let [lines, isRefused] = [0, false];
+      while (at < end && !(stop && isRefused)) {
+        const came = module.ran(slot, at, end - at, stop, take);
+        at += came.bytes;
+        lines += came.lines;
+        isRefused = came.isRefused;
+      }
+      return { lines, isRefused };
+    });
+  }
+
+  // ---- the files that `open` and `save` find
+
+  /**
+   * Puts bytes, or a text, under a name, in place of those that are there. Throws RangeError where no
+   * line can spell that name.
+   */
+  putFile(name, data) {
+    const module = this._module;
+    const bytes = bytesOf(data);
+    const answer = module.given(name, (at, size) =>
+      module.holding(bytes.length, (from) => {
+        module.bytes().set(bytes, from);
+        return this._call("put_file", at, size, from, bytes.length);
+      }),
+    );
+    if (module.number(answer) === BAD_NAME) {
+      throw new RangeError(`no line can spell the name ${name}`);
+    }
+  }
+
+  /** The bytes under a name, and null where there is no file of that name. */
+  file(name) {
+    return this._module.told((to, room) =>
+      this._module.given(name, (at, size) => this._call("file", at, size, to, room)),
+    );
+  }
+
+  /** Takes a file out, and says whether there was one of that name. */
+  removeFile(name) {
+    return this._module.given(name, (at, size) => this._call("remove_file", at, size)) === DONE;
+  }
+
+  /** The names of the files, in their order. */
+  files() {
+    return Array.from({ length: this._call("file_count") }, (_, at) =>
+      this._module.toldText((to, room) => this._call("file_name", at, to, room)),
+    );
+  }
+
+  // ---- the active document
+
+  /** The active document's map, as `show` gives it. Throws Refused. */
+  map() {
+    return JSON.parse(this.step("show").slice("map ".length));
+  }
+
+  /** The same without the `data` of tile layers, which is quicker. Throws Refused. */
+  outline() {
+    const text = this._module.toldText((to, room) => this._call("outline", to, room));
+    if (text === null) {
+      throw noDocument("outline()");
+    }
+    return JSON.parse(text);
+  }
+
+  /**
+   * The cells of a rectangle of the tile layer with this id, row by row; null where no document is
+   * active, no tile layer has that id, or the rectangle leaves the map.
+   */
+  cells(layer, x, y, width, height) {
+    if (![layer, x, y, width, height].every(isCount)) {
+      return null;
+    }
+    const call = (to, room) => this._call("cells", layer, x, y, width, height, to, room);
+    const bytes = this._module.told(call, call, CELL_BYTES);
+    return bytes && new Uint32Array(bytes.buffer);
+  }
+
+  /**
+   * The id of the first layer of that name, in drawing order, groups and what stands in them too. Throws
+   * RangeError where there is none.
+   */
+  layerId(name) {
+    return idOf(drawn(this.outline().layers), name);
+  }
+
+  /** The id of the first object of that name, in drawing order. Throws RangeError where there is none. */
+  objectId(name) {
+    const layers = [...drawn(this.outline().layers)];
+    return idOf(layers.flatMap((layer) => layer.objects ?? []), name);
+  }
+
+  /** The id of the layer that was added last: the next id less one. Throws Refused. */
+  lastLayerId() {
+    return this._lastId("next_layer_id", "lastLayerId()");
+  }
+
+  /** The id of the object that was added last: the next id less one. Throws Refused. */
+  lastObjectId() {
+    return this._lastId("next_object_id", "lastObjectId()");
+  }
+
+  _lastId(call, asked) {
+    const next = this._number(call);
+    if (next === null) {
+      throw noDocument(asked);
+    }
+    return next - 1;
+  }
+
+  /** The runs of the selection in row order: row, first column and number of cells of each. */
+  selection() {
+    const module = this._module;
+    const count = this._call("selection_count");
+    return module.holding(RUN_BYTES, (to) =>
+      Array.from({ length: count }, (_, at) => {
+        this._call("selection_run", at, to);
+        return [...new Uint32Array(module.bytes().slice(to, to + RUN_BYTES).buffer)];
+      }),
+    );
+  }
+
+  /** The index at which the document counts as clean; null where that was lost or none is active. */
+  cleanIndex() {
+    return this._number("clean_index");
+  }
+
+  /** Whether the step at this place, from 0, is a macro; null where there is none. */
+  isMacro(at) {
+    const answer = isCount(at) ? this._number("is_macro", at) : null;
+    return answer === null ? null : answer === 1;
+  }
+
+  /** The text for the action of the step at this place, from 0; null where there is none. */
+  actionText(at) {
+    return isCount(at)
+      ? this._module.toldText((to, room) => this._call("action_text", at, to, room))
+      : null;
+  }
+
+  // The number that a call answers, or null.
+  _number(name, ...words) {
+    return this._module.number(this._call(name, ...words));
+  }
+}
+
+// So that `using` closes it, where the engine has that.
+if (Symbol.dispose) {
+  Editor.prototype[Symbol.dispose] = Editor.prototype.close;
+}
+
+/** Lines as texts, each of which has so many lines that it is handed on quickly. */
+function* partsOf(lines) {
+  for (let from = 0; from < lines.length; ) {
+    let [to, length] = [from, 0];
+    do {
+      length += lines[to].length + 1;
+      to += 1;
+    } while (to < lines.length && length + lines[to].length < PART);
+    yield `${lines.slice(from, to).join("\n")}\n`;
+    from = to;
+  }
+}
+
+function noDocument(asked) {
+  return new Refused(10, "no active document", asked);
+}
+
+/** The layers in drawing order, those that stand in a group behind it. */
+function* drawn(layers) {
+  for (const layer of layers) {
+    yield layer;
+    yield* drawn(layer.layers ?? []);
+  }
+}
+
+function idOf(parts, name) {
+  for (const part of parts) {
+    if (part.name === name) {
+      return part.id;
+    }
+  }
+  throw new RangeError(`nothing has the name ${name}`);
+}
+
+function joined(parts) {
+  const all = new Uint8Array(parts.reduce((size, part) => size + part.length, 0));
+  let at = 0;
+  for (const part of parts) {
+    all.set(part, at);
+    at += part.length;
+  }
+  return all;
+}
+
+/** Whether a value is a number from 0 that a call can be given. */
+function isCount(value) {
+  return Number.isInteger(value) && value >= 0 && value < NONE;
+}

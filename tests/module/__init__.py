@@ -1,0 +1,2 @@
+"""What the steps of the module share: a server of the package and of runs, Node, and the browsers
+without a window."""

@@ -1,0 +1,61 @@
+// What the declarations must take, and what they must not. It is checked, and never run.
+import {
+  BadModule, Broken, Closed, Editor, FORMS, Module, NoMemory, Refused, VERSION, formsOf,
+} from "../../js/roskevad.js";
+
+async function used(bytes: Uint8Array): Promise<void> {
+  const editor: Editor = await Editor.create({ limit: 0 });
+  const reply: string = editor.step("undo");
+  const said: Uint8Array | null = editor.stepBytes(bytes);
+  const replies: string[] = editor.runLines(["undo"]);
+  const all: Uint8Array = editor.runBytes(bytes);
+  editor.putFile("a.tmj", bytes);
+  editor.putFile("a.tmj", bytes.buffer);
+  editor.putFile("a.tmj", "{}");
+  const file: Uint8Array | null = editor.file("a.tmj");
+  const was: boolean = editor.removeFile("a.tmj");
+  const names: string[] = editor.files();
+  const cells: Uint32Array | null = editor.cells(1, 0, 0, 4, 3);
+  const sides: unknown[] = [editor.outline().width, editor.map().height];
+  const [[row, column, count]] = editor.selection();
+  const sum: number = row + column + count;
+  const clean: number | null = editor.cleanIndex();
+  const isMacro: boolean | null = editor.isMacro(0);
+  const text: string | null = editor.actionText(0);
+  const ids: number[] = [editor.layerId("Ground"), editor.objectId("key")];
+  ids.push(editor.lastLayerId(), editor.lastObjectId());
+  editor[Symbol.dispose]();
+  editor.close();
+
+  const module: Module = await Module.load("roskevad.wasm");
+  const second = new Editor(module, { limit: 5 });
+  const third = await Editor.create({ module });
+  const fourth = await Editor.create({ module: bytes });
+  const fifth = await Editor.create({ module: { href: "file:///roskevad.wasm" } });
+  const isBroken: boolean = module.isBroken;
+  const refused = new Refused(4, "bad word", "undo undo");
+  const faults: Error[] = [refused, new Closed(), new NoMemory(), new Broken(), new BadModule()];
+  const forms: readonly string[] = [...refused.forms, ...(FORMS.get("undo") ?? []), ...formsOf("u")];
+  const told: [number, string, string, string] = [refused.code, refused.words, refused.line, VERSION];
+  const before: readonly string[] = refused.place === null ? [] : refused.replies;
+
+  // @ts-expect-error: a line is a text
+  editor.step(5);
+  // @ts-expect-error: a limit is a number
+  await Editor.create({ limit: "5" });
+  // @ts-expect-error: a source is no number
+  await Module.load(5);
+  // @ts-expect-error: modules are loaded
+  new Module();
+  // @ts-expect-error: there may be no cells
+  const none: Uint32Array = editor.cells(1, 0, 0, 4, 3);
+  // @ts-expect-error: a code is only read
+  refused.code = 5;
+  // @ts-expect-error: so are the forms
+  refused.forms.push("undo");
+
+  void [reply, said, replies, all, file, was, names, cells, sides, sum, clean, isMacro, text, ids];
+  void [second, third, fourth, fifth, isBroken, faults, forms, told, before, none];
+}
+
+void used;

@@ -1,0 +1,39 @@
+"""Runs the session files of `sessions/` on the module in Chromium and in Firefox, both without a
+window, and the checks of the package that test_module.py has in Node."""
+from lib.cases import Case, check_each
+from lib.sessions import all_runs
+from module.browsers import chromium, firefox, told
+from module.server import Server
+
+IS_LONG = True
+PACKAGES = ('chromium', 'firefox-esr')
+
+
+def check_calls(browser):
+    with Server() as server:
+        came = told(browser, server, '/tests/module/checks.mjs', 'checked', server.address)
+    check_each([Case(name, fault, None) for name, fault in came], lambda case: case.given)
+
+
+def check_sessions(browser):
+    runs = all_runs()
+    with Server(runs) as server:
+        told(browser, server, '/tests/module/hear.mjs', 'hearAll', server.address, 'step')
+        cases = [Case(run.name, number, None) for number, run in enumerate(runs)]
+        check_each(cases, lambda case: server.fault_of(case.given))
+
+
+def test_calls_in_chromium():
+    check_calls(chromium)
+
+
+def test_sessions_in_chromium():
+    check_sessions(chromium)
+
+
+def test_calls_in_firefox():
+    check_calls(firefox)
+
+
+def test_sessions_in_firefox():
+    check_sessions(firefox)

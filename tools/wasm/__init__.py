@@ -1,0 +1,1 @@
+"""How the proved library becomes a WebAssembly module: module.py begins."""
