@@ -25,11 +25,11 @@ returns-in-Other c =
     let l = c.args.layer.now in
     let size = c.args.size in
     let same = outline_own-other size.width size.height (array no_items) l l.body (subst IsTiles c.in-Other.is) in
-    IfOk-weaker c.layer_frame.result _ _ (λ x h. h ∙ ap (λ (own : Own). with_own own l.kept) (sym same)) c.layer_frame.ensures
+    IfOk-weaker c.layer_frame-in-Other.result _ _ (λ x h. h ∙ ap (λ (own : Own). with_own own l.kept) (sym same)) c.layer_frame-in-Other.ensures
 
 pub returns-in-Group : goal.returns-in-Group
 returns-in-Group c =
     let l = c.args.layer.now in
     let size = c.args.size in
     let same = outline_own-other size.width size.height (array no_items) l l.body (subst IsTiles c.in-Group.is) in
-    IfOk-weaker c.layer_frame.result _ _ (λ x h. h ∙ ap (λ (own : Own). with_own own l.kept) (sym same)) c.layer_frame.ensures
+    IfOk-weaker c.layer_frame-in-Group.result _ _ (λ x h. h ∙ ap (λ (own : Own). with_own own l.kept) (sym same)) c.layer_frame-in-Group.ensures
