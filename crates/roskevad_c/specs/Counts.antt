@@ -1,5 +1,5 @@
 -- What is told of many lines.
-use Rattle.std.specs.Prelude.{ℕ, Bool, if◌then◌else◌}
+use Rattle.std.specs.Prelude.{if◌then◌else◌}
 use Rattle.roskevad_session.specs.declared.heard.Heard.{Heard}
 use Rattle.roskevad_c.specs.declared.heard.HeardCounts.{HeardCounts}
 

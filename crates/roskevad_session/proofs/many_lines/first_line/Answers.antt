@@ -1,4 +1,4 @@
-use Rattle.std.proofs.Common.{◌+◌, ◌≤◌, length, take, drop, arith}
+use Rattle.std.proofs.Common.{◌≤◌, length, arith}
 use Rattle.lines.specs.Reading.{first_newline}
 use Rattle.lines.proofs.Newlines.{first_is, first_is_none, none_at_all}
 use Rattle.roskevad_session.proofs.Cutting.{first_cut, last_cut}

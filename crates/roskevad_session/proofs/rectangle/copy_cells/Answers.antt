@@ -1,9 +1,6 @@
-use Rattle.std.proofs.Common.{◌≡◌, ◌<◌, ◌*◌, true, ℕ, List, Option, Some, length, sym, ap, ◌∙◌, arith}
-use Rattle.std.specs.Option.{option_map}
-use Rattle.edits.specs.Refusals.{tiles_or_fault}
+use Rattle.std.proofs.Common.{◌≡◌, ◌<◌, true, ℕ, Some, length, sym, ap, ◌∙◌, arith}
 use Rattle.edits.proofs.Calls.{IsTheLayer-found, length-layer}
 use Rattle.map_model.specs.declared.parts.MapParts.{MapParts}
-use Rattle.roskevad_session.specs.Buffers.{filled}
 use Rattle.roskevad_session.specs.Rectangles.{lies_in, rows_of}
 use Rattle.roskevad_session.proofs.Pieces.{written-larger}
 use Rattle.roskevad_session.proofs.Rows.{cells_in-found, length-rows_of, lies_within}
