@@ -41,6 +41,7 @@ install:
 	install -m 755 lib/libroskevad.so "$(ROOT)/lib/$(SHARED)"
 	ln -sfn $(SHARED) "$(ROOT)/lib/libroskevad.so"
 	$(FILL_IN) tools/install/roskevad.pc.in >"$(ROOT)/lib/pkgconfig/roskevad.pc"
+	chmod 644 "$(ROOT)/lib/pkgconfig/roskevad.pc"
 	install -m 644 include/roskevad.h "$(ROOT)/include"
 	install -m 644 $(MAN:%=docs/man/%) "$(ROOT)/share/man/man1"
 	install -m 644 $(LICENCES) "$(ROOT)/share/doc/roskevad"

@@ -5,6 +5,7 @@ run as it stands on its page."""
 import os
 import re
 import shutil
+import stat
 import subprocess
 import sys
 import tempfile
@@ -22,7 +23,8 @@ LINES = TOP / 'docs' / 'session-lines.md'
 
 
 def make(*words, folder=TOP):
-    done = subprocess.run(['make', *words], cwd=folder, capture_output=True, text=True)
+    """Runs make, with a mask that keeps others out: what is installed is for all."""
+    done = subprocess.run(['make', *words], cwd=folder, capture_output=True, text=True, umask=0o077)
     assert done.returncode == 0, f'make {words}: {done.stderr[-1500:]}'
     return done.stdout
 
@@ -80,6 +82,13 @@ def test_what_is_installed():
             if name not in wanted and not name.startswith('share/roskevad/python/roskevad/')
         ]
         assert others == [], others
+        modes = {name: (place.top / name).lstat().st_mode for name in names}
+        fail_with(
+            f'{name} has the mode {mode & 0o777:o}'
+            for name, mode in modes.items()
+            if stat.S_ISREG(mode)
+            and mode & 0o777 != (0o755 if name.startswith('bin/') or '.so' in name else 0o644)
+        )
         cases = [
             *(
                 Case(name, (name, '--version'), (0, f'{name} {VERSION}\n', ''))

@@ -316,6 +316,7 @@ def test_many_who_save_one_name():
         while any(each.poll() is None for each in writers):
             assert is_whole(file.read_bytes())
             reads += 1
+            time.sleep(0.01)
         for each in writers[2:]:
             output, errors = each.communicate()
             assert each.returncode == 0, errors.decode()
