@@ -145,7 +145,7 @@ static inline size_t roskevad_editor_reply(roskevad_slot *slot, char *reply, siz
 static inline size_t roskevad_editor_run_lines(roskevad_slot *slot, const char *bytes, size_t length, size_t stop, char *replies, size_t room,
                                                roskevad_heard *heard)
 {
-    return roskevad_run_lines(slot, roskevad_somewhere(bytes), length, stop, roskevad_somewhere(replies), room, heard);
+    return roskevad_run_lines(slot, roskevad_bytes_at(bytes), length, stop, roskevad_room_at(replies), room, heard);
 }
 
 /* Puts bytes under a name, in place of those that are there. ROSKEVAD_DONE, ROSKEVAD_NO_MEMORY, ROSKEVAD_BAD_NAME or
@@ -207,7 +207,7 @@ static inline size_t roskevad_editor_is_macro(roskevad_slot *slot, size_t at)
  * stands last. Its size, ROSKEVAD_NONE or ROSKEVAD_IS_CLOSED. */
 static inline size_t roskevad_editor_action_text(roskevad_slot *slot, size_t at, char *text, size_t room)
 {
-    return roskevad_action_text(slot, at, roskevad_somewhere(text), room);
+    return roskevad_action_text(slot, at, roskevad_room_at(text), room);
 }
 
 /* The id that the next layer of the active document gets, ROSKEVAD_NONE where none is active, or ROSKEVAD_IS_CLOSED. */
@@ -236,7 +236,7 @@ static inline size_t roskevad_editor_cells(roskevad_slot *slot, uint32_t layer, 
  * ROSKEVAD_NONE where none is active, ROSKEVAD_NO_MEMORY or ROSKEVAD_IS_CLOSED. */
 static inline size_t roskevad_editor_outline(roskevad_slot *slot, char *text, size_t room)
 {
-    return roskevad_outline(slot, roskevad_somewhere(text), room);
+    return roskevad_outline(slot, roskevad_room_at(text), room);
 }
 
 /* Closes a slot, and gives back its memory. A closed one stays closed. */
