@@ -1,8 +1,9 @@
-"""Runs the session files of `sessions/` on the module in Chromium and in Firefox, both without a
-window, and the checks of the package that test_module.py has in Node."""
+"""Runs the session files of `sessions/` on the module in Chromium, in Firefox and, where Debian's
+webkit2gtk-driver and xvfb are there, in WebKitGTK, which has the engine of Safari; and the checks of
+the package that test_module.py has in Node."""
 from lib.cases import Case, check_each
 from lib.sessions import all_runs
-from module.browsers import chromium, firefox, told
+from module.browsers import chromium, firefox, has_webkit, told, webkit
 from module.server import Server
 
 IS_LONG = True
@@ -37,3 +38,12 @@ def test_calls_in_firefox():
 
 def test_sessions_in_firefox():
     check_sessions(firefox)
+
+
+def test_webkit():
+    """It alone may be left out, aloud: few machines have it."""
+    if not has_webkit():
+        print('LEFT OUT: WebKitGTK. It needs webkit2gtk-driver and xvfb, of Debian')
+        return
+    check_calls(webkit)
+    check_sessions(webkit)

@@ -13,6 +13,8 @@ from pathlib import Path
 # How many seconds a function may take.
 WAIT = 900
 CHROMIUM_FLAGS = ('--headless=new', '--disable-gpu', '--disable-dev-shm-usage', '--no-first-run')
+# WebKitGTK has no sandbox for root.
+ENVIRONMENT = {'WEBKIT_DISABLE_SANDBOX_THIS_IS_DANGEROUS': '1'} if os.getuid() == 0 else {}
 FIREFOX_SETTINGS = {
     'browser.shell.checkDefaultBrowser': False,
     'datareporting.policy.dataSubmissionEnabled': False,
@@ -32,13 +34,26 @@ def firefox(folder, address):
     return ['firefox-esr', '--headless', '--no-remote', '--profile', folder, address]
 
 
+# The browser of WebKitGTK, which Debian's webkit2gtk-driver brings, and a screen for it, of xvfb.
+MINI_BROWSER = next(Path('/usr/lib').glob('*/webkit2gtk-4.*/MiniBrowser'), None)
+
+
+def has_webkit():
+    return MINI_BROWSER is not None and shutil.which('xvfb-run') is not None
+
+
+def webkit(_, address):
+    """The command of WebKitGTK, which has the engine of Safari."""
+    return ['xvfb-run', '-a', MINI_BROWSER, address]
+
+
 @contextmanager
 def opened(command, address):
     """A browser with a profile of its own at an address, which is ended behind that."""
     folder = tempfile.mkdtemp(prefix='roskevad_browser_')
     process = subprocess.Popen(
         command(folder, address),
-        env={**os.environ, 'HOME': folder, 'TMPDIR': folder},
+        env={**os.environ, **ENVIRONMENT, 'HOME': folder, 'TMPDIR': folder},
         stdout=subprocess.DEVNULL,
         stderr=subprocess.DEVNULL,
         start_new_session=True,
