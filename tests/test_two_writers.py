@@ -123,8 +123,9 @@ def fault_of_run(run, wanted, is_killed):
         return f'{len(saves)} saves are answered, of {len(wanted)}'
     renamed = [line.split()[1:] for line in errors.decode().splitlines() if line.startswith('renamed ')]
     whole = [[str(len(data)), str(hashed(data))] for data in wanted]
-    # A save may be made that a killed run does not answer.
-    if not len(saves) <= len(renamed) <= len(saves) + is_killed or renamed != whole[: len(renamed)]:
+    # A killed run has made saves that it could not answer any more.
+    is_too_many = len(renamed) > len(saves) and not is_killed
+    if len(renamed) < len(saves) or is_too_many or renamed != whole[: len(renamed)]:
         return f'what was put under the name is not what was saved: {renamed}'
     return None
 

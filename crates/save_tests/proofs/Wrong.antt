@@ -46,7 +46,11 @@ torn_there beside path bytes calls names unsure may at =
     (λ e. let no : Some (0 ∷ bytes) ≡ None = sym is ∙ e in absurd (cc))
     (λ e. longer bytes (sym is ∙ e))
 
-either_none : (b : Bool) → cond b None None ≡ None {A = List ℕ}
+-- nothing is sure
+abbrev unsure : Option (List ℕ)
+unsure = None
+
+either_none : (b : Bool) → cond b unsure unsure ≡ unsure
 either_none true = refl
 either_none false = refl
 
@@ -55,7 +59,7 @@ again_none : (bytes : List ℕ) (b : Bool) → cond b (cond b None (cond b (opti
 again_none bytes true = refl
 again_none bytes false = refl
 
-refused_none : (b c : Bool) → cond b (cond c None None) (cond c None None) ≡ None {A = List ℕ}
+refused_none : (b c : Bool) → cond b (cond c unsure unsure) (cond c unsure unsure) ≡ unsure
 refused_none true true = refl
 refused_none true false = refl
 refused_none false true = refl
