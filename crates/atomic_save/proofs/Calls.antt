@@ -1,9 +1,9 @@
 -- What may be found after one call more, and after more of them.
-use Rattle.std.proofs.Common.{◌≡◌, ◌≢◌, ◌⊎◌, inl, inr, ⊎_elim, ℕ, ◌≤◌, ◌<◌, true, false, List, [], ◌∷◌, ◌++◌, length, Some, bytes_eq, refl, sym, ap, subst, ◌∙◌, arith, append_assoc, length-append}
+use Rattle.std.proofs.Common.{◌≡◌, ◌≢◌, ◌⊎◌, inl, inr, ⊎_elim, ℕ, ◌≤◌, ◌<◌, Bool, true, false, cond, List, [], ◌∷◌, ◌++◌, length, Option, Some, bytes_eq, refl, sym, ap, subst, ◌∙◌, arith, append_assoc, length-append}
 use Rattle.std.proofs.lemmas.Bool.{cond-true, cond-false, cases_lt, false_from_ne_true}
 use Rattle.std.proofs.lemmas.Slice.Eq.{bytes_eq-Decides}
-use Rattle.atomic_save.specs.Crash.{Call, Standing, Names, with_name, after_call, Found, Disk, held, Stand, MayStand, IsDisk, MayBeFound}
-use Rattle.atomic_save.specs.Saving.{IsOldOrNew, LosesNothing}
+use Rattle.atomic_save.specs.Crash.{Call, removed, made, synced, compared, renamed, folder_synced, none_refused, Standing, file, nothing, Names, with_name, after_call, Found, Disk, held, Stand, MayStand, IsDisk, MayBeFound, kept}
+use Rattle.atomic_save.specs.Saving.{IsOldOrNew, LosesNothing, IsKept, IsInPlace, Only}
 use Rattle.atomic_save.proofs.Sure.{StaysSure}
 
 -- ---- names

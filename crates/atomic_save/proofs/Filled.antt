@@ -1,7 +1,7 @@
 -- The calls of a save: the new file is filled, put in place, and kept there.
-use Rattle.std.proofs.Common.{◌≡◌, ◌≢◌, inl, inr, ℕ, Bool, true, false, List, ◌∷◌, ◌++◌, length, Option, Some, None, option_map, refl, sym, ap, subst, ◌∙◌, arith}
+use Rattle.std.proofs.Common.{◌≡◌, ◌≢◌, inl, inr, ℕ, Bool, true, false, List, [], ◌∷◌, ◌++◌, length, Option, Some, None, option_map, refl, sym, ap, subst, ◌∙◌, arith}
 use Rattle.std.proofs.lemmas.Bool.{cond-true}
-use Rattle.atomic_save.specs.Crash.{Call, looked, folder_opened, listed, seized, claimed, compared, removed, made, access_set, wrote, synced, renamed, folder_synced, none_refused, Standing, file, nothing, Names, with_name, after_call, Found, Disk, held, Stand, MayStand, newest, kept}
+use Rattle.atomic_save.specs.Crash.{Call, looked, folder_opened, listed, seized, claimed, compared, removed, made, access_set, wrote, synced, renamed, folder_synced, none_refused, Standing, file, nothing, Names, with_name, after_call, Found, Disk, held, Stand, MayStand, IsDisk, MayBeFound, newest, kept}
 use Rattle.atomic_save.specs.Saving.{LosesNothing, IsKept, IsInPlace, IsMade, IsBeside, Only, NoPath}
 use Rattle.atomic_save.proofs.Sure.{StaysSure, itself, kept_none, wrote_stays, synced_stays}
 use Rattle.atomic_save.proofs.Calls.{with_same, with_other, one_call, harmless, both, none}

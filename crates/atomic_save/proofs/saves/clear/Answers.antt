@@ -1,5 +1,5 @@
 -- One file after another.
-use Rattle.std.proofs.Common.{List, is_ok, sym, subst}
+use Rattle.std.proofs.Common.{◌≡◌, List, is_ok, sym, subst}
 use Rattle.atomic_save.specs.Crash.{Call}
 use Rattle.atomic_save.specs.Saving.{LosesNothing, IsBeside}
 use Rattle.atomic_save.proofs.Calls.{both}

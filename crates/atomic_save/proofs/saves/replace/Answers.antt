@@ -1,6 +1,6 @@
 -- One attempt after another loses nothing.
 use Rattle.std.proofs.Common.{sym, subst}
-use Rattle.atomic_save.specs.Saving.{IsBeside, Only}
+use Rattle.atomic_save.specs.Saving.{LosesNothing, IsBeside, Only}
 use Rattle.atomic_save.proofs.Calls.{both, weaken}
 use Rattle.atomic_save.proofs.saves.replace.Goals as goal
 
