@@ -36,7 +36,10 @@ def _open(into: list[int], name: Union[Path, str], flags: int, mode: int = 0, fo
 def _close(handles: list[int]) -> None:
     """Closes the handles of a list, and takes each out in the same moment."""
     while handles:
-        deque(map(os.close, map(handles.pop, [0])), maxlen=0)
+        try:
+            deque(map(os.close, map(handles.pop, [0])), maxlen=0)
+        except OSError:
+            pass  # It is closed all the same, and what was written is synced before.
 
 
 def _front(name: str) -> str:
