@@ -15,7 +15,7 @@ from lib.cases import Case, check_each, passed, unlike
 from lib.places import EXAMPLE_MAPS, TOP
 
 sys.path.insert(0, str(TOP / 'python'))
-from roskevad import Closed, Editor, Refused  # noqa: E402
+from roskevad import Editor, Refused  # noqa: E402
 from roskevad.forms import FORMS  # noqa: E402
 
 ALONE = True

@@ -207,6 +207,24 @@ def test_calls_that_fail():
         assert saver.editor.save_file(NAME).startswith('saved ')
 
 
+def test_closes_that_fail():
+    """What was written is synced by then, so nothing is lost; and no handle is left open."""
+    real = os.close
+
+    def close(handle):
+        real(handle)
+        raise OSError(errno.EIO, 'a fault')
+
+    with tempfile.TemporaryDirectory(dir=IN_MEMORY) as folder:
+        saver = Saver(folder)
+        for _ in range(3):
+            old, new = saver.change()
+            with mock.patch.object(saving.os, 'close', close):
+                saver.editor.save_file(NAME)
+            fault = saver.fault(old, new, False)
+            assert not fault, fault
+
+
 # ---- files as they are
 
 

@@ -36,7 +36,10 @@ def _open(into: list[int], name: Union[Path, str], flags: int, mode: int = 0, fo
 def _close(handles: list[int]) -> None:
     """Closes the handles of a list, and takes each out in the same moment."""
     while handles:
-        deque(map(os.close, map(handles.pop, [0])), maxlen=0)
+        try:
+            deque(map(os.close, map(handles.pop, [0])), maxlen=0)
+        except OSError:
+            pass  # It is closed all the same, and what was written is synced before.
 
 
 def _front(name: str) -> str:
@@ -100,8 +103,9 @@ class Saving:
 
     # ---- the folder
     def _open_folder(self) -> None:
-        # A folder may be a link.
-        self._folder.extend(map(functools.partial(os.open, flags=os.O_RDONLY | os.O_DIRECTORY | os.O_CLOEXEC), [self._path.parent]))
+        # It may be a link.
+        opener = functools.partial(os.open, flags=os.O_RDONLY | os.O_DIRECTORY | os.O_CLOEXEC)
+        self._folder.extend(map(opener, [self._path.parent]))
 
     def _sync_names(self) -> None:
         """Has the system keep the names of the folder. EINVAL says that the file system has no such call."""
@@ -145,7 +149,8 @@ class Saving:
                 return False
             # A file that has grown since has more than the last piece.
             pieces = range(0, len(self._data) + 1, _PIECE)
-            if not all(os.read(handle, _PIECE) == self._data[at:at + _PIECE] for at in pieces) or not self._leads_to(self._name, handle):
+            is_same = all(os.read(handle, _PIECE) == self._data[at:at + _PIECE] for at in pieces)
+            if not is_same or not self._leads_to(self._name, handle):
                 return False
             os.fsync(handle)
             self._sync_names()
