@@ -16,6 +16,7 @@ from module.server import Server
 ALONE = True
 PACKAGES = ('chromium', 'nodejs')
 TURNS, SEED = 7, 20261126
+WRAPPED = '-Wl,--wrap=malloc,--wrap=realloc,--wrap=free'
 
 
 def stamps():
@@ -39,7 +40,7 @@ def questions():
 
 def of_library(file):
     """The milliseconds of the quickest turn on the library."""
-    program = c_program(NATIVE / 'library_session.c', '-O2')
+    program = c_program(NATIVE / 'library_session.c', '-O2', WRAPPED)
     printed = subprocess.check_output([program, 'time', str(TURNS), file], text=True)
     return min(float(line) for line in printed.split()) / 1e6
 

@@ -1,7 +1,10 @@
 /* Measures the library in a session, which finds the files that are named.
  *
  *     library_session time TURNS SESSION      prints the nanoseconds of each turn, each with a new editor
- *     library_session peak SESSION [NAME FILE]..      prints how many bytes more the process had in memory than before */
+ *     library_session peak SESSION [NAME FILE]..      prints the most bytes of the heap that were taken at a time
+ *
+ * It is linked with --wrap for malloc, realloc and free, which are counted here. */
+#include <malloc.h>
 #include <stdio.h>
 #include <stdlib.h>
 #include <string.h>
@@ -37,6 +40,15 @@ static void open_editor(roskevad_slot *slot)
         exit(3);
 }
 
+/* Gets the last reply once more, to a buffer of its size. */
+static void get_long_reply(roskevad_slot *slot, size_t size)
+{
+    char *reply = malloc(size);
+    if (!reply || roskevad_editor_reply(slot, reply, size) != size)
+        exit(3);
+    free(reply);
+}
+
 static void do_lines(roskevad_slot *slot, text session)
 {
     static char reply[ROOM];
@@ -45,8 +57,11 @@ static void do_lines(roskevad_slot *slot, text session)
         const char *newline = memchr(line, '\n', (size_t)(end - line));
         if (!newline)
             newline = end;
-        if (roskevad_editor_step(slot, line, (size_t)(newline - line), reply, ROOM) == ROSKEVAD_IS_CLOSED)
+        size_t answer = roskevad_editor_step(slot, line, (size_t)(newline - line), reply, ROOM);
+        if (answer == ROSKEVAD_IS_CLOSED)
             exit(3);
+        if (answer > ROOM && answer != ROSKEVAD_NONE)
+            get_long_reply(slot, answer);
         line = newline + 1;
     }
 }
@@ -70,42 +85,66 @@ static void tell_times(int turns, text session)
     }
 }
 
-/* A figure of this process in KiB, as `VmRSS` or `VmHWM`. */
-static long figure(const char *name)
+void *__real_malloc(size_t size);
+void *__real_realloc(void *block, size_t size);
+void __real_free(void *block);
+
+static long live, peak;
+
+/* Counts a block with its head. */
+static void count(void *block, long sign)
 {
-    char row[256];
-    long found = -1;
-    FILE *file = fopen("/proc/self/status", "r");
-    while (file && fgets(row, sizeof row, file))
-        if (strncmp(row, name, strlen(name)) == 0)
-            found = atol(row + strlen(name) + 1);
-    if (file)
-        fclose(file);
+    if (block)
+        live += sign * (long)(malloc_usable_size(block) + sizeof(size_t));
+    if (live > peak)
+        peak = live;
+}
+
+void *__wrap_malloc(size_t size)
+{
+    void *block = __real_malloc(size);
+    count(block, 1);
+    return block;
+}
+
+/* A block that grows counts once, also where it is moved. */
+void *__wrap_realloc(void *block, size_t size)
+{
+    count(block, -1);
+    void *found = __real_realloc(block, size);
+    count(found ? found : block, 1);
     return found;
 }
 
-static void tell_peak(text session, int count, char **files)
+void __wrap_free(void *block)
+{
+    count(block, -1);
+    __real_free(block);
+}
+
+static void tell_peak(text session, int files_count, char **files)
 {
     roskevad_slot slot = ROSKEVAD_CLOSED;
-    long before = figure("VmRSS");
+    long before = live;
     open_editor(&slot);
-    for (int at = 0; at + 1 < count; at += 2) {
+    for (int at = 0; at + 1 < files_count; at += 2) {
         text file = read_file(files[at + 1]);
         if (roskevad_editor_put_file(&slot, files[at], strlen(files[at]), file.bytes, file.size) != ROSKEVAD_DONE)
             exit(3);
         free(file.bytes);
     }
+    peak = live;
     do_lines(&slot, session);
-    printf("%ld\n", 1024 * (figure("VmHWM") - before));
+    printf("%ld\n", peak - before);
     roskevad_editor_close(&slot);
 }
 
-int main(int count, char **words)
+int main(int words_count, char **words)
 {
-    if (count == 4 && strcmp(words[1], "time") == 0)
+    if (words_count == 4 && strcmp(words[1], "time") == 0)
         tell_times(atoi(words[2]), read_file(words[3]));
-    else if (count >= 3 && strcmp(words[1], "peak") == 0)
-        tell_peak(read_file(words[2]), count - 3, words + 3);
+    else if (words_count >= 3 && strcmp(words[1], "peak") == 0)
+        tell_peak(read_file(words[2]), words_count - 3, words + 3);
     else
         return 2;
     return 0;
