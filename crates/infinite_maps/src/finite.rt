@@ -1,5 +1,5 @@
 // A finite map made of an infinite one.
-ghost use Rattle.std.specs.Prelude.{◌≡◌, ◌↔◌, IfOk, IfSome, IsTrue, Some, true, false, is_some};
+ghost use Rattle.std.specs.Prelude.{◌≡◌, IfOk, IfSome, IsTrue, Some, true, false, is_some};
 ghost use Rattle.serde_json.specs.View.{view as data_of};
 ghost use Rattle.infinite_maps.specs.Infinite.{infinite_of, is_infinite};
 
@@ -290,6 +290,7 @@ fn comes_back(alloc: Global, finite: &Value, value: &Value) -> Result<bool, Faul
 /// Cells and objects keep their places beside each other. A map above the limits, which are 4,096 columns, 4,096 rows and
 /// 1,048,576 cells, keeps its layers and gets its sizes, so that a reader refuses it for them.
 pub fn made_finite(alloc: Global, value: &Value) -> Result<Option<Value>, Fault>
+    ensures plain { is_infinite (data_of value.now) ≡ false → result ≡ Ok None }
     ensures some { IfOk result (λ map. is_some map ≡ is_infinite (data_of value.now)) }
     ensures finite { IfOk result (λ map. IfSome map (λ finite. is_infinite (data_of finite) ≡ false)) }
     ensures back { IfOk result (λ map. IfSome map (λ finite. infinite_of (data_of finite) ≡ Some (data_of value.now))) }
