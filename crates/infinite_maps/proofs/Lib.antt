@@ -2,4 +2,3 @@ pub mod MembersLemmas
 pub mod Walks
 pub mod Sizes
 pub mod Words
-pub mod Loops
