@@ -54,7 +54,7 @@ def raised(kind, call, *words):
 
 
 def told(refusal):
-    return type(refusal), refusal.code, refusal.words, refusal.line, refusal.forms, str(refusal)
+    return type(refusal), refusal.args, vars(refusal), str(refusal)
 
 
 def test_refusals_are_copied_and_pickled():
@@ -88,6 +88,11 @@ def test_what_was_refused():
             ((editor.save_file, 'no.tmj'), 10, "save_file('no.tmj')", ()),
             ((editor.save_map,), 10, 'save_map()', ()),
             ((editor.map,), 10, 'map()', ()),
+            ((editor.run_lines, ['list', 'undo']), 10, 'undo', ()),
+            ((editor.run_lines, ['stamp']), 4, 'stamp', FORMS['stamp']),
+            ((editor.outline,), 10, 'outline()', ()),
+            ((editor.layer_id, 'a'), 10, "layer_id('a')", ()),
+            ((editor.last_layer_id,), 10, 'last_layer_id()', ()),
         ]
 
         def fault_of(case):
@@ -161,7 +166,8 @@ CALLS = '''[
     lambda: editor.open_map('b', b'{'), lambda: editor.open_file('a'), editor.unsaved,
     editor.save_map, lambda: editor.save_file('a'), editor.map, editor.selection,
     editor.clean_index, lambda: editor.is_macro(0), lambda: editor.layer_id('a'),
-    editor.last_layer_id,
+    editor.last_layer_id, editor.last_object_id, lambda: editor.run_lines(['list']),
+    editor.outline, lambda: editor.cells(1, 0, 0, 1, 1), lambda: editor.action_text(0),
 ]'''
 
 
@@ -392,6 +398,9 @@ def test_values_of_other_types():
             ((editor.step, None), TypeError, 'str'),
             ((editor.step_bytes, 'undo'), TypeError, 'bytes'),
             ((editor.step_bytes, 5), TypeError, 'bytes'),
+            ((editor.run_lines, 'undo'), TypeError, 'lines'),
+            ((editor.run_lines, [b'undo']), TypeError, 'str'),
+            ((editor.run_lines, ['list', 'new a 1 1 1 1 a\n']), ValueError, 'newline'),
             ((editor.step, 'new a 1 1 1 1 a\n'), ValueError, 'newline'),
             ((editor.step, '# a\nundo'), ValueError, 'newline'),
         ]

@@ -49,6 +49,14 @@ def _data_of(data: 'ReadableBuffer', call: str) -> bytes:
         raise TypeError(f'{call} takes bytes, or an object like bytes: {type(data).__name__}') from None
 
 
+def _word_of(line: str) -> bytes:
+    """The bytes of a line among many. Raises TypeError where it is no text."""
+    try:
+        return line.encode('utf-8', 'surrogateescape')
+    except AttributeError:
+        raise TypeError(f'run_lines takes a str for each line: {type(line).__name__}') from None
+
+
 def _told_forked() -> Closed:
     return Closed('an Editor is not used in a fork of its process')
 
@@ -257,7 +265,9 @@ class Editor:
 
         Raises Refused at the first one that is refused: `place` is its place among the lines, from 0, and `replies` are those
         to the lines before it, which are done. Raises ValueError for a line with a newline in it, and does nothing."""
-        words = [line.encode('utf-8', 'surrogateescape') for line in lines]
+        if isinstance(lines, (str, bytes)):
+            raise TypeError(f'run_lines takes lines, and not one: {type(lines).__name__}')
+        words = [_word_of(line) for line in lines]
         if any(b'\n' in word for word in words):
             raise ValueError('run_lines takes lines, and there is a newline in one')
         return self._run(words)
@@ -270,14 +280,13 @@ class Editor:
         done, heard = 0, Heard()
         replies: list[str] = []
         while data:
-            room = self._room
-            done += self._call('run_lines', data, len(data), 1, room.at, room.size, heard)
-            replies += room.bytes[: heard.replies].decode('utf-8', 'replace').split('\n')[:-1]
+            done += self._call('run_lines', data, len(data), 1, self._room.at, self._room.size, heard)
+            replies += self._room.bytes[:heard.replies].decode('utf-8', 'replace').split('\n')[:-1]
             if not heard.has_room:
                 replies.append((self._told('reply') or b'').decode('utf-8', 'replace'))
             if heard.is_refused:
                 raise _refused(replies.pop(), words[done - 1], done - 1, replies)
-            data = data[heard.bytes :]
+            data = data[heard.bytes:]
         return replies
 
     # ---- the files that `open` and `save` find
@@ -407,9 +416,12 @@ class Editor:
     @_turn
     def outline(self) -> dict[str, Any]:
         """The active document's map as `map` gives it, without the member `data` of tile layers. Raises Refused."""
+        return self._outline('outline()')
+
+    def _outline(self, call: str) -> dict[str, Any]:
         text = self._told('outline')
         if text is None:
-            raise Refused(10, 'no active document', 'outline()', forms=())
+            raise Refused(10, 'no active document', call, forms=())
         outline: dict[str, Any] = json.loads(text)
         return outline
 
@@ -427,29 +439,32 @@ class Editor:
         self._call('cells', *where, values.buffer_info()[0] if values else self._room.at, count)
         return values
 
+    @_turn
     def layer_id(self, name: str) -> int:
         """The id of the first layer of that name, in drawing order, groups and what stands in them too. Raises KeyError where there is none."""
-        return _id_of(_drawn(self.outline()['layers']), name)
+        return _id_of(_drawn(self._outline(f'layer_id({name!r})')['layers']), name)
 
+    @_turn
     def object_id(self, name: str) -> int:
         """The id of the first object of that name, in drawing order. Raises KeyError where there is none."""
-        return _id_of((each for layer in _drawn(self.outline()['layers']) for each in layer.get('objects', ())), name)
+        layers = _drawn(self._outline(f'object_id({name!r})')['layers'])
+        return _id_of((each for layer in layers for each in layer.get('objects', ())), name)
 
+    @_turn
     def last_layer_id(self) -> int:
         """The id of the layer that was added last: the next id less one. Raises Refused."""
         return self._next_id('layer') - 1
 
+    @_turn
     def last_object_id(self) -> int:
         """The id of the object that was added last: the next id less one. Raises Refused."""
         return self._next_id('object') - 1
 
-    @_turn
     def _next_id(self, kind: str) -> int:
         answer = self._call(f'next_{kind}_id')
         if answer == library.NONE:
             raise Refused(10, 'no active document', f'last_{kind}_id()', forms=())
         return answer
-
 
     @_turn
     def selection(self) -> list[tuple[int, int, int]]:
@@ -527,7 +542,7 @@ def _refused(reply: str, word: bytes, place: int, replies: list[str]) -> Refused
     """What is raised for a line among others that was answered so."""
     refusal = _REFUSAL.fullmatch(reply)
     assert refusal
-    return Refused(int(refusal[1]), refusal[2], word.decode('utf-8', 'surrogateescape'), place=place, replies=replies)
+    return Refused(int(refusal[1]), refusal[2], word.decode('utf-8', 'surrogateescape'), place, replies)
 
 
 def _drawn(layers: list[dict[str, Any]]) -> Iterable[dict[str, Any]]:

@@ -14,22 +14,17 @@ class Refused(Exception):
     """
 
     def __init__(
-        self,
-        code: int,
-        words: str,
-        line: str,
+        self, code: int, words: str, line: str, place: Optional[int] = None, replies: Iterable[str] = (),
         forms: Optional[tuple[str, ...]] = None,
-        place: Optional[int] = None,
-        replies: Iterable[str] = (),
     ):
         self.code = code
         self.words = words
         self.line = line
-        self.forms = forms if forms is not None else forms_of(line) if code in (3, 4) else ()
         self.place = place
         self.replies = list(replies)
+        self.forms = forms if forms is not None else forms_of(line) if code in (3, 4) else ()
         # An exception is copied and pickled by its arguments, and so it goes from one process to another.
-        super().__init__(code, words, line, self.forms, place, self.replies)
+        super().__init__(code, words, line, place, self.replies, self.forms)
 
     def __str__(self) -> str:
         return '\n  '.join([f'{self.code} {self.words}: {self.line[:200]}', *self.forms])
