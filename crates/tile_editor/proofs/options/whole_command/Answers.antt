@@ -1,5 +1,6 @@
-use Rattle.std.proofs.Common.{◌≡◌, ◌<◌, ◌∙◌, ℕ, false, [], slice_index, ap, sym, inl, inr, arith, codes, lit<}
-use Rattle.clap.specs.Words.{IsPlainArg, Text, first_value, found_of, rule_of}
+use Rattle.std.proofs.Common.{◌≡◌, ◌<◌, ◌∙◌, ℕ, true, false, [], slice_index, ap, sym, inl, inr, arith, codes, lit<}
+use Rattle.clap.specs.Words.{IsPlainArg, Text, app_of, first_value, found_of, new_app, rule_of, with_rule}
+use Rattle.clap.specs.Simple.{app_of_fields, on_top}
 use Rattle.clap.specs.Walk.{Rule}
 use Rattle.clap.specs.declared.builder.arg.Arg.{Arg}
 use Rattle.clap.specs.declared.builder.command.Command.{Command}
@@ -56,6 +57,23 @@ are_apart a b d e is-a is-b is-d is-e = record {
   b-d = apart b d limit_option strict_option is-b is-d (differ 108 115 (lit< tt));
   b-e = apart b e limit_option all_maps_option is-b is-e (λ s. differ 97 108 (lit< tt) (sym s));
 }
+
+-- the command with its texts, and with one option after the other
+pub returns-clause-app : goal.returns-clause-app
+returns-clause-app c =
+    let texts = texts_added c.new.result c.version.result c.about.result c.after_help.result _ _ _ c.version.ensures c.about.ensures c.after_help.ensures in
+    let none : app_of c.after_help.result ≡ on_top (λ shape. record shape { has_version = true }) (new_app (codes "tile_editor")) =
+    ap app_of_fields texts ∙ ap (on_top (λ shape. record shape { has_version = true })) c.new.ensures.app in
+    let one : app_of c.in_ok-with_folder.with_folder ≡ with_rule (app_of c.after_help.result) folder_option =
+    c.in_ok-with_folder.ensures.shape c.folder_arg.ensures.local ∙ ap (with_rule (app_of c.after_help.result)) c.folder_arg.ensures.rule in
+    let two : app_of c.in_ok-with_limit.with_limit ≡ with_rule (app_of c.in_ok-with_folder.with_folder) limit_option =
+    c.in_ok-with_limit.ensures.shape c.limit_arg.ensures.local ∙ ap (with_rule (app_of c.in_ok-with_folder.with_folder)) c.limit_arg.ensures.rule in
+    let three : app_of c.in_ok-with_strict.with_strict ≡ with_rule (app_of c.in_ok-with_limit.with_limit) strict_option =
+    c.in_ok-with_strict.ensures.shape c.strict_arg.ensures.local ∙ ap (with_rule (app_of c.in_ok-with_limit.with_limit)) c.strict_arg.ensures.rule in
+    if_ok c.arg-4.result _ _ c.arg-4.ensures (λ cmd four.
+    four.shape c.all_maps_arg.ensures.local ∙ ap (with_rule (app_of c.in_ok-with_strict.with_strict)) c.all_maps_arg.ensures.rule
+    ∙ ap (λ app. with_rule app all_maps_option) (three ∙ ap (λ app. with_rule app strict_option)
+    (two ∙ ap (λ app. with_rule app limit_option) (one ∙ ap (λ app. with_rule app folder_option) none))))
 
 pub returns-clause-folder : goal.returns-clause-folder
 returns-clause-folder c =

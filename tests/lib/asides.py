@@ -1,0 +1,187 @@
+"""What `--all-maps` makes of a map's tree, plainly: its fractions are set aside, and put back, by the
+rules of docs/map-files.md. Trees are those of lib/json_texts.py, in which a number that is no whole
+number of 64 bits is a float; and a run of the program with that option."""
+import json
+import math
+import struct
+
+from lib.json_texts import depth_of, text_behind, tree_of
+from lib.maps import text_of
+from lib.model import Editor, Play
+from lib.sessions import fault_of_reasons, fault_of_replies, heard
+
+OPTION = '--all-maps'
+RESERVED = 'roskevad'
+NAME_TAKEN = 'a member has the reserved name "roskevad"'
+TOO_DEEP = 'with its fractions set aside it nests deeper than 127'
+NOT_JSON = 'not JSON'
+MAP, LAYER, OBJECT, COORDINATE, VERSION, ELSEWHERE = range(6)
+COORDINATES = ('x', 'y', 'width', 'height')
+
+
+def below(place, name):
+    """Where a member stands whose owner stands at a place."""
+    if place == MAP and name == 'version':
+        return VERSION
+    if place in (MAP, LAYER):
+        return {'layers': LAYER, 'objects': OBJECT}.get(name, ELSEWHERE)
+    return COORDINATE if place == OBJECT and name in COORDINATES else ELSEWHERE
+
+
+def inside(place):
+    """Where the entries of an array stand."""
+    return place if place in (LAYER, OBJECT) else ELSEWHERE
+
+
+def stand_in(number):
+    (bits,) = struct.unpack('>Q', struct.pack('>d', number))
+    return {RESERVED: [bits >> 32, bits & 0xFFFFFFFF]}
+
+
+def whole_part(number):
+    """Rounded down, as far as 64 bits reach."""
+    return max(-(2**63), min(2**63 - 1, math.floor(number)))
+
+
+def notes_of(place, value):
+    """The stand-ins of an object's coordinates that are fractions."""
+    return {
+        name: stand_in(value[name])
+        for name in COORDINATES
+        if place == OBJECT and isinstance(value.get(name), float)
+    }
+
+
+def aside(value, place=MAP):
+    """A tree with its fractions set aside."""
+    if isinstance(value, dict):
+        notes = notes_of(place, value)
+        members = {name: aside(member, below(place, name)) for name, member in value.items()}
+        return {**members, RESERVED: notes} if notes else members
+    if isinstance(value, list):
+        return [aside(entry, inside(place)) for entry in value]
+    if not isinstance(value, float) or place == VERSION:
+        return value
+    return whole_part(value) if place == COORDINATE else stand_in(value)
+
+
+def number_of_halves(value):
+    """The float whose halves stand in an array, or None."""
+    halves = value[:2] if isinstance(value, list) else []
+    if len(halves) < 2 or not all(type(half) is int and 0 <= half < 2**32 for half in halves):
+        return None
+    (number,) = struct.unpack('>d', struct.pack('>Q', halves[0] << 32 | halves[1]))
+    return number if math.isfinite(number) else None
+
+
+def restored(note, value):
+    """A noted number, if the value still is its whole part; else the value."""
+    is_whole = type(value) is int and isinstance(note, float)
+    return note if is_whole and value == whole_part(note) else value
+
+
+def back(value):
+    """A tree in which what was set aside is put back."""
+    if isinstance(value, list):
+        return [back(entry) for entry in value]
+    if not isinstance(value, dict):
+        return value
+    members = {name: back(member) for name, member in value.items()}
+    number = number_of_halves(members.get(RESERVED)) if len(members) == 1 else None
+    if number is not None:
+        return number
+    notes = members.get(RESERVED)
+    if not isinstance(notes, dict):
+        return members
+    return {
+        name: restored(notes.get(name), member)
+        for name, member in members.items()
+        if name != RESERVED
+    }
+
+
+# ---- what stands in a tree
+
+
+def has_name(value):
+    """Whether a member has the reserved name."""
+    if isinstance(value, dict):
+        return RESERVED in value or any(map(has_name, value.values()))
+    return isinstance(value, list) and any(map(has_name, value))
+
+
+def has_fraction(value, place=MAP):
+    """Whether a fraction stands anywhere but as the version."""
+    if isinstance(value, dict):
+        return any(has_fraction(member, below(place, name)) for name, member in value.items())
+    if isinstance(value, list):
+        return any(has_fraction(entry, inside(place)) for entry in value)
+    return isinstance(value, float) and place != VERSION
+
+
+def exact(value):
+    """A tree with each float as its bits, so that trees are equal only if they have the same
+    numbers."""
+    if isinstance(value, dict):
+        return {name: exact(member) for name, member in value.items()}
+    if isinstance(value, list):
+        return [exact(entry) for entry in value]
+    return ('float', struct.pack('>d', value)) if isinstance(value, float) else (type(value), value)
+
+
+def exact_text(data):
+    """The tree of a text, with each float as its bits; None where it has no tree."""
+    found = tree_of(data)
+    return found and exact(found[0])
+
+
+def is_too_deep(tree):
+    return depth_of(json.dumps(tree)) > 127
+
+
+# ---- runs of the program
+
+
+class TiledEditor(Editor):
+    """The plain model of the editor with that option."""
+
+    def open(self, name, file):
+        (tree,) = tree_of(self.files[file])
+        self.add(name, text_behind(aside(tree)))
+
+    def save(self, document, file):
+        reply = super().save(document, file)
+        self.files[file] = text_of(back(json.loads(document.now.text)))
+        return reply
+
+
+class TiledPlay(Play):
+    """A run of the program with that option, whose replies and files the model tells."""
+
+    def __init__(self, name, before=()):
+        super().__init__(name, before)
+        self.editor = TiledEditor(before)
+        self.options = [OPTION]
+
+
+def fault_of_tiled_files(wanted, given):
+    """How the trees of files differ, or None."""
+    if wanted.keys() != given.keys():
+        return f'wanted the files {sorted(wanted)}, came {sorted(given)}'
+    for name in wanted:
+        if exact_text(wanted[name]) != exact_text(given[name]):
+            return f'file {name}: wanted {wanted[name][:400]!r}, came {given[name][:400]!r}'
+    return None
+
+
+def fault_of_tiled_run(run):
+    """How the program differs from a run, or None. Files are compared by their trees, since a float
+    has more than one text."""
+    done, files = heard(run.session, run.before, run.options)
+    if done.returncode != 0:
+        return f'exit status {done.returncode}, {done.stderr.decode()[:300]}'
+    return (
+        fault_of_reasons(run.replies, done.stderr)
+        or fault_of_replies(run.session, run.replies, done.stdout)
+        or fault_of_tiled_files(run.after, files)
+    )

@@ -1,0 +1,28 @@
+"""Has Tiled export maps. A step that needs it names its package."""
+import gzip
+import os
+import shutil
+import subprocess
+from pathlib import Path
+
+EXAMPLES = Path('/usr/share/doc/tiled/examples')
+
+
+def exported(source, folder, name):
+    """The bytes of a map as Tiled exports it to JSON into a folder, or None where Tiled does not load
+    it. Paths of tilesets are those from there."""
+    goal = Path(folder) / name
+    env = {**os.environ, 'QT_QPA_PLATFORM': 'offscreen', 'HOME': str(folder)}
+    subprocess.run(
+        ['tiled', '--export-map', 'json', source, goal], env=env, capture_output=True, timeout=120
+    )
+    return goal.read_bytes() if goal.exists() else None
+
+
+def unpacked(folder):
+    """The maps of Tiled's own examples, with their tilesets, in a folder: Debian packs some files."""
+    shutil.copytree(EXAMPLES, folder, dirs_exist_ok=True)
+    for path in sorted(Path(folder).rglob('*.gz')):
+        path.with_suffix('').write_bytes(gzip.decompress(path.read_bytes()))
+        path.unlink()
+    return sorted(Path(folder).rglob('*.tmx'))

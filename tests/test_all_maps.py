@@ -1,0 +1,320 @@
+"""Opens, edits and saves maps with fractions by `tile_editor --all-maps`, and compares replies and
+files with the plain model of tests/lib/asides.py, which sets fractions aside and puts them back. The
+maps are made here; numbers at the edge of what a float can be stand in one of them. Random edits,
+undos and redos follow in runs of their own. Maps that need nothing set aside are saved as without
+the option: the sessions of `sessions/` are heard with it. What is refused says why on standard
+error, and each growth of some sessions is refused in turn. Debian's package `tiled` has example maps:
+Tiled exports them, they are opened, edited, undone and saved, and Tiled exports what was saved; with
+that they have the same numbers."""
+import copy
+import json
+import random
+import re
+import tempfile
+from pathlib import Path
+
+from lib import tiled_package
+from lib.asides import (
+    NAME_TAKEN,
+    OPTION,
+    TOO_DEEP,
+    TiledPlay,
+    exact,
+    exact_text,
+    fault_of_tiled_run,
+)
+from lib.cases import CORES, Case, check_each, in_processes, passed, fail_with, unlike
+from lib.growths import Refuser, Session
+from lib.json_texts import text_behind, tree_of
+from lib.maps import new_map, objects_in, property_of, text_of, thing, things, tiles
+from lib.refusals import refusal
+from lib.sessions import all_runs, fault_of_run, heard, joined
+
+IS_LONG = True
+PACKAGES = ('tiled',)
+SEED, RUNS, STEPS = 20261127, 60, 40
+NUMBERS = ['413.333', '0.1', '5e-324', '1.7976931348623157e308', '1e20', '-0', '359.999999', '2.0']
+FLAT = {'ellipse': True, 'rotation': 33.75}
+
+
+def map_with(*layers, **members):
+    """A map of 6 by 5 cells with these layers."""
+    tree = new_map(6, 5, 16, 16, 'town.tsj')
+    tree.update(layers=list(layers), nextlayerid=50, nextobjectid=100, **members)
+    return tree
+
+
+def fractions():
+    """A map with fractions in each kind of place."""
+    door = thing(1, x=10.5, y=20.25, width=3.75, height=8, properties=[property_of('a', 'float', 1.5)])
+    line = thing(2, x=-0.5, y=2.0, width=0, height=0, polyline=[{'x': 0, 'y': 0}, {'x': 1.5, 'y': -2}])
+    wide = thing(3, x=1e8, y=-999999999.75, width=0.001, height=1e-300, **FLAT)
+    return map_with(
+        tiles(1, 6, 5, opacity=0.5, parallaxx=0.75, tintcolor='#ff0000'),
+        things(2, door, line, offsetx=0.25),
+        {'id': 3, 'layers': [things(4, wide)], 'name': 'g', 'opacity': 0.125, 'type': 'group', 'visible': True},
+        properties=[property_of('speed', 'float', 0.1), property_of('class', 'class', {'a': [0.5, 1]})],
+        version=1.1,
+    )
+
+
+def text_with(tree):
+    """A text as Tiled lays it out."""
+    return json.dumps(tree, indent=4).encode()
+
+
+# ---- what is opened and saved
+
+
+def unchanged_run(name, tree):
+    """A map that is opened, edited, undone and saved."""
+    run = TiledPlay(name, {'m.tmj': text_with(tree)})
+    run.hear('open m m.tmj', 'layer add tile Above', 'stamp 50 1 1 2 1,1', 'show', 'goto 0', 'save n.tmj')
+    run.hear('open again n.tmj', 'show', 'save o.tmj')
+    return run
+
+
+def test_maps_that_are_not_changed():
+    """Besides the model, the source itself tells what is saved."""
+    tree = fractions()
+    run = unchanged_run('fractions', tree)
+    wanted = tree_of(text_behind(json.loads(json.dumps(tree))))[0]
+    fault = unlike(exact(wanted), exact_text(run.after['n.tmj']))
+    assert not fault, f'the model: {fault}'
+    check_each([run], fault_of_tiled_run)
+
+
+def text_of_number(number):
+    tree = map_with(things(1, thing(1, rotation='NUMBER', x='NUMBER', polygon=[{'x': 'NUMBER', 'y': 0}])))
+    return json.dumps(tree).replace('"NUMBER"', number).encode()
+
+
+def fault_of_number(case):
+    """A number that is opened and saved must be read as the same float."""
+    done, files = heard(b'open m m.tmj\nsave n.tmj\n', {'m.tmj': text_of_number(case.given)}, [OPTION])
+    if b'n.tmj' not in done.stdout:
+        return f'came {done.stdout!r}, {done.stderr!r}'
+    item = objects_in(tree_of(files['n.tmj'])[0])[0]
+    wanted = exact(float(case.given))
+    came = [exact(number) for number in (item['rotation'], item['x'], item['polygon'][0]['x'])]
+    return unlike([wanted] * 3, came)
+
+
+def test_numbers():
+    """But an `x` beyond a map's limits, which the editor refuses."""
+    near = [Case(number, number, None) for number in NUMBERS if abs(float(number)) < 1e9]
+    check_each(near, fault_of_number, CORES)
+    far = []
+    for number in NUMBERS:
+        tree = json.loads(text_of_number('0'))
+        text = json.dumps(tree).replace('"rotation": 0', f'"rotation": {number}').encode()
+        far.append(TiledPlay(f'a rotation of {number}', {'m.tmj': text}))
+        far[-1].hear('open m m.tmj', 'show', 'object move 1 3 4', 'save n.tmj')
+    check_each(far, fault_of_tiled_run, CORES)
+
+
+def edited_run(name, *lines):
+    run = TiledPlay(name, {'m.tmj': text_with(fractions())})
+    run.hear('open m m.tmj', *lines, 'save n.tmj')
+    return run, objects_in(json.loads(run.after['n.tmj']))[0]
+
+
+def test_coordinates_that_an_edit_changes():
+    """What an edit names lies on whole pixels; all else is exact."""
+    rows = [
+        (('object move 1 40 50',), (40, 50, 3.75, 8)),
+        (('object move 1 10 50',), (10.5, 50, 3.75, 8)),
+        (('object move 1 10 20',), (10.5, 20.25, 3.75, 8)),
+        (('object resize 1 9 9',), (10.5, 20.25, 9, 9)),
+        (('object resize 1 3 9',), (10.5, 20.25, 3.75, 9)),
+        (('resize 6 5 1 0',), (26, 20.25, 3.75, 8)),
+        (('resize 6 5 0 0',), (10.5, 20.25, 3.75, 8)),
+        (('object move 1 40 50', 'undo'), (10.5, 20.25, 3.75, 8)),
+    ]
+    for lines, wanted in rows:
+        run, item = edited_run(' '.join(lines), *lines)
+        came = tuple(item[name] for name in ('x', 'y', 'width', 'height'))
+        fault = unlike(wanted, came) or fault_of_tiled_run(run)
+        assert not fault, f'{lines}: {fault}'
+    passed(len(rows))
+
+
+class Drawing(TiledPlay):
+    """A map with fractions that is edited by chance."""
+
+    def __init__(self, number):
+        super().__init__(f'drawing {number}', {'m.tmj': text_with(fractions())})
+        self.chosen = random.Random(SEED + number)
+        self.hear('open m m.tmj')
+        for _ in range(STEPS):
+            self.hear(self.line())
+        self.hear('show', 'save n.tmj', 'goto 0', 'save o.tmj', 'open again n.tmj', 'show')
+
+    def line(self):
+        chosen = self.chosen
+        number, x, y = chosen.randint(1, 3), chosen.randint(-30, 60), chosen.randint(-30, 60)
+        return chosen.choice(
+            [
+                f'object move {number} {x} {y}',
+                f'object move+ {number} {chosen.choice([10, -1])} {chosen.choice([20, 2])}',
+                f'object resize {number} {abs(x)} {chosen.choice([8, abs(y)])}',
+                f'object remove {number}',
+                f'prop set object:{number} a string b',
+                f'stamp 1 {x % 6} {y % 5} 1 7',
+                f'layer show {chosen.randint(1, 4)} no',
+                f'resize {chosen.randint(4, 8)} 5 {chosen.randint(-1, 1)} 0',
+                'undo',
+                'undo',
+                'redo',
+            ]
+        )
+
+
+def test_random_edits():
+    check_each([Drawing(number) for number in range(RUNS)], fault_of_tiled_run, CORES)
+
+
+def with_option(run):
+    """A run of `sessions/` with the option: nothing may change."""
+    other = copy.copy(run)
+    other.options = [*run.options, OPTION]
+    return other
+
+
+def test_sessions_with_the_option():
+    """All but those in which a map is refused for a fraction."""
+    runs = [run for run in all_runs() if refusal(61).encode() not in run.replies]
+    check_each(map(with_option, runs), fault_of_run, CORES)
+
+
+# ---- what is refused
+
+
+def nested(levels):
+    return '[' * levels + '0.5' + ']' * levels
+
+
+def kept(value):
+    """The text of a map that keeps a member."""
+    return text_of(map_with(tiles(1, 6, 5)))[:-1] + f',"kept":{value}}}'.encode()
+
+
+REFUSED = [
+    ('the name in the map', kept('{"roskevad":1}'), 51, NAME_TAKEN),
+    ('the name by an escape', kept('{"roskeva\\u0064":0.5}'), 51, NAME_TAKEN),
+    ('a stand-in', kept('{"roskevad":[1071644672,0]}'), 51, NAME_TAKEN),
+    ('a fraction that nests too deep', kept(nested(125)), 51, TOO_DEEP),
+    ('nothing too deep', kept(nested(127)), 60, None),
+    ('no JSON', b'{', 60, None),
+    ('no UTF-8', b'"\xff"', 60, None),
+    ('too great a number', kept('1e400'), 60, None),
+    ('no map', b'[0.5]', 69, None),
+    ('an object that is far away', text_with(map_with(things(1, thing(1, x=1e300)))), 68, None),
+    ('a version that is a list', text_with(map_with(tiles(1, 6, 5), version=[0.5])), None, None),
+    ('a fraction that nests deep', kept(nested(124)), None, None),
+]
+
+
+def fault_of_refused(case):
+    """What is wrong with the replies to a map, or with what standard error says."""
+    code, reason = case.wanted
+    done, files = heard(b'open m m.tmj\nlist\n', {'m.tmj': case.given}, [OPTION])
+    replies = 'ok 0/0 clean 0\ndocs *m\n' if code is None else f'{refusal(code)}\ndocs\n'
+    errors = f'tile_editor: maps/m.tmj: {reason}\n' if reason else ''
+    return unlike((0, replies, errors), (done.returncode, done.stdout.decode(), done.stderr.decode()))
+
+
+def test_maps_that_are_refused():
+    cases = [Case(name, data, (code, reason)) for name, data, code, reason in REFUSED]
+    check_each(cases, fault_of_refused, CORES)
+
+
+def test_without_the_option():
+    """A map with fractions is refused as ever."""
+    done, _ = heard(b'open m m.tmj\n', {'m.tmj': text_with(fractions())})
+    fault = unlike((f'{refusal(61)}\n', ''), (done.stdout.decode(), done.stderr.decode()))
+    assert not fault, fault
+
+
+# ---- growths
+
+
+def begun(name):
+    """A session with the option, over a map with fractions."""
+    lines = {
+        'a map with fractions': 'open m m.tmj,object move 1 30 40,save n.tmj,undo,save n.tmj,show',
+        'files that are refused': 'open m taken.tmj,open m deep.tmj,open m m.tmj,save n.tmj',
+    }[name].split(',')
+    before = {
+        'm.tmj': text_of(map_with(things(1, thing(1, x=1.5)))),
+        'taken.tmj': kept('{"roskevad":1}'),
+        'deep.tmj': kept(nested(125)),
+    }
+    return Session(name, Refuser(before, [OPTION]), [line.encode() for line in lines])
+
+
+def fault_of_growth(each):
+    session, growth = each
+    try:
+        begun_sessions()[session].refused_at(growth)
+    except AssertionError as fault:
+        return str(fault)
+    return None
+
+
+_sessions = {}
+
+
+def begun_sessions():
+    for name in ('a map with fractions', 'files that are refused'):
+        if name not in _sessions:
+            _sessions[name] = begun(name)
+    return _sessions
+
+
+def test_each_growth():
+    growths = [
+        (name, growth)
+        for name, session in begun_sessions().items()
+        for growth in range(1, session.growths + 1)
+    ]
+    fail_with(fault for fault in in_processes(fault_of_growth, growths, 20) if fault)
+    passed(len(growths))
+
+
+# ---- Tiled's own maps
+
+
+def is_opened(data):
+    """Whether the editor opens what Tiled exported: it is neither infinite nor compressed."""
+    return not re.search(rb'"infinite": ?true|"compression": ?"[a-z]', data)
+
+
+def fault_of_export(case):
+    """A map that Tiled exported is opened, edited, undone and saved: it has the same tree but for
+    what the rules of writing say, and Tiled exports both the same."""
+    folder, source = case.given
+    name = f'{source.stem}.tmj'
+    data = tiled_package.exported(source, source.parent, name)
+    if data is None or not is_opened(data):
+        return None
+    run = TiledPlay(name, {name: data})
+    run.hear(f'open m {name}', 'layer add tile New', 'prop set map a int 1', 'goto 0', 'save saved.tmj')
+    fault = fault_of_tiled_run(run)
+    if fault:
+        return fault
+    _, files = heard(run.session, run.before, run.options)
+    (source.parent / 'saved.tmj').write_bytes(files['saved.tmj'])
+    again = [
+        exact_text(tiled_package.exported(source.parent / each, source.parent, f'again_{each}'))
+        for each in (name, 'saved.tmj')
+    ]
+    passed(exact_text(data) is not None)
+    return unlike(*again)
+
+
+def test_maps_of_tiled():
+    with tempfile.TemporaryDirectory() as folder:
+        maps = tiled_package.unpacked(folder)
+        assert maps, 'the package tiled has no example maps'
+        check_each([Case(path.name, (folder, path), None) for path in maps], fault_of_export)
