@@ -9,16 +9,22 @@
  * What rests on the caller, and what nothing checks:
  *   - A slot is all zero before its first `roskevad_open` (ROSKEVAD_CLOSED, or static storage), and after that only as a call
  *     left it. It is never copied: the address that it was opened at is the one that it is used and closed at.
- *   - One call at a time for a slot, and all of its calls on one thread. Two slots know nothing of each other, but one thread
- *     for each of them at a time is all that is promised.
+ *   - Several threads may use a session in turn, one call at a time: a lock, or the start or the end of a thread, orders each call
+ *     behind the one before. This is tested, not proved. Two slots know nothing of each other, and two threads may use one each
+ *     at the same time.
  *   - No call from a signal handler, nor from the forked child of a process that has threads.
  *   - Each pointer is to as many bytes as its length says. What a call writes to overlaps nothing else that it is given.
  *   - No null pointer for a slot or a run; none at all for the functions `roskevad_*`, also at length 0.
- *   - malloc, realloc and free are those of one allocator, which aligns to 16 bytes, and the stack has 256 KB left.
+ *   - malloc, realloc and free are those of one allocator, which aligns to 16 bytes and takes calls from each thread that calls
+ *     here, and the stack has 256 KB left.
  *
  * Bytes come out to a buffer of the caller's: they stand at its front where all of them fit, and else the buffer is as it
  * was. The answer is how many there are, so that a larger buffer can be made: the line is done by then, and is not to be
- * stepped again, but `roskevad_reply` gives its reply again. */
+ * stepped again, but `roskevad_reply` gives its reply again.
+ *
+ * To save while work goes on: the line `save NAME` puts the map among the session's files and sets the clean mark at once, so no
+ * later edit goes into the step that is saved. Write the bytes of that file wherever you like; if that fails, the line `dirty`,
+ * with that document active, takes the mark away. What is done meanwhile is above the clean index, and not called saved. */
 #ifndef ROSKEVAD_H
 #define ROSKEVAD_H
 

@@ -35,8 +35,9 @@ class Editor:
     `limit` is the undo limit of each document when it is made, at most 1,000,000, where 0 stands for none. `folder` is where
     `open_file` and `save_file` find files by their names.
 
-    An editor is closed by `close`, or at the end of a `with`. Calls from several threads wait for each other. It is not
-    copied or pickled, and not used in a fork of its process.
+    An editor is closed by `close`, or at the end of a `with`. Several threads may use a session in turn, one call at a time:
+    calls of an `Editor` wait for each other. This is tested, not proved. It is not copied or pickled, and not used in a fork
+    of its process.
     """
 
     def __init__(self, limit: int = 0, folder: Union[str, Path] = '.'):
