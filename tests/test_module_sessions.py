@@ -1,5 +1,5 @@
-"""Runs the session files of `sessions/` on the module in `js/` in Node: it must give the replies and
-the files that stand there. Besides, it must do what the program does with each example map, with
+"""Runs the session files of `sessions/` on the module in `js/` in Node, line by line and many lines in
+a call: it must give the replies and the files that stand there. Besides, it must do what the program does with each example map, with
 lines by chance, and with a map of 1,048,576 cells."""
 import random
 
@@ -65,6 +65,10 @@ def large_run(is_packed):
 
 def test_sessions_by_step():
     check_in_node(all_runs(), 'step')
+
+
+def test_sessions_by_run_bytes():
+    check_in_node(all_runs(), 'lines')
 
 
 def test_beside_the_program():
