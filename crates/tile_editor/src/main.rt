@@ -1,16 +1,13 @@
 //! The program: session lines from standard input, and a reply to each on standard output.
 #![tactic(auto)]
 
-ghost use Rattle.std.specs.Prelude.{◌≤◌};
-ghost use Rattle.undo_stack.specs.declared.limits.TheConstants.{MAX_LIMIT};
-
 mod options;
 mod reports;
 
-use crate::options::{Options, parse_options};
+use crate::options::parse_options;
 use crate::reports::{ErrorLines, FolderFaults, look_at_folder};
 use clap::error::ErrorKind;
-use map_store::{FolderStore, MapStore};
+use map_store::FolderStore;
 use session_run::{RunFault, run};
 use std::env::Env;
 use std::fmt::Display;
@@ -67,34 +64,6 @@ fn ends_with_answer(rt: &(impl Print + Eprint), answer: &clap::Error) -> ExitCod
     }
 }
 
-// Answers the lines of standard input, with the files of a store.
-fn answer_lines<S: MapStore>(rt: &HostRuntime, options: &Options<'_>, store: &mut S) -> ExitCode
-    requires { options.now.limit ≤ MAX_LIMIT }
-{
-    let Ok(mut writer) = BufWriter::new(rt.alloc(), rt.stdout()) else {
-        return ends(rt, RunFault::Memory, FAILED);
-    };
-    look_at_folder(rt, options.folder);
-    let report = ErrorLines(rt);
-    let strict = if options.is_strict {
-        Some(&report)
-    } else {
-        None
-    };
-    match run(
-        rt.alloc(),
-        &mut rt.stdin(),
-        &mut writer,
-        store,
-        options.limit,
-        strict,
-    ) {
-        Ok(_) => ExitCode::SUCCESS,
-        Err(RunFault::Refused | RunFault::Unsaved) => ExitCode::from(NOT_DONE),
-        Err(fault) => ends(rt, fault, FAILED),
-    }
-}
-
 fn main(rt: HostRuntime) -> ExitCode {
     let words = match read_words(&rt) {
         Ok(words) => words,
@@ -104,11 +73,30 @@ fn main(rt: HostRuntime) -> ExitCode {
         Ok(options) => options,
         Err(answer) => return ends_with_answer(&rt, &answer),
     };
-    let mut files = FolderStore::new(&rt, "tile_editor", options.folder);
-    if options.opens_all_maps {
-        let report = FolderFaults::new(&rt, options.folder);
-        answer_lines(&rt, &options, &mut TiledStore::new(files, report))
+    let Ok(mut writer) = BufWriter::new(rt.alloc(), rt.stdout()) else {
+        return ends(&rt, RunFault::Memory, FAILED);
+    };
+    look_at_folder(&rt, options.folder);
+    let files = FolderStore::new(&rt, "tile_editor", options.folder);
+    let faults = FolderFaults::new(&rt, options.folder);
+    // One type of store with and without the option: the compiler folds what `run` calls once into it.
+    let mut store = TiledStore::new(files, faults, options.opens_all_maps);
+    let report = ErrorLines(&rt);
+    let strict = if options.is_strict {
+        Some(&report)
     } else {
-        answer_lines(&rt, &options, &mut files)
+        None
+    };
+    match run(
+        rt.alloc(),
+        &mut rt.stdin(),
+        &mut writer,
+        &mut store,
+        options.limit,
+        strict,
+    ) {
+        Ok(_) => ExitCode::SUCCESS,
+        Err(RunFault::Refused | RunFault::Unsaved) => ExitCode::from(NOT_DONE),
+        Err(fault) => ends(&rt, fault, FAILED),
     }
 }

@@ -1,5 +1,6 @@
 ghost use Rattle.std.specs.Prelude.{◌≡◌, ◌-◌, ◌^◌, ◌<◌, ◌≤◌, ◌⊎◌, IsErrOf, IsTrue, false};
 ghost use Rattle.map_store.specs.Files.{HasFailed};
+ghost use Rattle.map_store.specs.Storing.{Loads, Stores};
 ghost use Rattle.tiled_store.specs.Stored.{LoadsFrom, StoresTo};
 
 use crate::fault_report::FaultReport;
@@ -7,7 +8,8 @@ use map_store::{MapStore, StoreFault};
 use std::alloc::Global;
 use tiled_maps::{Fault, put_back, set_aside};
 
-/// The files of another store. A load sets the fractions of a map aside, and a store puts them back.
+/// The files of another store. A load sets the fractions of a map aside, and a store puts them back; or both leave a text as it
+/// is, if the store was made so.
 ///
 /// A file is loaded as it is if it is no JSON, so that its reader refuses it. If a member has the reserved name, or the file would
 /// nest too deep, the load is refused as `Device`, and the report is told why. Nothing is claimed of the files themselves.
@@ -15,6 +17,8 @@ use tiled_maps::{Fault, put_back, set_aside};
 pub struct TiledStore<S, T> {
     /// The other store.
     pub store: S,
+    /// Whether fractions are set aside and put back.
+    pub sets_aside: bool,
     /// Whether a load has set anything aside. Until one has, texts are stored as they are.
     pub has_set_aside: bool,
     report: T,
@@ -23,13 +27,15 @@ pub struct TiledStore<S, T> {
 }
 
 impl<S: MapStore, T: FaultReport> TiledStore<S, T> {
-    /// Over a store, and with a report of what is refused.
-    pub fn new(store: S, report: T) -> TiledStore<S, T>
+    /// Over a store, and with a report of what is refused. Fractions are set aside, or texts are left as they are.
+    pub fn new(store: S, report: T, sets_aside: bool) -> TiledStore<S, T>
         ensures store { result.store ≡ store }
+        ensures sets { result.sets_aside ≡ sets_aside }
         ensures none { result.has_set_aside ≡ false }
     {
         TiledStore {
             store,
+            sets_aside,
             has_set_aside: false,
             report,
             failures: 0,
@@ -50,6 +56,7 @@ impl<S: MapStore, T: FaultReport> TiledStore<S, T> {
         ensures raised { result ≡ StoreFault.Device → (self.old.failures < self.new.failures) ⊎ (self.old.failures ≡ 2 ^ 64 - 1) }
         ensures count { self.old.failures ≤ self.new.failures }
         ensures store { self.new.store ≡ self.old.store }
+        ensures sets { self.new.sets_aside ≡ self.old.sets_aside }
         ensures aside { self.new.has_set_aside ≡ self.old.has_set_aside }
     {
         if fault == StoreFault::Device {
@@ -60,12 +67,18 @@ impl<S: MapStore, T: FaultReport> TiledStore<S, T> {
 
     // Loads a file, and sets its fractions aside. A fault is not counted yet.
     fn loaded(&mut self, alloc: Global, name: &str) -> Result<Vec<u8>, StoreFault>
-        ensures loads { IsTrue (S.stored self.old.store).honest
+        ensures loads { IsTrue (S.stored self.old.store).honest → IsTrue self.old.sets_aside
             → LoadsFrom name.now (S.stored self.old.store) result (S.stored self.new.store) self.new.has_set_aside }
+        ensures plain { IsTrue (S.stored self.old.store).honest → self.old.sets_aside ≡ false
+            → Loads name.now (S.stored self.old.store).files result (S.stored self.new.store).files }
+        ensures sets { self.new.sets_aside ≡ self.old.sets_aside }
         ensures aside { IsTrue self.old.has_set_aside → IsTrue self.new.has_set_aside }
         ensures failures { self.new.failures ≡ self.old.failures }
     {
         let bytes = self.store.load(alloc, name)?;
+        if !self.sets_aside {
+            return Ok(bytes);
+        }
         match set_aside(alloc, bytes.as_slice()) {
             Ok(Some(text)) => {
                 self.has_set_aside = true;
@@ -81,13 +94,16 @@ impl<S: MapStore, T: FaultReport> TiledStore<S, T> {
 
     // Puts back what is set aside in a text, and stores it. A fault is not counted yet.
     fn put(&mut self, alloc: Global, name: &str, bytes: &[u8]) -> Result<(), StoreFault>
-        ensures stores { IsTrue (S.stored self.old.store).honest
+        ensures stores { IsTrue (S.stored self.old.store).honest → IsTrue self.old.sets_aside
             → StoresTo self.old.has_set_aside name.now bytes.now (S.stored self.old.store) result (S.stored self.new.store) }
+        ensures plain { IsTrue (S.stored self.old.store).honest → self.old.sets_aside ≡ false
+            → Stores name.now bytes.now (S.stored self.old.store).files result (S.stored self.new.store).files }
         ensures found { IsErrOf result StoreFault.Missing → ⊥ }
+        ensures sets { self.new.sets_aside ≡ self.old.sets_aside }
         ensures aside { self.new.has_set_aside ≡ self.old.has_set_aside }
         ensures failures { self.new.failures ≡ self.old.failures }
     {
-        if !self.has_set_aside {
+        if !self.sets_aside || !self.has_set_aside {
             return self.store.store(alloc, name, bytes);
         }
         match put_back(alloc, bytes) {
@@ -107,8 +123,11 @@ impl<S: MapStore, T: FaultReport> MapStore for TiledStore<S, T> {
     ghost stored = { λ s. record { files = (S.stored s.store).files; failures = s.failures; honest = false } };
 
     fn load(&mut self, alloc: Global, name: &str) -> Result<Vec<u8>, StoreFault>
-        ensures loads_from { IsTrue (S.stored self.old.store).honest
+        ensures loads_from { IsTrue (S.stored self.old.store).honest → IsTrue self.old.sets_aside
             → LoadsFrom name.now (S.stored self.old.store) result (S.stored self.new.store) self.new.has_set_aside }
+        ensures plain { IsTrue (S.stored self.old.store).honest → self.old.sets_aside ≡ false
+            → Loads name.now (S.stored self.old.store).files result (S.stored self.new.store).files }
+        ensures sets { self.new.sets_aside ≡ self.old.sets_aside }
         ensures aside { IsTrue self.old.has_set_aside → IsTrue self.new.has_set_aside }
 
         // The clauses of the trait.
@@ -123,8 +142,11 @@ impl<S: MapStore, T: FaultReport> MapStore for TiledStore<S, T> {
     }
 
     fn store(&mut self, alloc: Global, name: &str, bytes: &[u8]) -> Result<(), StoreFault>
-        ensures stores_to { IsTrue (S.stored self.old.store).honest
+        ensures stores_to { IsTrue (S.stored self.old.store).honest → IsTrue self.old.sets_aside
             → StoresTo self.old.has_set_aside name.now bytes.now (S.stored self.old.store) result (S.stored self.new.store) }
+        ensures plain { IsTrue (S.stored self.old.store).honest → self.old.sets_aside ≡ false
+            → Stores name.now bytes.now (S.stored self.old.store).files result (S.stored self.new.store).files }
+        ensures sets { self.new.sets_aside ≡ self.old.sets_aside }
         ensures aside { self.new.has_set_aside ≡ self.old.has_set_aside }
 
         // The clauses of the trait.
