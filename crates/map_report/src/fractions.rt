@@ -101,12 +101,12 @@ fn write_fraction<W: Write>(
     place.write(root, output)
 }
 
-// Writes a line for each fraction in a value at a place, and gives how many there are.
+// Writes a line for each fraction in a value at a place, and gives how many there are. The value comes first: it gets less deep.
 #[cycle(fractions)]
 fn write_value<W: Write>(
     alloc: Global,
-    root: &Value,
     value: &Value,
+    root: &Value,
     part: Part,
     owner: Owner<'_>,
     place: &mut Place,
@@ -123,10 +123,10 @@ fn write_value<W: Write>(
             Ok(1)
         }
         Value::Array(items) => {
-            write_items(alloc, root, items, part.entry(), owner, place, output)
+            write_items(alloc, items, root, part.entry(), owner, place, output)
         }
         Value::Object(members) => {
-            write_members(alloc, root, members, part, owner, place, output)
+            write_members(alloc, members, root, part, owner, place, output)
         }
     }
 }
@@ -134,8 +134,8 @@ fn write_value<W: Write>(
 #[cycle(fractions)]
 fn write_items<W: Write>(
     alloc: Global,
-    root: &Value,
     items: &Vec<Value>,
+    root: &Value,
     part: Part,
     owner: Owner<'_>,
     place: &mut Place,
@@ -144,7 +144,7 @@ fn write_items<W: Write>(
     let mut count = 0u64;
     for (at, item) in items.iter().enumerate() {
         place.enter(Step::Element(at));
-        let more = write_value(alloc, root, item, part, owner, place, output)?;
+        let more = write_value(alloc, item, root, part, owner, place, output)?;
         count = count.saturating_add(more);
         place.leave();
     }
@@ -154,8 +154,8 @@ fn write_items<W: Write>(
 #[cycle(fractions)]
 fn write_members<W: Write>(
     alloc: Global,
-    root: &Value,
     members: &Map<String, Value>,
+    root: &Value,
     part: Part,
     owner: Owner<'_>,
     place: &mut Place,
@@ -168,7 +168,7 @@ fn write_members<W: Write>(
         if part != Part::Map || name != "version" {
             place.enter(Step::Member(name));
             let inner = part.member(name);
-            let more = write_value(alloc, root, member, inner, owner, place, output)?;
+            let more = write_value(alloc, member, root, inner, owner, place, output)?;
             count = count.saturating_add(more);
             place.leave();
         }
