@@ -2,8 +2,9 @@
 the one that the rules of docs/map-files.md give. Each map with a fault is a good one with some
 members changed or taken out; a table says which, and what the line must be. A second table has the
 members that the reader knows, and what each must be: each of them is taken out, where it must be
-there, and gets each kind of wrong value. Then come the listings of the example maps, files that
-can't be read, and command lines."""
+there, and gets each kind of wrong value. A map with fractions has a line for each of them, too, and
+says what `--all-maps` makes of it. Then come the listings of the example maps, files that can't be
+read, and command lines."""
 import copy
 import json
 import re
@@ -164,19 +165,74 @@ def report_of_fault(code, tree, place):
     return f'{refusal(code)}: {place or "the root"} is {shown(value_at(tree, place))}'
 
 
+# ---- fractions
+
+OPENS = 'with --all-maps the editor opens this map'
+
+
+def is_fraction(value):
+    is_great = isinstance(value, int) and not -(2**63) <= value < 2**64
+    return isinstance(value, float) or is_great
+
+
+def step_of(name, path):
+    """The step to a member, behind a path."""
+    if not re.fullmatch('[A-Za-z0-9_-]{1,40}', name):
+        return f'{path}[{quoted(name)}]'
+    return f'{path}.{name}' if path else name
+
+
+def owner_of(kind, value):
+    """A layer or an object, as its fractions name it."""
+    number, name = value.get('id'), value.get('name')
+    is_whole = isinstance(number, int) and not isinstance(number, bool) and 0 <= number < 2**64
+    return kind + (f' {number}' if is_whole else '') + (f' {quoted(name)}' if name else '') + ': '
+
+
+def fractions_in(value, kind, owner, path):
+    """The lines of the fractions in a value of a kind, which stands at a path."""
+    if isinstance(value, list):
+        inner = {'layers': 'layer', 'objects': 'object'}.get(kind)
+        for at, entry in enumerate(value):
+            yield from fractions_in(entry, inner, owner, f'{path}[{at}]')
+    elif isinstance(value, dict):
+        owner = owner_of(kind, value) if kind in ('layer', 'object') else owner
+        lists = {'map': ('layers',), 'layer': ('layers', 'objects')}.get(kind, ())
+        for name in sorted(value, key=str.encode):
+            if kind != 'map' or name != 'version':
+                inner = name if name in lists else None
+                yield from fractions_in(value[name], inner, owner, step_of(name, path))
+        if kind == 'map' and not is_fraction(value.get('version')):
+            yield from fractions_in(value.get('version'), None, owner, 'version')
+    elif is_fraction(value):
+        yield f'  {owner}{path or "the root"} is {shown(value)}'
+
+
+def report_of_fractions(tree, place, then=OPENS):
+    """The lines of a map that is refused for a fraction, of which this is the first place."""
+    rows = list(fractions_in(tree, 'map', '', ''))
+    first = report_of_fault(61, tree, place)
+    return '\n'.join([first, *rows, f'  fractions: {len(rows)}', f'  {then}'])
+
+
+def with_all_maps(code, place, value):
+    """The last line where the map is refused with its fractions set aside, too."""
+    return f'with --all-maps: {refusal(code)}: {place} is {value}'
+
+
 def report(name, data, *lines):
     """A file, and what may be reported of it behind its name: one of these lines."""
     return Case(name, data, lines)
 
 
-def fault(code, place, changes):
-    """The good map with some changes, which is refused for what stands at a place."""
+def fault(code, place, changes, then=OPENS):
+    """The good map with some changes, which is refused for what stands at a place. If that is a
+    fraction, a line says what comes then."""
     tree = changed(changes)
-    return report(
-        f'{code} at {place}, {changes}',
-        json.dumps(tree).encode(),
-        report_of_fault(code, tree, place),
+    wanted = (
+        report_of_fractions(tree, place, then) if code == 61 else report_of_fault(code, tree, place)
     )
+    return report(f'{code} at {place}, {changes}', json.dumps(tree).encode(), wanted)
 
 
 # ---- the members that the reader knows
@@ -281,9 +337,11 @@ def faults_of_member(owner, member, must_be_there, wrong):
     place = f'{owner}.{member}'.lstrip('.')
     if must_be_there:
         yield fault(62, place, {place: ABSENT})
+    # What stands for a fraction is an object; but a coordinate keeps its whole part.
+    then = OPENS if wrong is PLACING else with_all_maps(63, place, 'an object')
     for code, values in wrong.items():
         for value in values:
-            yield fault(code, place, {place: value})
+            yield fault(code, place, {place: value}, then)
 
 
 def faults_of_members():
@@ -320,12 +378,29 @@ TABLE = [
     (69, 'type', {'type': ABSENT}),
     (69, 'type', {'type': None}),
     (69, 'type', {'type': 'Map', 'width': 0}),
-    (61, 'height', {'height': 3.5, 'type': 'world'}),
+    (
+        61,
+        'height',
+        {'height': 3.5, 'type': 'world'},
+        with_all_maps(69, 'type', '"world"'),
+    ),
     # 61: the first by the names of the members, and those of the version last
     (61, DOOR + '.x', {DOOR + '.x': 12.5, 'properties[0].value': 0.5}),
-    (61, 'layers[0].data[2]', {'layers[0].data[2]': 1.5, 'layers[0].opacity': 0.5}),
+    (
+        61,
+        'layers[0].data[2]',
+        {'layers[0].data[2]': 1.5, 'layers[0].opacity': 0.5},
+        with_all_maps(66, 'layers[0].data[2]', 'an object'),
+    ),
     (61, 'properties[0].value', {'properties[0].value': 0.25, 'version': [0.5]}),
-    (61, 'version[1]', {'version': [1, 0.5], 'width': 0}),
+    (61, 'version[1]', {'version': [1, 0.5], 'width': 0}, with_all_maps(68, 'width', '0')),
+    (
+        61,
+        'layers[0].kept.roskevad',
+        {'layers[0].kept': {'roskevad': 0.5}},
+        'with --all-maps: a member has the reserved name "roskevad"',
+    ),
+    (61, DOOR + '.height', {DOOR + '.height': 1e300}, with_all_maps(68, DOOR + '.height', 2**63 - 1)),
     (
         61,
         'layers[2].layers[0].objects[1].polygon[1].y',
@@ -413,10 +488,11 @@ def faults_with_names():
     ):
         tree = changed({})
         tree['layers'][0][name] = 0.5
+        rows = f'  layer 1 "Tiles 1": layers[0]{step} is 0.5\n  fractions: 1\n  {OPENS}'
         yield report(
             f'61 behind {name!r}',
             json.dumps(tree).encode(),
-            f'{refusal(61)}: layers[0]{step} is 0.5',
+            f'{refusal(61)}: layers[0]{step} is 0.5\n{rows}',
         )
 
 
@@ -424,8 +500,12 @@ def faults_of_roots():
     """Trees that are no object."""
     for tree in ([], [1, 2], 'map', None, True, 7):
         yield report(f'69 at {tree}', json.dumps(tree).encode(), report_of_fault(69, tree, ''))
-    yield report('61 in an array', b'[1, [2.5]]', f'{refusal(61)}: [1][0] is 2.5')
-    yield report('61 as the root', b'2.5', f'{refusal(61)}: the root is 2.5')
+    for tree, place, then in (
+        ([1, [2.5]], '[1][0]', with_all_maps(69, 'the root', 'an array of length 2')),
+        (2.5, '', with_all_maps(69, 'type', 'absent')),
+    ):
+        data = json.dumps(tree).encode()
+        yield report(f'61 at {place}', data, report_of_fractions(tree, place, then))
 
 
 # ---- what is in a map that is read
@@ -515,7 +595,9 @@ def good_maps():
 
 EXAMPLES = {
     'infinite.tmj': f'{refusal(64)}: infinite is true',
-    'opacity_half.tmj': f'{refusal(61)}: layers[0].opacity is 0.5',
+    'opacity_half.tmj': report_of_fractions(
+        json.loads(example_maps()['opacity_half.tmj']), 'layers[0].opacity'
+    ),
     'zlib.tmj': f'{refusal(65)}: layers[0].compression is "zlib"',
 }
 
@@ -557,7 +639,8 @@ def test_maps_that_are_read():
 
 def test_several_files():
     """Some of them can't be read."""
-    good, bad = f'good.tmj: {listing(GOOD)}\n', f'bad.tmj: {refusal(61)}: {DOOR}.x is 12.5\n'
+    good = f'good.tmj: {listing(GOOD)}\n'
+    bad = f'bad.tmj: {report_of_fractions(changed({DOOR + ".x": 12.5}), DOOR + ".x")}\n'
     rows = [
         (['good.tmj', 'good.tmj'], (0, good + good, '')),
         (['good.tmj', 'bad.tmj', 'good.tmj'], (1, good + bad + good, '')),

@@ -2,6 +2,7 @@
 #![tactic(auto)]
 
 mod files;
+mod fractions;
 mod json_fault;
 mod listing;
 mod options;

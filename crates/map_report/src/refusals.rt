@@ -1,10 +1,12 @@
 // Why a map is refused: the code, its words, and the place of the fault.
+use crate::fractions::write_fractions;
 use crate::json_fault::{LineColumn, place_of_fault};
 use crate::place::Place;
-use map_json::{MapFault, MapRefusal};
+use map_json::{MapFault, MapRefusal, read_map_along};
 use serde_json::{Error, Value};
 use std::alloc::Global;
 use std::io::{self, Write};
+use tiled_maps::{Fault, set_aside};
 
 /// The code and the words of a refusal.
 pub fn words_of(refusal: MapRefusal) -> &'static str {
@@ -38,13 +40,16 @@ fn write_line<W: Write>(
     }
 }
 
-// Writes the place of a fault, where there is memory for the tree.
-fn write_where<W: Write>(
+// Writes the code of a refusal, its words, and the place of the fault, where there is memory for the tree.
+fn write_refused<W: Write>(
     alloc: Global,
     bytes: &[u8],
+    refusal: MapRefusal,
     place: &Place,
     output: &mut W,
 ) -> io::Result<()> {
+    let words = words_of(refusal);
+    write!(output, "no {words}")?;
     match Value::from_slice(alloc, bytes) {
         Ok(root) => {
             output.write_all(b": ")?;
@@ -54,8 +59,44 @@ fn write_where<W: Write>(
     }
 }
 
+// Writes what the editor answers with `--all-maps` to a map whose fractions are set aside, where there is memory to know it.
+fn write_aside<W: Write>(alloc: Global, text: &[u8], output: &mut W) -> io::Result<()> {
+    let mut place = Place::new(alloc);
+    match read_map_along(alloc, text, &mut place) {
+        Ok(_) => output.write_all(b"\n  with --all-maps the editor opens this map"),
+        Err(MapFault::Refused(refusal)) if !place.is_lost() => {
+            output.write_all(b"\n  with --all-maps: ")?;
+            write_refused(alloc, text, refusal, &place, output)
+        }
+        Err(_) => Ok(()),
+    }
+}
+
+// Writes what the editor answers with `--all-maps` to a map with fractions.
+fn write_with_all_maps<W: Write>(alloc: Global, bytes: &[u8], output: &mut W) -> io::Result<()> {
+    match set_aside(alloc, bytes) {
+        Ok(Some(text)) => write_aside(alloc, &text, output),
+        Ok(None) | Err(Fault::Memory) => Ok(()),
+        Err(fault) => {
+            let words = fault.words();
+            write!(output, "\n  with --all-maps: {words}")
+        }
+    }
+}
+
+// Writes all fractions of a map that is refused for one, and whether `--all-maps` opens it.
+fn write_all_fractions<W: Write>(alloc: Global, bytes: &[u8], output: &mut W) -> io::Result<()> {
+    let Ok(root) = Value::from_slice(alloc, bytes) else {
+        return Ok(());
+    };
+    let count = write_fractions(alloc, &root, output)?;
+    drop(root);
+    write!(output, "\n  fractions: {count}")?;
+    write_with_all_maps(alloc, bytes, output)
+}
+
 /// Writes the line of a map that is refused, with the place at which the reader stopped. Where that is lost, there was no
-/// memory.
+/// memory. If the map is refused for a fraction, a line for each of them follows.
 pub fn write_refusal<W: Write>(
     alloc: Global,
     file: &str,
@@ -64,13 +105,15 @@ pub fn write_refusal<W: Write>(
     place: &Place,
     output: &mut W,
 ) -> io::Result<()> {
+    write!(output, "{file}: ")?;
     match fault {
         MapFault::Refused(refusal) if !place.is_lost() => {
-            let words = words_of(refusal);
-            write!(output, "{file}: no {words}")?;
-            write_where(alloc, bytes, place, output)?;
+            write_refused(alloc, bytes, refusal, place, output)?;
+            if refusal == MapRefusal::Fraction {
+                write_all_fractions(alloc, bytes, output)?;
+            }
         }
-        MapFault::Refused(_) | MapFault::Memory => write!(output, "{file}: no 90 no memory")?,
+        MapFault::Refused(_) | MapFault::Memory => output.write_all(b"no 90 no memory")?,
     }
     output.write_all(b"\n")
 }

@@ -1,9 +1,11 @@
 // The table of texts: for each line of the input, what is read of a text.
 mod answers;
+mod asides;
 mod report;
 mod texts;
 
 use crate::table::answers::{write_answer, write_prefixes};
+use crate::table::asides::{write_put_back, write_set_aside};
 use crate::table::report::write_report;
 use crate::table::texts::Texts;
 use std::fs;
@@ -37,6 +39,8 @@ fn hear<R: Files + AllocGlobal, W: Write>(
         "load" => load(rt, texts, name, behind)?,
         "read" => write_answer(alloc, texts, name, behind, output)?,
         "prefixes" => write_prefixes(alloc, texts.get(name), output)?,
+        "aside" => write_set_aside(alloc, texts.get(name), output)?,
+        "back" => write_put_back(alloc, texts.get(name), output)?,
         "report" => write_report(alloc, texts.get(name), output)?,
         _ => {}
     }

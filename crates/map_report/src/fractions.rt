@@ -1,0 +1,205 @@
+// The fractions of a map that is refused for one: each with its place, and the layer or the object that has it.
+use crate::place::Place;
+use crate::shown::write_short;
+use map_json::{Step, Trail};
+use serde_json::{Map, Value};
+use std::alloc::{AllocError, Global};
+use std::io::{self, Write};
+
+/// What a value of the tree is.
+#[derive(Clone, Copy, PartialEq, Eq)]
+enum Part {
+    Map,
+    Layers,
+    Layer,
+    Objects,
+    Object,
+    Other,
+}
+
+impl Part {
+    // What an entry of an array is.
+    fn entry(self) -> Part {
+        match self {
+            Part::Layers => Part::Layer,
+            Part::Objects => Part::Object,
+            _ => Part::Other,
+        }
+    }
+
+    // What a member is.
+    fn member(self, name: &str) -> Part {
+        match self {
+            Part::Map | Part::Layer if name == "layers" => Part::Layers,
+            Part::Layer if name == "objects" => Part::Objects,
+            _ => Part::Other,
+        }
+    }
+}
+
+// The layer or the object that a value stands in.
+#[derive(Clone, Copy)]
+enum Owner<'a> {
+    Map,
+    Layer(&'a Value),
+    Object(&'a Value),
+}
+
+impl<'a> Owner<'a> {
+    // The owner of what is in a value.
+    fn within(self, part: Part, value: &'a Value) -> Owner<'a> {
+        match part {
+            Part::Layer => Owner::Layer(value),
+            Part::Object => Owner::Object(value),
+            _ => self,
+        }
+    }
+}
+
+// Writes what an owner is, with its id and its name, where it has them.
+fn write_kind<W: Write>(
+    alloc: Global,
+    kind: &str,
+    owner: &Value,
+    output: &mut W,
+) -> io::Result<()> {
+    output.write_all(kind.as_bytes())?;
+    if let Some(id) = owner.get("id").and_then(Value::as_u64) {
+        write!(output, " {id}")?;
+    }
+    match owner.get("name").and_then(Value::as_str) {
+        Some(name) if !name.is_empty() => {
+            output.write_all(b" ")?;
+            write_short(alloc, name, output)?;
+        }
+        _ => {}
+    }
+    output.write_all(b": ")
+}
+
+fn write_owner<W: Write>(alloc: Global, owner: Owner<'_>, output: &mut W) -> io::Result<()> {
+    match owner {
+        Owner::Map => Ok(()),
+        Owner::Layer(layer) => write_kind(alloc, "layer", layer, output),
+        Owner::Object(object) => write_kind(alloc, "object", object, output),
+    }
+}
+
+// Writes the line of a fraction.
+fn write_fraction<W: Write>(
+    alloc: Global,
+    root: &Value,
+    owner: Owner<'_>,
+    place: &Place,
+    output: &mut W,
+) -> io::Result<()> {
+    if place.is_lost() {
+        return Err(AllocError.into());
+    }
+    output.write_all(b"\n  ")?;
+    write_owner(alloc, owner, output)?;
+    place.write(root, output)
+}
+
+// Writes a line for each fraction in a value at a place, and gives how many there are. The value comes first: it gets less deep.
+#[cycle(fractions)]
+fn write_value<W: Write>(
+    alloc: Global,
+    value: &Value,
+    root: &Value,
+    part: Part,
+    owner: Owner<'_>,
+    place: &mut Place,
+    output: &mut W,
+) -> io::Result<u64> {
+    let owner = owner.within(part, value);
+    match value {
+        Value::Null | Value::Bool(_) | Value::String(_) => Ok(0),
+        Value::Number(number) => {
+            if !number.is_f64() {
+                return Ok(0);
+            }
+            write_fraction(alloc, root, owner, place, output)?;
+            Ok(1)
+        }
+        Value::Array(items) => {
+            write_items(alloc, items, root, part.entry(), owner, place, output)
+        }
+        Value::Object(members) => {
+            write_members(alloc, members, root, part, owner, place, output)
+        }
+    }
+}
+
+#[cycle(fractions)]
+fn write_items<W: Write>(
+    alloc: Global,
+    items: &Vec<Value>,
+    root: &Value,
+    part: Part,
+    owner: Owner<'_>,
+    place: &mut Place,
+    output: &mut W,
+) -> io::Result<u64> {
+    let mut count = 0u64;
+    for (at, item) in items.iter().enumerate() {
+        place.enter(Step::Element(at));
+        let more = write_value(alloc, item, root, part, owner, place, output)?;
+        count = count.saturating_add(more);
+        place.leave();
+    }
+    Ok(count)
+}
+
+#[cycle(fractions)]
+fn write_members<W: Write>(
+    alloc: Global,
+    members: &Map<String, Value>,
+    root: &Value,
+    part: Part,
+    owner: Owner<'_>,
+    place: &mut Place,
+    output: &mut W,
+) -> io::Result<u64> {
+    let mut count = 0u64;
+    for (name, member) in members.iter() {
+        let name = name.as_str();
+        // The version of the map comes last.
+        if part != Part::Map || name != "version" {
+            place.enter(Step::Member(name));
+            let inner = part.member(name);
+            let more = write_value(alloc, member, root, inner, owner, place, output)?;
+            count = count.saturating_add(more);
+            place.leave();
+        }
+    }
+    Ok(count)
+}
+
+// Writes the fractions in a version that is no number.
+fn write_version<W: Write>(alloc: Global, root: &Value, output: &mut W) -> io::Result<u64> {
+    let mut place = Place::new(alloc);
+    match root.get("version") {
+        None | Some(Value::Number(_)) => Ok(0),
+        Some(version) => {
+            place.enter(Step::Member("version"));
+            write_value(
+                alloc,
+                root,
+                version,
+                Part::Other,
+                Owner::Map,
+                &mut place,
+                output,
+            )
+        }
+    }
+}
+
+/// Writes a line for each fraction of a map's tree, in the order in which the reader seeks them, and gives how many there are.
+pub fn write_fractions<W: Write>(alloc: Global, root: &Value, output: &mut W) -> io::Result<u64> {
+    let mut place = Place::new(alloc);
+    let count = write_value(alloc, root, root, Part::Map, Owner::Map, &mut place, output)?;
+    let more = write_version(alloc, root, output)?;
+    Ok(count.saturating_add(more))
+}

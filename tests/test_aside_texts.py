@@ -1,0 +1,258 @@
+"""Sets aside and puts back the fractions of 20,000 texts of maps that are changed by chance, by
+`map_report --table`, and compares the trees of what comes with the plain model of
+tests/lib/asides.py. Each text is a map of `examples/maps` or `sessions/maps`, into which stand-ins,
+notes, fractions and the reserved name are put, some of them damaged, and which has one more change of
+tests/lib/broken.py; all from a fixed seed. A text that was set aside is put back: that is the tree of
+the source again.
+
+native/heap_peaks.c measures the heap that an opening of some of these texts takes with `--all-maps`:
+less than 320 bytes for a byte of the file, since a short fraction becomes an object. Each growth is refused in turn
+while the fractions of a map are set aside and put back."""
+import random
+import subprocess
+import tempfile
+from dataclasses import dataclass
+from pathlib import Path
+
+from lib.asides import (
+    NAME_TAKEN,
+    NOT_JSON,
+    OPTION,
+    TOO_DEEP,
+    aside,
+    back,
+    exact,
+    exact_text,
+    has_fraction,
+    has_name,
+    is_too_deep,
+)
+from lib.broken import WAYS, Text, originals
+from lib.cases import CORES, Case, check_each, fail_with, in_processes, passed, unlike
+from lib.growths import count_of, refusing
+from lib.json_texts import tree_of
+from lib.native import interposed
+from lib.places import IN_MEMORY, MAP_REPORT, TILE_EDITOR
+
+IS_LONG = True
+SEED, TEXTS, TEXTS_OF_RUN, SECONDS = 20261126, 20_000, 100, 60
+# The longest map that is changed; the bytes of heap that a byte of a file may take, and the bytes that
+# a shorter file counts as.
+LONGEST, HEAP, SHORTEST = 12_000, 320, 128
+# Of so many texts the heap is measured in one.
+ONE_OF = 10
+AS_IT_IS = 'as it is'
+PARTS = [
+    b'0.5',
+    b'-0',
+    b'1e20',
+    b'413.333',
+    b'5e-324',
+    b'1.7976931348623157e308',
+    b'-1.7976931348623157e308',
+    b'18446744073709551616',
+    b'-9223372036854775809',
+    b'9007199254740993.0',
+    b'{"x":1.5,"y":-0.25,"width":3,"height":1e300,"rotation":0.1}',
+    b'[{"x":0.5},{"x":-0,"objects":[{"y":2.5}]}]',
+    b'{"layers":[{"objects":[{"x":-1e300}]}],"version":0.5}',
+    b'{"roskevad":[1071644672,0]}',
+    b'{"roskevad":[1071644672,0,0]}',
+    b'{"roskevad":[1071644672]}',
+    b'{"roskevad":[2146435072,0]}',
+    b'{"roskevad":[4294967296,0]}',
+    b'{"roskevad":[-1,0]}',
+    b'{"roskevad":[0.5,0]}',
+    b'{"roskevad":[1071644672,0],"a":1}',
+    b'{"roskevad":{"x":{"roskevad":[1073217536,0]}},"x":1}',
+    b'{"roskevad":{"x":{"roskevad":[1073217536,0]}},"x":2}',
+    b'{"roskevad":{"x":{"roskevad":[1073217536,0]}},"x":{"roskevad":[1072693248,0]}}',
+    b'{"roskevad":{"x":1.5,"y":2.5,"z":0.5},"x":1,"y":2.0,"z":0}',
+    b'{"roskevad":{"roskevad":{"x":1.5}},"x":1}',
+    b'{"roskevad":null}',
+    b'{"roskevad":0.5,"roskevad":1}',
+    b'{"roskeva\\u0064":1}',
+    b'"roskevad"',
+    b'[' * 60 + b'0.5' + b']' * 60,
+    b'[' * 123 + b'0.5' + b']' * 123,
+    b'{"a":' * 122 + b'{"roskevad":[1071644672,0]}' + b'}' * 122,
+]
+
+
+@dataclass(frozen=True)
+class Answer:
+    """What must be answered for a text: words, or a tree with each float as its bits."""
+
+    words: str = ''
+    tree: object = None
+
+    def fault(self, came):
+        """How what came differs, or None."""
+        if self.words:
+            return unlike(self.words, came)
+        return unlike(self.tree, exact_text(came.encode()))
+
+
+def answers_of(data):
+    """What must be answered where a text is set aside, and where it is put back."""
+    found = tree_of(data)
+    if not found:
+        return Answer(NOT_JSON), Answer(NOT_JSON)
+    (tree,) = found
+    if has_name(tree):
+        return Answer(NAME_TAKEN), Answer(tree=exact(back(tree)))
+    as_it_is = Answer(AS_IT_IS)
+    if not has_fraction(tree):
+        return as_it_is, as_it_is
+    new = aside(tree)
+    return Answer(TOO_DEEP) if is_too_deep(new) else Answer(tree=exact(new)), as_it_is
+
+
+# ---- the texts
+
+
+def changed_text(number):
+    """The text of a number, which is the same each time."""
+    chosen = random.Random(SEED * TEXTS + number)
+    text = chosen.choice(MAPS)
+    data = text.data
+    for _ in range(chosen.randint(0, 2)):
+        spans = [value for _, value in text.members] + text.entries or [(0, len(data))]
+        data = text.with_part(chosen.choice(spans), chosen.choice(PARTS))
+        text = Text(text.name, data)
+    ways = [way for way in WAYS if getattr(text, way[1])]
+    if ways and chosen.random() < 0.5:
+        data = chosen.choice(ways)[0](chosen, text)
+    return Case(f'text {number}: {text.name}', data, answers_of(data))
+
+
+MAPS = [text for folder in originals() for text in folder if len(text.data) < LONGEST]
+
+
+# ---- what the program does
+
+
+def told(lines, folder, growth=None):
+    """What the program answers to the lines of a table, or None where it is too slow."""
+    env = refusing(growth) if growth is not None else None
+    try:
+        return subprocess.run(
+            [MAP_REPORT, '--table'],
+            input=lines,
+            capture_output=True,
+            timeout=SECONDS,
+            cwd=folder,
+            env=env,
+        )
+    except subprocess.TimeoutExpired:
+        return None
+
+
+def answered(lines, folder):
+    """The answers to the lines of a table."""
+    done = told(lines, folder)
+    assert done is not None, f'not done in {SECONDS} seconds'
+    assert done.returncode == 0, f'status {done.returncode}, {done.stderr[:300]!r}'
+    return [
+        row.partition(' => ')[2]
+        for row in done.stdout.decode().split('\n')[:-1]
+        if row.startswith(('aside ', 'back '))
+    ]
+
+
+def faults_of_again(cases, asides, folder):
+    """The texts that are another tree once what was set aside of them is put back."""
+    pairs = [(case, text) for case, text in zip(cases, asides) if text.startswith(('{', '['))]
+    lines = ''.join(f'let a{at} {text}\nback a{at}\n' for at, (_, text) in enumerate(pairs))
+    backs = answered(lines.encode(), folder) if pairs else []
+    for (case, text), came in zip(pairs, backs):
+        again = text if came == AS_IT_IS else came
+        if exact_text(again.encode()) != exact_text(case.given):
+            yield f'{case.name}: put back again {came[:400]!r}'
+
+
+def faults_of_texts(cases, folder):
+    lines = ''.join(f'load m{at} m{at}\naside m{at}\nback m{at}\n' for at in range(len(cases)))
+    answers = answered(lines.encode(), folder)
+    if len(answers) != 2 * len(cases):
+        yield f'{cases[0].name} and those behind it: {len(answers)} answers'
+        return
+    for at, case in enumerate(cases):
+        for word, wanted, came in zip(('aside', 'back'), case.wanted, answers[2 * at : 2 * at + 2]):
+            fault = wanted.fault(came)
+            if fault:
+                yield f'{case.name}: {word}: {fault}\n    given {case.given[:400]!r}'
+    yield from faults_of_again(cases, answers[::2], folder)
+
+
+def faults_of_heap(cases, folder):
+    """The texts whose opening takes too much heap."""
+    numbers = range(0, len(cases), ONE_OF)
+    lines = ''.join(f'open m m{number}\ndiscard m\n' for number in numbers)
+    done = subprocess.run(
+        [TILE_EDITOR, OPTION, '--folder', folder],
+        input=lines.encode(),
+        capture_output=True,
+        timeout=SECONDS,
+        env={'LD_PRELOAD': interposed('heap_peaks.c')},
+    )
+    heaps = [int(row) for row in done.stderr.split(b'\n') if row.isdigit()]
+    if len(heaps) != len(numbers):
+        yield f'{cases[0].name} and those behind it: the heap of {len(heaps)} openings was measured'
+        return
+    for number, heap in zip(numbers, heaps):
+        length = max(len(cases[number].given), SHORTEST)
+        if heap >= HEAP * length:
+            yield f'{cases[number].name}: {heap} bytes of heap for a file of {length}'
+
+
+def faults_from(first):
+    """What is wrong with the texts of one run, the first of which has this number."""
+    cases = [changed_text(number) for number in range(first, first + TEXTS_OF_RUN)]
+    with tempfile.TemporaryDirectory(dir=IN_MEMORY) as folder:
+        for at, case in enumerate(cases):
+            (Path(folder) / f'm{at}').write_bytes(case.given)
+        try:
+            return [*faults_of_texts(cases, folder), *faults_of_heap(cases, folder)]
+        except AssertionError as fault:
+            return [f'{cases[0].name} and those behind it: {fault}']
+
+
+def test_texts_changed_by_chance():
+    # It is built before there are processes that need it.
+    interposed('heap_peaks.c')
+    fail_with(fault for some in in_processes(faults_from, range(0, TEXTS, TEXTS_OF_RUN)) for fault in some)
+    passed(TEXTS)
+
+
+# ---- growths
+
+SOURCE = b'{"layers":[{"objects":[{"text":"a","x":1.5,"y":2}],"opacity":0.5}],"version":1.5}'
+ASIDE = (
+    b'{"layers":[{"objects":[{"roskevad":{"x":{"roskevad":[1073217536,0]}},"text":"a","x":1,"y":2}],'
+    b'"opacity":{"roskevad":[1071644672,0]}}],"version":1.5}'
+)
+
+
+def fault_of_growths(case):
+    """What is wrong where each growth of a call is refused, or None: the answer is the ordinary one,
+    or that there is no memory; or the program itself lacks it."""
+    lines = b'let m %s\n%s m\n' % (case.given, case.name.encode())
+    front = lines[:-1] + b' => '
+    done = told(lines, None, 0)
+    fault = unlike(front + case.wanted + b'\n', done.stdout)
+    if fault:
+        return fault
+    growths, refused = count_of(b'growths', done), 0
+    for growth in range(1, growths + 1):
+        came = told(lines, None, growth)
+        refused += came.stdout == front + b'out of memory\n'
+        is_right = came.stdout in (done.stdout, front + b'out of memory\n')
+        if not is_right and (came.returncode != 1 or not done.stdout.startswith(came.stdout)):
+            return f'with growth {growth} refused: status {came.returncode}, {came.stdout[:200]!r}'
+    passed(growths)
+    return None if refused > growths / 2 else f'{refused} of {growths} growths are told'
+
+
+def test_each_growth_of_a_call():
+    check_each([Case('aside', SOURCE, ASIDE), Case('back', ASIDE, SOURCE)], fault_of_growths, CORES)
