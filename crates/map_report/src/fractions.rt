@@ -185,8 +185,8 @@ fn write_version<W: Write>(alloc: Global, root: &Value, output: &mut W) -> io::R
             place.enter(Step::Member("version"));
             write_value(
                 alloc,
-                root,
                 version,
+                root,
                 Part::Other,
                 Owner::Map,
                 &mut place,
