@@ -69,18 +69,17 @@ def fault_of_report(case):
     file = case.given
     done = told(file, b'')
     line = done.stdout.partition(b'\n')[0]
-    short = [f'{file}: {case.wanted}\n'.encode()]
+    answers = [done.stdout, f'{file}: {case.wanted}\n'.encode()]
     if done.returncode == 1:
-        short.append(b': '.join(line.split(b': ')[:2]) + b'\n')
+        # Without memory for the place of a fault, the lines behind it may still be told.
+        bare = b': '.join(line.split(b': ')[:2]) + b'\n'
+        answers.append(bare + done.stdout.partition(b'\n')[2])
     growths = count_of(b'growths', done)
     for growth in range(1, growths + 1):
         came = told(file, b'', growth)
         is_full = (came.returncode, came.stdout) == (done.returncode, done.stdout)
-        if not is_full and (
-            came.returncode != 1
-            or came.stdout not in short
-            and not done.stdout.startswith(came.stdout)
-        ):
+        is_told = any(answer.startswith(came.stdout) for answer in answers)
+        if not is_full and (came.returncode != 1 or not is_told):
             return fault_with(growth, came)
     passed(growths)
     return None
