@@ -32,6 +32,14 @@ WORDS = (
     '-Werror',
 )
 COMPILER = ('-mllvm', '-expand-div-rem-bits=64', '-mllvm', '-expand-fp-convert-bits=64')
+# Engines do a copy or a fill of a few bytes by a call of their own, which takes longer than to load and
+# store: so up to so many loads and stores stand in its place.
+MOST_STORES = 16
+INLINE = [
+    word
+    for call in ('memcpy', 'memmove', 'memset')
+    for word in ('-mllvm', f'-max-store-{call}={MOST_STORES}')
+]
 TRAPS = ('-mllvm', '-trap-unreachable')
 # At least four times what the deepest lines and maps need: tests/module/deep_cases.mjs measures it.
 STACK = 1_048_576
@@ -72,7 +80,7 @@ def compile_module(clang, bitcode, folder):
     run(clang, f'--target={retarget.FROM}', *plain, folder=folder)
     text = retarget.retargeted((folder / 'given.ll').read_text())
     (folder / 'module.ll').write_text(text)
-    words = [*WORDS, *COMPILER, *TRAPS, '-O3', '-c', '-x', 'ir']
+    words = [*WORDS, *COMPILER, *INLINE, *TRAPS, '-O3', '-c', '-x', 'ir']
     run(clang, *words, 'module.ll', '-o', 'module.o', folder=folder)
 
 
