@@ -1,51 +1,110 @@
 -- The facts about an answer, from what was seen of its tree.
-use Rattle.std.proofs.Common.{◌≡◌, ℕ, List, true, false, Some, None, Vec, Global, sym, ap, ◌∙◌}
-use Rattle.serde_json.specs.Data.{Data}
+use Rattle.std.proofs.Common.{◌≡◌, ◌⊎◌, inl, inr, ℕ, ◌≤◌, ◌<◌, nat_le, leb-false, List, Bool, true, false, not, ◌||◌, true≢false, Option, Some, None, is_some, Vec, Global, Err, refl, sym, ap, ◌∙◌, arith}
+use Rattle.std.specs.Prelude.{unwrap_or}
+use Rattle.serde_json.specs.Data.{Data, depth}
+use Rattle.serde_json.specs.Read.{max_depth}
+use Rattle.infinite_maps.specs.Infinite.{is_infinite, infinite_of}
+use Rattle.tiled_maps.specs.declared.fault.Fault.{Fault}
+use Rattle.tiled_maps.specs.declared.fault.Fault.TheVariants.{Memory, NotJson, NameTaken, TooDeep, BadChunk, Overlap, TooLarge, Unlike}
 use Rattle.tiled_maps.specs.declared.place.Place.TheVariants.{Map}
 use Rattle.tiled_maps.specs.Members.{has_name}
 use Rattle.tiled_maps.specs.Fractions.{has_fraction}
 use Rattle.tiled_maps.specs.Aside.{reserved_name, set_aside_of}
 use Rattle.tiled_maps.specs.Back.{back}
-use Rattle.tiled_maps.specs.Texts.{IsTreeOf, IsSetAside, IsPutBack}
-use Rattle.tiled_maps.proofs.Law.{back-set_aside_of}
-use Rattle.tiled_maps.proofs.Whole.{has_fraction-aside, aside-unchanged, back-unchanged}
+use Rattle.tiled_maps.specs.Trees.{put_back_of, IsFiniteOf, MakesFinite}
+use Rattle.tiled_maps.specs.Texts.{IsTreeOf, IsSetAside, IsPutBack, IsInfinite, SetsAside, text_or}
+use Rattle.tiled_maps.proofs.Meeting.{is_infinite-set_aside_of, put_back_of-plain, put_back_of-spread, put_back_of-free}
+use Rattle.tiled_maps.proofs.Whole.{has_fraction-aside, aside-unchanged, back-unchanged, depth-back}
 use Rattle.tiled_maps.proofs.ReadTrees.{IsReadTree-read}
 
--- a tree without a fraction
-pub IsSetAside-none : (bytes : List ℕ) (d : Data) → IsTreeOf bytes d → has_name reserved_name d ≡ false → has_fraction Map d ≡ false
-    → IsSetAside bytes None d
-IsSetAside-none bytes d tree free none = record {
-  tree = tree;
-  free = free;
-  text_tree = (tree.0, tree.1 ∙ ap (λ t. Some t) (sym (aside-unchanged Map d none)));
-  put_back = back-set_aside_of d (IsReadTree-read bytes d tree.1) free;
-  whole = has_fraction-aside Map d;
-  some = sym none;
-}
+or_false : (a b : Bool) → b ≡ false → (a || b) ≡ a
+or_false true b e = refl
+or_false false b e = e
 
--- a tree with a fraction
-pub IsSetAside-some : (bytes : List ℕ) (text : Vec ℕ Global) (d : Data) → IsTreeOf bytes d → has_name reserved_name d ≡ false
-    → has_fraction Map d ≡ true → IsTreeOf text.items (set_aside_of d) → IsSetAside bytes (Some text) d
-IsSetAside-some bytes text d tree free some text_tree = record {
+or_true : (a b : Bool) → b ≡ true → (a || b) ≡ true
+or_true true b e = refl
+or_true false b e = e
+
+pub if_not : (b : Bool) → true ≡ not b → b ≡ false
+if_not true e = absurd (true≢false e)
+if_not false e = refl
+
+-- a map that is not infinite
+IsSetAside-plain : (bytes : List ℕ) (text : Option (Vec ℕ Global)) (d : Data) → IsTreeOf bytes d → has_name reserved_name d ≡ false
+    → is_infinite d ≡ false → IsTreeOf (text_or bytes text) (set_aside_of d) → is_some text ≡ has_fraction Map d → IsSetAside bytes text d (set_aside_of d)
+IsSetAside-plain bytes text d tree free plain text_tree some = record {
   tree = tree;
   free = free;
   text_tree = text_tree;
-  put_back = back-set_aside_of d (IsReadTree-read bytes d tree.1) free;
+  aside = record { plain = λ e. refl; spread = λ e. absurd (true≢false (sym e ∙ plain)) };
+  put_back = put_back_of-plain d (IsReadTree-read bytes d tree.1) free;
   whole = has_fraction-aside Map d;
-  some = sym some;
+  finite = is_infinite-set_aside_of d ∙ plain;
+  some = some ∙ sym (or_false (has_fraction Map d) (is_infinite d) plain);
 }
 
+-- a map that needs nothing
+pub SetsAside-none : (bytes : List ℕ) (d : Data) → IsTreeOf bytes d → has_name reserved_name d ≡ false → has_fraction Map d ≡ false
+    → is_infinite (set_aside_of d) ≡ false → IsSetAside bytes None d (set_aside_of d)
+SetsAside-none bytes d tree free none plain =
+    IsSetAside-plain bytes None d tree free (sym (is_infinite-set_aside_of d) ∙ plain) (tree.0, tree.1 ∙ ap (λ t. Some t) (sym (aside-unchanged Map d none))) (sym none)
+
+-- a map with a fraction
+pub SetsAside-whole : (bytes : List ℕ) (text : Vec ℕ Global) (d : Data) → IsTreeOf bytes d → has_name reserved_name d ≡ false
+    → has_fraction Map d ≡ true → is_infinite (set_aside_of d) ≡ false → IsTreeOf text.items (set_aside_of d) → IsSetAside bytes (Some text) d (set_aside_of d)
+SetsAside-whole bytes text d tree free some plain text_tree =
+    IsSetAside-plain bytes (Some text) d tree free (sym (is_infinite-set_aside_of d) ∙ plain) text_tree (sym some)
+
+-- an infinite map
+pub SetsAside-finite : (bytes : List ℕ) (text : Vec ℕ Global) (d t : Data) → IsTreeOf bytes d → has_name reserved_name d ≡ false
+    → is_infinite (set_aside_of d) ≡ true → IsFiniteOf (set_aside_of d) t → IsTreeOf text.items t → IsSetAside bytes (Some text) d t
+SetsAside-finite bytes text d t tree free infinite finite text_tree =
+    let is : is_infinite d ≡ true = sym (is_infinite-set_aside_of d) ∙ infinite in
+    record {
+      tree = tree;
+      free = free;
+      text_tree = text_tree;
+      aside = record { plain = λ e. absurd (true≢false (sym is ∙ e)); spread = λ e. finite.spread };
+      put_back = put_back_of-spread d t (IsReadTree-read bytes d tree.1) free finite.spread;
+      whole = finite.whole;
+      finite = finite.finite;
+      some = sym (or_true (has_fraction Map d) (is_infinite d) is);
+    }
+
+-- ---- faults
+infinite_fault : (bytes : List ℕ) (d a : Data) → IsTreeOf bytes d → a ≡ set_aside_of d → is_infinite a ≡ true → IsInfinite bytes
+infinite_fault bytes d a tree is h = (d, tree, sym (is_infinite-set_aside_of d) ∙ ap is_infinite (sym is) ∙ h)
+
+pub finite_fault : (bytes : List ℕ) (d a : Data) (fault : Fault) → IsTreeOf bytes d → a ≡ set_aside_of d → MakesFinite a (Err fault) → SetsAside bytes (Err fault)
+finite_fault bytes d a Memory tree is h = tt
+finite_fault bytes d a NotJson tree is h = absurd h
+finite_fault bytes d a NameTaken tree is h = absurd h
+finite_fault bytes d a TooDeep tree is h = (d, tree, inr (h.1.0, h.1.1 ∙ ap (λ t. Some t) is, h.1.2))
+finite_fault bytes d a BadChunk tree is h = infinite_fault bytes d a tree is h
+finite_fault bytes d a Overlap tree is h = infinite_fault bytes d a tree is h
+finite_fault bytes d a TooLarge tree is h = infinite_fault bytes d a tree is h
+finite_fault bytes d a Unlike tree is h = infinite_fault bytes d a tree is h
+
+-- ---- put back
 -- a tree without the reserved name
 pub IsPutBack-none : (bytes : List ℕ) (d : Data) → IsTreeOf bytes d → has_name reserved_name d ≡ false → IsPutBack bytes None d
 IsPutBack-none bytes d tree none = record {
   tree = tree;
-  text_tree = (tree.0, tree.1 ∙ ap (λ t. Some t) (sym (back-unchanged d none)));
+  text_tree = (tree.0, tree.1 ∙ ap (λ t. Some t) (sym (put_back_of-free d none ∙ back-unchanged d none)));
   some = sym none;
 }
 
+-- a tree that is too deep only as it is put back was one of an infinite map
+pub was_infinite : (o : Option Data) (d : Data) → depth d ≤ max_depth → max_depth < depth (back (unwrap_or o d)) → is_some o ≡ true
+was_infinite None d within deep = absurd (omega (arith, depth-back d, within, deep))
+was_infinite (Some t) d within deep = refl
+
+pub deeper : (n : ℕ) → nat_le n 127 ≡ false → max_depth < n
+deeper n e = leb-false n 127 e
+
 -- a tree with the reserved name
 pub IsPutBack-some : (bytes : List ℕ) (text : Vec ℕ Global) (d : Data) → IsTreeOf bytes d → has_name reserved_name d ≡ true
-    → IsTreeOf text.items (back d) → IsPutBack bytes (Some text) d
+    → IsTreeOf text.items (put_back_of d) → IsPutBack bytes (Some text) d
 IsPutBack-some bytes text d tree some text_tree = record {
   tree = tree;
   text_tree = text_tree;
