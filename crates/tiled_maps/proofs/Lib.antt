@@ -4,3 +4,6 @@ pub mod Walks
 pub mod Law
 pub mod Whole
 pub mod Answered
+pub mod LookTree
+pub mod LookTokens
+pub mod LookBytes

@@ -4,3 +4,5 @@ pub mod Fractions
 pub mod Aside
 pub mod Back
 pub mod Texts
+pub mod Look
+pub mod Lexemes

@@ -6,9 +6,11 @@ mod back;
 mod fault;
 mod fraction;
 mod fractions;
+mod look;
 mod members;
 mod place;
 mod text;
 
 pub use fault::Fault;
+pub use look::needs_nothing;
 pub use text::{put_back, set_aside};
