@@ -7,3 +7,4 @@ pub mod Answered
 pub mod LookTree
 pub mod LookTokens
 pub mod LookBytes
+pub mod LookTexts

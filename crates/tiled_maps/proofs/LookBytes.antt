@@ -234,7 +234,7 @@ digits_plain sign (x ∷ xs) n is few low high ended rest =
     (number_plain (sign_text sign ++ s) r (IsNumber-digits sign s d) (IsWhole-digits sign s d) ended_there rest_there)
 
 -- at a place of the text
-ended_at : (text : List ℕ) (from end n : ℕ) → end ≡ from + n → drop end text ≡ drop n (drop from text)
+pub ended_at : (text : List ℕ) (from end n : ℕ) → end ≡ from + n → drop end text ≡ drop n (drop from text)
 ended_at text from end n e = ap (λ k. drop k text) e ∙ sym (drop-drop n from text)
 
 first_at : (text : List ℕ) (from : ℕ) → get_or (drop from text) 0 0 ≡ get_or text from 0
@@ -270,62 +270,7 @@ pub zero_plain : (text : List ℕ) (at : ℕ) → at < length text → get_or te
 zero_plain text at h digit ended rest =
     subst (λ t. ArePlain (lex between t)) (sym (drop_more text at 0 h ∙ ap (λ x. x ∷ drop (at + 1) text) digit)) (zero_byte _ ended rest)
 
--- ---- texts
-
--- the text that has begun before xs closes after n bytes
-record Closes (xs : List ℕ) (n : ℕ) : Type 0 where
-  read : (content plain xs ≡ None) ⊎ (content plain xs ≡ Some (take n xs))
-  lexed : lex in_string xs ≡ lex between (drop (suc n) xs)
-
-stays_inside : (o s : Bool) (x : ℕ) (r : List ℕ) (k : Mode → List Lexeme) → lex_byte in_string (cond o operator (cond s space other)) x r k ≡ k in_string
-stays_inside true s x r k = refl
-stays_inside false true x r k = refl
-stays_inside false false x r k = refl
-
-quote_first : (xs : List ℕ) → Closes (34 ∷ xs) 0
-unfolding content lex
-quote_first xs = record { read = inr refl; lexed = refl }
-
-one_more : (b : Bool) (x : ℕ) (o : Option (List ℕ)) (s : List ℕ) → (o ≡ None) ⊎ (o ≡ Some s) → (cond b None (prepend (x ∷ []) o) ≡ None) ⊎ (cond b None (prepend (x ∷ []) o) ≡ Some (x ∷ s))
-one_more true x o s h = inl refl
-one_more false x o s (inl e) = inl (ap (prepend (x ∷ [])) e)
-one_more false x o s (inr e) = inr (ap (prepend (x ∷ [])) e)
-
-closes_later : (x n : ℕ) (xs : List ℕ) → (x ≡ 34 → ⊥) → (x ≡ 92 → ⊥) → Closes xs n → Closes (x ∷ xs) (suc n)
-unfolding content lex
-closes_later x n xs q b c =
-    let quote = ne_eqb x 34 q in
-    let escape = ne_eqb x 92 b in
-    record {
-      read = rw (quote, escape) (one_more (nat_lt x 32) x (content plain xs) (take n xs) c.read);
-      lexed = rw (quote, escape) (stays_inside (is_operator x) (is_space x) x xs (λ m. lex m xs) ∙ c.lexed);
-    }
-
-closes : (xs : List ℕ) (n : ℕ) → n < length xs → ((k : ℕ) → k < n → (get_or xs k 0 ≡ 34 → ⊥) × (get_or xs k 0 ≡ 92 → ⊥)) → get_or xs n 0 ≡ 34 → Closes xs n
-closes [] n h none is = absurd (omega arith)
-closes (x ∷ xs) zero h none is = subst (λ y. Closes (y ∷ xs) 0) (sym is) (quote_first xs)
-closes (x ∷ xs) (suc n) h none is =
-    let first = none 0 (omega arith) in
-    closes_later x n xs first.0 first.1 (closes xs n (omega arith) (λ k l. none (suc k) (omega arith)) is)
-
-text_token : (o : Option (List ℕ)) (s : List ℕ) (ls ms : List Lexeme) → (o ≡ None) ⊎ (o ≡ Some s) → ls ≡ ms → IsPlainText s ms → ArePlain ms → ArePlain (token (string_token o) ∷ ls)
-text_token o s ls ms (inl e) same p rest = subst (λ u. ArePlain (token (string_token u) ∷ ls)) (sym e) tt
-text_token o s ls ms (inr e) same p rest = subst (λ u. ArePlain (token (string_token u) ∷ ls)) (sym e) (subst (λ l. IsPlainText s l × ArePlain l) (sym same) (p, rest))
-
-text_byte : (xs : List ℕ) (n : ℕ) → Closes xs n → IsPlainText (take n xs) (lex between (drop (suc n) xs)) → ArePlain (lex between (drop (suc n) xs)) → ArePlain (lex between (34 ∷ xs))
-unfolding lex
-text_byte xs n c p rest = text_token (content plain xs) (take n xs) (lex in_string xs) (lex between (drop (suc n) xs)) c.read c.lexed p rest
-
-pub text_plain : (text : List ℕ) (at n : ℕ) (xs : List ℕ) → xs ≡ drop (at + 1) text → at < length text → get_or text at 0 ≡ 34 → n < length xs
-    → ((k : ℕ) → k < n → (get_or xs k 0 ≡ 34 → ⊥) × (get_or xs k 0 ≡ 92 → ⊥)) → get_or xs n 0 ≡ 34
-    → (end : ℕ) → end ≡ at + 1 + n + 1 → IsPlainText (take n xs) (lex between (drop end text)) → ArePlain (lex between (drop end text)) → ArePlain (lex between (drop at text))
-text_plain text at n xs is h opening l none closing end e p rest =
-    let front : drop at text ≡ 34 ∷ xs = drop_more text at 0 h ∙ ap₂ (λ x t. x ∷ t) opening (sym is) in
-    let later : end ≡ (at + 1) + suc n = omega arith in
-    let there : drop end text ≡ drop (suc n) xs = ended_at text (at + 1) end (suc n) later ∙ ap (drop (suc n)) (sym is) in
-    subst (λ t. ArePlain (lex between t)) (sym front)
-    (text_byte xs n (closes xs n l none closing) (subst (λ t. IsPlainText (take n xs) (lex between t)) there p) (subst (λ t. ArePlain (lex between t)) there rest))
-
+-- ---- `false` after a colon
 literal_false : (b : Bool) (ls : List Lexeme) → BeginFalse (token (cond b (boolean false) bad) ∷ ls)
 literal_false true ls = tt
 literal_false false ls = tt
@@ -379,7 +324,3 @@ head_first (x ∷ xs) h = refl
 
 pub head_at : (text : List ℕ) (from x : ℕ) → x ≡ head (drop from text) → 48 < x → get_or text from 0 ≡ x
 head_at text from x e h = sym (first_at text from) ∙ head_first (drop from text) (subst (λ y. 48 < y) e h) ∙ sym e
-
--- a slice up to the end is what is left of the text
-pub rest_is : (text : List ℕ) (from : ℕ) → take (length text - from) (drop from text) ≡ drop from text
-rest_is text from = take_all (length text - from) (drop from text) (omega (arith, length-drop from text))

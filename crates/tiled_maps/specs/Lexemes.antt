@@ -1,8 +1,9 @@
 -- Lexemes from which JSON is read that needs nothing set aside. Only the crate's private clauses cite it.
-use Rattle.std.specs.Prelude.{◌≡◌, ◌⊎◌, ℕ, ◌<◌, ◌≤◌, true, false, List, [], ◌∷◌, length, drop, codes, Some}
+use Rattle.std.specs.Prelude.{◌≡◌, ◌⊎◌, ℕ, ◌+◌, ◌<◌, ◌≤◌, true, false, List, [], ◌∷◌, length, drop, codes, Option, Some, None}
 use Rattle.json.specs.Token.{Token, begin_object, end_object, begin_array, end_array, key, string, number, boolean, null, bad}
+use Rattle.json.specs.Text.{content, plain}
 use Rattle.json.specs.Word.{ends_word}
-use Rattle.json.specs.Lex.{Lexeme, token, comma, colon, lex, between}
+use Rattle.json.specs.Lex.{Lexeme, token, comma, colon, lex, between, in_string}
 use Rattle.serde_json.specs.Data.{Num}
 use Rattle.serde_json.specs.Find.{is_float}
 use Rattle.serde_json.specs.Read.{number_of}
@@ -60,6 +61,27 @@ ArePlain [] = Unit {0}
 ArePlain (token t ∷ ls) = First t ls (ArePlain ls)
 ArePlain (comma ∷ ls) = ArePlain ls
 ArePlain (colon ∷ ls) = ArePlain ls
+
+-- what is read of a text begins with a byte that is no lowercase letter
+abbrev pub IsOther : ℕ → Type 0
+IsOther c = (c < 97) ⊎ (122 < c)
+
+abbrev pub BeginsOther : Option (List ℕ) → Type 0
+BeginsOther None = Unit {0}
+BeginsOther (Some []) = ⊥
+BeginsOther (Some (c ∷ s)) = IsOther c
+
+-- the text that goes on at one place closes before another
+pub record LeavesText (text : List ℕ) (from end : ℕ) : Type 0 where
+  pub after : from < end
+  pub within : end ≤ length text
+  pub lexed : lex in_string (drop from text) ≡ lex between (drop end text)
+
+-- The escape stands for no lowercase letter, and behind it the text closes before another place.
+pub record LeavesEscaped (text : List ℕ) (escape end : ℕ) : Type 0 where
+  pub inside : escape + 1 < length text
+  pub other : BeginsOther (content plain (drop escape text))
+  pub closed : LeavesText text (escape + 2) end
 
 -- the first byte of `true`, `false` or `null`
 abbrev pub BeginsLiteral : ℕ → Type 0

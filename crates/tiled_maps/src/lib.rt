@@ -7,6 +7,8 @@ mod fault;
 mod fraction;
 mod fractions;
 mod look;
+#[cfg(test)]
+mod look_tests;
 mod members;
 mod place;
 mod text;

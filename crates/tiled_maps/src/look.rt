@@ -2,10 +2,11 @@
 ghost use Rattle.std.specs.Prelude.{◌≡◌, ◌+◌, ◌<◌, ◌≤◌, true, ◌||◌, length, drop, slice_index, IfSome};
 ghost use Rattle.std.specs.List.{prefix_len};
 ghost use Rattle.std.specs.Char.{is_ascii_digit};
+ghost use Rattle.json.specs.Text.{content, plain};
 ghost use Rattle.json.specs.Word.{is_operator, is_space, head};
 ghost use Rattle.json.specs.Lex.{lex, between, in_word};
 ghost use Rattle.tiled_maps.specs.Look.{TextNeedsNothing};
-ghost use Rattle.tiled_maps.specs.Lexemes.{AreFalse, BeginsLiteral, Ends, Leads};
+ghost use Rattle.tiled_maps.specs.Lexemes.{IsPlainText, AreFalse, BeginsLiteral, BeginsOther, LeavesText, LeavesEscaped, Ends, Leads};
 
 use crate::fraction::RESERVED_NAME;
 use memchr::memchr2;
@@ -128,7 +129,73 @@ fn is_false(rest: &[u8]) -> bool
     rest.starts_with(b":f") || rest.starts_with(b": f")
 }
 
-// A text that begins with this quote. It has no backslash, so that it stands for itself.
+// Whether the escape at a place surely stands for no letter of a name: it is short, as `\/` is, or a character past ASCII.
+fn is_no_letter(text: &[u8], at: usize) -> bool
+    requires within { at < length text.now }
+    requires backslash { slice_index text.now at ≡ 92 }
+    ensures escape { result ≡ true → at + 1 < length text.now }
+    ensures other { result ≡ true → BeginsOther (content plain (drop at text.now)) }
+{
+    if text.len() - at < 2 {
+        return false;
+    }
+    if text[at + 1] != b'u' {
+        return true;
+    }
+    if text.len() - at < 6 {
+        return false;
+    }
+    if text[at + 2] != b'0' || text[at + 3] != b'0' {
+        return true;
+    }
+    text[at + 4] >= b'8'
+}
+
+// The place behind the quote that closes a text. `None`: none does.
+fn text_close(text: &[u8], from: usize) -> Option<usize>
+    requires { from ≤ length text.now }
+    ensures { IfSome result (LeavesText text.now from) }
+{
+    let mut at = from;
+    while at < text.len() {
+        let rest = &text[at..];
+        let len = memchr2(b'"', b'\\', rest)?;
+        let end = at + len + 1;
+        if rest[len] == b'"' {
+            return Some(end);
+        }
+        if end >= text.len() {
+            return None;
+        }
+        at = end + 1;
+    }
+    None
+}
+
+// A text with an escape at a place, so that it is no name that matters.
+fn escaped_end(text: &[u8], escape: usize) -> Option<usize>
+    requires within { escape < length text.now }
+    requires backslash { slice_index text.now escape ≡ 92 }
+    ensures { IfSome result (LeavesEscaped text.now escape) }
+{
+    if is_no_letter(text, escape) {
+        text_close(text, escape + 2)
+    } else {
+        None
+    }
+}
+
+// Whether a text without an escape needs nothing set aside before what follows it.
+fn is_plain_name(name: &[u8], rest: &[u8]) -> bool
+    ensures { result ≡ true → IsPlainText name.now (lex between rest.now) }
+{
+    if name == RESERVED_NAME.as_bytes() {
+        return false;
+    }
+    name != b"infinite".as_slice() || is_false(rest)
+}
+
+// A text that begins with this quote.
 fn text_end(text: &[u8], at: usize) -> Option<usize>
     requires within { at < length text.now }
     requires quote { slice_index text.now at ≡ 34 }
@@ -137,17 +204,14 @@ fn text_end(text: &[u8], at: usize) -> Option<usize>
     let rest = &text[at + 1..];
     let len = memchr2(b'"', b'\\', rest)?;
     if rest[len] != b'"' {
-        return None;
+        return escaped_end(text, at + 1 + len);
     }
-    let name = &rest[..len];
     let end = at + 1 + len + 1;
-    if name == RESERVED_NAME.as_bytes() {
-        return None;
+    if is_plain_name(&rest[..len], &text[end..]) {
+        Some(end)
+    } else {
+        None
     }
-    if name == b"infinite".as_slice() && !is_false(&text[end..]) {
-        return None;
-    }
-    Some(end)
 }
 
 #[inline(always)]
@@ -174,8 +238,8 @@ fn lexeme_end(text: &[u8], at: usize) -> Option<usize>
 /// Whether a map's text surely needs nothing set aside: if it has a tree, that has no fraction and no member of the reserved
 /// name, and is no infinite map. It is one pass over the bytes.
 ///
-/// `false` says nothing of the text. It comes for a number that is no whole number of at most 18 digits, the version too, for a
-/// backslash in a text, for the reserved name, for a text `infinite` that is not followed by `false`, and for some texts that
+/// `false` says nothing of the text. It comes for a number that is no whole number of at most 18 digits, the version too, for an
+/// escaped letter in a text, for the reserved name, for a text `infinite` that is not followed by `false`, and for some texts that
 /// are not JSON.
 pub fn needs_nothing(text: &[u8]) -> bool
     ensures { result ≡ true → TextNeedsNothing text.now }

@@ -1,16 +1,23 @@
-use Rattle.std.proofs.Common.{◌≡◌, ◌+◌, ◌-◌, length, drop, take, refl, sym, ap, ◌∙◌, subst, arith}
-use Rattle.std.proofs.lemmas.Bool.{true≢false}
-use Rattle.std.proofs.lemmas.Bool.Decides.{Decides-eqb}
-use Rattle.std.proofs.lemmas.Slice.Eq.{slice_eq-Decides}
-use Rattle.memchr.specs.Find.{is_byte2}
+use Rattle.std.proofs.Common.{◌≡◌, ◌≤◌, ◌+◌, ◌-◌, length, drop, take, refl, ap, subst, arith}
 use Rattle.json.specs.Lex.{lex, between}
-use Rattle.tiled_maps.specs.Lexemes.{AreFalse}
-use Rattle.tiled_maps.proofs.LookBytes.{text_plain, rest_is}
+use Rattle.tiled_maps.specs.Lexemes.{IsPlainText}
+use Rattle.tiled_maps.proofs.LookTexts.{text_plain, escaped_leads, backslash_at, none_before, rest_is}
 use Rattle.tiled_maps.proofs.look.text_end.Goals as goal
-use Rattle.tiled_maps.proofs.look.text_end.Goals.{else-eq-2-via-then-eq-2+else-not-is_false, else-eq-2-via-else-eq-2}
 
-pub returns : goal.returns
-returns c =
+pub returns-then-rest-len-ne34 : goal.returns-then-rest-len-ne34
+returns-then-rest-len-ne34 c =
+    let text = c.args.text.now in
+    let at = c.args.at in
+    let len = c.in_ok-len.len in
+    let xs = take (length text - (at + 1)) (drop (at + 1) text) in
+    let is : xs ≡ drop (at + 1) text = rest_is text (at + 1) in
+    let first = c.in_ok-len.ensures in
+    let backslash = backslash_at text (at + 1) len (at + 1 + len) xs is refl first.1 c.if-rest-len-ne34.true in
+    let within : len ≤ length xs = omega (arith, first.0.high) in
+    escaped_leads text at len xs is c.requires.within c.requires.quote within (none_before xs len first.0.before) (at + 1 + len) refl backslash c.escaped_end.result c.escaped_end.ensures
+
+pub returns-then-is_plain_name : goal.returns-then-is_plain_name
+returns-then-is_plain_name c =
     let text = c.args.text.now in
     let at = c.args.at in
     let len = c.in_ok-len.len in
@@ -18,20 +25,9 @@ returns c =
     let xs = take (length text - (at + 1)) (drop (at + 1) text) in
     let is : xs ≡ drop (at + 1) text = rest_is text (at + 1) in
     let first = c.in_ok-len.ensures in
-    let before = first.0.before in
-    let not_name = slice_eq-Decides Decides-eqb (take len xs) c.as_bytes.result.now c.eq.result c.eq.ensures in
-    let not_infinite = slice_eq-Decides Decides-eqb (take len xs) c.as_slice.result.now c.eq-2.result c.eq-2.ensures in (
+    let plain : IsPlainText (take len xs) (lex between (drop end text))
+    = subst (λ t. IsPlainText (take len xs) (lex between t)) (rest_is text end) (c.is_plain_name.ensures c.if-is_plain_name.true) in (
       omega arith,
       omega (arith, first.0.high, ap length is),
-      λ rest.
-          text_plain text at len xs is c.requires.within c.requires.quote first.0.high
-          (λ k l. (λ e. before k (omega arith) l (ap (is_byte2 34 92) e), λ e. before k (omega arith) l (ap (is_byte2 34 92) e)))
-          c.if-rest-len-ne34.false end refl (
-            λ e. true≢false (sym (not_name.1 (e ∙ sym c.as_bytes.ensures.value)) ∙ c.if-eq.false),
-            λ e. elim c.else-eq-2.branch [
-              | else-eq-2-via-then-eq-2+else-not-is_false w ↦ subst (λ t. AreFalse (lex between t)) (rest_is text end) (w.is_false.ensures w.if-not-is_false.false)
-              | else-eq-2-via-else-eq-2 w ↦ absurd (true≢false (sym (not_infinite.1 (e ∙ sym c.as_slice.ensures)) ∙ w.if-eq-2.false))
-            ],
-          )
-          rest,
+      λ rest. text_plain text at len xs is c.requires.within c.requires.quote first.0.high (none_before xs len first.0.before) c.if-rest-len-ne34.false end refl plain rest,
     )
