@@ -12,7 +12,8 @@ mod look_tests;
 mod members;
 mod place;
 mod text;
+mod tree;
 
 pub use fault::Fault;
 pub use look::needs_nothing;
-pub use text::{put_back, set_aside};
+pub use text::{LONGEST, put_back, set_aside};
