@@ -5,3 +5,8 @@ pub mod Meeting
 pub mod Law
 pub mod Whole
 pub mod Answered
+pub mod LookTree
+pub mod LookTokens
+pub mod LookBytes
+pub mod LookTexts
+pub mod LookAnswers

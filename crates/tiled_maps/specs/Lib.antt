@@ -5,3 +5,5 @@ pub mod Aside
 pub mod Back
 pub mod Trees
 pub mod Texts
+pub mod Look
+pub mod Lexemes

@@ -6,10 +6,14 @@ mod back;
 mod fault;
 mod fraction;
 mod fractions;
+mod look;
+#[cfg(test)]
+mod look_tests;
 mod members;
 mod place;
 mod text;
 mod tree;
 
 pub use fault::Fault;
+pub use look::needs_nothing;
 pub use text::{LONGEST, put_back, set_aside};

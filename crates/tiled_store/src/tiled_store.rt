@@ -1,12 +1,20 @@
-ghost use Rattle.std.specs.Prelude.{◌≡◌, ◌-◌, ◌^◌, ◌<◌, ◌≤◌, ◌⊎◌, IsErrOf, IsTrue, false};
+ghost use Rattle.std.specs.Prelude.{◌≡◌, ◌-◌, ◌^◌, ◌<◌, ◌≤◌, ◌⊎◌, IsErrOf, IsTrue, Bool, true, false};
 ghost use Rattle.map_store.specs.Files.{HasFailed};
 ghost use Rattle.map_store.specs.Storing.{Loads, Stores};
-ghost use Rattle.tiled_store.specs.Stored.{LoadsFrom, StoresTo};
+ghost use Rattle.tiled_store.specs.Stored.{GivesFor, PutsFor, LoadsFrom, StoresTo};
 
 use crate::fault_report::FaultReport;
 use map_store::{MapStore, StoreFault};
 use std::alloc::Global;
-use tiled_maps::{Fault, LONGEST, put_back, set_aside};
+use tiled_maps::{Fault, LONGEST, needs_nothing, put_back, set_aside};
+
+// Whether a text surely stays as it is, whichever way it goes: by one look at its bytes, and without its tree.
+fn stays(bytes: &[u8]) -> bool
+    ensures load { result ≡ true → (has_set_aside : Bool) → GivesFor bytes.now bytes.now has_set_aside }
+    ensures store { result ≡ true → PutsFor true bytes.now bytes.now }
+{
+    needs_nothing(bytes)
+}
 
 /// The files of another store. A load sets the fractions of a map aside and makes an infinite map finite, and a store puts back
 /// what was set aside; or both leave a text as it is, if the store was made so.
@@ -85,7 +93,7 @@ impl<S: MapStore, T: FaultReport> TiledStore<S, T> {
         ensures failures { self.new.failures ≡ self.old.failures }
     {
         let bytes = self.store.load(alloc, name)?;
-        if !self.sets_aside {
+        if !self.sets_aside || stays(bytes.as_slice()) {
             return Ok(bytes);
         }
         match set_aside(alloc, bytes.as_slice()) {
@@ -112,7 +120,7 @@ impl<S: MapStore, T: FaultReport> TiledStore<S, T> {
         ensures aside { self.new.has_set_aside ≡ self.old.has_set_aside }
         ensures failures { self.new.failures ≡ self.old.failures }
     {
-        if !self.sets_aside || !self.has_set_aside {
+        if !self.sets_aside || !self.has_set_aside || stays(bytes) {
             return self.store.store(alloc, name, bytes);
         }
         match put_back(alloc, bytes) {

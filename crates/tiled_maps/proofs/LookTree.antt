@@ -1,0 +1,231 @@
+-- JSON of which the tree needs nothing set aside.
+use Rattle.std.proofs.Common.{◌≡◌, ℕ, Bool, true, false, List, bytes_eq, Option, Some, None, option_map, Ordering, Less, Equal, Greater, nat_cmp, refl, sym, subst, option_and_then}
+use Rattle.std.proofs.lemmas.Bool.{or_from}
+use Rattle.std.proofs.lemmas.Slice.Eq.{bytes_eq-Decides}
+use Rattle.std.specs.Cmp.Lexicographic.{slice_cmp}
+use Rattle.std.specs.Ordering.{match_ordering}
+use Rattle.json.specs.Json as json
+use Rattle.serde_json.specs.Data.{Num, Data, null, boolean, number, string, array, object, Items, no_items, item, Members, no_members, member, put}
+use Rattle.serde_json.specs.Find.{is_float, as_bool, get_member}
+use Rattle.serde_json.specs.Read.{number_of, of_json, of_items, of_members}
+use Rattle.infinite_maps.specs.Infinite.{is_true, is_infinite}
+use Rattle.tiled_maps.specs.declared.place.Place.{Place}
+use Rattle.tiled_maps.specs.declared.place.Place.TheVariants.{Map, Layer, Object, Coordinate, Version, Elsewhere}
+use Rattle.tiled_maps.specs.Places.{below, inside}
+use Rattle.tiled_maps.specs.Members.{has_name, items_have_name, members_have_name}
+use Rattle.tiled_maps.specs.Fractions.{is_fraction, has_fraction, items_have_fraction, members_have_fraction}
+use Rattle.tiled_maps.specs.Aside.{reserved_name}
+use Rattle.tiled_maps.specs.Look.{NeedsNothing}
+use Rattle.tiled_maps.specs.Lexemes.{infinite, IsWhole}
+use Rattle.tiled_maps.proofs.MembersLemmas.{same_name}
+
+-- ---- of JSON
+abbrev pub IsNotTrue : json.Json → Type 0
+IsNotTrue json.null = Unit {0}
+IsNotTrue (json.boolean true) = ⊥
+IsNotTrue (json.boolean false) = Unit {0}
+IsNotTrue (json.number s) = Unit {0}
+IsNotTrue (json.string s) = Unit {0}
+IsNotTrue (json.array js) = Unit {0}
+IsNotTrue (json.object ms) = Unit {0}
+
+-- numbers are whole, no member has the reserved name, and none that is called `infinite` is true
+abbrev mutual
+  pub IsPlain : json.Json → Type 0
+  IsPlain json.null = Unit {0}
+  IsPlain (json.boolean b) = Unit {0}
+  IsPlain (json.number s) = IsWhole s
+  IsPlain (json.string s) = Unit {0}
+  IsPlain (json.array js) = ArePlainItems js
+  IsPlain (json.object ms) = ArePlainMembers ms
+
+  pub ArePlainItems : json.Items → Type 0
+  ArePlainItems json.no_items = Unit {0}
+  ArePlainItems (json.item j js) = IsPlain j × ArePlainItems js
+
+  pub ArePlainMembers : json.Members → Type 0
+  ArePlainMembers json.no_members = Unit {0}
+  ArePlainMembers (json.member k j ms) = ((k ≡ reserved_name → ⊥) × (k ≡ infinite → IsNotTrue j)) × IsPlain j × ArePlainMembers ms
+
+-- ---- of the tree
+abbrev NotTrue : Data → Type 0
+NotTrue null = Unit {0}
+NotTrue (boolean true) = ⊥
+NotTrue (boolean false) = Unit {0}
+NotTrue (number n) = Unit {0}
+NotTrue (string s) = Unit {0}
+NotTrue (array ds) = Unit {0}
+NotTrue (object ms) = Unit {0}
+
+abbrev IsFreeName : List ℕ → Data → Type 0
+IsFreeName k d = (k ≡ reserved_name → ⊥) × (k ≡ infinite → NotTrue d)
+
+abbrev mutual
+  IsFree : Data → Type 0
+  IsFree null = Unit {0}
+  IsFree (boolean b) = Unit {0}
+  IsFree (number n) = is_float n ≡ false
+  IsFree (string s) = Unit {0}
+  IsFree (array ds) = AreFreeItems ds
+  IsFree (object ms) = AreFreeMembers ms
+
+  AreFreeItems : Items → Type 0
+  AreFreeItems no_items = Unit {0}
+  AreFreeItems (item d ds) = IsFree d × AreFreeItems ds
+
+  AreFreeMembers : Members → Type 0
+  AreFreeMembers no_members = Unit {0}
+  AreFreeMembers (member k d ms) = IsFreeName k d × IsFree d × AreFreeMembers ms
+
+abbrev If : {A : Type 0} → (A → Type 0) → Option A → Type 0
+If P None = Unit {0}
+If P (Some a) = P a
+
+mapped : {A B : Type 0} (P : A → Type 0) (Q : B → Type 0) (f : A → B) → ((a : A) → P a → Q (f a)) → (o : Option A) → If P o → If Q (option_map f o)
+mapped P Q f g None h = tt
+mapped P Q f g (Some a) h = g a h
+
+-- ---- a member put in
+put_at : (o : Ordering) (k l : List ℕ) (d e : Data) (ms : Members) → slice_cmp nat_cmp k l ≡ o → IsFreeName k d → IsFree d → AreFreeMembers (member l e ms)
+    → AreFreeMembers (put k d ms) → AreFreeMembers (match_ordering o (member k d (member l e ms)) (member l d ms) (member l e (put k d ms)))
+put_at Less k l d e ms is n h all later = (n, h, all)
+put_at Equal k l d e ms is n h all later = (subst (λ x. IsFreeName x d) (same_name k l is) n, h, all.2)
+put_at Greater k l d e ms is n h all later = (all.0, all.1, later)
+
+AreFreeMembers-put : (k : List ℕ) (d : Data) (ms : Members) → IsFreeName k d → IsFree d → AreFreeMembers ms → AreFreeMembers (put k d ms)
+AreFreeMembers-put k d no_members n h all = (n, h, tt)
+AreFreeMembers-put k d (member l e ms) n h all = put_at (slice_cmp nat_cmp k l) k l d e ms refl n h all (AreFreeMembers-put k d ms n h all.2)
+
+-- ---- from JSON to the tree
+number_free : (o : Option Num) → ((n : Num) → o ≡ Some n → is_float n ≡ false) → If IsFree (option_map number o)
+number_free None h = tt
+number_free (Some n) h = h n refl
+
+not_true : (j : json.Json) → IsNotTrue j → If NotTrue (of_json j)
+not_true json.null h = tt
+not_true (json.boolean true) h = absurd h
+not_true (json.boolean false) h = tt
+not_true (json.number s) h = mapped (λ n. Unit {0}) NotTrue number (λ n x. tt) (number_of s) (any (number_of s))
+  where
+    any : (o : Option Num) → If (λ n. Unit {0}) o
+    any None = tt
+    any (Some n) = tt
+not_true (json.string s) h = tt
+not_true (json.array js) h = mapped (λ n. Unit {0}) NotTrue array (λ n x. tt) (of_items js) (any (of_items js))
+  where
+    any : (o : Option Items) → If (λ n. Unit {0}) o
+    any None = tt
+    any (Some n) = tt
+not_true (json.object ms) h = mapped (λ n. Unit {0}) NotTrue object (λ n x. tt) (of_members ms no_members) (any (of_members ms no_members))
+  where
+    any : (o : Option Members) → If (λ n. Unit {0}) o
+    any None = tt
+    any (Some n) = tt
+
+joined : (o : Option Data) → If IsFree o → (p : Option Items) → If AreFreeItems p → If AreFreeItems (option_and_then (λ d. option_map (item d) p) o)
+joined None h p k = tt
+joined (Some d) h None k = tt
+joined (Some d) h (Some ds) k = (h, k)
+
+member_in : (o : Option Data) (k : List ℕ) (ms : json.Members) (found : Members) → (k ≡ reserved_name → ⊥) → (k ≡ infinite → If NotTrue o) → If IsFree o → AreFreeMembers found
+    → ((f : Members) → AreFreeMembers f → If AreFreeMembers (of_members ms f)) → If AreFreeMembers (option_and_then (λ d. of_members ms (put k d found)) o)
+member_in None k ms found n t h all later = tt
+member_in (Some d) k ms found n t h all later = later (put k d found) (AreFreeMembers-put k d found (n, t) h all)
+
+mutual
+  free : (j : json.Json) → IsPlain j → If IsFree (of_json j)
+  free json.null h = tt
+  free (json.boolean b) h = tt
+  free (json.number s) h = number_free (number_of s) h
+  free (json.string s) h = tt
+  free (json.array js) h = mapped AreFreeItems IsFree array (λ ds x. x) (of_items js) (free_items js h)
+  free (json.object ms) h = mapped AreFreeMembers IsFree object (λ ds x. x) (of_members ms no_members) (free_members ms h no_members tt)
+
+  free_items : (js : json.Items) → ArePlainItems js → If AreFreeItems (of_items js)
+  free_items json.no_items h = tt
+  free_items (json.item j js) h = joined (of_json j) (free j h.0) (of_items js) (free_items js h.1)
+
+  free_members : (ms : json.Members) → ArePlainMembers ms → (found : Members) → AreFreeMembers found → If AreFreeMembers (of_members ms found)
+  free_members json.no_members h found all = all
+  free_members (json.member k j ms) h found all = member_in (of_json j) k ms found h.0.0 (λ e. not_true j (h.0.1 e)) (free j h.1) all (free_members ms h.2)
+
+-- ---- what such a tree has not
+not_fraction : (p : Place) (n : Num) → is_float n ≡ false → is_fraction p n ≡ false
+not_fraction Map n h = h
+not_fraction Layer n h = h
+not_fraction Object n h = h
+not_fraction Coordinate n h = h
+not_fraction Version n h = refl
+not_fraction Elsewhere n h = h
+
+mutual
+  no_fraction : (p : Place) (d : Data) → IsFree d → has_fraction p d ≡ false
+  no_fraction p null h = refl
+  no_fraction p (boolean b) h = refl
+  no_fraction p (number n) h = not_fraction p n h
+  no_fraction p (string s) h = refl
+  no_fraction p (array ds) h = items_no_fraction (inside p) ds h
+  no_fraction p (object ms) h = members_no_fraction p ms h
+
+  items_no_fraction : (p : Place) (ds : Items) → AreFreeItems ds → items_have_fraction p ds ≡ false
+  items_no_fraction p no_items h = refl
+  items_no_fraction p (item d ds) h = or_from _ _ (no_fraction p d h.0) (items_no_fraction p ds h.1)
+
+  members_no_fraction : (p : Place) (ms : Members) → AreFreeMembers ms → members_have_fraction p ms ≡ false
+  members_no_fraction p no_members h = refl
+  members_no_fraction p (member k d ms) h = or_from _ _ (no_fraction (below p k) d h.1) (members_no_fraction p ms h.2)
+
+other_name : (b : Bool) (k : List ℕ) → (b ≡ true → k ≡ reserved_name) → (k ≡ reserved_name → ⊥) → b ≡ false
+other_name true k f n = absurd (n (f refl))
+other_name false k f n = refl
+
+mutual
+  no_name : (d : Data) → IsFree d → has_name reserved_name d ≡ false
+  no_name null h = refl
+  no_name (boolean b) h = refl
+  no_name (number n) h = refl
+  no_name (string s) h = refl
+  no_name (array ds) h = items_no_name ds h
+  no_name (object ms) h = members_no_name ms h
+
+  items_no_name : (ds : Items) → AreFreeItems ds → items_have_name reserved_name ds ≡ false
+  items_no_name no_items h = refl
+  items_no_name (item d ds) h = or_from _ _ (no_name d h.0) (items_no_name ds h.1)
+
+  members_no_name : (ms : Members) → AreFreeMembers ms → members_have_name reserved_name ms ≡ false
+  members_no_name no_members h = refl
+  members_no_name (member k d ms) h =
+      or_from _ _ (or_from _ _ (other_name (bytes_eq reserved_name k) k (λ e. sym ((bytes_eq-Decides reserved_name k).0 e)) h.0.0) (no_name d h.1)) (members_no_name ms h.2)
+
+not_is_true : (d : Data) → NotTrue d → is_true (as_bool d) ≡ false
+not_is_true null h = refl
+not_is_true (boolean true) h = absurd h
+not_is_true (boolean false) h = refl
+not_is_true (number n) h = refl
+not_is_true (string s) h = refl
+not_is_true (array ds) h = refl
+not_is_true (object ms) h = refl
+
+finite_at : (o : Ordering) (l : List ℕ) (d : Data) (ms : Members) → slice_cmp nat_cmp infinite l ≡ o → IsFreeName l d
+    → is_true (option_and_then as_bool (get_member infinite ms)) ≡ false
+    → is_true (option_and_then as_bool (match_ordering o (get_member infinite ms) (Some d) (get_member infinite ms))) ≡ false
+finite_at Less l d ms is n later = later
+finite_at Equal l d ms is n later = not_is_true d (n.1 (sym (same_name infinite l is)))
+finite_at Greater l d ms is n later = later
+
+members_finite : (ms : Members) → AreFreeMembers ms → is_true (option_and_then as_bool (get_member infinite ms)) ≡ false
+members_finite no_members h = refl
+members_finite (member l d ms) h = finite_at (slice_cmp nat_cmp infinite l) l d ms refl h.0 (members_finite ms h.2)
+
+is_finite : (d : Data) → IsFree d → is_infinite d ≡ false
+is_finite null h = refl
+is_finite (boolean b) h = refl
+is_finite (number n) h = refl
+is_finite (string s) h = refl
+is_finite (array ds) h = refl
+is_finite (object ms) h = members_finite ms h
+
+pub IsPlain-NeedsNothing : (j : json.Json) (d : Data) → IsPlain j → of_json j ≡ Some d → NeedsNothing d
+IsPlain-NeedsNothing j d h e =
+    let f : IsFree d = subst (If IsFree) e (free j h) in
+    record { whole = no_fraction Map d f; free = no_name d f; finite = is_finite d f }

@@ -1,0 +1,255 @@
+// A look at the bytes: whether a text surely needs nothing set aside.
+ghost use Rattle.std.specs.Prelude.{◌≡◌, ◌+◌, ◌<◌, ◌≤◌, true, ◌||◌, length, drop, slice_index, IfSome};
+ghost use Rattle.std.specs.List.{prefix_len};
+ghost use Rattle.std.specs.Char.{is_ascii_digit};
+ghost use Rattle.json.specs.Text.{content, plain};
+ghost use Rattle.json.specs.Word.{is_operator, is_space, head};
+ghost use Rattle.json.specs.Lex.{lex, between, in_word};
+ghost use Rattle.tiled_maps.specs.Look.{TextNeedsNothing};
+ghost use Rattle.tiled_maps.specs.Lexemes.{IsPlainText, AreFalse, BeginsLiteral, BeginsOther, LeavesText, LeavesEscaped, Ends, Leads};
+
+use crate::fraction::RESERVED_NAME;
+use memchr::memchr2;
+
+/// How many digits a number may have that surely fits 64 bits, with a sign, too.
+const MAX_DIGITS: usize = 18;
+
+// Whether a word ends before this byte.
+#[inline(always)]
+fn is_delimiter(byte: u8) -> bool
+    ensures { result ≡ (is_operator byte || is_space byte) }
+{
+    let operator = (byte == b'{')
+        | (byte == b'}')
+        | (byte == b'[')
+        | (byte == b']')
+        | (byte == b':')
+        | (byte == b',');
+    let space = (byte == b' ') | (byte == b'\t') | (byte == b'\n') | (byte == b'\r');
+    operator | space
+}
+
+// The byte there, or a space at the end.
+#[inline(always)]
+fn byte_at(text: &[u8], at: usize) -> u8
+    ensures { result ≡ head (drop at text.now) }
+{
+    if at < text.len() { text[at] } else { b' ' }
+}
+
+#[inline(always)]
+fn digits_end(text: &[u8], from: usize) -> usize
+    requires { from ≤ length text.now }
+    ensures value { result ≡ from + prefix_len is_ascii_digit (drop from text.now) }
+    ensures bound { result ≤ length text.now }
+{
+    let mut at = from;
+    while at < text.len() && text[at].is_ascii_digit() {
+        at += 1;
+    }
+    at
+}
+
+#[inline(always)]
+fn letters_end(text: &[u8], from: usize) -> usize
+    requires { from ≤ length text.now }
+    ensures word { lex in_word (drop result text.now) ≡ lex in_word (drop from text.now) }
+    ensures bounds { (from ≤ result) × (result ≤ length text.now) }
+{
+    let mut at = from;
+    while at < text.len() && text[at] >= b'a' && text[at] <= b'z' {
+        at += 1;
+    }
+    at
+}
+
+// Where the look goes on after a word that ends there. The comma after it is passed at once.
+#[inline(always)]
+fn after_word(text: &[u8], end: usize) -> Option<usize>
+    requires { end ≤ length text.now }
+    ensures { IfSome result (Ends text.now end) }
+{
+    if end < text.len() && text[end] == b',' {
+        return Some(end + 1);
+    }
+    if is_delimiter(byte_at(text, end)) {
+        Some(end)
+    } else {
+        None
+    }
+}
+
+// A number that begins with this digit, if it is whole and surely fits 64 bits.
+#[inline(always)]
+fn whole_end(text: &[u8], at: usize) -> Option<usize>
+    requires within { at < length text.now }
+    requires digit { (48 < slice_index text.now at) × (slice_index text.now at ≤ 57) }
+    ensures { IfSome result (Leads text.now at) }
+{
+    let end = digits_end(text, at);
+    if end - at > MAX_DIGITS {
+        return None;
+    }
+    after_word(text, end)
+}
+
+// A number that begins with this minus. No 0 may follow: `-0` is a float.
+#[inline(always)]
+fn negative_end(text: &[u8], at: usize) -> Option<usize>
+    requires within { at < length text.now }
+    requires minus { slice_index text.now at ≡ 45 }
+    ensures { IfSome result (Leads text.now at) }
+{
+    let from = at + 1;
+    let first = byte_at(text, from);
+    if first < b'1' || first > b'9' {
+        return None;
+    }
+    let end = digits_end(text, from);
+    if end - from > MAX_DIGITS {
+        return None;
+    }
+    after_word(text, end)
+}
+
+// `true`, `false`, `null` or a fault.
+#[inline(always)]
+fn literal_end(text: &[u8], at: usize) -> Option<usize>
+    requires within { at < length text.now }
+    requires letter { BeginsLiteral (slice_index text.now at) }
+    ensures { IfSome result (Leads text.now at) }
+{
+    after_word(text, letters_end(text, at + 1))
+}
+
+// Whether a colon and `false` follow a text, with at most one space in between.
+fn is_false(rest: &[u8]) -> bool
+    ensures { result ≡ true → AreFalse (lex between rest.now) }
+{
+    rest.starts_with(b":f") || rest.starts_with(b": f")
+}
+
+// Whether the escape at a place surely stands for no letter of a name: it is short, as `\/` is, or a character past ASCII.
+fn is_no_letter(text: &[u8], at: usize) -> bool
+    requires within { at < length text.now }
+    requires backslash { slice_index text.now at ≡ 92 }
+    ensures escape { result ≡ true → at + 1 < length text.now }
+    ensures other { result ≡ true → BeginsOther (content plain (drop at text.now)) }
+{
+    if text.len() - at < 2 {
+        return false;
+    }
+    if text[at + 1] != b'u' {
+        return true;
+    }
+    if text.len() - at < 6 {
+        return false;
+    }
+    if text[at + 2] != b'0' || text[at + 3] != b'0' {
+        return true;
+    }
+    text[at + 4] >= b'8'
+}
+
+// The place behind the quote that closes a text. `None`: none does.
+fn text_close(text: &[u8], from: usize) -> Option<usize>
+    requires { from ≤ length text.now }
+    ensures { IfSome result (LeavesText text.now from) }
+{
+    let mut at = from;
+    while at < text.len() {
+        let rest = &text[at..];
+        let len = memchr2(b'"', b'\\', rest)?;
+        let end = at + len + 1;
+        if rest[len] == b'"' {
+            return Some(end);
+        }
+        if end >= text.len() {
+            return None;
+        }
+        at = end + 1;
+    }
+    None
+}
+
+// A text with an escape at a place, so that it is no name that matters.
+fn escaped_end(text: &[u8], escape: usize) -> Option<usize>
+    requires within { escape < length text.now }
+    requires backslash { slice_index text.now escape ≡ 92 }
+    ensures { IfSome result (LeavesEscaped text.now escape) }
+{
+    if is_no_letter(text, escape) {
+        text_close(text, escape + 2)
+    } else {
+        None
+    }
+}
+
+// Whether a text without an escape needs nothing set aside before what follows it.
+fn is_plain_name(name: &[u8], rest: &[u8]) -> bool
+    ensures { result ≡ true → IsPlainText name.now (lex between rest.now) }
+{
+    if name == RESERVED_NAME.as_bytes() {
+        return false;
+    }
+    name != b"infinite".as_slice() || is_false(rest)
+}
+
+// A text that begins with this quote.
+fn text_end(text: &[u8], at: usize) -> Option<usize>
+    requires within { at < length text.now }
+    requires quote { slice_index text.now at ≡ 34 }
+    ensures { IfSome result (Leads text.now at) }
+{
+    let rest = &text[at + 1..];
+    let len = memchr2(b'"', b'\\', rest)?;
+    if rest[len] != b'"' {
+        return escaped_end(text, at + 1 + len);
+    }
+    let end = at + 1 + len + 1;
+    if is_plain_name(&rest[..len], &text[end..]) {
+        Some(end)
+    } else {
+        None
+    }
+}
+
+#[inline(always)]
+fn lexeme_end(text: &[u8], at: usize) -> Option<usize>
+    requires { at < length text.now }
+    ensures { IfSome result (Leads text.now at) }
+{
+    match text[at] {
+        b'0' => after_word(text, at + 1),
+        b'1'..=b'9' => whole_end(text, at),
+        b'-' => negative_end(text, at),
+        b'"' => text_end(text, at),
+        b't' | b'f' | b'n' => literal_end(text, at),
+        byte => {
+            if is_delimiter(byte) {
+                Some(at + 1)
+            } else {
+                None
+            }
+        }
+    }
+}
+
+/// Whether a map's text surely needs nothing set aside: if it has a tree, that has no fraction and no member of the reserved
+/// name, and is no infinite map. It is one pass over the bytes.
+///
+/// `false` says nothing of the text. It comes for a number that is no whole number of at most 18 digits, the version too, for an
+/// escaped letter in a text, for the reserved name, for a text `infinite` that is not followed by `false`, and for some texts that
+/// are not JSON.
+pub fn needs_nothing(text: &[u8]) -> bool
+    ensures { result ≡ true → TextNeedsNothing text.now }
+{
+    let mut at = 0;
+    while at < text.len() {
+        match lexeme_end(text, at) {
+            Some(end) => at = end,
+            None => return false,
+        }
+    }
+    true
+}
