@@ -10,10 +10,10 @@ use std::alloc::{AllocError, Global};
 use std::io::{self, ErrorKind};
 use tiled_maps::{Fault, set_aside};
 
-/// The code and the words of a refusal for want of memory.
-pub const NO_MEMORY: &str = "90 no memory";
+// The code and the words of a refusal for want of memory.
+const NO_MEMORY: &str = "90 no memory";
 
-/// Those of a file that is not there, and of one that can't be read.
+// Those of a file that is not there, and of one that can't be read.
 const NO_SUCH_FILE: &str = "50 no such file";
 const STORE_FAILED: &str = "51 store failed";
 
@@ -87,14 +87,12 @@ impl<'a> Fractions for FractionPlaces<'a> {
     }
 }
 
-// Puts where a text ceases to be JSON, where there is memory to know it.
+// Puts where a text ceases to be JSON.
 fn put_line(alloc: Global, bytes: &[u8], error: &Error, out: &mut Writer) -> io::Result<()> {
     if error.is_memory() {
-        return Ok(());
+        return Err(AllocError.into());
     }
-    let Ok(LineColumn { line, column }) = place_of_fault(alloc, bytes, error) else {
-        return Ok(());
-    };
+    let LineColumn { line, column } = place_of_fault(alloc, bytes, error)?;
     let text = format!(in alloc; "line {line}, column {column}")?;
     out.begin_object()?;
     out.key("line")?;
@@ -143,7 +141,7 @@ fn put_refused(
     Ok(())
 }
 
-/// Puts a refusal that has no place, and why, where there is a reason in words.
+// Puts a refusal that has no place, and why, where there is a reason in words.
 fn put_placeless(out: &mut Writer, told: &str, reason: Option<&str>) -> Result<(), AllocError> {
     out.begin_object()?;
     put_code(out, told)?;
@@ -203,7 +201,8 @@ fn put_with_all_maps(alloc: Global, bytes: &[u8], out: &mut Writer) -> io::Resul
 
 // ---- files
 
-/// Puts why a map is refused, with the place at which the reader stopped. Where that is lost, there was no memory.
+/// Puts why a map is refused, with the place at which the reader stopped. It fails where there is no memory, and also where
+/// there was none for the map or for the place.
 pub fn put_refusal(
     alloc: Global,
     bytes: &[u8],
