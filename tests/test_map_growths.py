@@ -102,8 +102,8 @@ def fault_of_json(case):
         answered += came.stdout in without
         if not is_full and (came.returncode != 1 or came.stdout not in [b'', *without]):
             return fault_with(growth, came)
-    if answered < growths / 2:
-        return f'{answered} of {growths} growths answered by want of memory'
+    if not answered:
+        return f'none of {growths} growths is answered by want of memory'
     passed(growths)
     return None
 
