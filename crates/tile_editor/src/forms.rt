@@ -34,15 +34,14 @@ impl<'a> Expected<'a> {
 
     // What of a line stands for it, and what is left behind the space.
     fn cut<'b>(self, line: &'b str) -> (&'b str, Option<&'b str>) {
-        let end = if self.form.starts_with("begin ") && self.word == "TEXT" {
-            line.find(" || ")
-        } else if self.is_text() {
-            None
-        } else {
-            line.find(' ')
-        };
-        match end {
-            Some(end) => (&line[..end], Some(&line[end + 1..])),
+        if self.word == "TEXT" && self.form.starts_with("begin ") {
+            return cut_at_bars(line);
+        }
+        if self.is_text() {
+            return (line, None);
+        }
+        match line.split_once(' ') {
+            Some((word, behind)) => (word, Some(behind)),
             None => (line, None),
         }
     }
@@ -72,6 +71,17 @@ impl<'a> Expected<'a> {
     }
 }
 
+// The text before the first bars, and the rest, which begins with the bars; or the whole line.
+fn cut_at_bars(line: &str) -> (&str, Option<&str>) {
+    match line.split_once(" || ") {
+        Some((text, _)) => {
+            let behind = line.strip_prefix(text).unwrap_or("");
+            (text, behind.strip_prefix(' '))
+        }
+        None => (line, None),
+    }
+}
+
 // Whether a word is a number that a block can have as its width.
 fn is_side(word: &str) -> bool {
     match word.parse::<u32>() {
@@ -82,7 +92,7 @@ fn is_side(word: &str) -> bool {
 
 // How many words of a line can stand where a form has them, from the first on.
 fn fitting(alloc: Global, form: &str, line: &str) -> Result<usize, AllocError> {
-    let mut count = 0;
+    let mut count = 0usize;
     let mut before = "";
     let mut rest = Some(line);
     for word in form.split(' ') {
@@ -94,7 +104,7 @@ fn fitting(alloc: Global, form: &str, line: &str) -> Result<usize, AllocError> {
         if !expected.fits(alloc, found)? {
             break;
         }
-        count += 1;
+        count = count.saturating_add(1);
         before = found;
         rest = behind;
     }
