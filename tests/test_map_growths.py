@@ -2,7 +2,9 @@
 while `map_report` reports a file. Whichever growth is refused, the answer is either that there is
 no memory or the ordinary one; or the program ends with status 1, where the memory that it wants for
 itself is refused, and what it has written by then is right. The line of a map that is refused may
-lack the place. native/interpose.c refuses the growths."""
+lack the place; one of JSON is whole, or it says that there is no memory. native/interpose.c refuses
+the growths."""
+import json
 import subprocess
 
 from lib.cases import CORES, Case, check_each, passed
@@ -25,10 +27,10 @@ READ = [
 REPORTED = ['layers', 'groups', 'properties', 'infinite', 'opacity_half', 'zlib']
 
 
-def told(word, lines, growth=0):
+def told(word, lines, growth=0, options=()):
     """What the program does with a word and some lines, with one growth refused, or none for 0."""
     return subprocess.run(
-        [MAP_REPORT, word],
+        [MAP_REPORT, *options, word],
         input=lines,
         capture_output=True,
         timeout=60,
@@ -85,6 +87,27 @@ def fault_of_report(case):
     return None
 
 
+def fault_of_json(case):
+    """What is wrong where each growth of a file's report in JSON is refused, or None."""
+    file = case.given
+    done = told(file, b'', options=['--json'])
+    refused = {'code': 90, 'words': 'no memory', 'places': []}
+    lines = [{'file': file, 'refused': {**refused, **more}} for more in ({}, case.wanted)]
+    without = [json.dumps(line, separators=(',', ':')).encode() + b'\n' for line in lines]
+    growths = count_of(b'growths', done)
+    answered = 0
+    for growth in range(1, growths + 1):
+        came = told(file, b'', growth, ['--json'])
+        is_full = (came.returncode, came.stdout) == (done.returncode, done.stdout)
+        answered += came.stdout in without
+        if not is_full and (came.returncode != 1 or came.stdout not in [b'', *without]):
+            return fault_with(growth, came)
+    if not answered:
+        return f'none of {growths} growths is answered by want of memory'
+    passed(growths)
+    return None
+
+
 def test_maps_that_are_read_and_written():
     check_each([Case(name, name, b'no memory\n') for name in READ], fault_of_table, CORES)
 
@@ -93,3 +116,8 @@ def test_maps_that_are_reported():
     check_each(
         [Case(name, f'{name}.tmj', refusal(90)) for name in REPORTED], fault_of_report, CORES
     )
+
+
+def test_maps_that_are_reported_in_json():
+    reason = {'reason': 'out of memory'}
+    check_each([Case(name, f'{name}.tmj', reason) for name in REPORTED], fault_of_json, CORES)

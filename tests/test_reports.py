@@ -649,8 +649,11 @@ def test_several_files():
     rows = [
         (['good.tmj', 'good.tmj'], (0, good + good, '')),
         (['good.tmj', 'bad.tmj', 'good.tmj'], (1, good + bad + good, '')),
-        (['none.tmj', 'good.tmj'], (1, good, 'none.tmj: No such file or directory (os error 2)\n')),
-        (['folder'], (1, '', 'folder: Is a directory (os error 21)\n')),
+        (
+            ['none.tmj', 'good.tmj'],
+            (1, good, 'map_report: none.tmj: No such file or directory (os error 2)\n'),
+        ),
+        (['folder'], (1, '', 'map_report: folder: not a regular file\n')),
     ]
     with tempfile.TemporaryDirectory() as top:
         folder = Path(top)

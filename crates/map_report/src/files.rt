@@ -1,47 +1,121 @@
 // The reports of files, one after the other.
+use crate::json_lines::{Outcome, line_of};
 use crate::listing::write_listing;
 use crate::place::Place;
 use crate::refusals::write_refusal;
 use map_json::read_map_along;
+use std::alloc::Global;
 use std::fs;
-use std::io::{self, Write};
+use std::io::{self, Read, Write};
 use std::rt::Files;
 
-// Reports a file: what is in its map, why that is refused, or why the file can't be read. Gives whether the map was read.
-fn report_file<R: Files + AllocGlobal + Eprint, W: Write>(
+/// The name that stands for standard input.
+const INPUT: &str = "-";
+
+/// How reports are written.
+#[derive(Clone, Copy, PartialEq, Eq)]
+pub enum Form {
+    /// Lines to read.
+    Text,
+    /// An object of JSON for each file, one a line.
+    Json,
+}
+
+// The bytes of a file. What is no regular file is not opened: to open a pipe would wait for its other end, and a device may
+// never end.
+fn read_file<R: Files + AllocGlobal, I: Read>(
     rt: &R,
+    input: &mut I,
     file: &str,
+) -> io::Result<Vec<u8>> {
+    if file == INPUT {
+        let mut bytes = Vec::new(rt.alloc());
+        input.read_to_end(&mut bytes)?;
+        return Ok(bytes);
+    }
+    if !fs::metadata(rt, file)?.is_file() {
+        return Err(io::Error::other("not a regular file"));
+    }
+    fs::read(rt, file)
+}
+
+// Writes the line of JSON of a file, and gives whether it tells of a map.
+fn write_line<W: Write>(
+    alloc: Global,
+    file: &str,
+    outcome: Outcome<'_>,
     output: &mut W,
 ) -> io::Result<bool> {
-    let bytes = match fs::read(rt, file) {
-        Ok(bytes) => bytes,
-        Err(error) => {
-            eprintln!(rt; "{file}: {error}")?;
-            return Ok(false);
-        }
-    };
-    let mut place = Place::new(rt.alloc());
-    match read_map_along(rt.alloc(), &bytes, &mut place) {
-        Ok(map) => {
+    let (line, is_whole) = line_of(alloc, file, outcome)?;
+    output.write_all(&line)?;
+    output.write_all(b"\n")?;
+    Ok(match outcome {
+        Outcome::Map(_) => is_whole,
+        _ => false,
+    })
+}
+
+// Writes what came of a file, and gives whether it is a map.
+fn write_outcome<W: Write>(
+    alloc: Global,
+    form: Form,
+    file: &str,
+    outcome: Outcome<'_>,
+    output: &mut W,
+) -> io::Result<bool> {
+    if form == Form::Json {
+        return write_line(alloc, file, outcome, output);
+    }
+    match outcome {
+        Outcome::Map(map) => {
             write_listing(file, map.parts(), output)?;
             Ok(true)
         }
-        Err(fault) => {
-            write_refusal(rt.alloc(), file, &bytes, fault, &place, output)?;
+        Outcome::Refused(bytes, fault, place) => {
+            write_refusal(alloc, file, bytes, fault, place, output)?;
             Ok(false)
+        }
+        Outcome::Unread(_) => Ok(false),
+    }
+}
+
+// Reports a file: what is in its map, why that is refused, or why the file can't be read. Gives whether the map was read.
+fn report_file<R: Files + AllocGlobal + Eprint, I: Read, W: Write>(
+    rt: &R,
+    form: Form,
+    file: &str,
+    input: &mut I,
+    output: &mut W,
+) -> io::Result<bool> {
+    let alloc = rt.alloc();
+    let bytes = match read_file(rt, input, file) {
+        Ok(bytes) => bytes,
+        Err(error) => {
+            eprintln!(rt; "map_report: {file}: {error}")?;
+            return write_outcome(alloc, form, file, Outcome::Unread(&error), output);
+        }
+    };
+    let mut place = Place::new(alloc);
+    match read_map_along(alloc, &bytes, &mut place) {
+        Ok(map) => write_outcome(alloc, form, file, Outcome::Map(&map), output),
+        Err(fault) => {
+            let outcome = Outcome::Refused(&bytes, fault, &place);
+            write_outcome(alloc, form, file, outcome, output)
         }
     }
 }
 
-/// Reports files, and gives whether each was read and is a map.
-pub fn report_files<R: Files + AllocGlobal + Eprint, W: Write>(
+/// Reports files, and gives whether each was read and is a map. The file `-` is the input.
+pub fn report_files<R: Files + AllocGlobal + Eprint, I: Read, W: Write>(
     rt: &R,
+    form: Form,
     files: &[&str],
+    input: &mut I,
     output: &mut W,
 ) -> io::Result<bool> {
     let mut are_all_maps = true;
     for file in files {
-        let is_map = report_file(rt, file, output)?;
+        let is_map = report_file(rt, form, file, input, output)?;
         // What was reported stands there before what is said of the next file on standard error.
         output.flush()?;
         are_all_maps = are_all_maps && is_map;

@@ -37,9 +37,9 @@ impl Part {
     }
 }
 
-// The layer or the object that a value stands in.
+/// The layer or the object that a value stands in.
 #[derive(Clone, Copy)]
-enum Owner<'a> {
+pub enum Owner<'a> {
     Map,
     Layer(&'a Value),
     Object(&'a Value),
@@ -77,7 +77,8 @@ fn write_kind<W: Write>(
     output.write_all(b": ")
 }
 
-fn write_owner<W: Write>(alloc: Global, owner: Owner<'_>, output: &mut W) -> io::Result<()> {
+/// Writes what a fraction stands in, where that is a layer or an object.
+pub fn write_owner<W: Write>(alloc: Global, owner: Owner<'_>, output: &mut W) -> io::Result<()> {
     match owner {
         Owner::Map => Ok(()),
         Owner::Layer(layer) => write_kind(alloc, "layer", layer, output),
@@ -85,32 +86,33 @@ fn write_owner<W: Write>(alloc: Global, owner: Owner<'_>, output: &mut W) -> io:
     }
 }
 
-// Writes the line of a fraction.
-fn write_fraction<W: Write>(
-    alloc: Global,
+/// What takes the fractions of a map, one after the other.
+pub trait Fractions {
+    /// Takes the fraction at a place in the tree of a map.
+    fn take(&mut self, root: &Value, owner: Owner<'_>, place: &Place) -> io::Result<()>;
+}
+
+fn take_fraction<F: Fractions>(
     root: &Value,
     owner: Owner<'_>,
     place: &Place,
-    output: &mut W,
+    fractions: &mut F,
 ) -> io::Result<()> {
     if place.is_lost() {
         return Err(AllocError.into());
     }
-    output.write_all(b"\n  ")?;
-    write_owner(alloc, owner, output)?;
-    place.write(root, output)
+    fractions.take(root, owner, place)
 }
 
-// Writes a line for each fraction in a value at a place, and gives how many there are. The value comes first: it gets less deep.
+// Takes each fraction in a value at a place, and gives how many there are. The value comes first: it gets less deep.
 #[cycle(fractions)]
-fn write_value<W: Write>(
-    alloc: Global,
+fn find_in_value<F: Fractions>(
     value: &Value,
     root: &Value,
     part: Part,
     owner: Owner<'_>,
     place: &mut Place,
-    output: &mut W,
+    fractions: &mut F,
 ) -> io::Result<u64> {
     let owner = owner.within(part, value);
     match value {
@@ -119,32 +121,31 @@ fn write_value<W: Write>(
             if !number.is_f64() {
                 return Ok(0);
             }
-            write_fraction(alloc, root, owner, place, output)?;
+            take_fraction(root, owner, place, fractions)?;
             Ok(1)
         }
         Value::Array(items) => {
-            write_items(alloc, items, root, part.entry(), owner, place, output)
+            find_in_items(items, root, part.entry(), owner, place, fractions)
         }
         Value::Object(members) => {
-            write_members(alloc, members, root, part, owner, place, output)
+            find_in_members(members, root, part, owner, place, fractions)
         }
     }
 }
 
 #[cycle(fractions)]
-fn write_items<W: Write>(
-    alloc: Global,
+fn find_in_items<F: Fractions>(
     items: &Vec<Value>,
     root: &Value,
     part: Part,
     owner: Owner<'_>,
     place: &mut Place,
-    output: &mut W,
+    fractions: &mut F,
 ) -> io::Result<u64> {
     let mut count = 0u64;
     for (at, item) in items.iter().enumerate() {
         place.enter(Step::Element(at));
-        let more = write_value(alloc, item, root, part, owner, place, output)?;
+        let more = find_in_value(item, root, part, owner, place, fractions)?;
         count = count.saturating_add(more);
         place.leave();
     }
@@ -152,14 +153,13 @@ fn write_items<W: Write>(
 }
 
 #[cycle(fractions)]
-fn write_members<W: Write>(
-    alloc: Global,
+fn find_in_members<F: Fractions>(
     members: &Map<String, Value>,
     root: &Value,
     part: Part,
     owner: Owner<'_>,
     place: &mut Place,
-    output: &mut W,
+    fractions: &mut F,
 ) -> io::Result<u64> {
     let mut count = 0u64;
     for (name, member) in members.iter() {
@@ -168,7 +168,7 @@ fn write_members<W: Write>(
         if part != Part::Map || name != "version" {
             place.enter(Step::Member(name));
             let inner = part.member(name);
-            let more = write_value(alloc, member, root, inner, owner, place, output)?;
+            let more = find_in_value(member, root, inner, owner, place, fractions)?;
             count = count.saturating_add(more);
             place.leave();
         }
@@ -176,30 +176,37 @@ fn write_members<W: Write>(
     Ok(count)
 }
 
-// Writes the fractions in a version that is no number.
-fn write_version<W: Write>(alloc: Global, root: &Value, output: &mut W) -> io::Result<u64> {
+// Takes the fractions in a version that is no number.
+fn find_in_version<F: Fractions>(
+    alloc: Global,
+    root: &Value,
+    fractions: &mut F,
+) -> io::Result<u64> {
     let mut place = Place::new(alloc);
     match root.get("version") {
         None | Some(Value::Number(_)) => Ok(0),
         Some(version) => {
             place.enter(Step::Member("version"));
-            write_value(
-                alloc,
+            find_in_value(
                 version,
                 root,
                 Part::Other,
                 Owner::Map,
                 &mut place,
-                output,
+                fractions,
             )
         }
     }
 }
 
-/// Writes a line for each fraction of a map's tree, in the order in which the reader seeks them, and gives how many there are.
-pub fn write_fractions<W: Write>(alloc: Global, root: &Value, output: &mut W) -> io::Result<u64> {
+/// Hands on each fraction of a map's tree, in the order in which the reader seeks them, and gives how many there are.
+pub fn find_fractions<F: Fractions>(
+    alloc: Global,
+    root: &Value,
+    fractions: &mut F,
+) -> io::Result<u64> {
     let mut place = Place::new(alloc);
-    let count = write_value(alloc, root, root, Part::Map, Owner::Map, &mut place, output)?;
-    let more = write_version(alloc, root, output)?;
+    let count = find_in_value(root, root, Part::Map, Owner::Map, &mut place, fractions)?;
+    let more = find_in_version(alloc, root, fractions)?;
     Ok(count.saturating_add(more))
 }

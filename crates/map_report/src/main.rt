@@ -4,6 +4,9 @@
 mod files;
 mod fractions;
 mod json_fault;
+mod json_lines;
+mod json_listing;
+mod json_refusal;
 mod listing;
 mod options;
 mod place;
@@ -80,7 +83,8 @@ fn write_asked(rt: &HostRuntime, options: &Options) -> io::Result<bool> {
         write_table(rt, rt.stdin(), &mut output)?;
         true
     } else {
-        report_files(rt, options.files.as_slice(), &mut output)?
+        let files = options.files.as_slice();
+        report_files(rt, options.form, files, &mut rt.stdin(), &mut output)?
     };
     output.flush()?;
     Ok(are_all_maps)

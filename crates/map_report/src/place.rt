@@ -1,5 +1,6 @@
 // The place of a fault in the tree of a file, and what stands there.
 use crate::shown::{is_shown_plain, write_short};
+use json::Writer;
 use map_json::{Step, Trail};
 use serde_json::Value;
 use std::alloc::{AllocError, Global};
@@ -62,6 +63,18 @@ impl Place {
             write_step(self.alloc, step, at == 0, output)?;
         }
         write_value(self.alloc, self.value_in(root), output)
+    }
+
+    /// Puts the steps as an array of JSON: the names of members, whole, and the indexes of elements.
+    pub fn put_path(&self, out: &mut Writer) -> Result<(), AllocError> {
+        out.begin_array()?;
+        for step in &self.steps {
+            match step {
+                OwnStep::Member(name) => out.string(name.as_str())?,
+                OwnStep::Element(at) => out.u64(*at as u64)?,
+            }
+        }
+        out.end_array()
     }
 }
 

@@ -1,5 +1,5 @@
 // Why a map is refused: the code, its words, and the place of the fault.
-use crate::fractions::write_fractions;
+use crate::fractions::{Fractions, Owner, find_fractions, write_owner};
 use crate::json_fault::{LineColumn, place_of_fault};
 use crate::place::Place;
 use map_json::{MapFault, MapRefusal, read_map_along};
@@ -8,7 +8,7 @@ use std::alloc::Global;
 use std::io::{self, Write};
 use tiled_maps::{Fault, LONGEST, set_aside};
 
-/// The code and the words of a refusal.
+/// The code of a refusal, and its words behind it.
 pub fn words_of(refusal: MapRefusal) -> &'static str {
     match refusal {
         MapRefusal::NotJson => "60 not JSON",
@@ -87,12 +87,28 @@ fn write_with_all_maps<W: Write>(alloc: Global, bytes: &[u8], output: &mut W) ->
     }
 }
 
+// Writes a line for each fraction.
+#[derive(Drop)]
+struct FractionLines<'a, W> {
+    alloc: Global,
+    output: &'a mut W,
+}
+
+impl<'a, W: Write> Fractions for FractionLines<'a, W> {
+    fn take(&mut self, root: &Value, owner: Owner<'_>, place: &Place) -> io::Result<()> {
+        self.output.write_all(b"\n  ")?;
+        write_owner(self.alloc, owner, self.output)?;
+        place.write(root, self.output)
+    }
+}
+
 // Writes all fractions of a map that is refused for one, and whether `--all-maps` opens it.
 fn write_all_fractions<W: Write>(alloc: Global, bytes: &[u8], output: &mut W) -> io::Result<()> {
     let Ok(root) = Value::from_slice(alloc, bytes) else {
         return Ok(());
     };
-    let count = write_fractions(alloc, &root, output)?;
+    let mut lines = FractionLines { alloc, output };
+    let count = find_fractions(alloc, &root, &mut lines)?;
     drop(root);
     write!(output, "\n  fractions: {count}")?;
     write_with_all_maps(alloc, bytes, output)

@@ -1,6 +1,7 @@
 //! The program: session lines from standard input, and a reply to each on standard output.
 #![tactic(auto)]
 
+mod forms;
 mod options;
 mod reports;
 
@@ -81,7 +82,7 @@ fn main(rt: HostRuntime) -> ExitCode {
     let faults = FolderFaults::new(&rt, options.folder);
     // One type of store with and without the option: the compiler folds what `run` calls once into it.
     let mut store = TiledStore::new(files, faults, options.opens_all_maps);
-    let report = ErrorLines(&rt);
+    let report = ErrorLines::new(&rt, rt.alloc());
     let strict = if options.is_strict {
         Some(&report)
     } else {

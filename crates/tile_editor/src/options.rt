@@ -78,6 +78,14 @@ Exit status:
 
 What each line does, and each reply, is in docs/session-lines.md.";
 
+/// The forms of session lines, as the help shows them: each on a line of its own, behind two spaces.
+pub fn shown_forms() -> &'static str {
+    match AFTER_HELP.split_once("\n\n") {
+        Some((forms, _)) => forms,
+        None => AFTER_HELP,
+    }
+}
+
 /// What a command line asks for.
 #[derive(Clone, Copy, Debug, PartialEq, Eq)]
 pub struct Options<'a> {

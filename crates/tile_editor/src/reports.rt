@@ -1,20 +1,29 @@
 // What standard error says beside the faults that end the program.
+use crate::forms::hint_of;
 use map_store::Reason;
 use session::Refusal;
 use session_run::{Report, Unsaved};
+use std::alloc::Global;
 use std::fmt::{Display, Formatter, Write};
 use std::rt::Files;
 use std::{fmt, fs};
 use tiled_maps::Fault;
 use tiled_store::FaultReport;
 
-/// The text of a session line, its control characters as escapes: a carriage return would hide what stands before it.
+/// The most characters of a session line that are shown.
+const MAX_SHOWN: usize = 200;
+
+/// The text of a session line, cut where it is long. Its control characters are escapes: a carriage return would hide what
+/// stands before it.
 #[derive(Drop)]
 struct Shown<'a>(&'a str);
 
 impl<'a> Display for Shown<'a> {
     fn fmt<W: Write>(&self, f: &mut Formatter<W>) -> fmt::Result {
-        for character in self.0.chars() {
+        for (at, character) in self.0.chars().enumerate() {
+            if at == MAX_SHOWN {
+                return f.write_str("...");
+            }
             if character.is_control() {
                 let escaped = character.escape_unicode();
                 write!(f, "{escaped}")?;
@@ -26,9 +35,28 @@ impl<'a> Display for Shown<'a> {
     }
 }
 
+// What is said behind the words of a refusal; nothing where there is no memory for it.
+fn hint_behind(alloc: Global, text: &str, refusal: Refusal) -> String {
+    let hint = match refusal {
+        Refusal::Line(fault) => hint_of(alloc, text, fault),
+        _ => return String::new(alloc),
+    };
+    hint.unwrap_or(String::new(alloc))
+}
+
 /// Says on standard error what ended a strict run.
 #[derive(Drop)]
-pub struct ErrorLines<'a, R>(pub &'a R);
+pub struct ErrorLines<'a, R> {
+    rt: &'a R,
+    alloc: Global,
+}
+
+impl<'a, R: Eprint> ErrorLines<'a, R> {
+    /// With memory for what it says of a line's form.
+    pub fn new(rt: &'a R, alloc: Global) -> ErrorLines<'a, R> {
+        ErrorLines { rt, alloc }
+    }
+}
 
 impl<'a, R: Eprint> Report for ErrorLines<'a, R> {
     fn refused(&self, number: u64, text: Option<&str>, refusal: Refusal) {
@@ -36,9 +64,10 @@ impl<'a, R: Eprint> Report for ErrorLines<'a, R> {
         let _ = match text {
             Some(text) => {
                 let line = Shown(text);
-                eprintln!(self.0; "tile_editor: line {number}: {line}: no {words}")
+                let hint = hint_behind(self.alloc, text, refusal);
+                eprintln!(self.rt; "tile_editor: line {number}: {line}: no {words}{hint}")
             }
-            None => eprintln!(self.0; "tile_editor: line {number}: no {words}"),
+            None => eprintln!(self.rt; "tile_editor: line {number}: no {words}"),
         };
     }
 
@@ -47,7 +76,7 @@ impl<'a, R: Eprint> Report for ErrorLines<'a, R> {
             Unsaved::OpenMacro => "macro open",
             Unsaved::Changes => "unsaved changes",
         };
-        let _ = eprintln!(self.0; "tile_editor: end of input: {document}: {what}");
+        let _ = eprintln!(self.rt; "tile_editor: end of input: {document}: {what}");
     }
 }
 
