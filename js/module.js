@@ -10,6 +10,15 @@ export const NONE = 2 ** 32 - 1;
 export const CLOSED = NONE - 1;
 export const NO_MEMORY = NONE - 2;
 export const BAD_NAME = NONE - 4;
+export const NOT_JSON = NONE - 5;
+// Why a map is not set aside: the numbers of these answers, and the words of the program.
+export const ASIDE_FAULTS = new Map([
+  [NONE - 6, 'a member has the reserved name "roskevad"'],
+  [NONE - 7, "with its fractions set aside it nests deeper than 127"],
+]);
+
+// A size is not above it: the memory has at most 3 GiB.
+const GREATEST_SIZE = 3 * 2 ** 30;
 
 // The module beside this file, and the section with the version at its end.
 const BESIDE = new URL("./roskevad.wasm", import.meta.url);
@@ -168,6 +177,25 @@ export class Module {
     return this.holding(count * unit, (at) => {
       again(at, count);
       return copied(at);
+    });
+  }
+
+  /**
+   * What a call without a slot makes of bytes: the answer, and the bytes that it copies; null where it has
+   * none. It is called once more where the room, which grows with the bytes, was too small. Throws NoMemory.
+   */
+  made(data, name) {
+    const given = bytesOf(data);
+    const call = this.calls[name] ?? (() => NONE);
+    return this.holding(given.length, (at) => {
+      this.bytes().set(given, at);
+      const copied = (room) => this.holding(room, (to) => {
+        const answer = call(at, given.length, to, room);
+        this.number(answer);
+        return { answer, bytes: answer <= room ? this.bytes().slice(to, to + answer) : null };
+      });
+      const first = copied(2 * given.length + ROOM);
+      return first.bytes === null && first.answer < GREATEST_SIZE ? copied(first.answer) : first;
     });
   }
 
