@@ -10,13 +10,15 @@ export const NONE = 2 ** 32 - 1;
 export const CLOSED = NONE - 1;
 export const NO_MEMORY = NONE - 2;
 export const BAD_NAME = NONE - 4;
-export const NOT_JSON = NONE - 5;
-// Why a map is not set aside: the numbers of these answers, and the words of the program.
+// Why a map is not set aside, or put back: what the calls answer, and the words of the program.
 export const ASIDE_FAULTS = new Map([
   [NONE - 6, 'a member has the reserved name "roskevad"'],
-  [NONE - 7, "with its fractions set aside it nests deeper than 127"],
+  [NONE - 7, "set aside or put back, it would nest deeper than 127"],
+  [NONE - 8, "a chunk has no place, no size, or not a cell for each of its places"],
+  [NONE - 9, "two chunks of a layer overlap"],
+  [NONE - 10, "made finite, its layers have more than 16,777,216 cells"],
+  [NONE - 11, "made finite, it would not come back as it was"],
 ]);
-
 // A size is not above it: the memory has at most 3 GiB.
 const GREATEST_SIZE = 3 * 2 ** 30;
 
