@@ -46,67 +46,105 @@ export class Part {
 
   /** The members of an object, by their names; the last one where there are several. None of any other value. */
   members() {
-    const found = new Map();
-    let at = this._inside("{");
-    while (at !== null) {
-      const nameEnd = this.text[at] === '"' ? behindString(this.text, at) : null;
-      const colon = nameEnd === null ? null : behindSpace(this.text, nameEnd);
-      if (colon === null || this.text[colon] !== ":") {
-        break;
-      }
-      const start = behindSpace(this.text, colon + 1);
-      const end = endOf(this.text, start);
-      if (end === null) {
-        break;
-      }
-      const name = new Part(this.text, at, nameEnd).value;
-      found.set(name, new Part(this.text, start, end, at, nameEnd));
-      at = behindComma(this.text, end);
-    }
-    return found;
+    const { text, start } = this;
+    return text[start] === "{" ? readMembers(text, start, (_, at) => endOf(text, at)).found : new Map();
   }
 
   /** The entries of an array. None of any other value. */
-  *entries() {
-    let at = this._inside("[");
-    while (at !== null) {
-      const end = endOf(this.text, at);
-      if (end === null) {
-        return;
+  entries() {
+    const { text, start } = this;
+    const found = [];
+    const read = (at) => {
+      const end = endOf(text, at);
+      if (end !== null) {
+        found.push(new Part(text, at, end));
       }
-      yield new Part(this.text, at, end);
-      at = behindComma(this.text, end);
+      return end;
+    };
+    if (text[start] === "[") {
+      readEntries(text, start, read);
     }
-  }
-
-  // Where the first name or entry stands, if the value begins so and has one.
-  _inside(bracket) {
-    return this.text[this.start] === bracket ? behindSpace(this.text, this.start + 1) : null;
+    return found;
   }
 }
 
-/** The members of a map, and those of each of its layers, also in groups; of no layer where they are too many. */
+/**
+ * The members of a map, and those of each of its layers, also in groups; of no layer where they are too many,
+ * or the text is cut short. No part of the text is gone through twice.
+ */
 export function mapAndLayers(text) {
+  const walk = new Walk(text);
   const start = behindSpace(text, 0);
-  const map = new Part(text, start, text.length).members();
-  const layers = [];
-  for (const layer of layersIn(map, 1)) {
-    layers.push(layer);
-    if (layers.length > MOST_LAYERS) {
-      return { map, layers: [] };
-    }
+  if (text[start] !== "{") {
+    return { map: new Map(), layers: [] };
   }
-  return { map, layers };
+  const { found, end } = readMembers(text, start, (name, at) => walk.member(name, at));
+  return { map: found, layers: end === null ? [] : walk.layers };
 }
 
-function* layersIn(members, depth) {
-  for (const entry of members.get("layers")?.entries() ?? []) {
-    const layer = entry.members();
-    yield layer;
-    if (depth < MOST_DEEP) {
-      yield* layersIn(layer, depth + 1);
-    }
+// A walk through the layers of a map, and through the groups among them.
+class Walk {
+  constructor(text) {
+    this.layers = [];
+    this._text = text;
+    this._depth = 0;
   }
+
+  // Where a member of the map or of a layer ends; layers in it are read.
+  member(name, start) {
+    if (name !== "layers" || this._text[start] !== "[" || this._depth === MOST_DEEP) {
+      return endOf(this._text, start);
+    }
+    this._depth += 1;
+    const end = readEntries(this._text, start, (at) => this._layer(at));
+    this._depth -= 1;
+    return end;
+  }
+
+  _layer(start) {
+    if (this._text[start] !== "{") {
+      return endOf(this._text, start);
+    }
+    const { found, end } = readMembers(this._text, start, (name, at) => this.member(name, at));
+    this.layers.push(found);
+    return this.layers.length <= MOST_LAYERS ? end : null;
+  }
+}
+
+// The members of the object that stands here, and where it ends; null where it does not. A function says where
+// the value of a member ends.
+function readMembers(text, start, endOfMember) {
+  const found = new Map();
+  let at = behindSpace(text, start + 1);
+  while (text[at] === '"') {
+    const nameEnd = behindString(text, at);
+    const colon = behindSpace(text, nameEnd ?? text.length);
+    if (nameEnd === null || text[colon] !== ":") {
+      return { found, end: null };
+    }
+    const name = new Part(text, at, nameEnd).value;
+    const valueStart = behindSpace(text, colon + 1);
+    const end = endOfMember(name, valueStart);
+    if (end === null) {
+      return { found, end: null };
+    }
+    found.set(name, new Part(text, valueStart, end, at, nameEnd));
+    at = behindComma(text, end);
+  }
+  return { found, end: text[at] === "}" ? at + 1 : null };
+}
+
+// Where the array that stands here ends; null where it does not. A function says where an entry ends.
+function readEntries(text, start, endOfEntry) {
+  let at = behindSpace(text, start + 1);
+  while (at < text.length && text[at] !== "]") {
+    const end = endOfEntry(at);
+    if (end === null) {
+      return null;
+    }
+    at = behindComma(text, end);
+  }
+  return at < text.length ? at + 1 : null;
 }
 
 // Where what a pattern matches ends, or null.
@@ -119,10 +157,10 @@ function behindSpace(text, at) {
   return matched(SPACE, text, at);
 }
 
-// Where the next name or entry stands, behind a comma; null where none is there.
+// Where the next name, entry or bracket stands, behind a comma if there is one.
 function behindComma(text, at) {
   const comma = behindSpace(text, at);
-  return text[comma] === "," ? behindSpace(text, comma + 1) : null;
+  return text[comma] === "," ? behindSpace(text, comma + 1) : comma;
 }
 
 // Where the value that stands here ends, or null.

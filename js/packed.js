@@ -32,7 +32,7 @@ export class Unpackable extends Error {
 export async function unpacked(bytes) {
   const text = seen(bytes);
   if (text === null) {
-    return { bytes, isUnpacked: false, why: null };
+    return { bytes, why: null };
   }
   const { map, layers } = mapAndLayers(text);
   if (layers.some((layer) => layer.has(NOTE))) {
@@ -47,8 +47,7 @@ export async function unpacked(bytes) {
       edits.push(...(await unpackedLayer(layer, packings[at], cellsOf(map), budget)));
     }
   }
-  const isUnpacked = edits.length > 0;
-  return { bytes: isUnpacked ? new TextEncoder().encode(edited(text, edits)) : bytes, isUnpacked, why };
+  return { bytes: edits.length > 0 ? new TextEncoder().encode(edited(text, edits)) : bytes, why };
 }
 
 /** The bytes of a map with those layers packed that note how; the same bytes where none does. */
