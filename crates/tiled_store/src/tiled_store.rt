@@ -87,8 +87,7 @@ impl<S: MapStore, T: FaultReport> TiledStore<S, T> {
             Ok(None) => Ok(bytes),
             Err(Fault::NotJson) => Ok(bytes),
             Err(Fault::Memory) => Err(StoreFault::Memory),
-            Err(Fault::NameTaken) => Err(self.refused(name, Fault::NameTaken)),
-            Err(Fault::TooDeep) => Err(self.refused(name, Fault::TooDeep)),
+            Err(fault) => Err(self.refused(name, fault)),
         }
     }
 
@@ -110,9 +109,8 @@ impl<S: MapStore, T: FaultReport> TiledStore<S, T> {
             Ok(Some(text)) => self.store.store(alloc, name, text.as_slice()),
             Ok(None) => self.store.store(alloc, name, bytes),
             Err(Fault::Memory) => Err(StoreFault::Memory),
-            Err(Fault::NotJson | Fault::NameTaken | Fault::TooDeep) => {
-                self.store.store(alloc, name, bytes)
-            }
+            Err(Fault::NotJson) => self.store.store(alloc, name, bytes),
+            Err(fault) => Err(self.refused(name, fault)),
         }
     }
 }
