@@ -210,12 +210,13 @@ function base64Size(size) {
   return Math.ceil(size / 3) * 4;
 }
 
-// The bytes of a text in base64, with all its padding; null where it is none.
+// The bytes of a text in base64, in which space may stand; null where it is none.
 function bytesOfBase64(text) {
-  if (text.length % 4 !== 0 || !/^[A-Za-z0-9+/]*={0,2}$/.test(text)) {
+  const plain = text.replace(/[ \t\r\n]/g, "");
+  if (plain.length % 4 !== 0 || !/^[A-Za-z0-9+/]*={0,2}$/.test(plain)) {
     return null;
   }
-  return Uint8Array.from(atob(text), (character) => character.charCodeAt(0));
+  return Uint8Array.from(atob(plain), (character) => character.charCodeAt(0));
 }
 
 function base64Of(bytes) {

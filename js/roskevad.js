@@ -230,7 +230,7 @@ export class Editor {
    */
   async saveMap() {
     const call = "saveMap()";
-    const shown = this._say("show", call).subarray(MAP.length);
+    const shown = this._say("show", call).slice(MAP.length);
     const bytes = this._hasSetAside ? this._made("put_back", shown, call) : shown;
     this._say("clean", call);
     if (!this._hasSetAside) {

@@ -18,6 +18,7 @@ NOTE = 'roskevad_compression'
 _NOTE_TAKEN = f'a layer has a member of the reserved name "{NOTE}"'
 _TOO_LONG = 'unpacked, its layers have more than 67,108,864 bytes'
 _BAD_DATA = 'the data of a layer does not unpack to 4 bytes a cell'
+_NO_SPACE = str.maketrans('', '', ' \t\r\n')
 _CELL_BYTES, _MOST_CELLS, _MOST_BYTES = 4, 1_048_576, 67_108_864
 
 
@@ -141,8 +142,8 @@ def _data_edit(holder: Members, data: bytes) -> Edit:
 
 
 def _decoded(text: str) -> Optional[bytes]:
-    """The bytes of a text in base64, with all its padding; `None` where it is none."""
+    """The bytes of a text in base64, in which space may stand; `None` where it is none."""
     try:
-        return base64.b64decode(text.encode('ascii'), validate=True)
+        return base64.b64decode(text.translate(_NO_SPACE).encode('ascii'), validate=True)
     except (UnicodeEncodeError, binascii.Error):
         return None
