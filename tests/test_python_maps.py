@@ -4,23 +4,30 @@ Tiled exports them in each tile layer format, finite and infinite; Tiled exports
 that has the same numbers as its export of the source. Maps that need nothing set aside are opened and
 saved byte for byte as without. Data that are cut short, damaged, too long, or that would take very
 much memory are refused by name. Zstandard is packed and unpacked by Debian's `python3-zstandard`."""
-import gzip
+import base64
 import json
-import os
 import random
-import resource
 import subprocess
 import sys
 import tempfile
+import zlib
 from pathlib import Path
 
-from lib import infinite, tiled_package
+from lib import tiled_package
+from lib.any_maps import exports, in_each_format, saved_as, some_map
 from lib.asides import exact, exact_text
 from lib.cases import CORES, Case, check_each, passed, unlike
 from lib.json_texts import tree_of
 from lib.maps import map_of, new_map, property_of, text_of, thing, things, tiles
 from lib.packings import (
-    CSV, GZIP, PACKINGS, PLAIN, ZLIB, ZSTANDARD, cells_in, data_of, packed_bytes, text_of_bytes, with_cells, with_packing,
+    GZIP,
+    ZLIB,
+    ZSTANDARD,
+    data_of,
+    packed_bytes,
+    text_of_bytes,
+    with_packing,
+    zstandard,
 )
 from lib.places import TOP, example_maps
 
@@ -37,11 +44,6 @@ BAD_DATA = 'the data of a layer does not unpack to 4 bytes a cell'
 TOO_LONG = 'unpacked, its layers have more than 67,108,864 bytes'
 
 
-def saved_as(tree):
-    """The tree of a map that was opened and saved, with its cells as lists."""
-    return exact({**with_cells(tree), 'version': '1.10'})
-
-
 def opened(data, **more):
     """An editor with a map."""
     editor = Editor(**more)
@@ -50,17 +52,6 @@ def opened(data, **more):
 
 
 # ---- what is opened and saved
-
-
-def some_map(chosen):
-    """A map by chance: infinite or not, with fractions or not, packed in some way."""
-    tree = {**infinite.some_map(chosen), 'tilesets': [{'firstgid': 1, 'source': 'a.tsj'}]}
-    if chosen.random() < 0.4:
-        width, height = chosen.randint(1, 30), chosen.randint(1, 30)
-        cells = [chosen.choice((0, chosen.randint(0, 2**32 - 1))) for _ in range(width * height)]
-        layer = tiles(1, width, height, data=cells, opacity=chosen.choice((1, 0.1)))
-        tree = map_of(layer, things(2, thing(1, x=chosen.choice((3, 413.333)))), width=width, height=height)
-    return with_packing(tree, chosen.choice(PACKINGS), chosen.choice((-1, 1, 9)))
 
 
 def edit_by_chance(editor, chosen):
@@ -118,8 +109,6 @@ def _words(values):
 
 def _without_system(text, packing):
     """Packed data without the byte in which gzip tells its system."""
-    import base64
-
     data = base64.b64decode(text)
     return data[:9] + data[10:] if packing == GZIP else data
 
@@ -318,10 +307,6 @@ def test_bombs():
 
 
 def _bomb(packing):
-    import zlib
-
-    from lib.packings import zstandard
-
     piece, count = bytes(1 << 20), 2048
     if packing == ZSTANDARD:
         packer = zstandard().ZstdCompressor(level=1).compressobj()
@@ -349,40 +334,6 @@ def fault_of_export(case):
         for each in (path.name, f'saved_{path.name}')
     ]
     return unlike(saved_as(tree_of(source)[0]), saved_as(tree_of(saved)[0])) or unlike(*again)
-
-
-def exports(folder):
-    """The files that Tiled exports of its examples."""
-    for source in tiled_package.unpacked(folder):
-        name = f'{source.stem}.tmj'
-        if tiled_package.exported(source, source.parent, name) is not None:
-            yield source.parent / name
-
-
-def in_each_format(path):
-    """The files of a map as Tiled exports it in each tile layer format, finite and infinite."""
-    tree = json.loads(path.read_bytes())
-    for packing in PACKINGS:
-        for is_infinite in (False, True):
-            given = with_packing(tree, packing, 9)
-            if is_infinite:
-                make_infinite(given)
-            (path.parent / 'given.tmj').write_bytes(json.dumps(given).encode())
-            name = f'{packing}_{is_infinite}.tmj'
-            data = tiled_package.exported(path.parent / 'given.tmj', path.parent, name)
-            told = json.loads(data)
-            came = told['infinite'], told['layers'][0].get('compression') or CSV
-            wanted = is_infinite, CSV if packing == PLAIN else packing
-            assert came == wanted, f'Tiled has exported {came}, and not {wanted}'
-            yield path.parent / name
-
-
-def make_infinite(tree):
-    for layer in tree['layers']:
-        if 'data' in layer:
-            sides = {name: layer[name] for name in ('width', 'height')}
-            layer.update(chunks=[{'x': -5, 'y': 7, 'data': layer.pop('data'), **sides}], startx=-5, starty=7)
-    tree['infinite'] = True
 
 
 def test_maps_of_tiled():
