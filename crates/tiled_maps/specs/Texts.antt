@@ -1,11 +1,11 @@
 -- What is answered for bytes.
-use Rattle.std.specs.Prelude.{◌≡◌, ◌<◌, ◌⊎◌, IsUtf8, ℕ, List, Bool, true, false, ◌||◌, Result, Ok, Err, Option, Some, None, is_some, Vec}
+use Rattle.std.specs.Prelude.{◌≡◌, ◌<◌, IsUtf8, ℕ, List, true, false, ◌||◌, Result, Ok, Err, Option, Some, None, is_some, Vec}
 use Rattle.std.specs.Global.{Global}
 use Rattle.serde_json.specs.Data.{Data, depth}
 use Rattle.serde_json.specs.Read.{read, max_depth}
 use Rattle.serde_json.specs.View.{view}
 use Rattle.serde_json.specs.declared.value.Value.{Value}
-use Rattle.infinite_maps.specs.Infinite.{is_infinite}
+use Rattle.infinite_maps.specs.Infinite.{is_infinite, infinite_of}
 use Rattle.tiled_maps.specs.declared.fault.Fault.{Fault}
 use Rattle.tiled_maps.specs.declared.fault.Fault.TheVariants.{Memory, NotJson, NameTaken, TooDeep, BadChunk, Overlap, TooLarge, Unlike}
 use Rattle.tiled_maps.specs.declared.place.Place.TheVariants.{Map}
@@ -65,7 +65,7 @@ PutsBack bytes (Ok text) = (d : Data) × IsPutBack bytes text d
 PutsBack bytes (Err Memory) = Unit {0}
 PutsBack bytes (Err NotJson) = IsUtf8 bytes → read bytes ≡ None
 PutsBack bytes (Err NameTaken) = ⊥
-PutsBack bytes (Err TooDeep) = (d : Data) × IsTreeOf bytes d × (max_depth < depth (put_back_of d))
+PutsBack bytes (Err TooDeep) = (d : Data) × IsTreeOf bytes d × (is_some (infinite_of d) ≡ true) × (max_depth < depth (put_back_of d))
 PutsBack bytes (Err BadChunk) = ⊥
 PutsBack bytes (Err Overlap) = ⊥
 PutsBack bytes (Err TooLarge) = ⊥

@@ -33,7 +33,8 @@ impl Fault {
             Fault::NotJson => "not JSON",
             Fault::NameTaken => "a member has the reserved name \"roskevad\"",
             Fault::TooDeep => "set aside or put back, it would nest deeper than 127",
-            Fault::BadChunk => "a chunk has no place, no size, or not a cell for each of its places",
+            Fault::BadChunk =>
+                "a chunk has no place, no size, or not a cell for each of its places",
             Fault::Overlap => "two chunks of a layer overlap",
             Fault::TooLarge => "made finite, its layers have more than 16,777,216 cells",
             Fault::Unlike => "made finite, it would not come back as it was",

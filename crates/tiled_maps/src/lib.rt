@@ -12,4 +12,4 @@ mod text;
 mod tree;
 
 pub use fault::Fault;
-pub use text::{put_back, set_aside};
+pub use text::{LONGEST, put_back, set_aside};

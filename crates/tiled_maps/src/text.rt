@@ -13,6 +13,9 @@ use crate::tree::{MAX_DEPTH, finite, infinite, whole};
 use serde_json::Value;
 use std::alloc::Global;
 
+/// The bytes of the longest text that a caller is to take from these calls, or to give them: as of a file that is loaded.
+pub const LONGEST: usize = 67_108_864;
+
 // The tree that the bytes have.
 fn read(alloc: Global, bytes: &[u8]) -> Result<Value, Fault>
     ensures { Reads bytes.now result }
