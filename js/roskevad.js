@@ -4,7 +4,7 @@
 //   editor.step("new town 4 3 16 16 town.tsj");
 import { originOf, restored } from "./aside.js";
 import { Closed, NoMemory, Refused } from "./faults.js";
-import { ASIDE_FAULTS, BAD_NAME, DONE, Module, NONE, bytesOf, textOf } from "./module.js";
+import { BAD_NAME, DONE, Module, NONE, bytesOf, textOf } from "./module.js";
 import { Unpackable, packed, unpacked } from "./packed.js";
 
 export { BadModule, Broken, Closed, NoMemory, Refused } from "./faults.js";
@@ -258,11 +258,10 @@ export class Editor {
 
   // What a call of the library makes of the text of a map; the same bytes where it makes none.
   _made(name, bytes, call) {
-    const { answer, bytes: text } = this._module.made(bytes, name);
-    if (ASIDE_FAULTS.has(answer)) {
-      throw refusedCall(STORE_FAILED, "store failed", call, ASIDE_FAULTS.get(answer));
+    const { text, why } = this._module.made(name, bytes);
+    if (why !== null) {
+      throw refusedCall(STORE_FAILED, "store failed", call, why);
     }
-    // A text that is no JSON is refused by its reader.
     return text ?? bytes;
   }
 

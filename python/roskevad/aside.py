@@ -22,6 +22,9 @@ _FAULTS = {
     library.TOO_LARGE: 'made finite, its layers have more than 16,777,216 cells',
     library.UNLIKE: 'made finite, it would not come back as it was',
 }
+# The longest text that is made, as in the program.
+_LONGEST = 67_108_864
+_TOO_LONG = 'set aside or put back, it would be longer than 67,108,864 bytes'
 _WORDS = {51: 'store failed', 66: 'bad data'}
 
 
@@ -50,17 +53,19 @@ def _refused(fault: Unpackable, call: str) -> Refused:
 def _made(name: str, data: bytes, call: str) -> bytes:
     """What a call of the library makes of a text: the same, where it makes none. The text is made once more, where it has no room."""
     function = getattr(LIBRARY, f'roskevad_{name}')
-    room = Room(2 * len(data) + 65_536)
+    room = Room(min(2 * len(data) + 65_536, _LONGEST))
     size: int = function(data, len(data), room.at, room.size)
-    if room.size < size < library.UNLIKE:
+    if room.size < size <= _LONGEST:
         room = Room(size)
         size = function(data, len(data), room.at, room.size)
     if size == library.NO_MEMORY:
         raise MemoryError
-    if size in _FAULTS:
-        raise Refused(51, _WORDS[51], call, forms=(), why=_FAULTS[size])
     # A text that is no JSON is refused by its reader.
-    text: bytes = data if size in (library.NONE, library.NOT_JSON) else room.bytes[:size]
+    if size in (library.NONE, library.NOT_JSON):
+        return data
+    if size > _LONGEST:
+        raise Refused(51, _WORDS[51], call, forms=(), why=_FAULTS.get(size, _TOO_LONG))
+    text: bytes = room.bytes[:size]
     return text
 
 
