@@ -1,6 +1,6 @@
 // What the declarations must take, and what they must not. It is checked, and never run.
 import {
-  BadModule, Broken, Closed, Editor, FORMS, Module, NoMemory, Refused, VERSION, formsOf,
+  BadModule, Broken, Closed, Editor, FORMS, Module, NoMemory, Refused, VERSION, documentName, formsOf,
 } from "../../js/roskevad.js";
 
 async function used(bytes: Uint8Array): Promise<void> {
@@ -15,6 +15,9 @@ async function used(bytes: Uint8Array): Promise<void> {
   const file: Uint8Array | null = editor.file("a.tmj");
   const was: boolean = editor.removeFile("a.tmj");
   const names: string[] = editor.files();
+  const opened: string = await editor.openMap(documentName("a.tmj"), bytes);
+  const saved: Uint8Array = await editor.saveMap();
+  const [first, top]: [number, number] = editor.origin();
   const cells: Uint32Array | null = editor.cells(1, 0, 0, 4, 3);
   const sides: unknown[] = [editor.outline().width, editor.map().height];
   const [[row, column, count]] = editor.selection();
@@ -36,11 +39,14 @@ async function used(bytes: Uint8Array): Promise<void> {
   const refused = new Refused(4, "bad word", "undo undo");
   const faults: Error[] = [refused, new Closed(), new NoMemory(), new Broken(), new BadModule()];
   const forms: readonly string[] = [...refused.forms, ...(FORMS.get("undo") ?? []), ...formsOf("u")];
+  const why: string | null = refused.why;
   const told: [number, string, string, string] = [refused.code, refused.words, refused.line, VERSION];
   const before: readonly string[] = refused.place === null ? [] : refused.replies;
 
   // @ts-expect-error: a line is a text
   editor.step(5);
+  // @ts-expect-error: a saved map comes later
+  editor.putFile("a.tmj", editor.saveMap());
   // @ts-expect-error: a limit is a number
   await Editor.create({ limit: "5" });
   // @ts-expect-error: a source is no number
@@ -55,6 +61,7 @@ async function used(bytes: Uint8Array): Promise<void> {
   refused.forms.push("undo");
 
   void [reply, said, replies, all, file, was, names, cells, sides, sum, clean, isMacro, text, ids];
+  void [opened, saved, first, top, why];
   void [second, third, fourth, fifth, isBroken, faults, forms, told, before, none];
 }
 
