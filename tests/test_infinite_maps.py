@@ -16,6 +16,7 @@ from pathlib import Path
 from lib import infinite, tiled_package
 from lib.asides import (
     INFINITE_FAULTS,
+    NOT_JSON,
     OPTION,
     TOO_DEEP,
     UNLIKE,
@@ -262,25 +263,24 @@ def test_maps_that_are_refused():
     check_each([Case(name, tree, words) for name, tree, words in REFUSED], fault_of_refused, CORES)
 
 
+def kinds_of(answers_given):
+    return ['a text' if text.startswith(b'{') else text.decode() for text in answers_given]
+
+
 def test_maps_that_nest():
-    """A layer without chunks nests two levels deeper as a note has its rectangles; put back, a new
-    layer does for its chunks."""
+    """Within n lists a layer is n + 2 levels deep. Set aside, the list of chunks stands in the layer's
+    note, at n + 4, where it stood at n + 3; put back, the data of a new chunk are at n + 5."""
     layer = layer_of(1, 'tilelayer', chunks=[])
-    texts = [nested(levels, layer) for levels in (122, 123, 124, 125, 126)]
-    deep = [exact_text(text) is not None for text in texts]
-    came = [text.decode()[:90] for text in answers('aside', texts)]
-    kinds = [text if not text.startswith('{') else 'a text' for text in came]
-    wanted = ['a text' if levels <= 124 else TOO_DEEP for levels in (122, 123, 124, 125)]
-    fault = unlike((wanted, True), (kinds[:4], deep[3]))
+    asides = answers('aside', [nested(levels, layer) for levels in (122, 123, 124, 125)])
+    fault = unlike(['a text', 'a text', TOO_DEEP, NOT_JSON], kinds_of(asides))
     assert not fault, fault
     note = '"height":1,"infinite":false,"roskevad":{"infinite":{"chunkheight":16,"chunkwidth":16}},"width":1'
-    backs = [
+    texts = [
         f'{{"layers":{"[" * levels}{{"data":[1]}}{"]" * levels},{note}}}'.encode()
-        for levels in (122, 123, 124, 125)
+        for levels in (121, 122, 123, 124, 125)
     ]
-    came = [text.decode()[:90] for text in answers('back', backs)]
-    kinds = [text if not text.startswith('{') else 'a text' for text in came]
-    fault = unlike(['a text' if levels <= 122 else TOO_DEEP for levels in (122, 123, 124, 125)], kinds)
+    backs = kinds_of(answers('back', texts))
+    fault = unlike(['a text', 'a text', TOO_DEEP, TOO_DEEP, NOT_JSON], backs)
     assert not fault, fault
 
 
