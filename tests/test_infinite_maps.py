@@ -6,11 +6,15 @@ the edges of the rules, and maps that are refused, are named here with what must
 open, edit, undo and save infinite maps by `tile_editor --all-maps`, beside the plain model. Debian's
 package `tiled` has infinite maps: they are edited, moved and saved, and real Tiled, which exports what
 was saved, reads the same cells."""
+import base64
 import itertools
 import json
 import random
+import re
+import struct
 import subprocess
 import tempfile
+import zlib
 from pathlib import Path
 
 from lib import infinite, tiled_package
@@ -450,13 +454,33 @@ def objects_of_file(data):
     return [(item['x'], item['y']) for layer in layers for item in layer.get('objects', [])]
 
 
+PACKED_DATA = 'encoding="base64" compression="zlib"'
+
+
+def unpacked_to(encoding, text):
+    """The text of a map of Tiled, with its packed chunks in another encoding."""
+
+    def plain(found):
+        data = zlib.decompress(base64.b64decode(found[2]))
+        values = struct.unpack(f'<{len(data) // 4}I', data)
+        cells = ','.join(map(str, values)) if encoding == 'csv' else packed(values)
+        return f'{found[1]}{cells}</chunk>'
+
+    text = re.sub('(<chunk[^>]*>)([^<]*)</chunk>', plain, text)
+    return text.replace(PACKED_DATA, f'encoding="{encoding}"')
+
+
 def sources(folder):
-    """Infinite maps as Tiled exports them: its own, and that of `examples/maps`."""
+    """Infinite maps as Tiled exports them: its own, in both encodings without compression, and that of
+    `examples/maps`."""
     for path in tiled_package.unpacked(folder):
-        if 'infinite="1"' in path.read_text():
-            data = tiled_package.exported(path, path.parent, f'{path.stem}.tmj')
-            if data is not None and b'"compression":"z' not in data.replace(b' ', b''):
-                yield path.parent, f'{path.stem}.tmj', data
+        text = path.read_text()
+        for encoding in ('csv', 'base64') if 'infinite="1"' in text else ():
+            source = path.with_name(f'{path.stem}_{encoding}.tmx')
+            source.write_text(unpacked_to(encoding, text))
+            data = tiled_package.exported(source, path.parent, f'{source.stem}.tmj')
+            assert data is not None, f'Tiled does not export {source.name}'
+            yield path.parent, f'{source.stem}.tmj', data
     own = Path(folder) / 'own'
     own.mkdir()
     for name in ('infinite.tmj', 'tiles.tsx', 'tiles.png'):
