@@ -315,7 +315,7 @@ def test_notes_that_were_changed():
     ]
     for (name, _), came in zip(NOTES, answers('back', texts)):
         tree = exact_text(came)
-        assert tree and tree[0]['infinite'] == (bool, True), f'{name}: came {came[:300]!r}'
+        assert tree and tree['infinite'] == (bool, True), f'{name}: came {came[:300]!r}'
     passed(len(NOTES))
 
 
