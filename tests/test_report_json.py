@@ -233,7 +233,7 @@ LETTERS = [chr(code) for code in [*range(1, 0x180), 0x2028, 0x2029, 0xFEFF, 0xFF
 def named_map(text):
     """A map which has a text wherever a map can have one."""
     prop = {'name': text, 'type': text, 'value': {text: [text, None, True, -1, 2**63]}}
-    thing = {'id': 1, 'name': text, 'properties': [prop, {**prop, 'name': '', 'value': text}]}
+    thing = {'id': 1, 'name': text, 'properties': [prop, {**prop, 'name': f'{text}x', 'value': text}]}
     layer = {'type': 'objectgroup', 'id': 9, 'name': text, 'objects': [thing]}
     return reports.changed(
         {'layers': [layer], 'tilesets': [{'firstgid': 1, 'source': text}], 'properties': [prop]}
