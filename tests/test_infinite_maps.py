@@ -16,6 +16,7 @@ from pathlib import Path
 from lib import infinite, tiled_package
 from lib.asides import (
     INFINITE_FAULTS,
+    NOT_JSON,
     OPTION,
     TOO_DEEP,
     UNLIKE,
@@ -135,9 +136,17 @@ SOUND = [
     ('as many columns as there may be', plane(spread(chunk(-2, 0, 1, 1), chunk(4093, 255, 1, 1)))),
     ('base64', plane(spread(chunk(3, 3, 2, 1, packed([7, (1 << 32) - 1])), **BASE64))),
     ('chunks of zeros', plane(spread(chunk(0, 0, 4, 4, [0] * 16), chunk(8, 8, 4, 4, [0] * 16)))),
-    ('fractions everywhere', plane(spread(chunk(-7, 1, 1, 1), opacity=0.5, startx=0.5), things(2, DOOR), version=1.5, width=0.1)),
+    (
+        'fractions everywhere',
+        plane(
+            spread(chunk(-7, 1, 1, 1), opacity=0.5, startx=0.5), things(2, DOOR), version=1.5, width=0.1
+        ),
+    ),
     ('a fraction for a layer', plane(0.5, spread(chunk(0, 0, 1, 1)))),
-    ('a fraction as the chunk size', plane(spread(chunk(0, 0, 1, 1)), editorsettings={'chunksize': {'width': 0.5, 'height': 32}})),
+    (
+        'a fraction as the chunk size',
+        plane(spread(chunk(0, 0, 1, 1)), editorsettings={'chunksize': {'width': 0.5, 'height': 32}}),
+    ),
     ('a fraction as the tile size', plane(spread(chunk(9, 9, 1, 1)), things(2, DOOR), tilewidth=0.5)),
     ('groups', plane(group(5, group(6, spread(chunk(-2, 0, 2, 2)), things(2, DOOR))))),
     ('staggered', plane(spread(chunk(-3, -3, 1, 1)), things(2, DOOR), orientation='staggered')),
@@ -147,7 +156,8 @@ SOUND = [
     ('two layers', plane(spread(chunk(-16, 0, 2, 1)), spread(chunk(4, 4, 1, 2), height=0.5))),
 ]
 # With data that are compressed a layer stays as it is.
-PACKED = ('packed', plane(spread(chunk(0, 0, 2, 2, 'eJxjYGBgAAAABAAB'), encoding='base64', compression='zlib')))
+ZLIB = {'encoding': 'base64', 'compression': 'zlib'}
+PACKED = ('packed', plane(spread(chunk(0, 0, 2, 2, 'eJxjYGBgAAAABAAB'), **ZLIB)))
 
 
 def fault_of_sound(case):
@@ -191,7 +201,11 @@ REFUSED = [
     ('two chunks at one place', plane(spread(chunk(0, 0, 2, 1), chunk(0, 0, 2, 1))), OVERLAP),
     ('chunks that share a cell', plane(spread(chunk(0, 0, 2, 2), chunk(1, 1, 2, 2))), OVERLAP),
     ('a chunk within another', plane(spread(chunk(0, 0, 4, 4), chunk(1, 1, 1, 1))), OVERLAP),
-    ('chunks that share a cell in a group', plane(in_groups(3, spread(chunk(0, 0, 2, 2), chunk(1, 1, 2, 2)))), OVERLAP),
+    (
+        'chunks that share a cell in a group',
+        plane(in_groups(3, spread(chunk(0, 0, 2, 2), chunk(1, 1, 2, 2)))),
+        OVERLAP,
+    ),
     *((f'no {name}', without(name), BAD) for name in ('x', 'y', 'width', 'height', 'data')),
     ('no columns', with_chunk(width=0), BAD),
     ('fewer rows than none', with_chunk(height=-1), BAD),
@@ -221,8 +235,16 @@ REFUSED = [
     ('chunks of the map itself, and of no form', plane(chunks=1), BAD),
     ('a chunk with a member of its own', with_chunk(more=1), UNLIKE),
     ('a layer with chunks and data', plane(spread(chunk(0, 0, 1, 1), data=[1])), UNLIKE),
-    ('17 layers of 1,048,576 cells', plane(*(spread(chunk(0, 0, 1, 1), chunk(1023, 1023, 1, 1)) for _ in range(17))), LARGE),
-    ('a map of chunks deep in arrays', plane(spread(chunk(0, 0, 1, 1), kept=json.loads('[' * 123 + '0.5' + ']' * 123))), TOO_DEEP),
+    (
+        '17 layers of 1,048,576 cells',
+        plane(*[spread(chunk(0, 0, 1, 1), chunk(1023, 1023, 1, 1))] * 17),
+        LARGE,
+    ),
+    (
+        'a fraction that nests too deep',
+        plane(spread(chunk(0, 0, 1, 1), kept=json.loads('[' * 123 + '0.5' + ']' * 123))),
+        TOO_DEEP,
+    ),
 ]
 
 
@@ -241,25 +263,24 @@ def test_maps_that_are_refused():
     check_each([Case(name, tree, words) for name, tree, words in REFUSED], fault_of_refused, CORES)
 
 
+def kinds_of(answers_given):
+    return ['a text' if text.startswith(b'{') else text.decode() for text in answers_given]
+
+
 def test_maps_that_nest():
-    """A layer without chunks nests two levels deeper as a note has its rectangles; put back, a new
-    layer does for its chunks."""
+    """Within n lists a layer is n + 2 levels deep. Set aside, the list of chunks stands in the layer's
+    note, at n + 4, where it stood at n + 3; put back, the data of a new chunk are at n + 5."""
     layer = layer_of(1, 'tilelayer', chunks=[])
-    texts = [nested(levels, layer) for levels in (122, 123, 124, 125, 126)]
-    deep = [exact_text(text) is not None for text in texts]
-    came = [text.decode()[:90] for text in answers('aside', texts)]
-    kinds = [text if not text.startswith('{') else 'a text' for text in came]
-    wanted = ['a text' if levels <= 124 else TOO_DEEP for levels in (122, 123, 124, 125)]
-    fault = unlike((wanted, True), (kinds[:4], deep[3]))
+    asides = answers('aside', [nested(levels, layer) for levels in (122, 123, 124, 125)])
+    fault = unlike(['a text', 'a text', TOO_DEEP, NOT_JSON], kinds_of(asides))
     assert not fault, fault
     note = '"height":1,"infinite":false,"roskevad":{"infinite":{"chunkheight":16,"chunkwidth":16}},"width":1'
-    backs = [
+    texts = [
         f'{{"layers":{"[" * levels}{{"data":[1]}}{"]" * levels},{note}}}'.encode()
-        for levels in (122, 123, 124, 125)
+        for levels in (121, 122, 123, 124, 125)
     ]
-    came = [text.decode()[:90] for text in answers('back', backs)]
-    kinds = [text if not text.startswith('{') else 'a text' for text in came]
-    fault = unlike(['a text' if levels <= 122 else TOO_DEEP for levels in (122, 123, 124, 125)], kinds)
+    backs = kinds_of(answers('back', texts))
+    fault = unlike(['a text', 'a text', TOO_DEEP, TOO_DEEP, NOT_JSON], backs)
     assert not fault, fault
 
 
@@ -329,7 +350,8 @@ class Drawing(TiledPlay):
         self.sizes = self.size()
         for _ in range(STEPS):
             self.hear(self.line())
-        self.hear('show', 'save n.tmj', 'goto 0', 'save o.tmj', 'open again n.tmj', 'show', 'open old o.tmj')
+        self.hear('show', 'save n.tmj', 'goto 0', 'save o.tmj')
+        self.hear('open again n.tmj', 'show', 'open old o.tmj')
 
     def size(self):
         tree = json.loads(self.document.now.text)
@@ -346,7 +368,8 @@ class Drawing(TiledPlay):
                 f'erase {number} {x} {y} {chosen.randint(1, 9)} {chosen.randint(1, 9)}',
                 f'fill {number} {x} {y} {chosen.randint(0, 3)}',
                 f'object move {number} {chosen.randint(-99, 99)} {y}',
-                f'resize {chosen.randint(1, columns + 9)} {chosen.randint(1, rows + 9)} {chosen.randint(-5, 9)} {chosen.randint(-5, 9)}',
+                f'resize {columns + chosen.randint(0, 9)} {rows + 3} {x % 9 - 4} {y % 9 - 4}',
+                f'resize {x + 1} {y + 1} {chosen.randint(-5, 9)} {chosen.randint(-5, 9)}',
                 f'resize {columns + 4} {rows} 4 0',
                 'layer add tile New',
                 f'layer remove {number}',
@@ -402,13 +425,11 @@ def test_maps_that_do_not_open():
 TOO_LONG = 'set aside or put back, it would be longer than 67,108,864 bytes'
 
 
-def test_texts_that_are_too_long():
-    """A file of some kilobytes, which would be a text of 16,777,216 cells of five digits; and a short
-    one that grows as it is put back."""
-    long = plane(*(spread(chunk(0, 0, 1, 1), chunk(1023, 1023, 1, 1), id=number) for number in range(1, 17)))
-    wide = [chunk(0, y, 1023, 1, [12345] * 1023) for y in range(1023)]
-    long['layers'] = [spread(*wide, id=number) for number in range(1, 13)]
-    done, _ = heard(b'open m m.tmj\n', {'m.tmj': json.dumps(long).encode()}, [OPTION])
+def test_a_text_that_is_too_long():
+    """A file of some kilobytes, whose 16,777,216 cells take 89,478,496 bytes in base64."""
+    corners = [chunk(at, at, 1, 1, packed([1])) for at in (0, 1023)]
+    tree = plane(*(spread(*corners, id=number, **BASE64) for number in range(1, 17)))
+    done, _ = heard(b'open m m.tmj\n', {'m.tmj': json.dumps(tree).encode()}, [OPTION])
     wanted = (f'{refusal(51)}\n', f'tile_editor: maps/m.tmj: {TOO_LONG}\n')
     fault = unlike(wanted, (done.stdout.decode(), done.stderr.decode()))
     assert not fault, fault

@@ -138,7 +138,9 @@ fn all_maps_arg<'a>(alloc: Global) -> Arg<'a>
     Arg::new(alloc, "all_maps")
         .long("all-maps")
         .action(ArgAction::SetTrue)
-        .help("Opens infinite maps and maps with fractions, too, and puts back what no edit changed")
+        .help(
+            "Opens infinite maps and maps with fractions, too, and puts back what no edit changed",
+        )
 }
 
 // The command with its options.
