@@ -189,7 +189,7 @@ export class Module {
    * in words, else null. The text is made once more where it has no room. Throws NoMemory.
    */
   made(name, given) {
-    const call = this.calls[name] ?? (() => NONE);
+    const call = this.calls[name];
     return this.holding(given.length, (at) => {
       this.bytes().set(given, at);
       const copied = (room) => this.holding(room, (to) => {
