@@ -8,7 +8,7 @@
 from .document import Document, Status, Step
 from .editor import Editor
 from .faults import Closed, Refused
-from .layers import Layer, Layers, MapObject, Objects
+from .views import Layer, Layers, MapObject, Objects
 from .library import VERSION as __version__
 from .names import document_name
 from .properties import Properties

@@ -12,7 +12,7 @@ from typing import TYPE_CHECKING, Any, Callable, ContextManager, Iterator, Named
 
 from . import words
 from .faults import Closed, Refused
-from .layers import Layer, Layers, Objects
+from .views import Layer, Layers, Objects
 from .library import NONE, SelectionRun
 from .properties import Properties
 from .rows import Part, doubtful, parts_of, rows_of

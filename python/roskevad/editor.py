@@ -237,8 +237,8 @@ class Editor:
                 self._is_busy = False
 
     def step(self, line: str) -> str:
-        """Does what a line asks for, and gives the reply, '' where the line is quiet. Raises Refused; ValueError where there
-        is a newline in it, and nothing is done."""
+        """Does what a line asks for, and gives the reply, '' where the line is quiet. Raises Refused; TypeError where it is no
+        text, and ValueError where there is a newline in it, and nothing is done."""
         try:
             data = line.encode('utf-8', 'surrogateescape')
         except AttributeError:
@@ -313,8 +313,8 @@ class Editor:
     # ---- the files that `open` and `save` find
     @_turn
     def put_file(self, name: str, data: 'ReadableBuffer') -> None:
-        """Puts the bytes of a bytes-like object under a name, in place of those that are there. Raises ValueError where no
-        line can spell that name."""
+        """Puts the bytes of a bytes-like object under a name, in place of those that are there. Raises TypeError where it is
+        none, and ValueError where no line can spell that name."""
         self._put(name, _data_of(data, 'put_file'))
 
     def _put(self, name: str, data: bytes) -> None:
@@ -554,12 +554,12 @@ class Editor:
 
     def open(self, source: "Union[str, os.PathLike[str], ReadableBuffer]", name: Optional[str] = None) -> Document:
         """Opens the map of a file, by its path from the folder of the editor, or of the bytes of a file. Without a name it gets
-        that of the file, as `document_name` makes it, or `map`. Raises TypeError, ValueError; Refused: 11 where a document has that
+        that of the file, as `document_name` makes it; or `map`, `map2` or so. Raises TypeError, ValueError; Refused: 11 where a document has that
         name, 50 where there is no such file, 51 where it cannot be read, 60 to 69 where it is no map that can be opened."""
         if name is not None:
             words.document(name)
         if not isinstance(source, (str, os.PathLike)):
-            opened = name or 'map'
+            opened = name or self._in_turn(self._free_name)
             self.open_map(opened, source)
             return self._in_turn(lambda: self._handle(opened))
         opened, path = name or document_name(source), Path(source)
@@ -576,7 +576,8 @@ class Editor:
 
     @property
     def active(self) -> Optional[Document]:
-        """The active document; None where none is. Set, it makes a document active, or none."""
+        """The active document; None where none is. Set, it makes a document active, or none; ValueError is raised for one of
+        another editor."""
 
         def work() -> Optional[Document]:
             name = self._active_name()
@@ -596,6 +597,11 @@ class Editor:
     @_turn
     def _in_turn(self, work: Callable[[], _Answer]) -> _Answer:
         return work()
+
+    def _free_name(self) -> str:
+        """The name of a map that comes without one."""
+        taken = self._names()
+        return next(name for name in itertools.chain(['map'], map('map{}'.format, itertools.count(2))) if name not in taken)
 
     def _names(self) -> list[str]:
         """The names of the open documents, in order of opening."""

@@ -11,6 +11,8 @@ LONGEST_TEXT = 200
 GREATEST_COORDINATE, GREATEST_NUMBER = 1_000_000_000, 4_294_967_295
 #: What stands between the two texts of a macro.
 DIVIDER = ' || '
+#: What a MapObject has its id under, so that it can be the value of a property.
+OBJECT = '_object_id'
 _COLOUR = re.compile('#([0-9a-f]{6}|[0-9a-f]{8})')
 _SHOWN = 60
 
@@ -108,7 +110,7 @@ def setting(name: str, value: Any, kind: str) -> str:
         raise ValueError(f'no line sets a property of the type {kind}: {name!r}')
     what = f'the property {name!r}'
     if kind == 'object':
-        return f'object {number(getattr(value, "id", value), what)}'
+        return f'object {number(getattr(value, OBJECT, value), what)}'
     whole = _as_whole(value) if kind == 'int' else value
     takes: Any = _TAKES[kind]
     if not isinstance(whole, takes) or kind == 'int' and isinstance(whole, bool):
@@ -138,6 +140,6 @@ def type_of(name: str, value: Any) -> str:
         return 'int'
     if isinstance(value, float):
         raise ValueError(f'no line sets a property of the type float: {name!r}')
-    if hasattr(value, 'id') and hasattr(value, 'rotation'):
+    if hasattr(value, OBJECT):
         return 'object'
     raise TypeError(f'the property {name!r} is a str, an int, a bool or a MapObject: {type(value).__name__}')

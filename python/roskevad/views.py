@@ -1,6 +1,6 @@
 """The layers of a document, and their objects."""
 import json
-from typing import TYPE_CHECKING, Any, Callable, Iterator, Optional, TypeVar, Union
+from typing import TYPE_CHECKING, Any, Callable, Iterator, Optional, TypeVar, Union, cast
 
 from . import words
 from .faults import Refused
@@ -63,6 +63,10 @@ class MapObject(_View):
 
     _code, _words = 34, 'no such object'
 
+    def __init__(self, document: 'Document', id: int):
+        super().__init__(document, id)
+        self._object_id = id
+
     def _find(self, seen: Seen) -> Members:
         return seen.objects[self.id].members
 
@@ -82,24 +86,27 @@ class MapObject(_View):
         return self._look(lambda members: str(members.get('type', '')))
 
     @property
-    def x(self) -> int:
-        """Its column in pixels. Raises Refused."""
-        return self._look(lambda members: int(members['x']))
+    def x(self) -> float:
+        """Its column in pixels, whole or with a fraction. Raises Refused."""
+        return self._number('x')
 
     @property
-    def y(self) -> int:
-        """Its row in pixels. Raises Refused."""
-        return self._look(lambda members: int(members['y']))
+    def y(self) -> float:
+        """Its row in pixels, whole or with a fraction. Raises Refused."""
+        return self._number('y')
 
     @property
-    def width(self) -> int:
+    def width(self) -> float:
         """Its width in pixels, 0 for a point. Raises Refused."""
-        return self._look(lambda members: int(members['width']))
+        return self._number('width')
 
     @property
-    def height(self) -> int:
+    def height(self) -> float:
         """Its height in pixels, 0 for a point. Raises Refused."""
-        return self._look(lambda members: int(members['height']))
+        return self._number('height')
+
+    def _number(self, name: str) -> float:
+        return self._look(lambda members: cast(float, members[name]))
 
     @property
     def visible(self) -> bool:
@@ -239,17 +246,18 @@ class Layer(_View):
 
     def cells(self, x: int = 0, y: int = 0, width: Optional[int] = None, height: Optional[int] = None) -> memoryview:
         """The values of the cells of a rectangle, row by row, read-only and of 32 bits; without a size, up to the map's right and
-        lower edge. Later edits do not change it. Raises Refused: 31 where it is no tile layer, 32 where the rectangle leaves the
-        map."""
+        lower edge. Later edits do not change it. Raises TypeError, ValueError; Refused: 31 where it is no tile layer, 32 where
+        the rectangle leaves the map."""
         return self._document._cells_of(self, x, y, width, height)[1]
 
     def rows(self, x: int = 0, y: int = 0, width: Optional[int] = None, height: Optional[int] = None) -> list[list[int]]:
-        """The same as a list of rows, each a list of values, as `stamp` takes them. Raises Refused."""
+        """The same as a list of rows, each a list of values, as `stamp` takes them. Raises TypeError, ValueError; Refused."""
         width, cells = self._document._cells_of(self, x, y, width, height)
         return [cells[at:at + width].tolist() for at in range(0, len(cells), width)] if width else []
 
     def tile(self, x: int, y: int) -> Optional[Tile]:
-        """The tile of a cell; None where the cell is empty. Raises Refused: 31 where it is no tile layer, 32 outside the map."""
+        """The tile of a cell; None where the cell is empty. Raises TypeError, ValueError; Refused: 31 where it is no tile layer, 32
+        outside the map."""
         value = self._document._cells_of(self, x, y, 1, 1)[1][0]
         return self._document._look(lambda seen: tile_of(self._document, seen, value)) if value else None
 
