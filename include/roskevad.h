@@ -56,6 +56,15 @@ extern "C" {
 #define ROSKEVAD_TOO_GREAT (SIZE_MAX - 3)            /* the undo limit is above the greatest */
 #define ROSKEVAD_BAD_NAME (SIZE_MAX - 4)             /* no line can spell that name of a file */
 
+/* Why nothing is set aside of a map, or put back. The last four come for infinite maps alone. */
+#define ROSKEVAD_NOT_JSON (SIZE_MAX - 5)             /* the bytes are no JSON in UTF-8, nest deeper than 127, or have too great a number */
+#define ROSKEVAD_NAME_TAKEN (SIZE_MAX - 6)           /* a member has the reserved name, `roskevad` */
+#define ROSKEVAD_TOO_DEEP (SIZE_MAX - 7)             /* the text that would be given nests deeper than 127 */
+#define ROSKEVAD_BAD_CHUNK (SIZE_MAX - 8)            /* a chunk has no place or size, lies too far away, or has not a value for each cell */
+#define ROSKEVAD_OVERLAP (SIZE_MAX - 9)              /* two chunks of a layer overlap */
+#define ROSKEVAD_TOO_LARGE (SIZE_MAX - 10)           /* made finite, the layers would have more than 16,777,216 cells */
+#define ROSKEVAD_UNLIKE (SIZE_MAX - 11)              /* made finite, the map would not come back as it was */
+
 /* What a session is kept in. Its fields are the library's. */
 typedef struct roskevad_slot {
     void *at;
@@ -99,6 +108,8 @@ size_t roskevad_next_object_id(roskevad_slot *slot);
 size_t roskevad_cells(roskevad_slot *slot, uint32_t layer, size_t x, size_t y, size_t width, size_t height, uint32_t *cells, size_t room);
 size_t roskevad_outline(roskevad_slot *slot, uint8_t *text, size_t room);
 void roskevad_close(roskevad_slot *slot);
+size_t roskevad_set_aside(const uint8_t *bytes, size_t length, uint8_t *text, size_t room);
+size_t roskevad_put_back(const uint8_t *bytes, size_t length, uint8_t *text, size_t room);
 size_t roskevad_version(uint8_t *version, size_t room);
 
 /* ---- what to call */
@@ -243,6 +254,25 @@ static inline size_t roskevad_editor_outline(roskevad_slot *slot, char *text, si
 static inline void roskevad_editor_close(roskevad_slot *slot)
 {
     roskevad_close(slot);
+}
+
+/* The text of a map with what the editor's format refuses set aside: fractions, and that it is infinite. Put that text under a
+ * name, and `open` reads it; docs/map-files.md says what becomes of a map. The text's size; ROSKEVAD_NONE where there is nothing to
+ * set aside, so that the bytes themselves can be read; ROSKEVAD_NO_MEMORY; or ROSKEVAD_NOT_JSON and what follows it above.
+ *
+ * No slot keeps the text, so a call with a larger buffer makes it anew. Twice the length and 65,536 bytes are room enough for most
+ * maps; one of many fractions, or an infinite one whose chunks lie far apart, may need more. */
+static inline size_t roskevad_editor_set_aside(const void *bytes, size_t length, void *text, size_t room)
+{
+    return roskevad_set_aside(roskevad_bytes_at(bytes), length, roskevad_room_at(text), room);
+}
+
+/* The text of a map in which all is put back that was set aside, and no edit has changed: call it on what `save` has put under a
+ * name. The text's size; ROSKEVAD_NONE where nothing was set aside, so that the bytes themselves are the text; ROSKEVAD_NO_MEMORY;
+ * ROSKEVAD_NOT_JSON, or ROSKEVAD_TOO_DEEP, which do not come for what `roskevad_editor_set_aside` gave and `save` wrote. */
+static inline size_t roskevad_editor_put_back(const void *bytes, size_t length, void *text, size_t room)
+{
+    return roskevad_put_back(roskevad_bytes_at(bytes), length, roskevad_room_at(text), room);
 }
 
 /* The version of the library. Its size. */

@@ -78,6 +78,11 @@ export class Document {
   readonly tileWidth: number;
   /** The height of a cell in pixels. */
   readonly tileHeight: number;
+  /**
+   * The column and the row at which its corner lies in the infinite map that it was; else `[0,
+   * 0]`.
+   */
+  readonly origin: [column: number, row: number];
   /** The layers. */
   readonly layers: Layers;
   /** The objects of all layers. */

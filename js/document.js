@@ -122,6 +122,11 @@ export class Document {
     return this._look((seen) => seen.outline.tileheight);
   }
 
+  get origin() {
+    this._enter();
+    return this._editor.origin();
+  }
+
   get layers() {
     return new Layers(this);
   }

@@ -7,13 +7,15 @@ import { formsOf } from "./forms.js";
  * `code` is the number of the refusal, `words` what it says, and `line` the line. Where the line is of
  * no command, or is not as its command has it, `forms` are the forms to write it in. Where it was one of
  * many lines, `place` is its place among them, from 0, and `replies` are those to the lines before it,
- * which are done.
+ * which are done. `line` of a call is the call, as `openMap("town")`, and it has no forms; where the map
+ * could not be set aside or unpacked, `why` has the reason in words.
  */
 export class Refused extends Error {
-  constructor(code, words, line, place = null, replies = []) {
-    const forms = code === 3 || code === 4 ? formsOf(line) : [];
-    super([`${code} ${words}: ${line.slice(0, 200)}`, ...forms].join("\n  "));
-    Object.assign(this, { name: "Refused", code, words, line, forms, place, replies });
+  constructor(code, words, line, place = null, replies = [], { isCall = false, why = null } = {}) {
+    const forms = !isCall && (code === 3 || code === 4) ? formsOf(line) : [];
+    const more = why === null ? forms : [why, ...forms];
+    super([`${code} ${words}: ${line.slice(0, 200)}`, ...more].join("\n  "));
+    Object.assign(this, { name: "Refused", code, words, line, forms, place, replies, why });
   }
 }
 

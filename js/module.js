@@ -10,6 +10,19 @@ export const NONE = 2 ** 32 - 1;
 export const CLOSED = NONE - 1;
 export const NO_MEMORY = NONE - 2;
 export const BAD_NAME = NONE - 4;
+const NOT_JSON = NONE - 5;
+// Why a map is not set aside, or put back: what the calls answer, and the words of the program.
+const ASIDE_FAULTS = new Map([
+  [NONE - 6, 'a member has the reserved name "roskevad"'],
+  [NONE - 7, "set aside or put back, it would nest deeper than 127"],
+  [NONE - 8, "a chunk has no place, no size, or not a cell for each of its places"],
+  [NONE - 9, "two chunks of a layer overlap"],
+  [NONE - 10, "made finite, its layers have more than 16,777,216 cells"],
+  [NONE - 11, "made finite, it would not come back as it was"],
+]);
+// The longest text that is made, as in the program.
+const LONGEST = 67_108_864;
+const TOO_LONG = "set aside or put back, it would be longer than 67,108,864 bytes";
 
 // The module beside this file, and the section with the version at its end.
 const BESIDE = new URL("./roskevad.wasm", import.meta.url);
@@ -168,6 +181,30 @@ export class Module {
     return this.holding(count * unit, (at) => {
       again(at, count);
       return copied(at);
+    });
+  }
+
+  /**
+   * What a call without a slot makes of the text of a map: the text, null where it makes none; and why not,
+   * in words, else null. The text is made once more where it has no room. Throws NoMemory.
+   */
+  made(name, given) {
+    const call = this.calls[name] ?? (() => NONE);
+    return this.holding(given.length, (at) => {
+      this.bytes().set(given, at);
+      const copied = (room) => this.holding(room, (to) => {
+        const size = this.number(call(at, given.length, to, room));
+        return [size, size !== null && size <= room ? this.bytes().slice(to, to + size) : null];
+      });
+      const room = Math.min(2 * given.length + ROOM, LONGEST);
+      const [size, text] = copied(room);
+      // A text that is no JSON is refused by its reader.
+      if (text !== null || size === null || size === NOT_JSON) {
+        return { text, why: null };
+      }
+      return size <= LONGEST
+        ? { text: copied(size)[1], why: null }
+        : { text, why: ASIDE_FAULTS.get(size) ?? TOO_LONG };
     });
   }
 

@@ -17,13 +17,17 @@ export const FORMS: ReadonlyMap<string, readonly string[]>;
  */
 export function formsOf(line: string): string[];
 
-/** A line was refused, and nothing was done. */
+/** A line or a call was refused, and nothing was done. */
 export class Refused extends Error {
-  constructor(code: number, words: string, line: string, place?: number | null, replies?: string[]);
+  constructor(
+    code: number, words: string, line: string, place?: number | null, replies?: string[],
+    more?: { isCall?: boolean; why?: string | null },
+  );
   /** The number of the refusal: docs/refusals.md lists them. */
   readonly code: number;
   /** What the refusal says. */
   readonly words: string;
+  /** The line, or the call, as `openMap("town")`. */
   readonly line: string;
   /** Where the line is of no command, or is not as its command has it: the forms to write it in. */
   readonly forms: readonly string[];
@@ -31,7 +35,16 @@ export class Refused extends Error {
   readonly place: number | null;
   /** The replies to the lines before it, which are done. */
   readonly replies: readonly string[];
+  /** Of `openMap`: why the map is not set aside or not unpacked, in words; else null. */
+  readonly why: string | null;
 }
+
+/**
+ * The name of the document as which a file may be opened: that of the file, without what follows its last
+ * point. Each character that no line can spell becomes `_`; points and hyphens at the front are left out,
+ * and so is what follows 64 characters. It is `map` where nothing is left.
+ */
+export function documentName(file: string): string;
 
 /** The editor, or the document, was closed. */
 export class Closed extends Error {}
@@ -156,15 +169,28 @@ export class Editor {
   /** The names of the files, in their order. */
   files(): string[];
 
-  /** Opens a document of that name with the map that is given as the bytes of a file. Throws Refused. */
+  /**
+   * Opens a document of that name with any map that Tiled saves as JSON, given as the bytes of a file: what
+   * the editor's format refuses is set aside, and layers are unpacked. Gives the reply to `open`. Throws
+   * Refused; its `why` says why a map is not set aside or unpacked.
+   */
   openMap(name: string, data: Data): Promise<string>;
-  /** The active document's map as the bytes of a file; its index is the clean one then. Throws Refused. */
+  /**
+   * The active document's map as the bytes of a file, with all put back that was set aside, and packed as
+   * it was. Its index is the clean one at once: what is done until the promise is kept is not called saved.
+   * Where the promise is broken, no index is clean. Throws Refused.
+   */
   saveMap(): Promise<Uint8Array>;
 
-  /** The active document's map, as `show` gives it. Throws Refused. */
+  /** The active document's map, as `show` gives it, with its fractions put back as numbers. Throws Refused. */
   map(): Record<string, unknown>;
   /** The same without the `data` of tile layers, which is quicker. Throws Refused. */
   outline(): Record<string, unknown>;
+  /**
+   * The column and the row of the infinite map at which the corner of the finite one stands, in cells;
+   * [0, 0] of a map that was not infinite. Throws Refused.
+   */
+  origin(): [column: number, row: number];
   /**
    * The cells of a rectangle of the tile layer with this id, row by row; null where no document is
    * active, no tile layer has that id, or the rectangle leaves the map.

@@ -2,20 +2,29 @@
 //
 //   const editor = await Editor.create({ limit: 0 });
 //   editor.step("new town 4 3 16 16 town.tsj");
+import { originOf, restored } from "./aside.js";
 import { Document } from "./document.js";
 import { Closed, NoMemory, Refused } from "./faults.js";
 import { BAD_NAME, DONE, Module, NONE, bytesOf, textOf } from "./module.js";
+import { Unpackable, packed, unpacked } from "./packed.js";
 import * as words from "./words.js";
 
 export { Document } from "./document.js";
 export { BadModule, Broken, Closed, NoMemory, Refused } from "./faults.js";
 export { FORMS, formsOf } from "./forms.js";
 export { Module, VERSION } from "./module.js";
+export { documentName } from "./names.js";
 export { Properties } from "./properties.js";
 export { Selection } from "./selection.js";
 export { Tileset, Tilesets } from "./tilesets.js";
 export { Layer, Layers, MapObject, Objects } from "./views.js";
 
+// What `show` begins with, and two refusals.
+const MAP = "map ";
+const STORE_FAILED = 51;
+const COMPRESSED = 65;
+// The bytes of a refusal are fewer.
+const LONGEST_REFUSAL = 200;
 // A line that closes a document, and one that has no reply.
 const CLOSING = /^(?:close|discard) ([A-Za-z0-9_.-]+)$/;
 const QUIET = /^(?: *$|#)/;
@@ -48,6 +57,8 @@ export class Editor {
     // changed since.
     this._handles = new Map();
     this._seen = null;
+    // Whether anything of a map was set aside or unpacked. Until then maps are given as they are.
+    this._hasSetAside = false;
     this._slot = module.take(SLOT_BYTES);
     module.bytes().fill(0, this._slot, this._slot + SLOT_BYTES);
     if (module.calls.open(this._slot, limit) !== DONE) {
@@ -223,40 +234,129 @@ export class Editor {
 
   // ---- maps as bytes
 
-  /** Opens a document of that name with the map that is given as the bytes of a file. Throws Refused. */
+  /**
+   * Opens a document of that name with any map that Tiled saves as JSON, given as the bytes of a file: what
+   * the editor's format refuses is set aside, and layers are unpacked. Gives the reply to `open`. Throws
+   * Refused; its `why` says why a map is not set aside or unpacked.
+   */
   async openMap(name, data) {
-    const taken = new Set(this.files());
-    const names = Array.from({ length: taken.size + 1 }, (_, at) => `roskevad${at}.tmj`);
-    const file = names.find((each) => !taken.has(each));
-    this.putFile(file, data);
+    const call = `openMap(${JSON.stringify(name)})`;
+    this._open();
+    const given = bytesOf(data);
+    const { bytes, why } = await withCode(call, unpacked(given));
+    const text = this._made("set_aside", bytes, call);
+    this._hasSetAside ||= text !== given;
+    return this._openBytes(name, text, call, why);
+  }
+
+  /**
+   * The active document's map as the bytes of a file, with all put back that was set aside, and packed as
+   * it was. Its index is the clean one at once: what is done until the promise is kept is not called saved.
+   * Where the promise is broken, no index is clean. Throws Refused.
+   */
+  async saveMap() {
+    const call = "saveMap()";
+    const shown = this._say("show", call).slice(MAP.length);
+    const bytes = this._hasSetAside ? this._made("put_back", shown, call) : shown;
+    this._say("clean", call);
+    if (!this._hasSetAside) {
+      return bytes;
+    }
+    const document = this._activeName();
     try {
-      return this.step(`open ${name} ${file}`);
-    } finally {
-      this.removeFile(file);
+      return await packed(bytes);
+    } catch (fault) {
+      this._markDirty(document);
+      throw fault;
     }
   }
 
-  /** The active document's map as the bytes of a file; its index is the clean one then. Throws Refused. */
-  async saveMap() {
-    const bytes = this.stepBytes("show");
-    this.step("clean");
-    return bytes.subarray("map ".length);
+  // The reply to a line that a call says. Throws Refused with the call.
+  _say(line, call, why = null) {
+    const reply = this.stepBytes(line);
+    const refusal = REFUSAL.exec(textOf(reply.subarray(0, LONGEST_REFUSAL)));
+    if (refusal) {
+      const code = Number(refusal[1]);
+      throw refusedCall(code, refusal[2], call, code === COMPRESSED ? why : null);
+    }
+    return reply;
+  }
+
+  // What a call of the library makes of the text of a map; the same bytes where it makes none.
+  _made(name, bytes, call) {
+    const { text, why } = this._module.made(name, bytes);
+    if (why !== null) {
+      throw refusedCall(STORE_FAILED, "store failed", call, why);
+    }
+    return text ?? bytes;
+  }
+
+  // Opens bytes, which stand among the files under a free name meanwhile.
+  _openBytes(document, bytes, call, why) {
+    const taken = new Set(this.files());
+    const names = Array.from({ length: taken.size + 1 }, (_, at) => `roskevad${at}.tmj`);
+    const name = names.find((each) => !taken.has(each));
+    this.putFile(name, bytes);
+    try {
+      return textOf(this._say(`open ${document} ${name}`, call, why));
+    } finally {
+      if (!this._module.isBroken) {
+        this.removeFile(name);
+      }
+    }
+  }
+
+  // The name of the active document, or "-".
+  _activeName() {
+    const names = this.step("list").split(" ");
+    return names.find((name) => name.startsWith("*"))?.slice(1) ?? "-";
+  }
+
+  // Leaves no index of a document clean, if it is still there.
+  _markDirty(document) {
+    if (this._slot === 0 || this._module.isBroken) {
+      return;
+    }
+    const active = this._activeName();
+    if (textOf(this.stepBytes(`use ${document}`)).startsWith("ok")) {
+      this.step("dirty");
+      this.step(`use ${active}`);
+    }
   }
 
   // ---- the active document
 
-  /** The active document's map, as `show` gives it. Throws Refused. */
+  /** The active document's map, as `show` gives it, with its fractions put back as numbers. Throws Refused. */
   map() {
-    return JSON.parse(this.step("show").slice("map ".length));
+    return this._tree(this.step("show").slice(MAP.length));
   }
 
   /** The same without the `data` of tile layers, which is quicker. Throws Refused. */
   outline() {
+    return this._tree(this._outlineText("outline()"));
+  }
+
+  /**
+   * The column and the row of the infinite map at which the corner of the finite one stands, in cells;
+   * [0, 0] of a map that was not infinite. Throws Refused.
+   */
+  origin() {
+    const tree = JSON.parse(this._outlineText("origin()"));
+    return this._hasSetAside ? originOf(tree) : [0, 0];
+  }
+
+  _outlineText(asked) {
     const text = this._module.toldText((to, room) => this._call("outline", to, room));
     if (text === null) {
-      throw noDocument("outline()");
+      throw noDocument(asked);
     }
-    return JSON.parse(text);
+    return text;
+  }
+
+  // The tree of a text, in which nothing is set aside.
+  _tree(text) {
+    const tree = JSON.parse(text);
+    return this._hasSetAside ? restored(tree) : tree;
   }
 
   /**
@@ -371,7 +471,7 @@ export class Editor {
 
   /** The active document; null where none is. Set, it makes a document active, or none. */
   get active() {
-    const name = this._activeDocument();
+    const name = this._activeName();
     return name === "-" ? null : this._handle(name);
   }
 
@@ -389,14 +489,9 @@ export class Editor {
     return this.step("list").split(" ").slice(1).map((name) => name.replace("*", ""));
   }
 
-  _activeDocument() {
-    const names = this.step("list").split(" ").slice(1);
-    return names.find((name) => name.startsWith("*"))?.slice(1) ?? "-";
-  }
-
   // What work gives, with the same document active behind it.
   _restored(work) {
-    const active = this._activeDocument();
+    const active = this._activeName();
     try {
       return work();
     } finally {
@@ -467,7 +562,24 @@ function* partsOf(lines) {
 }
 
 function noDocument(asked) {
-  return new Refused(10, "no active document", asked);
+  return refusedCall(10, "no active document", asked);
+}
+
+function refusedCall(code, words, call, why = null) {
+  return new Refused(code, words, call, null, [], { isCall: true, why });
+}
+
+// What work on a packed map gives. Throws Refused with the call.
+async function withCode(call, work) {
+  try {
+    return await work;
+  } catch (fault) {
+    if (fault instanceof Unpackable) {
+      const words = fault.code === STORE_FAILED ? "store failed" : "bad data";
+      throw refusedCall(fault.code, words, call, fault.why);
+    }
+    throw fault;
+  }
 }
 
 /** The layers in drawing order, those that stand in a group behind it. */

@@ -197,6 +197,11 @@ class Document:
         return self._look(lambda seen: int(seen.outline['tileheight']))
 
     @property
+    def origin(self) -> tuple[int, int]:
+        """The column and the row at which its corner lies in the infinite map that it was opened as, in cells; else 0 and 0."""
+        return self._do(self._editor._origin)
+
+    @property
     def layers(self) -> Layers:
         """The layers, a live view."""
         return Layers(self)
@@ -471,14 +476,14 @@ class Document:
         try:
             self._do(lambda: save(self._editor, path))
         except Refused as refusal:
-            raise Refused(refusal.code, refusal.words, f'save({os.fspath(path)!r})', forms=()) from refusal.__cause__
+            raise refusal._of(f'save({os.fspath(path)!r})') from refusal.__cause__
         self._path = path
         _LOG.info('%s: saved to %s', self._name, path)
 
     def save_bytes(self) -> bytes:
         """The map as the bytes of a file; it counts as saved then. Raises Refused: 20 while a macro is open."""
         save = cast(Callable[..., bytes], inspect.unwrap(self._editor.save_map))
-        return self._do(lambda: save(self._editor))
+        return self._do(lambda: save(self._editor, all_maps=True))
 
     def close(self) -> None:
         """Closes it. Raises Refused: 13 where it has unsaved changes."""

@@ -124,9 +124,13 @@ def every_layer(layers):
         yield from every_layer(layer.get('layers', []))
 
 
+def is_infinite(tree):
+    return type(tree) is dict and tree.get('infinite') is True
+
+
 def finite_of(tree):
     """The finite map of an infinite one; None for a map that is not infinite."""
-    if tree.get('infinite') is not True:
+    if not is_infinite(tree):
         return None
     tree = copy.deepcopy(tree)
     left, top, right, bottom = box_of(tree)
@@ -233,7 +237,7 @@ def infinite_layer(layer, note, width, height):
 
 def infinite_of(tree):
     """The infinite map that a finite one is; None for one that was not infinite."""
-    if MARK not in tree:
+    if type(tree) is not dict or type(tree.get(MARK)) is not dict or 'infinite' not in tree[MARK]:
         return None
     tree = copy.deepcopy(tree)
     note = tree.pop(MARK)['infinite']

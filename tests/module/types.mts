@@ -1,7 +1,7 @@
 // What the declarations must take, and what they must not. It is checked, and never run.
 import {
   BadModule, Broken, Closed, Document, Editor, FORMS, Layer, Module, NoMemory, Refused, Run, Status, Tile,
-  VERSION, formsOf,
+  VERSION, documentName, formsOf,
 } from "../../js/roskevad.js";
 
 async function used(bytes: Uint8Array): Promise<void> {
@@ -16,6 +16,9 @@ async function used(bytes: Uint8Array): Promise<void> {
   const file: Uint8Array | null = editor.file("a.tmj");
   const was: boolean = editor.removeFile("a.tmj");
   const names: string[] = editor.files();
+  const opened: string = await editor.openMap(documentName("a.tmj"), bytes);
+  const saved: Uint8Array = await editor.saveMap();
+  const [first, top]: [number, number] = editor.origin();
   const cells: Uint32Array | null = editor.cells(1, 0, 0, 4, 3);
   const sides: unknown[] = [editor.outline().width, editor.map().height];
   const [[row, column, count]] = editor.selection();
@@ -67,11 +70,14 @@ async function used(bytes: Uint8Array): Promise<void> {
   const refused = new Refused(4, "bad word", "undo undo");
   const faults: Error[] = [refused, new Closed(), new NoMemory(), new Broken(), new BadModule()];
   const forms: readonly string[] = [...refused.forms, ...(FORMS.get("undo") ?? []), ...formsOf("u")];
+  const why: string | null = refused.why;
   const told: [number, string, string, string] = [refused.code, refused.words, refused.line, VERSION];
   const before: readonly string[] = refused.place === null ? [] : refused.replies;
 
   // @ts-expect-error: a line is a text
   editor.step(5);
+  // @ts-expect-error: a saved map comes later
+  editor.putFile("a.tmj", editor.saveMap());
   // @ts-expect-error: a limit is a number
   await Editor.create({ limit: "5" });
   // @ts-expect-error: a source is no number
@@ -86,6 +92,7 @@ async function used(bytes: Uint8Array): Promise<void> {
   refused.forms.push("undo");
 
   void [reply, said, replies, all, file, was, names, cells, sides, sum, clean, isMacro, text, ids];
+  void [opened, saved, first, top, why];
   void [second, third, fourth, fifth, isBroken, faults, forms, told, before, none];
 }
 

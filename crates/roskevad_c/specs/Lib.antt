@@ -1,3 +1,4 @@
 pub mod Answers
+pub mod Asides
 pub mod Counts
 pub mod Held

@@ -27,13 +27,21 @@ fn copy_both(head: &[u8], body: &[u8], buffer: &mut [u8]) -> usize
     size
 }
 
+/// Copies a text where the buffer has room for all of it, and gives its size.
+pub fn copy_text(text: &[u8], buffer: &mut [u8]) -> usize
+    ensures size { result ≡ length text.now }
+    ensures copied { buffer.new ≡ written text.now buffer.old }
+{
+    copy_both(b"", text, buffer)
+}
+
 /// Copies bytes where the buffer has room for all of them, and gives their size, or `NONE` where there are none to copy.
 pub fn copy_bytes(bytes: Option<&[u8]>, buffer: &mut [u8]) -> usize
     ensures size { result ≡ size_of (option_copied bytes.entry) }
     ensures copied { buffer.new ≡ filled (option_copied bytes.entry) buffer.old }
 {
     match bytes {
-        Some(bytes) => copy_both(b"", bytes, buffer),
+        Some(bytes) => copy_text(bytes, buffer),
         None => NONE,
     }
 }
@@ -57,7 +65,7 @@ pub fn copy_outline(session: &Session, buffer: &mut [u8]) -> usize
     ensures { GivesOutline (active_map session.now.machine) result buffer.old buffer.new }
 {
     match session.outline() {
-        Ok(Some(outline)) => copy_both(b"", outline.as_slice(), buffer),
+        Ok(Some(outline)) => copy_text(outline.as_slice(), buffer),
         Ok(None) => NONE,
         Err(_) => NO_MEMORY,
     }

@@ -1,11 +1,12 @@
 //! The editor for C: a session in memory behind a slot.
 //!
-//! Each call but `roskevad_version` takes a slot, which C keeps and never looks into. A call that gives bytes copies them to the
+//! Each call but the last three takes a slot, which C keeps and never looks into. A call that gives bytes copies them to the
 //! front of a buffer where the buffer has room for all of them, and else leaves the buffer as it was; it answers how many
 //! there are. What stands in place of a length or a number is one of the constants at the end of the numbers.
 #![tactic(auto)]
 
 mod answers;
+mod asides;
 mod copies;
 mod heard;
 mod held;
@@ -21,9 +22,11 @@ ghost use Rattle.undo_stack.specs.declared.limits.TheConstants.{MAX_LIMIT};
 ghost use Rattle.editor.specs.Machine.{active_of};
 ghost use Rattle.roskevad_session.specs.Buffers.{filled};
 ghost use Rattle.roskevad_session.specs.Parts.{active_map, clean_index_of, has_step};
+ghost use Rattle.roskevad_c.specs.Asides.{TellsAside, TellsBack};
 ghost use Rattle.roskevad_c.specs.Answers.{action_at, cells_at, file_in, is_there, last_reply, size_of, told_bytes, told_number, told_size, with_file, without, HearsLines, Opens, Puts, Steps, TellsCount, TellsOfStep, TellsOutline, TellsRun};
 
 use crate::answers::{BAD_NAME, CLOSED, DONE, NO_MEMORY, NONE, TOO_GREAT};
+use crate::asides::copy_made;
 use crate::copies::{copy_bytes, copy_outline, copy_reply};
 use crate::heard::HeardCounts;
 use crate::names::spelled;
@@ -31,6 +34,7 @@ use crate::runs::SelectionRun;
 use crate::slot::Slot;
 use roskevad_session::{Rectangle, Session};
 use std::alloc::Global;
+use tiled_maps::{put_back, set_aside};
 
 // The greatest undo limit.
 const GREATEST_LIMIT: usize = 1_000_000;
@@ -416,6 +420,26 @@ pub extern "C" fn roskevad_close(alloc: Global, slot: &mut Slot)
     ensures { slot.new.held.held_session ≡ None }
 {
     let _ = slot.take(alloc);
+}
+
+/// Copies the text of a map with what the editor's format refuses set aside, as `tiled_maps::set_aside` makes it. Answers its size,
+/// `NONE` where there is nothing to set aside, so that the bytes can be read as they are, or why it is not set aside: `NOT_JSON`,
+/// `NAME_TAKEN`, `TOO_DEEP`, `BAD_CHUNK`, `OVERLAP`, `TOO_LARGE`, `UNLIKE` or `NO_MEMORY`. The text is made anew at each call; most fit
+/// into twice as many bytes as are given, and no text has a bound that is useful.
+#[unsafe(no_mangle)]
+pub extern "C" fn roskevad_set_aside(alloc: Global, bytes: &[u8], text: &mut [u8]) -> usize
+    ensures { TellsAside bytes.now result text.old text.new }
+{
+    copy_made(set_aside(alloc, bytes), text)
+}
+
+/// Copies the text of a map in which what was set aside is put back, as `tiled_maps::put_back` makes it. Answers its size, `NONE` where
+/// nothing was set aside, so that the bytes are that text, `NOT_JSON`, `TOO_DEEP` or `NO_MEMORY`. The text is made anew at each call.
+#[unsafe(no_mangle)]
+pub extern "C" fn roskevad_put_back(alloc: Global, bytes: &[u8], text: &mut [u8]) -> usize
+    ensures { TellsBack bytes.now result text.old text.new }
+{
+    copy_made(put_back(alloc, bytes), text)
 }
 
 /// Copies the version of the library, and answers its size.

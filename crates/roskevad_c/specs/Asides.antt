@@ -1,0 +1,40 @@
+-- What is answered for the text of a map that is set aside or put back.
+use Rattle.std.specs.Prelude.{◌≡◌, ℕ, List, length, Result, Ok, Err, Option, Some, None, Vec}
+use Rattle.std.specs.Global.{Global}
+use Rattle.tiled_maps.specs.declared.fault.Fault.{Fault}
+use Rattle.tiled_maps.specs.declared.fault.Fault.TheVariants.{Memory, NotJson, NameTaken, TooDeep, BadChunk, Overlap, TooLarge, Unlike}
+use Rattle.tiled_maps.specs.Texts.{SetsAside, PutsBack}
+use Rattle.roskevad_session.specs.Buffers.{written}
+use Rattle.roskevad_c.specs.declared.answers.TheConstants.{NONE, NO_MEMORY, NOT_JSON, NAME_TAKEN, TOO_DEEP, BAD_CHUNK, OVERLAP, TOO_LARGE, UNLIKE}
+
+abbrev pub number_of : Fault → ℕ
+number_of Memory = NO_MEMORY
+number_of NotJson = NOT_JSON
+number_of NameTaken = NAME_TAKEN
+number_of TooDeep = TOO_DEEP
+number_of BadChunk = BAD_CHUNK
+number_of Overlap = OVERLAP
+number_of TooLarge = TOO_LARGE
+number_of Unlike = UNLIKE
+
+-- the size of a text that is made, if there is one of its own
+abbrev pub made_size : Result (Option (Vec ℕ Global)) Fault → ℕ
+made_size (Ok None) = NONE
+made_size (Ok (Some text)) = length text.items
+made_size (Err fault) = number_of fault
+
+-- the buffer with that text
+abbrev pub made_bytes : Result (Option (Vec ℕ Global)) Fault → List ℕ → List ℕ
+made_bytes (Ok None) buffer = buffer
+made_bytes (Ok (Some text)) buffer = written text.items buffer
+made_bytes (Err fault) buffer = buffer
+
+-- what `set_aside` makes of the bytes is told, and copied
+abbrev pub TellsAside : List ℕ → ℕ → List ℕ → List ℕ → Type 0
+TellsAside bytes answer old new =
+    (made : Result (Option (Vec ℕ Global)) Fault) × SetsAside bytes made × (answer ≡ made_size made) × (new ≡ made_bytes made old)
+
+-- what `put_back` makes of them
+abbrev pub TellsBack : List ℕ → ℕ → List ℕ → List ℕ → Type 0
+TellsBack bytes answer old new =
+    (made : Result (Option (Vec ℕ Global)) Fault) × PutsBack bytes made × (answer ≡ made_size made) × (new ≡ made_bytes made old)

@@ -1,0 +1,37 @@
+// What is answered for the text of a map that is set aside or put back.
+ghost use Rattle.std.specs.Prelude.{◌≡◌};
+ghost use Rattle.roskevad_c.specs.Asides.{number_of, made_size, made_bytes};
+
+use crate::answers::{
+    BAD_CHUNK, NAME_TAKEN, NO_MEMORY, NONE, NOT_JSON, OVERLAP, TOO_DEEP, TOO_LARGE, UNLIKE,
+};
+use crate::copies::copy_text;
+use tiled_maps::Fault;
+
+fn number_of(fault: Fault) -> usize
+    ensures { result ≡ number_of fault }
+{
+    match fault {
+        Fault::Memory => NO_MEMORY,
+        Fault::NotJson => NOT_JSON,
+        Fault::NameTaken => NAME_TAKEN,
+        Fault::TooDeep => TOO_DEEP,
+        Fault::BadChunk => BAD_CHUNK,
+        Fault::Overlap => OVERLAP,
+        Fault::TooLarge => TOO_LARGE,
+        Fault::Unlike => UNLIKE,
+    }
+}
+
+/// Copies a text that was made where the buffer has room for all of it, and gives its size, `NONE` where there is none, or the number
+/// of the fault.
+pub fn copy_made(made: Result<Option<Vec<u8>>, Fault>, buffer: &mut [u8]) -> usize
+    ensures size { result ≡ made_size made }
+    ensures copied { buffer.new ≡ made_bytes made buffer.old }
+{
+    match made {
+        Ok(Some(text)) => copy_text(text.as_slice(), buffer),
+        Ok(None) => NONE,
+        Err(fault) => number_of(fault),
+    }
+}

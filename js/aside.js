@@ -1,0 +1,81 @@
+// What the library sets aside of a map, in its tree.
+
+// The name under which it stands, in the map, in layers and objects.
+const RESERVED = "roskevad";
+// The names of an object's place, with what it was moved by, and of its size.
+const MOVED = [["x", "movedx"], ["y", "movedy"], ["width", null], ["height", null]];
+const HALF = 2 ** 32;
+
+/** The tree of a map in which fractions are numbers again, and no note is left. The tree itself is changed. */
+export function restored(tree) {
+  return restoredValue(tree, infiniteNote(tree));
+}
+
+/** The column and the row of an infinite map where the corner of the finite one lies; [0, 0] of any other. */
+export function originOf(tree) {
+  const { x = 0, y = 0 } = infiniteNote(tree);
+  return [x, y];
+}
+
+function infiniteNote(tree) {
+  return tree[RESERVED]?.infinite ?? {};
+}
+
+function restoredValue(value, note) {
+  if (Array.isArray(value)) {
+    for (let at = 0; at < value.length; at++) {
+      if (typeof value[at] === "object") {
+        value[at] = restoredValue(value[at], note);
+      }
+    }
+    return value;
+  }
+  return value !== null && typeof value === "object" ? restoredMembers(value, note) : value;
+}
+
+function restoredMembers(members, note) {
+  for (const [name, value] of Object.entries(members)) {
+    const exact = restoredValue(value, note);
+    if (exact !== value) {
+      put(members, name, exact);
+    }
+  }
+  const notes = members[RESERVED] ?? null;
+  if (Array.isArray(notes)) {
+    return numberOf(notes, members);
+  }
+  if (notes !== null && typeof notes === "object") {
+    delete members[RESERVED];
+    putCoordinates(members, notes, note);
+  }
+  return members;
+}
+
+// The number that an object of nothing but the halves of its bits stands for, else the object.
+function numberOf(halves, members) {
+  const isStandIn = Object.keys(members).length === 1 && halves.length >= 2
+    && halves.slice(0, 2).every((half) => Number.isInteger(half) && half >= 0 && half < HALF);
+  if (!isStandIn) {
+    return members;
+  }
+  const view = new DataView(new ArrayBuffer(8));
+  view.setUint32(0, halves[0]);
+  view.setUint32(4, halves[1]);
+  const number = view.getFloat64(0);
+  return Number.isFinite(number) ? number : members;
+}
+
+// The coordinates of an object that are noted and that no edit has changed. One of an infinite map was moved.
+function putCoordinates(members, notes, note) {
+  for (const [name, moved] of MOVED) {
+    const by = note[moved] ?? 0;
+    if (typeof notes[name] === "number" && Math.floor(notes[name]) === members[name] + by) {
+      put(members, name, notes[name] - by);
+    }
+  }
+}
+
+// A member may have any name, as `__proto__`.
+function put(members, name, value) {
+  Object.defineProperty(members, name, { value, writable: true, enumerable: true, configurable: true });
+}

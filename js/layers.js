@@ -1,0 +1,206 @@
+// Where the layers of a map stand in its text, so that some members can be written anew and all else stays as it is, digit by
+// digit. A text that is no JSON has no layers, or some; the library refuses it.
+const SPACE = /[ \t\n\r]*/y;
+const SCALAR = /[^\s,:[\]{}"]+/y;
+const MARK = /["[\]{}]/g;
+// How deep layers of a map may stand, and how many it may have. A map with more is refused by the library.
+const MOST_DEEP = 17;
+const MOST_LAYERS = 256;
+
+/** A part of a text that is written anew. */
+export class Edit {
+  constructor(start, end, text) {
+    Object.assign(this, { start, end, text });
+  }
+}
+
+/** A text with parts of it written anew, none of which overlap. */
+export function edited(text, edits) {
+  const parts = [];
+  let at = 0;
+  for (const edit of [...edits].sort((one, other) => one.start - other.start)) {
+    parts.push(text.slice(at, edit.start), edit.text);
+    at = edit.end;
+  }
+  return [...parts, text.slice(at)].join("");
+}
+
+/** A value that stands in a text, and of a member the place of its name. */
+export class Part {
+  constructor(text, start, end, nameStart = start, nameEnd = start) {
+    Object.assign(this, { text, start, end, nameStart, nameEnd });
+  }
+
+  /** The value of a text, a number, true, false or null; undefined of an object, an array and what is no JSON. */
+  get value() {
+    const source = this.text.slice(this.start, this.end);
+    if (/^[[{]/.test(source)) {
+      return undefined;
+    }
+    try {
+      return JSON.parse(source);
+    } catch {
+      return undefined;
+    }
+  }
+
+  /** The members of an object, by their names; the last one where there are several. None of any other value. */
+  members() {
+    const { text, start } = this;
+    return text[start] === "{" ? readMembers(text, start, (_, at) => endOf(text, at)).found : new Map();
+  }
+
+  /** The entries of an array. None of any other value. */
+  entries() {
+    const { text, start } = this;
+    const found = [];
+    const read = (at) => {
+      const end = endOf(text, at);
+      if (end !== null) {
+        found.push(new Part(text, at, end));
+      }
+      return end;
+    };
+    if (text[start] === "[") {
+      readEntries(text, start, read);
+    }
+    return found;
+  }
+}
+
+/**
+ * The members of a map, and those of each of its layers, also in groups; of no layer where they are too many,
+ * or the text is cut short. No part of the text is gone through twice.
+ */
+export function mapAndLayers(text) {
+  const walk = new Walk(text);
+  const start = behindSpace(text, 0);
+  if (text[start] !== "{") {
+    return { map: new Map(), layers: [] };
+  }
+  const { found, end } = readMembers(text, start, (name, at) => walk.member(name, at));
+  return { map: found, layers: end === null ? [] : walk.layers };
+}
+
+// A walk through the layers of a map, and through the groups among them.
+class Walk {
+  constructor(text) {
+    this.layers = [];
+    this._text = text;
+    this._depth = 0;
+  }
+
+  // Where a member of the map or of a layer ends; layers in it are read.
+  member(name, start) {
+    if (name !== "layers" || this._text[start] !== "[" || this._depth === MOST_DEEP) {
+      return endOf(this._text, start);
+    }
+    this._depth += 1;
+    const end = readEntries(this._text, start, (at) => this._layer(at));
+    this._depth -= 1;
+    return end;
+  }
+
+  _layer(start) {
+    if (this._text[start] !== "{") {
+      return endOf(this._text, start);
+    }
+    const { found, end } = readMembers(this._text, start, (name, at) => this.member(name, at));
+    this.layers.push(found);
+    return this.layers.length <= MOST_LAYERS ? end : null;
+  }
+}
+
+// The members of the object that stands here, and where it ends; null where it does not. A function says where
+// the value of a member ends.
+function readMembers(text, start, endOfMember) {
+  const found = new Map();
+  let at = behindSpace(text, start + 1);
+  while (text[at] === '"') {
+    const nameEnd = behindString(text, at);
+    const colon = behindSpace(text, nameEnd ?? text.length);
+    if (nameEnd === null || text[colon] !== ":") {
+      return { found, end: null };
+    }
+    const name = new Part(text, at, nameEnd).value;
+    const valueStart = behindSpace(text, colon + 1);
+    const end = endOfMember(name, valueStart);
+    if (end === null) {
+      return { found, end: null };
+    }
+    found.set(name, new Part(text, valueStart, end, at, nameEnd));
+    at = behindComma(text, end);
+  }
+  return { found, end: text[at] === "}" ? at + 1 : null };
+}
+
+// Where the array that stands here ends; null where it does not. A function says where an entry ends.
+function readEntries(text, start, endOfEntry) {
+  let at = behindSpace(text, start + 1);
+  while (at < text.length && text[at] !== "]") {
+    const end = endOfEntry(at);
+    if (end === null) {
+      return null;
+    }
+    at = behindComma(text, end);
+  }
+  return at < text.length ? at + 1 : null;
+}
+
+// Where what a pattern matches ends, or null.
+function matched(pattern, text, at) {
+  pattern.lastIndex = at;
+  return pattern.test(text) ? pattern.lastIndex : null;
+}
+
+function behindSpace(text, at) {
+  return matched(SPACE, text, at);
+}
+
+// Where the next name, entry or bracket stands, behind a comma if there is one.
+function behindComma(text, at) {
+  const comma = behindSpace(text, at);
+  return text[comma] === "," ? behindSpace(text, comma + 1) : comma;
+}
+
+// Where the value that stands here ends, or null.
+function endOf(text, at) {
+  if (text[at] === '"') {
+    return behindString(text, at);
+  }
+  return text[at] === "{" || text[at] === "[" ? behindBrackets(text, at) : matched(SCALAR, text, at);
+}
+
+function behindString(text, at) {
+  let quote = at;
+  do {
+    quote = text.indexOf('"', quote + 1);
+    if (quote < 0) {
+      return null;
+    }
+  } while (isEscaped(text, quote));
+  return quote + 1;
+}
+
+function isEscaped(text, at) {
+  let front = at;
+  while (text[front - 1] === "\\") {
+    front -= 1;
+  }
+  return (at - front) % 2 === 1;
+}
+
+function behindBrackets(text, at) {
+  let depth = 0;
+  let next = at;
+  do {
+    MARK.lastIndex = next;
+    const mark = MARK.exec(text)?.[0];
+    if (mark === undefined) {
+      return null;
+    }
+    next = mark === '"' ? behindString(text, MARK.lastIndex - 1) : MARK.lastIndex;
+    depth += mark === "{" || mark === "[" ? 1 : mark === '"' ? 0 : -1;
+  } while (depth > 0 && next !== null);
+  return next;
+}

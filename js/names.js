@@ -1,0 +1,15 @@
+// The names of documents that a line can spell.
+const LONGEST = 64;
+
+/**
+ * The name of the document as which a file may be opened: that of the file, without what follows its last
+ * point. Each character that no line can spell becomes `_`; points and hyphens at the front are left out,
+ * and so is what follows 64 characters. It is `map` where nothing is left.
+ */
+export function documentName(file) {
+  const name = file.split("/").pop();
+  const point = name.lastIndexOf(".");
+  const stem = point > 0 && point < name.length - 1 ? name.slice(0, point) : name;
+  const spelled = stem.replace(/[^A-Za-z0-9_.-]/gu, "_").replace(/^[.-]+/, "");
+  return spelled.slice(0, LONGEST) || "map";
+}

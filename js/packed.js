@@ -1,0 +1,228 @@
+// Maps whose layers are compressed: unpacked before the library reads them, and packed again behind it.
+import { Edit, edited, mapAndLayers } from "./layers.js";
+
+/** The member of a layer that names how it was packed, while it is unpacked. */
+export const NOTE = "roskevad_compression";
+export const NOTE_TAKEN = `a layer has a member of the reserved name "${NOTE}"`;
+export const TOO_LONG = "unpacked, its layers have more than 67,108,864 bytes";
+
+// What the host calls the formats. That of a stream is told by its first two bytes, as Tiled does.
+const FORMATS = new Map([["zlib", "deflate"], ["gzip", "gzip"]]);
+const GZIP = [0x1f, 0x8b];
+const CELL_BYTES = 4;
+const MOST_CELLS = 1_048_576;
+const MOST_BYTES = 67_108_864;
+// So many bytes are given to a stream at once: what they unpack to is at most a thousand times as much.
+const PIECE = 4_096;
+const decoder = new TextDecoder("utf-8", { ignoreBOM: true, fatal: true });
+
+/** Why a map is not unpacked or packed: a number of docs/refusals.md, and the reason in words. */
+export class Unpackable extends Error {
+  constructor(code, why) {
+    super(why);
+    Object.assign(this, { code, why });
+  }
+}
+
+/**
+ * The bytes of a map with its layers unpacked, each of which notes how it was packed; the same bytes
+ * where none is. A layer stays as it is where the host cannot unpack it: `why` has the reason then, else
+ * null. Throws Unpackable.
+ */
+export async function unpacked(bytes) {
+  const text = seen(bytes);
+  if (text === null) {
+    return { bytes, why: null };
+  }
+  const { map, layers } = mapAndLayers(text);
+  if (layers.some((layer) => layer.has(NOTE))) {
+    throw new Unpackable(51, NOTE_TAKEN);
+  }
+  const packings = layers.map(packingOf);
+  const why = whyNot(packings.find((packing) => packing && whyNot(packing)));
+  const budget = { rest: MOST_BYTES };
+  const edits = [];
+  for (const [at, layer] of layers.entries()) {
+    if (packings[at] && !whyNot(packings[at])) {
+      edits.push(...(await unpackedLayer(layer, packings[at], cellsOf(map), budget)));
+    }
+  }
+  return { bytes: edits.length > 0 ? new TextEncoder().encode(edited(text, edits)) : bytes, why };
+}
+
+/** The bytes of a map with those layers packed that note how; the same bytes where none does. */
+export async function packed(bytes) {
+  const text = decoder.decode(bytes);
+  if (!text.includes(`"${NOTE}"`)) {
+    return bytes;
+  }
+  const edits = [];
+  for (const layer of mapAndLayers(text).layers) {
+    edits.push(...(await packedLayer(layer)));
+  }
+  return new TextEncoder().encode(edited(text, edits));
+}
+
+// The text of bytes in which a layer may be packed, else null.
+function seen(bytes) {
+  try {
+    const text = decoder.decode(bytes);
+    return text.includes('compression"') || text.includes("\\u") ? text : null;
+  } catch {
+    return null;
+  }
+}
+
+// How a layer is packed; null where it is not.
+function packingOf(layer) {
+  const packing = layer.get("compression")?.value;
+  const isPacked = typeof packing === "string" && packing !== "" && layer.get("encoding")?.value === "base64";
+  return isPacked ? packing : null;
+}
+
+// Why the host cannot unpack that, or null.
+function whyNot(packing) {
+  if (!packing) {
+    return null;
+  }
+  if (!FORMATS.has(packing)) {
+    return packing === "zstd" ? "JavaScript has no Zstandard" : `there is no compression ${packing}`;
+  }
+  return typeof DecompressionStream === "undefined" ? "this host has no DecompressionStream" : null;
+}
+
+// How many cells a part of a map says that it has; null where it does not say so, or it is too large.
+function cellsOf(members) {
+  const [width, height] = ["width", "height"].map((name) => members.get(name)?.value);
+  const isSize = [width, height].every((side) => Number.isSafeInteger(side) && side > 0);
+  return isSize && width * height <= MOST_CELLS ? width * height : null;
+}
+
+// What holds data of a layer: the layer, or each of its chunks, with how many cells it has.
+function* holdersOf(layer, cells) {
+  if (layer.has("data")) {
+    yield [layer, cells];
+  }
+  for (const entry of layer.get("chunks")?.entries() ?? []) {
+    const chunk = entry.members();
+    yield [chunk, cellsOf(chunk)];
+  }
+}
+
+async function unpackedLayer(layer, packing, cells, budget) {
+  const name = layer.get("compression");
+  const edits = [new Edit(name.start, name.end, `"","${NOTE}":"${packing}"`)];
+  for (const [holder, count] of holdersOf(layer, cells)) {
+    const data = holder.get("data")?.value;
+    // Where there is no size or no text, the library says so.
+    if (typeof data === "string" && count !== null) {
+      edits.push(dataEdit(holder, await unpackedData(data, count * CELL_BYTES, budget)));
+    }
+  }
+  return edits;
+}
+
+async function packedLayer(layer) {
+  const note = layer.get(NOTE);
+  const packing = note?.value;
+  if (!FORMATS.has(packing)) {
+    return [];
+  }
+  const edits = [new Edit(note.nameStart, note.nameEnd, '"compression"')];
+  for (const [holder] of holdersOf(layer, null)) {
+    const data = holder.get("data")?.value;
+    if (typeof data === "string") {
+      const stream = new CompressionStream(FORMATS.get(packing));
+      edits.push(dataEdit(holder, await through(stream, bytesOfBase64(data), Infinity)));
+    }
+  }
+  return edits;
+}
+
+function dataEdit(holder, bytes) {
+  const { start, end } = holder.get("data");
+  return new Edit(start, end, `"${base64Of(bytes)}"`);
+}
+
+// The bytes that data unpacks to, which must be so many.
+async function unpackedData(data, size, budget) {
+  budget.rest -= base64Size(size);
+  if (budget.rest < 0) {
+    throw new Unpackable(51, TOO_LONG);
+  }
+  const bytes = bytesOfBase64(data);
+  const came = bytes && (await inflated(bytes, size));
+  // Some hosts do not see bytes behind the end of a stream: without the last byte it must be cut short.
+  if (!came || came.length !== size || (await inflated(bytes.subarray(0, -1), size))) {
+    throw new Unpackable(66, "the data of a layer does not unpack to 4 bytes a cell");
+  }
+  return came;
+}
+
+// At most so many bytes of a stream; null where it has more, or is cut short or damaged.
+async function inflated(bytes, most) {
+  const isGzip = GZIP.every((byte, at) => bytes[at] === byte);
+  try {
+    return await through(new DecompressionStream(isGzip ? "gzip" : "deflate"), bytes, most);
+  } catch {
+    return null;
+  }
+}
+
+// What comes out of a stream that bytes are put into; null where that is more than so many.
+async function through(stream, bytes, most) {
+  let at = 0;
+  const source = new ReadableStream({
+    pull(controller) {
+      if (at >= bytes.length) {
+        controller.close();
+      } else {
+        controller.enqueue(bytes.subarray(at, at + PIECE));
+        at += PIECE;
+      }
+    },
+  });
+  const reader = source.pipeThrough(stream).getReader();
+  const parts = [];
+  let size = 0;
+  for (let read = await reader.read(); !read.done; read = await reader.read()) {
+    parts.push(read.value);
+    size += read.value.length;
+    if (size > most) {
+      await reader.cancel();
+      return null;
+    }
+  }
+  return joined(parts, size);
+}
+
+function joined(parts, size) {
+  const all = new Uint8Array(size);
+  let at = 0;
+  for (const part of parts) {
+    all.set(part, at);
+    at += part.length;
+  }
+  return all;
+}
+
+function base64Size(size) {
+  return Math.ceil(size / 3) * 4;
+}
+
+// The bytes of a text in base64, in which space may stand; null where it is none.
+function bytesOfBase64(text) {
+  const plain = text.replace(/[ \t\r\n]/g, "");
+  if (plain.length % 4 !== 0 || !/^[A-Za-z0-9+/]*={0,2}$/.test(plain)) {
+    return null;
+  }
+  return Uint8Array.from(atob(plain), (character) => character.charCodeAt(0));
+}
+
+function base64Of(bytes) {
+  const parts = [];
+  for (let at = 0; at < bytes.length; at += PIECE) {
+    parts.push(String.fromCharCode(...bytes.subarray(at, at + PIECE)));
+  }
+  return btoa(parts.join(""));
+}
