@@ -371,7 +371,7 @@ export class Editor {
 
   /** The active document; null where none is. Set, it makes a document active, or none. */
   get active() {
-    const name = this._activeDocument();
+    const name = this._activeName();
     return name === "-" ? null : this._handle(name);
   }
 
@@ -389,14 +389,14 @@ export class Editor {
     return this.step("list").split(" ").slice(1).map((name) => name.replace("*", ""));
   }
 
-  _activeDocument() {
+  _activeName() {
     const names = this.step("list").split(" ").slice(1);
     return names.find((name) => name.startsWith("*"))?.slice(1) ?? "-";
   }
 
   // What work gives, with the same document active behind it.
   _restored(work) {
-    const active = this._activeDocument();
+    const active = this._activeName();
     try {
       return work();
     } finally {

@@ -471,7 +471,7 @@ class Document:
         try:
             self._do(lambda: save(self._editor, path))
         except Refused as refusal:
-            raise Refused(refusal.code, refusal.words, f'save({os.fspath(path)!r})', forms=()) from refusal.__cause__
+            raise refusal._of(f'save({os.fspath(path)!r})') from refusal.__cause__
         self._path = path
         _LOG.info('%s: saved to %s', self._name, path)
 

@@ -566,7 +566,7 @@ class Editor:
         try:
             self.open_file(path, opened)
         except Refused as refusal:
-            raise Refused(refusal.code, refusal.words, f'open({os.fspath(path)!r})', forms=()) from refusal.__cause__
+            raise refusal._of(f'open({os.fspath(path)!r})') from refusal.__cause__
         return self._in_turn(lambda: self._handle(opened, path))
 
     @property
