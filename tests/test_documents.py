@@ -241,10 +241,12 @@ def test_logging():
             logger.setLevel(logging.DEBUG)
             document.stamp(1, 0, 0, [[6]])
             document.discard()
+            editor.open(TOWN)
     finally:
         logger.removeHandler(kept)
         logger.setLevel(logging.NOTSET)
     wanted = [('DEBUG', 'a: stamp 1 0 0 1 6: ok 2/2 dirty 0'), ('DEBUG', 'a: discard a: ok none clean'), ('INFO', 'a: closed')]
+    wanted.append(('INFO', f'town: opened from {TOWN}'))
     see(wanted, kept.told)
 
 
