@@ -4,6 +4,7 @@ import ctypes
 import functools
 import itertools
 import json
+import logging
 import os
 import re
 import stat
@@ -25,6 +26,7 @@ from .seen import Seen
 if TYPE_CHECKING:
     from _typeshed import ReadableBuffer
 
+_LOG = logging.getLogger('roskevad')
 _REFUSAL = re.compile(r'no (\d+) (.*)', re.DOTALL)
 _STEP = LIBRARY.roskevad_step
 # The longest file that is opened.
@@ -581,7 +583,9 @@ class Editor:
         cells = f'{words.number(width, "a width")} {words.number(height, "a height")}'
         pixels = f'{words.number(tile_width, "a width")} {words.number(tile_height, "a height")}'
         line = f'new {words.document(name)} {cells} {pixels} {words.text(tileset, "the source of a tileset")}'
-        return self._in_turn(lambda: (self._said(line, line), self._handle(name))[1])
+        document = self._in_turn(lambda: (self._said(line, line), self._handle(name))[1])
+        _LOG.info('%s: made', name)
+        return document
 
     def open(self, source: "Union[str, os.PathLike[str], ReadableBuffer]", name: Optional[str] = None) -> Document:
         """Opens the map of a file, by its path from the folder of the editor, or of the bytes of a file. Without a name it gets
@@ -592,12 +596,14 @@ class Editor:
         if not isinstance(source, (str, os.PathLike)):
             opened = name or self._in_turn(self._free_name)
             self.open_map(opened, source, all_maps=True)
+            _LOG.info('%s: opened from bytes', opened)
             return self._in_turn(lambda: self._handle(opened))
         opened, path = name or document_name(source), Path(source)
         try:
             self.open_file(path, opened)
         except Refused as refusal:
             raise refusal._of(f'open({os.fspath(path)!r})') from refusal.__cause__
+        _LOG.info('%s: opened from %s', opened, path)
         return self._in_turn(lambda: self._handle(opened, path))
 
     @property

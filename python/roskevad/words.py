@@ -1,6 +1,7 @@
 """Checks words before they become a line: what no line can say is told with the caller's own words, and nothing is sent."""
 import operator
 import re
+from numbers import Integral
 from typing import Any, Optional
 
 from .names import is_document_name
@@ -126,7 +127,7 @@ def setting(name: str, value: Any, kind: str) -> str:
 
 def _as_whole(value: Any) -> Any:
     """A number of another library as an int, and anything else as it is."""
-    return value if isinstance(value, bool) or not hasattr(value, '__index__') else operator.index(value)
+    return operator.index(value) if isinstance(value, Integral) and not isinstance(value, bool) else value
 
 
 def type_of(name: str, value: Any) -> str:
@@ -136,7 +137,7 @@ def type_of(name: str, value: Any) -> str:
         return 'string'
     if isinstance(value, bool):
         return 'bool'
-    if hasattr(value, '__index__'):
+    if isinstance(value, Integral):
         return 'int'
     if isinstance(value, float):
         raise ValueError(f'no line sets a property of the type float: {name!r}')
