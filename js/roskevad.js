@@ -56,6 +56,8 @@ export class Editor {
     // The open documents that were handed out, by their names, and what was seen of one that nothing has
     // changed since.
     this._handles = new Map();
+    // The names of those that are being opened.
+    this._opening = new Set();
     this._seen = null;
     // Whether anything of a map was set aside or unpacked. Until then maps are given as they are.
     this._hasSetAside = false;
@@ -450,12 +452,17 @@ export class Editor {
 
   /** Opens the map of the bytes of a file, or of a text; without a name as `map`, `map2` or so. */
   async open(data, name = this._freeName()) {
-    await this.openMap(words.document(name), data);
+    this._opening.add(words.document(name));
+    try {
+      await this.openMap(name, data);
+    } finally {
+      this._opening.delete(name);
+    }
     return this._handle(name);
   }
 
   _freeName() {
-    const taken = new Set(this._names());
+    const taken = new Set([...this._names(), ...this._opening]);
     let [name, number] = ["map", 1];
     while (taken.has(name)) {
       number += 1;

@@ -48,6 +48,8 @@ async function savedDocuments() {
   same([first.status.clean, [...editor.documents.keys()]], [true, ["first"]]);
   const again = await editor.open(bytes);
   same([again.name, again.layers.get(1).rows(0, 0, 2, 1), editor.active === again], ["map", [[5, 0]], true]);
+  const both = await Promise.all([editor.open(bytes), editor.open(bytes)]);
+  same(both.map((document) => document.name), ["map2", "map3"]);
   first.close();
   thrown(Closed, () => first.undo());
   editor.close();
