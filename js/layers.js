@@ -1,11 +1,20 @@
 // Where the layers of a map stand in its text, so that some members can be written anew and all else stays as it is, digit by
 // digit. A text that is no JSON has no layers, or some; the library refuses it.
+
+/** The member of a layer that names how it was packed, while it is unpacked. */
+export const NOTE = "roskevad_compression";
+
 const SPACE = /[ \t\n\r]*/y;
 const SCALAR = /[^\s,:[\]{}"]+/y;
 const MARK = /["[\]{}]/g;
 // How deep layers of a map may stand, and how many it may have. A map with more is refused by the library.
 const MOST_DEEP = 17;
 const MOST_LAYERS = 256;
+
+// The members that are looked at. Others are gone over.
+const NAMES = new Set([
+  "chunks", "compression", "compressionlevel", "data", "encoding", "height", "layers", "width", NOTE,
+]);
 
 /** A part of a text that is written anew. */
 export class Edit {
@@ -51,20 +60,17 @@ export class Part {
   }
 
   /** The entries of an array. None of any other value. */
-  entries() {
+  *entries() {
     const { text, start } = this;
-    const found = [];
-    const read = (at) => {
+    let at = text[start] === "[" ? behindSpace(text, start + 1) : text.length;
+    while (at < text.length && text[at] !== "]") {
       const end = endOf(text, at);
-      if (end !== null) {
-        found.push(new Part(text, at, end));
+      if (end === null) {
+        return;
       }
-      return end;
-    };
-    if (text[start] === "[") {
-      readEntries(text, start, read);
+      yield new Part(text, at, end);
+      at = behindComma(text, end);
     }
-    return found;
   }
 }
 
@@ -122,16 +128,24 @@ function readMembers(text, start, endOfMember) {
     if (nameEnd === null || text[colon] !== ":") {
       return { found, end: null };
     }
-    const name = new Part(text, at, nameEnd).value;
+    const name = nameAt(text, at, nameEnd);
     const valueStart = behindSpace(text, colon + 1);
     const end = endOfMember(name, valueStart);
     if (end === null) {
       return { found, end: null };
     }
-    found.set(name, new Part(text, valueStart, end, at, nameEnd));
+    if (NAMES.has(name)) {
+      found.set(name, new Part(text, valueStart, end, at, nameEnd));
+    }
     at = behindComma(text, end);
   }
   return { found, end: text[at] === "}" ? at + 1 : null };
+}
+
+// The name that stands here. Few have an escape.
+function nameAt(text, start, end) {
+  const name = text.slice(start + 1, end - 1);
+  return name.includes("\\") ? new Part(text, start, end).value : name;
 }
 
 // Where the array that stands here ends; null where it does not. A function says where an entry ends.

@@ -1,14 +1,15 @@
 // Maps whose layers are compressed: unpacked before the library reads them, and packed again behind it.
-import { Edit, edited, mapAndLayers } from "./layers.js";
+import { Edit, NOTE, edited, mapAndLayers } from "./layers.js";
 
-/** The member of a layer that names how it was packed, while it is unpacked. */
-export const NOTE = "roskevad_compression";
-export const NOTE_TAKEN = `a layer has a member of the reserved name "${NOTE}"`;
-export const TOO_LONG = "unpacked, its layers have more than 67,108,864 bytes";
+const NOTE_TAKEN = `a layer has a member of the reserved name "${NOTE}"`;
+const TOO_LONG = "unpacked, its layers have more than 67,108,864 bytes";
 
 // What the host calls the formats. That of a stream is told by its first two bytes, as Tiled does.
 const FORMATS = new Map([["zlib", "deflate"], ["gzip", "gzip"]]);
 const GZIP = [0x1f, 0x8b];
+// A stream of the byte 97, and a byte behind it; and a promise of whether the host sees that.
+const BEHIND_END = Uint8Array.of(0x78, 0x9c, 0x4b, 4, 0, 0, 0x62, 0, 0x62, 0);
+let seesEnd = null;
 const CELL_BYTES = 4;
 const MOST_CELLS = 1_048_576;
 const MOST_BYTES = 67_108_864;
@@ -114,10 +115,11 @@ async function unpackedLayer(layer, packing, cells, budget) {
   const edits = [new Edit(name.start, name.end, `"","${NOTE}":"${packing}"`)];
   for (const [holder, count] of holdersOf(layer, cells)) {
     const data = holder.get("data")?.value;
-    // Where there is no size or no text, the library says so.
-    if (typeof data === "string" && count !== null) {
-      edits.push(dataEdit(holder, await unpackedData(data, count * CELL_BYTES, budget)));
+    if (typeof data !== "string" || count === null) {
+      // The library says so.
+      return edits;
     }
+    edits.push(dataEdit(holder, await unpackedData(data, count * CELL_BYTES, budget)));
   }
   return edits;
 }
@@ -152,11 +154,17 @@ async function unpackedData(data, size, budget) {
   }
   const bytes = bytesOfBase64(data);
   const came = bytes && (await inflated(bytes, size));
-  // Some hosts do not see bytes behind the end of a stream: without the last byte it must be cut short.
-  if (!came || came.length !== size || (await inflated(bytes.subarray(0, -1), size))) {
+  if (!came || came.length !== size || !(await endsThere(bytes, size))) {
     throw new Unpackable(66, "the data of a layer does not unpack to 4 bytes a cell");
   }
   return came;
+}
+
+// Whether nothing stands behind the end of a stream. A host that does not see that by itself finds the stream
+// cut short without its last byte.
+async function endsThere(bytes, size) {
+  seesEnd ??= inflated(BEHIND_END, 1).then((came) => came === null);
+  return (await seesEnd) || (await inflated(bytes.subarray(0, -1), size)) === null;
 }
 
 // At most so many bytes of a stream; null where it has more, or is cut short or damaged.

@@ -118,7 +118,7 @@ def spread(*chunks, **members):
 
 def plane(*layers, **members):
     """An infinite map."""
-    return map_of(*layers, infinite=True, height=20, width=30, **members)
+    return map_of(*layers, **{'infinite': True, 'height': 20, 'width': 30, **members})
 
 
 BASE64 = {'encoding': 'base64', 'compression': ''}
@@ -222,7 +222,7 @@ REFUSED = [
     ('a chunk with a member of its own', with_chunk(more=1), UNLIKE),
     ('a layer with chunks and data', plane(spread(chunk(0, 0, 1, 1), data=[1])), UNLIKE),
     ('17 layers of 1,048,576 cells', plane(*(spread(chunk(0, 0, 1, 1), chunk(1023, 1023, 1, 1)) for _ in range(17))), LARGE),
-    ('a map of chunks deep in arrays', plane(spread(chunk(0, 0, 1, 1), kept=eval('[' * 120 + '0.5' + ']' * 120))), TOO_DEEP),
+    ('a map of chunks deep in arrays', plane(spread(chunk(0, 0, 1, 1), kept=json.loads('[' * 123 + '0.5' + ']' * 123))), TOO_DEEP),
 ]
 
 
@@ -319,7 +319,8 @@ class Drawing(TiledPlay):
     def __init__(self, number):
         self.chosen = chosen = random.Random(SEED + number)
         tree = plane(
-            *drawn_layers(chosen, itertools.count(1), 2),
+            spread(chunk(16 * chosen.randint(-3, 3), -16, 16, 16), id=1),
+            *drawn_layers(chosen, itertools.count(2), 2),
             orientation=chosen.choice(('orthogonal', 'isometric', 'staggered')),
             tilewidth=chosen.randint(1, 20),
         )

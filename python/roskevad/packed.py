@@ -10,11 +10,9 @@ import base64
 import binascii
 from typing import Any, Iterator, NamedTuple, Optional
 
-from .layers import Edit, Members, edited, map_and_layers
+from .layers import NOTE, Edit, Members, edited, map_and_layers
 from .packings import pack, unpack, why_not
 
-#: The member of a layer that notes how it was packed.
-NOTE = 'roskevad_compression'
 _NOTE_TAKEN = f'a layer has a member of the reserved name "{NOTE}"'
 _TOO_LONG = 'unpacked, its layers have more than 67,108,864 bytes'
 _BAD_DATA = 'the data of a layer does not unpack to 4 bytes a cell'
@@ -43,24 +41,35 @@ class Unpacked(NamedTuple):
 def unpacked(data: bytes) -> Unpacked:
     """A map with its layers unpacked. Raises Unpackable: 51 where a layer has the member of a note, or they are too many bytes; 66
     where data do not unpack to four bytes a cell. Nothing is unpacked any further."""
-    if b'compression"' not in data and b'\\u' not in data:
+    text = _text_of(data) if b'compression"' in data or b'\\u' in data else None
+    if text is None:
         return Unpacked(data, None)
-    members, layers = map_and_layers(data)
+    members, layers = map_and_layers(text)
     if any(NOTE in layer for layer in layers):
         raise Unpackable(51, _NOTE_TAKEN)
     why = next(filter(None, (why_not(packing) for packing in map(_packing_of, layers) if packing)), None)
     unpacker = _Unpacker(_cells_of(members))
     edits = [edit for layer in layers for edit in unpacker.edits(layer)]
-    return Unpacked(edited(data, edits) if edits else data, why)
+    return Unpacked(edited(text, edits).encode() if edits else data, why)
 
 
 def packed(data: bytes) -> bytes:
     """A map with those layers packed that note how. Raises Unpackable: 51 where that can't be done here."""
-    if f'"{NOTE}"'.encode() not in data:
+    text = _text_of(data) if f'"{NOTE}"'.encode() in data else None
+    if text is None:
         return data
-    members, layers = map_and_layers(data)
-    level = _value_of(members, 'compressionlevel')
-    return edited(data, [edit for layer in layers for edit in _packing_edits(layer, level if type(level) is int else -1)])
+    members, layers = map_and_layers(text)
+    told = _value_of(members, 'compressionlevel')
+    level = told if type(told) is int else -1
+    return edited(text, [edit for layer in layers for edit in _packing_edits(layer, level)]).encode()
+
+
+def _text_of(data: bytes) -> Optional[str]:
+    """The text of bytes in UTF-8; `None` where they are none."""
+    try:
+        return data.decode()
+    except UnicodeDecodeError:
+        return None
 
 
 def _value_of(members: Members, name: str) -> Any:
@@ -104,12 +113,13 @@ class _Unpacker:
         if packing is None or why_not(packing):
             return
         named = layer['compression']
-        yield Edit(named.start, named.end, f'"","{NOTE}":"{packing}"'.encode())
+        yield Edit(named.start, named.end, f'"","{NOTE}":"{packing}"')
         for holder, cells in _holders_of(layer, self._cells):
             data = _value_of(holder, 'data')
-            # Where there is no size or no text, the library says so.
-            if isinstance(data, str) and cells is not None:
-                yield _data_edit(holder, self._unpacked(packing, data, cells * _CELL_BYTES))
+            if not isinstance(data, str) or cells is None:
+                # The library says so.
+                return
+            yield _data_edit(holder, self._unpacked(packing, data, cells * _CELL_BYTES))
 
     def _unpacked(self, packing: str, data: str, size: int) -> bytes:
         self._rest -= -(-size // 3) * 4
@@ -130,7 +140,7 @@ def _packing_edits(layer: Members, level: int) -> Iterator[Edit]:
     if why:
         raise Unpackable(51, why)
     note = layer[NOTE]
-    yield Edit(note.name_start, note.name_end, b'"compression"')
+    yield Edit(note.name_start, note.name_end, '"compression"')
     for holder, _ in _holders_of(layer, None):
         data = _value_of(holder, 'data')
         if isinstance(data, str):
@@ -138,7 +148,7 @@ def _packing_edits(layer: Members, level: int) -> Iterator[Edit]:
 
 
 def _data_edit(holder: Members, data: bytes) -> Edit:
-    return Edit(holder['data'].start, holder['data'].end, b'"' + base64.b64encode(data) + b'"')
+    return Edit(holder['data'].start, holder['data'].end, f'"{base64.b64encode(data).decode()}"')
 
 
 def _decoded(text: str) -> Optional[bytes]:
