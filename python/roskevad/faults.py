@@ -32,11 +32,6 @@ class Refused(Exception):
         code, words, _, *more = self.args
         return Refused(code, words, call, *more)
 
-    def _of(self, call: str) -> 'Refused':
-        """The same refusal of another call."""
-        code, words, _, *more = self.args
-        return Refused(code, words, call, *more)
-
     def __str__(self) -> str:
         more = self.forms if self.why is None else (self.why, *self.forms)
         return '\n  '.join([f'{self.code} {self.words}: {self.line[:200]}', *more])
