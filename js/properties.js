@@ -1,6 +1,11 @@
 // The properties of a map, a layer or an object.
 import * as words from "./words.js";
 
+/** The value of a class has members of its own. */
+function copied(value) {
+  return typeof value === "object" ? JSON.parse(JSON.stringify(value)) : value;
+}
+
 /**
  * The properties of a map, a layer or an object, by their names, as a Map has them. A value that is set
  * keeps the type of the one that is there; the first value of a name sets a string, an int, a bool or, for
@@ -25,7 +30,7 @@ export class Properties {
 
   /** The value of the property of a name; undefined where there is none. */
   get(key) {
-    return this._all.get(key)?.value;
+    return copied(this._all.get(key)?.value);
   }
 
   /** Whether there is a property of a name. */
@@ -40,7 +45,7 @@ export class Properties {
 
   *[Symbol.iterator]() {
     for (const { name, value } of this._all.values()) {
-      yield [name, value];
+      yield [name, copied(value)];
     }
   }
 

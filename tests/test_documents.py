@@ -1,6 +1,7 @@
 """Tries documents of the Python package beyond their lines: the files that they are opened from and
 saved to; threads, forks, signal handlers and interrupts; a memory that ends in the midst of a long
 stamp; what is logged, and what documents and their parts tell of themselves."""
+import json
 import logging
 import os
 import signal
@@ -90,6 +91,24 @@ def test_bytes():
         see([None] * 3, [document.path for document in documents])
         data = documents[1].save_bytes()
         see((documents[1], editor.step('show')[len('map '):].encode()), (editor.active, data))
+
+
+def test_properties_of_other_types():
+    """A class and a float are read; what is read of a class is a copy."""
+    with Editor() as editor:
+        made(editor)
+        properties = [
+            {'name': 'c', 'type': 'class', 'propertytype': 'Door', 'value': {'a': 1}},
+            {'name': 'f', 'type': 'float', 'value': 1},
+        ]
+        data = json.dumps({**editor.map(), 'properties': properties}).encode()
+        document = editor.open(data)
+        document.properties['c']['a'] = 2
+        see({'c': {'a': 1}, 'f': 1.0}, dict(document.properties))
+        see((float, 'class', 'float'), (type(document.properties['f']), *map(document.properties.type_of, 'cf')))
+        for key, value in (('c', {'a': 2}), ('f', 2.5), ('f', 2)):
+            raised(ValueError, document.properties.__setitem__, key, value)
+        see(editor.map()['properties'], properties)
 
 
 def test_with_a_document():

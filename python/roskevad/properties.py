@@ -1,4 +1,5 @@
 """The properties of a map, a layer or an object."""
+import copy
 from typing import TYPE_CHECKING, Any, Callable, Iterator, MutableMapping, Optional
 
 from . import words
@@ -68,4 +69,7 @@ class Properties(MutableMapping[str, Any]):
 
 def _value_of(members: Members) -> Any:
     value = members['value']
-    return float(value) if members.get('type') == 'float' else value
+    if members.get('type') == 'float':
+        return float(value)
+    # The value of a class has members of its own.
+    return copy.deepcopy(value)

@@ -56,4 +56,15 @@ async function savedDocuments() {
   thrown(Closed, () => again.status);
 }
 
-export const DOCUMENT_CHECKS = [drawnDocuments, savedDocuments];
+async function propertiesOfOtherTypes() {
+  const editor = await Editor.create();
+  const made = editor.new("made", 4, 3, 16, 16, "town.tsj");
+  const properties = [{ name: "c", type: "class", propertytype: "Door", value: { a: 1 } }];
+  const document = await editor.open(JSON.stringify({ ...made.map(), properties }));
+  document.properties.get("c").a = 2;
+  same([...document.properties], [["c", { a: 1 }]]);
+  thrown(RangeError, () => document.properties.set("c", { a: 2 }));
+  editor.close();
+}
+
+export const DOCUMENT_CHECKS = [drawnDocuments, savedDocuments, propertiesOfOtherTypes];
