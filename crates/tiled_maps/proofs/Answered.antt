@@ -1,5 +1,6 @@
 -- The facts about an answer, from what was seen of its tree.
-use Rattle.std.proofs.Common.{◌≡◌, ◌⊎◌, inl, inr, ℕ, ◌≤◌, List, Bool, true, false, ◌||◌, true≢false, Option, Some, None, is_some, Vec, Global, Err, refl, sym, ap, ◌∙◌}
+use Rattle.std.proofs.Common.{◌≡◌, ◌⊎◌, inl, inr, ℕ, ◌≤◌, ◌<◌, nat_le, leb-false, List, Bool, true, false, not, ◌||◌, true≢false, Option, Some, None, is_some, Vec, Global, Err, refl, sym, ap, ◌∙◌, arith}
+use Rattle.std.specs.Prelude.{unwrap_or}
 use Rattle.serde_json.specs.Data.{Data, depth}
 use Rattle.serde_json.specs.Read.{max_depth}
 use Rattle.infinite_maps.specs.Infinite.{is_infinite, infinite_of}
@@ -9,10 +10,11 @@ use Rattle.tiled_maps.specs.declared.place.Place.TheVariants.{Map}
 use Rattle.tiled_maps.specs.Members.{has_name}
 use Rattle.tiled_maps.specs.Fractions.{has_fraction}
 use Rattle.tiled_maps.specs.Aside.{reserved_name, set_aside_of}
-use Rattle.tiled_maps.specs.Trees.{put_back_of, IsFiniteOf, MakesWhole, MakesFinite}
-use Rattle.tiled_maps.specs.Texts.{IsTreeOf, IsSetAside, IsPutBack, SetsAside, text_or}
+use Rattle.tiled_maps.specs.Back.{back}
+use Rattle.tiled_maps.specs.Trees.{put_back_of, IsFiniteOf, MakesFinite}
+use Rattle.tiled_maps.specs.Texts.{IsTreeOf, IsSetAside, IsPutBack, IsInfinite, SetsAside, text_or}
 use Rattle.tiled_maps.proofs.Meeting.{is_infinite-set_aside_of, put_back_of-plain, put_back_of-spread, put_back_of-free}
-use Rattle.tiled_maps.proofs.Whole.{has_fraction-aside, aside-unchanged, back-unchanged}
+use Rattle.tiled_maps.proofs.Whole.{has_fraction-aside, aside-unchanged, back-unchanged, depth-back}
 use Rattle.tiled_maps.proofs.ReadTrees.{IsReadTree-read}
 
 or_false : (a b : Bool) → b ≡ false → (a || b) ≡ a
@@ -22,6 +24,10 @@ or_false false b e = e
 or_true : (a b : Bool) → b ≡ true → (a || b) ≡ true
 or_true true b e = refl
 or_true false b e = e
+
+pub if_not : (b : Bool) → true ≡ not b → b ≡ false
+if_not true e = absurd (true≢false e)
+if_not false e = refl
 
 -- a map that is not infinite
 IsSetAside-plain : (bytes : List ℕ) (text : Option (Vec ℕ Global)) (d : Data) → IsTreeOf bytes d → has_name reserved_name d ≡ false
@@ -66,25 +72,18 @@ SetsAside-finite bytes text d t tree free infinite finite text_tree =
     }
 
 -- ---- faults
-pub whole_fault : (bytes : List ℕ) (d : Data) (fault : Fault) → IsTreeOf bytes d → MakesWhole d (Err fault) → SetsAside bytes (Err fault)
-whole_fault bytes d Memory tree h = tt
-whole_fault bytes d NotJson tree h = absurd h
-whole_fault bytes d NameTaken tree h = absurd h
-whole_fault bytes d TooDeep tree h = (d, tree, inl h)
-whole_fault bytes d BadChunk tree h = absurd h
-whole_fault bytes d Overlap tree h = absurd h
-whole_fault bytes d TooLarge tree h = absurd h
-whole_fault bytes d Unlike tree h = absurd h
+infinite_fault : (bytes : List ℕ) (d a : Data) → IsTreeOf bytes d → a ≡ set_aside_of d → is_infinite a ≡ true → IsInfinite bytes
+infinite_fault bytes d a tree is h = (d, tree, sym (is_infinite-set_aside_of d) ∙ ap is_infinite (sym is) ∙ h)
 
-pub finite_fault : (bytes : List ℕ) (d : Data) (fault : Fault) → IsTreeOf bytes d → MakesFinite (set_aside_of d) (Err fault) → SetsAside bytes (Err fault)
-finite_fault bytes d Memory tree h = tt
-finite_fault bytes d NotJson tree h = absurd h
-finite_fault bytes d NameTaken tree h = absurd h
-finite_fault bytes d TooDeep tree h = (d, tree, inr h.1)
-finite_fault bytes d BadChunk tree h = (d, tree, sym (is_infinite-set_aside_of d) ∙ h)
-finite_fault bytes d Overlap tree h = (d, tree, sym (is_infinite-set_aside_of d) ∙ h)
-finite_fault bytes d TooLarge tree h = (d, tree, sym (is_infinite-set_aside_of d) ∙ h)
-finite_fault bytes d Unlike tree h = (d, tree, sym (is_infinite-set_aside_of d) ∙ h)
+pub finite_fault : (bytes : List ℕ) (d a : Data) (fault : Fault) → IsTreeOf bytes d → a ≡ set_aside_of d → MakesFinite a (Err fault) → SetsAside bytes (Err fault)
+finite_fault bytes d a Memory tree is h = tt
+finite_fault bytes d a NotJson tree is h = absurd h
+finite_fault bytes d a NameTaken tree is h = absurd h
+finite_fault bytes d a TooDeep tree is h = (d, tree, inr (h.1.0, h.1.1 ∙ ap (λ t. Some t) is, h.1.2))
+finite_fault bytes d a BadChunk tree is h = infinite_fault bytes d a tree is h
+finite_fault bytes d a Overlap tree is h = infinite_fault bytes d a tree is h
+finite_fault bytes d a TooLarge tree is h = infinite_fault bytes d a tree is h
+finite_fault bytes d a Unlike tree is h = infinite_fault bytes d a tree is h
 
 -- ---- put back
 -- a tree without the reserved name
@@ -94,6 +93,14 @@ IsPutBack-none bytes d tree none = record {
   text_tree = (tree.0, tree.1 ∙ ap (λ t. Some t) (sym (put_back_of-free d none ∙ back-unchanged d none)));
   some = sym none;
 }
+
+-- a tree that is too deep only as it is put back was one of an infinite map
+pub was_infinite : (o : Option Data) (d : Data) → depth d ≤ max_depth → max_depth < depth (back (unwrap_or o d)) → is_some o ≡ true
+was_infinite None d within deep = absurd (omega (arith, depth-back d, within, deep))
+was_infinite (Some t) d within deep = refl
+
+pub deeper : (n : ℕ) → nat_le n 127 ≡ false → max_depth < n
+deeper n e = leb-false n 127 e
 
 -- a tree with the reserved name
 pub IsPutBack-some : (bytes : List ℕ) (text : Vec ℕ Global) (d : Data) → IsTreeOf bytes d → has_name reserved_name d ≡ true
