@@ -17,11 +17,17 @@ from roskevad import Editor  # noqa: E402
 def draw(map_path: Path, fenced: Path) -> None:
     """Draws the fence into a map, and saves it as another file."""
     with Editor() as editor:
-        print(editor.open_file(map_path, 'map'))
-        layer = editor.layer_id(editor.map()['layers'][0]['name'])
-        for line in ('begin Fence', f'stamp {layer} 0 0 4 7,7,7,7', f'stamp {layer} 0 2 4 7,7,7,7', 'end', 'undo', 'redo'):
-            print(line, '=>', editor.step(line))
-        print(editor.save_file(fenced))
+        document = editor.open(map_path)
+        layer = next(iter(document.layers))
+        with document.macro('Fence'):
+            document.stamp(layer, 0, 0, [[7, 7, 7, 7]])
+            document.stamp(layer, 0, 2, [[7, 7, 7, 7]])
+        print('drawn:', document)
+        document.undo()
+        print('undone:', document)
+        document.redo()
+        document.save(fenced)
+        print('saved:', document)
 
 
 def main() -> None:

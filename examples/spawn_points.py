@@ -11,23 +11,20 @@ from pathlib import Path
 TOP = Path(__file__).resolve().parent.parent
 sys.path.insert(0, str(TOP / 'python'))
 
-from roskevad import Editor, Refused  # noqa: E402
+from roskevad import Document, Editor, Refused  # noqa: E402
 
 LAYER = 'Spawn points'
 NAME = 'spawn'
 
 
-def add_spawn_point(editor: Editor) -> None:
-    """Adds the spawn point, in the middle of the active document's map and in a layer of its own, as one step."""
-    map_ = editor.map()
-    x, y = map_['width'] * map_['tilewidth'] // 2, map_['height'] * map_['tileheight'] // 2
-    editor.step('begin Spawn point || add a spawn point')
-    editor.step(f'layer add object {LAYER}')
-    editor.step(f'object add {editor.last_layer_id()} {x} {y} 0 0 {NAME}')
-    spawn = editor.last_object_id()
-    editor.step(f'prop set object:{spawn} facing string south')
-    editor.step(f'prop set object:{spawn} team int 1')
-    editor.step('end')
+def add_spawn_point(document: Document) -> None:
+    """Adds the spawn point, in the middle of a map and in a layer of its own, as one step."""
+    x, y = document.width * document.tile_width // 2, document.height * document.tile_height // 2
+    with document.macro('Spawn point', action='add a spawn point'):
+        layer = document.layers.add('object', LAYER)
+        spawn = document.layers[layer].objects.add(NAME, x, y)
+        document.objects[spawn].properties['facing'] = 'south'
+        document.objects[spawn].properties['team'] = 1
 
 
 def change(editor: Editor, paths: list[Path]) -> list[str]:
@@ -35,8 +32,7 @@ def change(editor: Editor, paths: list[Path]) -> list[str]:
     faults = []
     for number, path in enumerate(paths):
         try:
-            editor.open_file(path, f'map{number}')
-            add_spawn_point(editor)
+            add_spawn_point(editor.open(path, f'map{number}'))
         except Refused as refusal:
             faults.append(f'{path.name}: {refusal.code} {refusal.words}')
     return faults
@@ -44,9 +40,9 @@ def change(editor: Editor, paths: list[Path]) -> list[str]:
 
 def save(editor: Editor, paths: list[Path]) -> None:
     """Saves each document in the place of its file."""
-    for number, path in enumerate(paths):
-        editor.step(f'use map{number}')
-        print(editor.save_file(path))
+    for document, path in zip(editor.documents.values(), paths):
+        document.save()
+        print(f'saved {path.name} {path.stat().st_size}')
 
 
 def main() -> None:

@@ -19,10 +19,10 @@ export class Refused extends Error {
   }
 }
 
-/** The editor was closed. */
+/** The editor, or the document, was closed. */
 export class Closed extends Error {
-  constructor() {
-    super("the editor is closed");
+  constructor(what = "the editor") {
+    super(`${what} is closed`);
     this.name = "Closed";
   }
 }

@@ -1,3 +1,10 @@
+import type { Document } from "./document.js";
+
+export { Document, Layer, Layers, MapObject, Objects, Properties, Selection, Tileset, Tilesets } from "./document.js";
+export type {
+  LayerLike, Members, PropertyValue, Rows, Run, SelectionMode, Status, Step, Tile,
+} from "./document.js";
+
 /** The version of this package. */
 export const VERSION: string;
 
@@ -39,7 +46,7 @@ export class Refused extends Error {
  */
 export function documentName(file: string): string;
 
-/** The editor was closed. */
+/** The editor, or the document, was closed. */
 export class Closed extends Error {}
 
 /**
@@ -112,6 +119,23 @@ export class Editor {
   close(): void;
   /** The same, for `using`, where the engine has that. */
   [Symbol.dispose](): void;
+
+  /**
+   * Opens a new map, sized in cells and in pixels, with an empty tile layer 1 and a tileset, by the path of
+   * its file from the map's folder, whose first id is 1. Throws TypeError, RangeError, Refused (11, 39).
+   */
+  new(
+    name: string, width: number, height: number, tileWidth: number, tileHeight: number, tileset: string,
+  ): Document;
+  /**
+   * Opens the map of the bytes of a file, as a document of that name, or else of `map`, `map2` or so.
+   * Throws TypeError, RangeError, Refused (11, 60 to 69).
+   */
+  open(data: Data, name?: string): Promise<Document>;
+  /** The open documents by their names, in order of opening; later calls do not change it. */
+  readonly documents: ReadonlyMap<string, Document>;
+  /** The active document; null where none is. Set, it makes a document active, or none. */
+  active: Document | null;
 
   /** Does what a line asks for, and gives the reply, "" where the line is quiet. Throws Refused. */
   step(line: string): string;

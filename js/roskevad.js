@@ -3,14 +3,21 @@
 //   const editor = await Editor.create({ limit: 0 });
 //   editor.step("new town 4 3 16 16 town.tsj");
 import { originOf, restored } from "./aside.js";
+import { Document } from "./document.js";
 import { Closed, NoMemory, Refused } from "./faults.js";
 import { BAD_NAME, DONE, Module, NONE, bytesOf, textOf } from "./module.js";
 import { Unpackable, packed, unpacked } from "./packed.js";
+import * as words from "./words.js";
 
+export { Document } from "./document.js";
 export { BadModule, Broken, Closed, NoMemory, Refused } from "./faults.js";
 export { FORMS, formsOf } from "./forms.js";
 export { Module, VERSION } from "./module.js";
 export { documentName } from "./names.js";
+export { Properties } from "./properties.js";
+export { Selection } from "./selection.js";
+export { Tileset, Tilesets } from "./tilesets.js";
+export { Layer, Layers, MapObject, Objects } from "./views.js";
 
 // What `show` begins with, and two refusals.
 const MAP = "map ";
@@ -18,6 +25,9 @@ const STORE_FAILED = 51;
 const COMPRESSED = 65;
 // The bytes of a refusal are fewer.
 const LONGEST_REFUSAL = 200;
+// A line that closes a document, and one that has no reply.
+const CLOSING = /^(?:close|discard) ([A-Za-z0-9_.-]+)$/;
+const QUIET = /^(?: *$|#)/;
 const REFUSAL = /^no (\d+) (.*)$/s;
 const GREATEST_LIMIT = 1_000_000;
 // The bytes of what a session is kept in, and of a run of the selection.
@@ -43,6 +53,12 @@ export class Editor {
       throw new RangeError(`a limit is from 0 to ${GREATEST_LIMIT}: ${limit}`);
     }
     this._module = module;
+    // The open documents that were handed out, by their names, and what was seen of one that nothing has
+    // changed since.
+    this._handles = new Map();
+    // The names of those that are being opened.
+    this._opening = new Set();
+    this._seen = null;
     // Whether anything of a map was set aside or unpacked. Until then maps are given as they are.
     this._hasSetAside = false;
     this._slot = module.take(SLOT_BYTES);
@@ -89,6 +105,7 @@ export class Editor {
   step(line) {
     const [say, again] = this._saying(line);
     const reply = this._module.toldText(say, again) ?? "";
+    this._see(line, reply);
     const refusal = reply.startsWith("no ") && REFUSAL.exec(reply);
     if (refusal) {
       throw new Refused(Number(refusal[1]), refusal[2], line);
@@ -102,7 +119,12 @@ export class Editor {
    */
   stepBytes(line) {
     const [say, again] = this._saying(line);
-    return this._module.told(say, again);
+    const reply = this._module.told(say, again);
+    if (this._handles.size > 0 && reply !== null) {
+      this._see(textOf(bytesOf(line)), textOf(reply.subarray(0, 3)));
+    }
+    this._seen = null;
+    return reply;
   }
 
   // The call that hears a line and copies its reply, and the one that copies the reply again.
@@ -126,11 +148,15 @@ export class Editor {
     if (lines.some((line) => line.includes("\n"))) {
       throw new RangeError("a line has no newline in it");
     }
+    this._seen = null;
     const replies = [];
     const take = (bytes) => replies.push(...textOf(bytes).split("\n").slice(0, -1));
     let done = 0;
     for (const part of partsOf(lines)) {
       const came = this._run(part, true, take);
+      if (this._handles.size > 0) {
+        this._seeAll(lines.slice(done, done + came.lines - Number(came.isRefused)));
+      }
       done += came.lines;
       if (came.isRefused) {
         const [, code, words] = REFUSAL.exec(replies.pop());
@@ -147,7 +173,9 @@ export class Editor {
   runBytes(session) {
     const parts = [];
     this._run(session, false, (bytes) => parts.push(bytes.slice()));
-    return joined(parts);
+    const all = joined(parts);
+    this._seeSession(session, all);
+    return all;
   }
 
   // Does lines that are cut at newlines, perhaps to the first refused one. Gives how many are done, and
@@ -406,6 +434,114 @@ export class Editor {
     return isCount(at)
       ? this._module.toldText((to, room) => this._call("action_text", at, to, room))
       : null;
+  }
+
+  // ---- documents, in the words of their callers
+
+  /**
+   * Opens a new map, of a size in cells and of cells of a size in pixels, with an empty tile layer 1 and a
+   * tileset, by the path of its file from the folder of the map, whose first id is 1.
+   */
+  new(name, width, height, tileWidth, tileHeight, tileset) {
+    const cells = `${words.number(width, "a width")} ${words.number(height, "a height")}`;
+    const pixels = `${words.number(tileWidth, "a width")} ${words.number(tileHeight, "a height")}`;
+    const source = words.text(tileset, "the source of a tileset");
+    this.step(`new ${words.document(name)} ${cells} ${pixels} ${source}`);
+    return this._handle(name);
+  }
+
+  /** Opens the map of the bytes of a file, or of a text; without a name as `map`, `map2` or so. */
+  async open(data, name = this._freeName()) {
+    this._opening.add(words.document(name));
+    try {
+      await this.openMap(name, data);
+    } finally {
+      this._opening.delete(name);
+    }
+    return this._handle(name);
+  }
+
+  _freeName() {
+    const taken = new Set([...this._names(), ...this._opening]);
+    let [name, number] = ["map", 1];
+    while (taken.has(name)) {
+      number += 1;
+      name = `map${number}`;
+    }
+    return name;
+  }
+
+  /** The open documents by their names, in order of opening; later calls do not change it. */
+  get documents() {
+    return new Map(this._names().map((name) => [name, this._handle(name)]));
+  }
+
+  /** The active document; null where none is. Set, it makes a document active, or none. */
+  get active() {
+    const name = this._activeName();
+    return name === "-" ? null : this._handle(name);
+  }
+
+  set active(document) {
+    if (document === null) {
+      this.step("use -");
+    } else if (document.editor !== this) {
+      throw new RangeError(`${document} is open in another editor`);
+    } else {
+      document._enter();
+    }
+  }
+
+  _names() {
+    return this.step("list").split(" ").slice(1).map((name) => name.replace("*", ""));
+  }
+
+  // What work gives, with the same document active behind it.
+  _restored(work) {
+    const active = this._activeName();
+    try {
+      return work();
+    } finally {
+      this.step(`use ${active}`);
+    }
+  }
+
+  // The document of that name, which is open.
+  _handle(name) {
+    if (!this._handles.has(name)) {
+      this._handles.set(name, new Document(this, name));
+    }
+    return this._handles.get(name);
+  }
+
+  // Notes what a line has done to what was handed out: it may have closed a document.
+  _see(line, reply) {
+    this._seen = null;
+    if (this._handles.size > 0 && reply.startsWith("ok ")) {
+      this._seeAll([line]);
+    }
+  }
+
+  // The same of lines that were done.
+  _seeAll(lines) {
+    for (const line of lines) {
+      const closed = CLOSING.exec(line);
+      const handle = closed && this._handles.get(closed[1]);
+      if (handle) {
+        handle._isClosed = true;
+        this._handles.delete(closed[1]);
+      }
+    }
+  }
+
+  // The same of a session, of which each line that is not quiet has its reply.
+  _seeSession(session, replies) {
+    this._seen = null;
+    if (this._handles.size > 0) {
+      const told = textOf(replies).split("\n");
+      const lines = textOf(bytesOf(session)).split("\n").filter((line) => !QUIET.test(line));
+      this._seeAll(lines.filter((_, at) => told[at]?.startsWith("ok ")));
+    }
   }
 
   // The number that a call answers, or null.

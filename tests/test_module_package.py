@@ -14,7 +14,7 @@ from roskevad.forms import FORMS, forms_of  # noqa: E402
 
 PACKAGES = ('nodejs', 'node-typescript')
 JS = TOP / 'js'
-DECLARED = (JS / 'roskevad.d.ts').read_text()
+DECLARED = ''.join((JS / name).read_text() for name in ('roskevad.d.ts', 'document.d.ts'))
 # The libraries of types that a page's program and one of Node alone may have.
 HOSTS = ('es2022,dom', 'es2022')
 LINES = [*FORMS, *(f'{word} x' for word in FORMS), '', ' ', 'x', 'STAMP', 'stamp++ 1', 'üü', '+', 'c']
@@ -34,7 +34,7 @@ def test_files():
     """Each that the package needs stands there, and is no link: npm leaves links out."""
     package = json.loads((JS / 'package.json').read_text())
     named = {f'./{name}' for pattern in package['files'] for name in names_of(pattern)}
-    wanted = {'./roskevad.js', './roskevad.d.ts', './roskevad.wasm', './NOTICES.txt'}
+    wanted = {'./roskevad.js', './roskevad.d.ts', './document.d.ts', './roskevad.wasm', './NOTICES.txt'}
     imported = {
         name for path in JS.glob('*.js') for name in re.findall(r'from "(\./[^"]+)"', path.read_text())
     }

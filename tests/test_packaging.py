@@ -31,7 +31,7 @@ KINDS = ('build_wheel', 'build_editable', 'build_sdist')
 SCRIPT = '''
 from pathlib import Path
 from typing import Any, Optional
-from roskevad import Closed, Editor, Refused, document_name
+from roskevad import Closed, Document, Editor, Layer, Refused, Run, Status, Tile, document_name
 def run(path: Path) -> Optional[int]:
     with Editor(limit=5, folder='.') as editor:
         reply: str = editor.open_file(path)
@@ -45,6 +45,28 @@ def run(path: Path) -> Optional[int]:
         except (Refused, Closed) as fault:
             print(fault, reply, told, tree, names, document_name(path))
         return editor.clean_index()
+def drawn(editor: Editor, path: Path) -> Status:
+    document: Document = editor.open(path)
+    other: Document = editor.open(bytearray(b'{}'), name='other')
+    made = editor.new('a', 4, 3, 16, 16, 'a.tsj')
+    layer: Layer = document.layers['Ground']
+    document.stamp(layer, 0, 0, [[1, 2], (3, 4)])
+    document.stamp(1, 0, 0, memoryview(bytes(4)).cast('B', (2, 2)), merge=True)
+    with document.macro('A', action='a'), document.stroke():
+        document.erase('Ground', 0, 0, 1, 1)
+    document.properties['author'] = 'me'
+    key: int = layer.objects.add('key', 0, 0)
+    tile: Optional[Tile] = layer.tile(0, 0)
+    runs: tuple[Run, ...] = document.selection.runs
+    values: list[int] = layer.cells().tolist()
+    layer.name = 'Grass'
+    with editor.lock:
+        editor.active = made
+    document.save()
+    with other:
+        other.save(Path('a.tmj'))
+    print(key, tile, runs, values, (0, 0) in document.selection, editor.documents['a'], path in document.layers)
+    return document.status
 '''
 
 

@@ -1,11 +1,21 @@
 """The map editor, called and not spawned.
 
-    with Editor(limit=0) as editor:
-        editor.step('new town 4 3 16 16 town.tsj')
+    with Editor() as editor:
+        document = editor.open('town.tmj')
+        document.stamp('Ground', 16, 22, [[13, 13, 13]])
+        document.save()
 """
+from .document import Document, Status, Step
 from .editor import Editor
 from .faults import Closed, Refused
+from .views import Layer, Layers, MapObject, Objects
 from .library import VERSION as __version__
 from .names import document_name
+from .properties import Properties
+from .selection import Run, Selection
+from .tilesets import Tile, Tileset, Tilesets
 
-__all__ = ['Closed', 'Editor', 'Refused', '__version__', 'document_name']
+__all__ = [
+    'Closed', 'Document', 'Editor', 'Layer', 'Layers', 'MapObject', 'Objects', 'Properties', 'Refused', 'Run', 'Selection', 'Status',
+    'Step', 'Tile', 'Tileset', 'Tilesets', '__version__', 'document_name',
+]

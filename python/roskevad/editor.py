@@ -1,27 +1,32 @@
 """An editor of tile maps, in memory."""
+import contextlib
 import ctypes
 import functools
 import itertools
 import json
+import logging
 import os
 import re
 import stat
 import threading
 from array import array
 from pathlib import Path
-from typing import TYPE_CHECKING, Any, Callable, Iterable, NoReturn, Optional, Protocol, TypeVar, Union, cast
+from typing import TYPE_CHECKING, Any, Callable, ContextManager, Iterable, Iterator, NoReturn, Optional, Protocol, TypeVar, Union, cast
 
-from . import library
+from . import library, words
 from .aside import origin_of, put_back, restored, set_aside
+from .document import Document
 from .faults import Closed, Refused
 from .library import LIBRARY, Heard, SelectionRun, Slot
 from .names import document_name
 from .rooms import Room
 from .saving import Saving
+from .seen import Seen
 
 if TYPE_CHECKING:
     from _typeshed import ReadableBuffer
 
+_LOG = logging.getLogger('roskevad')
 _REFUSAL = re.compile(r'no (\d+) (.*)', re.DOTALL)
 _STEP = LIBRARY.roskevad_step
 # The longest file that is opened.
@@ -74,6 +79,9 @@ class _Unsettled(Protocol):
 
 
 _Method = TypeVar('_Method', bound=Callable[..., Any])
+_Answer = TypeVar('_Answer')
+# What lines that close a document begin with.
+_CLOSINGS = b'close ', b'discard '
 
 
 def _turn(method: _Method) -> _Method:
@@ -115,12 +123,15 @@ class Editor:
     raises RuntimeError and does nothing. An editor is not copied or pickled, and not used in a fork of its process.
     """
 
-    def __init__(self, limit: int = 0, folder: Union[str, Path] = '.'):
+    def __init__(self, limit: int = 0, folder: Union[str, 'os.PathLike[str]'] = '.'):
         self._lock = threading.RLock()
         self._is_busy = False
         self._unsettled: Optional[_Unsettled] = None
         # Whether a save has failed: then what is read of a file need not be what the disk has, and is compared no more.
         self._has_failed = False
+        # The open documents that were handed out, by their names, and what was seen of one that nothing has changed since.
+        self._handles: dict[str, Document] = {}
+        self._seen: Optional[Seen] = None
         # Whether anything of a map was set aside or unpacked. Until then maps are saved as the editor holds them.
         self._has_set_aside = False
         self._slot = Slot()
@@ -186,6 +197,7 @@ class Editor:
 
     def _said(self, line: str, call: str) -> bytes:
         """The reply to a line that a call makes. Raises Refused with the call."""
+        self._seen = None
         data = _bytes_of(line)
         reply = self._told('step', data, len(data)) or b''
         refusal = _REFUSAL.fullmatch(reply.decode()) if reply.startswith(b'no ') else None
@@ -211,6 +223,9 @@ class Editor:
                     room = self._room
                     size = _STEP(self._at, data, len(data), room.at, room.size)
                     reply: Optional[bytes] = room.bytes[:size] if size <= room.size else self._long(size)
+                    self._seen = None
+                    if self._handles and data.startswith(_CLOSINGS):
+                        self._see_closed(data, reply)
                     return reply
                 finally:
                     self._is_busy = False
@@ -218,8 +233,8 @@ class Editor:
                 self._is_busy = False
 
     def step(self, line: str) -> str:
-        """Does what a line asks for, and gives the reply, '' where the line is quiet. Raises Refused; ValueError where there
-        is a newline in it, and nothing is done."""
+        """Does what a line asks for, and gives the reply, '' where the line is quiet. Raises Refused; TypeError where it is no
+        text, and ValueError where there is a newline in it, and nothing is done."""
         try:
             data = line.encode('utf-8', 'surrogateescape')
         except AttributeError:
@@ -239,6 +254,9 @@ class Editor:
                     room = self._room
                     size = _STEP(self._at, data, len(data), room.at, room.size)
                     reply: bytes = room.bytes[:size] if size <= room.size else self._long(size) or b''
+                    self._seen = None
+                    if self._handles and data.startswith(_CLOSINGS):
+                        self._see_closed(data, reply)
                 finally:
                     self._is_busy = False
             finally:
@@ -273,21 +291,26 @@ class Editor:
             self._room = Room(32 * len(words))
         done, heard = 0, Heard()
         replies: list[str] = []
-        while data:
-            done += self._call('run_lines', data, len(data), 1, self._room.at, self._room.size, heard)
-            replies += self._room.bytes[:heard.replies].decode('utf-8', 'replace').split('\n')[:-1]
-            if not heard.has_room:
-                replies.append((self._told('reply') or b'').decode('utf-8', 'replace'))
-            if heard.is_refused:
-                raise _refused(replies.pop(), words[done - 1], done - 1, replies)
-            data = data[heard.bytes:]
+        self._seen = None
+        try:
+            while data:
+                done += self._call('run_lines', data, len(data), 1, self._room.at, self._room.size, heard)
+                replies += self._room.bytes[:heard.replies].decode('utf-8', 'replace').split('\n')[:-1]
+                if not heard.has_room:
+                    replies.append((self._told('reply') or b'').decode('utf-8', 'replace'))
+                if heard.is_refused:
+                    raise _refused(replies.pop(), words[done - 1], done - 1, replies)
+                data = data[heard.bytes:]
+        finally:
+            if self._handles:
+                self._see_closings(words[:done - heard.is_refused])
         return replies
 
     # ---- the files that `open` and `save` find
     @_turn
     def put_file(self, name: str, data: 'ReadableBuffer') -> None:
-        """Puts the bytes of a bytes-like object under a name, in place of those that are there. Raises ValueError where no
-        line can spell that name."""
+        """Puts the bytes of a bytes-like object under a name, in place of those that are there. Raises TypeError where it is
+        none, and ValueError where no line can spell that name."""
         self._put(name, _data_of(data, 'put_file'))
 
     def _put(self, name: str, data: bytes) -> None:
@@ -441,6 +464,9 @@ class Editor:
     def origin(self) -> tuple[int, int]:
         """The column and the row at which the corner of the active document's map lies in the infinite map that it was opened as,
         in cells; 0 and 0 where it was not infinite. Raises Refused."""
+        return self._origin()
+
+    def _origin(self) -> tuple[int, int]:
         tree = json.loads(self._outline_text('origin'))
         return origin_of(tree) if self._has_set_aside else (0, 0)
 
@@ -457,6 +483,9 @@ class Editor:
     def cells(self, layer: int, x: int, y: int, width: int, height: int) -> 'Optional[array[int]]':
         """The values of the cells of a rectangle, row by row, in the tile layer with this id of the active document; `None` where
         none is active, it has no tile layer with that id, or the rectangle leaves the map."""
+        return self._cells(layer, x, y, width, height)
+
+    def _cells(self, layer: int, x: int, y: int, width: int, height: int) -> 'Optional[array[int]]':
         where = layer, x, y, width, height
         if min(where) < 0 or layer >= 2**32 or max(where) >= 2**64:
             return None
@@ -526,18 +555,136 @@ class Editor:
     @_turn
     def unsaved(self) -> list[str]:
         """The names of the open documents that are not clean, in order of opening."""
-        names = self._said('list', 'unsaved()').decode().split(' ')[1:]
-        active = next((name[1:] for name in names if name.startswith('*')), '-')
         # No line tells it of a document that is not active, so each is made the active one for a moment.
-        self._unsettled = _Used(self, active)
-        try:
-            return [name for name in (each.lstrip('*') for each in names) if self._is_dirty(name)]
-        finally:
-            self._settle()
+        return self._restored(lambda: list(filter(self._is_dirty, self._names())))
 
     def _is_dirty(self, document: str) -> bool:
         self._said(f'use {document}', 'unsaved()')
         return self._said('status', 'unsaved()').split(b' ')[2] == b'dirty'
+
+    # ---- documents, in the words of their callers
+    @property
+    def lock(self) -> ContextManager[None]:
+        """A `with` in which no other thread calls this editor: for several calls that belong together. Raises Closed in a fork of
+        its process."""
+        return self._locked()
+
+    @contextlib.contextmanager
+    def _locked(self) -> Iterator[None]:
+        if self._process != _forks[0]:
+            raise _told_forked()
+        with self._lock:
+            yield
+
+    def new(self, name: str, width: int, height: int, tile_width: int, tile_height: int, tileset: str) -> Document:
+        """Opens a new map, of a size in cells and of cells of a size in pixels, with an empty tile layer 1 and a tileset, by the
+        path of its file from the folder of the map, whose first id is 1. Raises TypeError, ValueError; Refused: 11 where a document
+        has that name, 39 for a size beyond the limits."""
+        cells = f'{words.number(width, "a width")} {words.number(height, "a height")}'
+        pixels = f'{words.number(tile_width, "a width")} {words.number(tile_height, "a height")}'
+        line = f'new {words.document(name)} {cells} {pixels} {words.text(tileset, "the source of a tileset")}'
+        document = self._in_turn(lambda: (self._said(line, line), self._handle(name))[1])
+        _LOG.info('%s: made', name)
+        return document
+
+    def open(self, source: "Union[str, os.PathLike[str], ReadableBuffer]", name: Optional[str] = None) -> Document:
+        """Opens the map of a file, by its path from the folder of the editor, or of the bytes of a file. Without a name it gets
+        that of the file, as `document_name` makes it; or `map`, `map2` or so. Raises TypeError, ValueError; Refused: 11 where a document has that
+        name, 50 where there is no such file, 51 where it cannot be read, 60 to 69 where it is no map that can be opened."""
+        if name is not None:
+            words.document(name)
+        if not isinstance(source, (str, os.PathLike)):
+            opened = name or self._in_turn(self._free_name)
+            self.open_map(opened, source, all_maps=True)
+            _LOG.info('%s: opened from bytes', opened)
+            return self._in_turn(lambda: self._handle(opened))
+        opened, path = name or document_name(source), Path(source)
+        try:
+            self.open_file(path, opened)
+        except Refused as refusal:
+            raise refusal._of(f'open({os.fspath(path)!r})') from refusal.__cause__
+        _LOG.info('%s: opened from %s', opened, path)
+        return self._in_turn(lambda: self._handle(opened, path))
+
+    @property
+    def documents(self) -> dict[str, Document]:
+        """The open documents by their names, in order of opening; later calls do not change it."""
+        return self._in_turn(lambda: {name: self._handle(name) for name in self._names()})
+
+    @property
+    def active(self) -> Optional[Document]:
+        """The active document; None where none is. Set, it makes a document active, or none; ValueError is raised for one of
+        another editor."""
+
+        def work() -> Optional[Document]:
+            name = self._active_name()
+            return None if name == '-' else self._handle(name)
+
+        return self._in_turn(work)
+
+    @active.setter
+    def active(self, document: Optional[Document]) -> None:
+        if document is None:
+            self._in_turn(lambda: self._said('use -', 'use -'))
+        elif document.editor is not self:
+            raise ValueError(f'{document!r} is open in another editor')
+        else:
+            document._do(lambda: None)
+
+    @_turn
+    def _in_turn(self, work: Callable[[], _Answer]) -> _Answer:
+        return work()
+
+    def _free_name(self) -> str:
+        """The name of a map that comes without one."""
+        taken = self._names()
+        return next(name for name in itertools.chain(['map'], map('map{}'.format, itertools.count(2))) if name not in taken)
+
+    def _names(self) -> list[str]:
+        """The names of the open documents, in order of opening."""
+        return [name.lstrip('*') for name in self._said('list', 'list').decode().split(' ')[1:]]
+
+    def _active_name(self) -> str:
+        """The name of the active document, `-` where none is."""
+        names = self._said('list', 'list').decode().split(' ')[1:]
+        return next((name[1:] for name in names if name.startswith('*')), '-')
+
+    def _restored(self, work: Callable[[], _Answer]) -> _Answer:
+        """Has work done, and makes the document active again that is active before it."""
+        self._unsettled = _Used(self, self._active_name())
+        try:
+            return work()
+        finally:
+            self._settle()
+
+    def _handle(self, name: str, path: Optional[Path] = None) -> Document:
+        """The document of that name, which is open."""
+        if name not in self._handles:
+            self._handles[name] = Document(self, name)
+            self._handles[name]._path = path
+        return self._handles[name]
+
+    def _forget(self, name: str) -> None:
+        """Notes that a document was closed."""
+        handle = self._handles.pop(name, None)
+        if handle is not None:
+            handle._close()
+
+    def _see_closed(self, line: bytes, reply: Optional[bytes]) -> None:
+        if reply is not None and reply.startswith(b'ok '):
+            self._see_closings([line])
+
+    def _see_closings(self, lines: Iterable[bytes]) -> None:
+        for line in lines:
+            if line.startswith(_CLOSINGS):
+                self._forget(line.partition(b' ')[2].decode())
+
+    def __repr__(self) -> str:
+        try:
+            names = self._in_turn(lambda: self._said('list', 'list').decode().split(' ')[1:])
+        except (Closed, RuntimeError, MemoryError):
+            return '<Editor, closed or in a call>'
+        return f'<Editor of {", ".join(names) or "no document"}>'
 
 
 class _Lent:

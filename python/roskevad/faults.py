@@ -27,10 +27,15 @@ class Refused(Exception):
         # An exception is copied and pickled by its arguments, and so it goes from one process to another.
         super().__init__(code, words, line, place, self.replies, self.forms, why)
 
+    def _of(self, call: str) -> 'Refused':
+        """The same refusal of another call."""
+        code, words, _, *more = self.args
+        return Refused(code, words, call, *more)
+
     def __str__(self) -> str:
         more = self.forms if self.why is None else (self.why, *self.forms)
         return '\n  '.join([f'{self.code} {self.words}: {self.line[:200]}', *more])
 
 
 class Closed(Exception):
-    """The editor was closed, or this process is a fork of the one that opened it."""
+    """The editor or the document was closed, or this process is a fork of the one that opened it."""

@@ -6,6 +6,7 @@ import {
   sections, stackOf, withLibraryVersion, withMark, withMostPages, withStack,
 } from "./module_bytes.mjs";
 import { deepCases } from "./deep_cases.mjs";
+import { DOCUMENT_CHECKS } from "./document_checks.mjs";
 import { loaded } from "./loaded.mjs";
 import { MAP_CHECKS } from "./map_checks.mjs";
 import { refused, same, thrown, thrownLater } from "./wanted.mjs";
@@ -378,7 +379,7 @@ const CHECKS = [
   linesAndReplies, bytesAsLines, manyLines, filesInMemory, whatNoLineTells, cellsAndOutlines,
   closedEditors, editorsOfOneModule,
   editorsInWorkers, editorsWithoutMemory, modulesThatAreNone, modulesFromEachSource, brokenModules,
-  deepestCases, memoryGivenBack, ...MAP_CHECKS,
+  deepestCases, memoryGivenBack, ...MAP_CHECKS, ...DOCUMENT_CHECKS,
 ];
 
 /** What came of each check: its name, and what is wrong, or null. */

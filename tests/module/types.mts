@@ -1,6 +1,7 @@
 // What the declarations must take, and what they must not. It is checked, and never run.
 import {
-  BadModule, Broken, Closed, Editor, FORMS, Module, NoMemory, Refused, VERSION, documentName, formsOf,
+  BadModule, Broken, Closed, Document, Editor, FORMS, Layer, Module, NoMemory, Refused, Run, Status, Tile,
+  VERSION, documentName, formsOf,
 } from "../../js/roskevad.js";
 
 async function used(bytes: Uint8Array): Promise<void> {
@@ -29,6 +30,36 @@ async function used(bytes: Uint8Array): Promise<void> {
   ids.push(editor.lastLayerId(), editor.lastObjectId());
   editor[Symbol.dispose]();
   editor.close();
+
+  const town: Document = await editor.open(bytes, "town");
+  const made: Document = editor.new("a", 4, 3, 16, 16, "a.tsj");
+  const ground: Layer = town.layers.get("Ground");
+  town.stamp(ground, 0, 0, [[1, 2], Uint32Array.of(3, 4)], { merge: true });
+  const given: number = town.macro("A", (document) => document.layers.add("tile", "B"), { action: "a" });
+  const later: Promise<void> = town.stroke(async () => undefined);
+  town.select(0, 0, 1, 1, { mode: "add" });
+  town.properties.set("author", "me", { type: "file" });
+  const tile: Tile | null = ground.tile(0, 0);
+  const [run]: readonly Run[] = town.selection.runs;
+  const status: Status = made.status;
+  ground.name = "Grass";
+  editor.active = made;
+  for (const [name, document] of editor.documents) {
+    void [name, document.close(), document.objects.size];
+  }
+  for (const [x, y] of town.selection) {
+    void (x + y);
+  }
+  const saved: Uint8Array = await town.saveBytes();
+  void [given, later, tile, run.length, status.depth, saved];
+  // @ts-expect-error: a mode is one of four
+  town.select(0, 0, 1, 1, { mode: "cut" });
+  // @ts-expect-error: an index is only read
+  status.index = 5;
+  // @ts-expect-error: documents are opened
+  new Document();
+  // @ts-expect-error: rows are rows of numbers
+  town.stamp(1, 0, 0, [["a"]]);
 
   const module: Module = await Module.load("roskevad.wasm");
   const second = new Editor(module, { limit: 5 });

@@ -1,0 +1,383 @@
+// The declarations of documents and of what they have. Written by tools/reference from tools/calls.py.
+import type { Editor } from "./roskevad.js";
+
+/** A layer, its id, or the name of the first one of that name. */
+export type LayerLike = number | string | Layer;
+/** Rows of values: nested arrays, typed arrays or other iterables. */
+export type Rows = Iterable<Iterable<number>>;
+/** How a rectangle and the selection become the new one. */
+export type SelectionMode = "replace" | "add" | "subtract" | "intersect";
+/** The members of a map, a layer or an object, as its file has them. */
+export type Members = Record<string, unknown>;
+/** The value of a property. */
+export type PropertyValue = string | number | boolean | Members;
+
+export interface Status {
+  /** How many steps are done. */
+  readonly index: number;
+  /** How many steps there are. */
+  readonly count: number;
+  /** Whether it counts as saved. */
+  readonly clean: boolean;
+  /** How many macros are open. */
+  readonly depth: number;
+}
+
+export interface Step {
+  /** Its text. */
+  readonly text: string;
+  /** The text of its action. */
+  readonly action: string;
+  /** Whether it is a macro. */
+  readonly isMacro: boolean;
+}
+
+export interface Run {
+  /** Its row. */
+  readonly row: number;
+  /** Its first column. */
+  readonly column: number;
+  /** Its number of cells. */
+  readonly length: number;
+}
+
+export interface Tile {
+  /** The value of the cell. */
+  readonly value: number;
+  /** Its tileset, if there is one. */
+  readonly tileset: Tileset | null;
+  /** Its ID in Tiled. */
+  readonly localId: number | null;
+  /** Whether it is flipped so. */
+  readonly flippedHorizontally: boolean;
+  /** Or so. */
+  readonly flippedVertically: boolean;
+  /** Or so. */
+  readonly flippedDiagonally: boolean;
+  /** Whether it is turned by 120 degrees, on a hexagonal map. */
+  readonly turned: boolean;
+}
+
+/**
+ * A map, its selection and its steps. A call makes the document active, and leaves it so. Where it
+ * was closed, also where another one was opened under its name, a call throws Closed.
+ */
+export class Document {
+  private constructor();
+  /** Its name in the editor. */
+  readonly name: string;
+  /** The editor that it is open in. */
+  readonly editor: Editor;
+  /** Whether it was closed. */
+  readonly isClosed: boolean;
+  /** The width of the map in cells. */
+  readonly width: number;
+  /** The height of the map in cells. */
+  readonly height: number;
+  /** The width of a cell in pixels. */
+  readonly tileWidth: number;
+  /** The height of a cell in pixels. */
+  readonly tileHeight: number;
+  /**
+   * The column and the row at which its corner lies in the infinite map that it was; else `[0,
+   * 0]`.
+   */
+  readonly origin: [column: number, row: number];
+  /** The layers. */
+  readonly layers: Layers;
+  /** The objects of all layers. */
+  readonly objects: Objects;
+  /** The properties of the map. */
+  readonly properties: Properties;
+  /** The tilesets. */
+  readonly tilesets: Tilesets;
+  /**
+   * Writes rows of values from a cell on; a value 0 leaves its cell as it is. Throws TypeError,
+   * RangeError, Refused (30, 31, 33).
+   */
+  stamp(layer: LayerLike, x: number, y: number, rows: Rows, options?: { merge?: boolean }): void;
+  /** Empties a rectangle of cells. Throws TypeError, RangeError, Refused (30, 31). */
+  erase(
+    layer: LayerLike, x: number, y: number, width: number, height: number, options?: { merge?: boolean },
+  ): void;
+  /**
+   * Writes a value into a cell and the cells of the same value that are joined to it. Throws
+   * TypeError, RangeError, Refused (30, 31, 32, 33).
+   */
+  fill(layer: LayerLike, x: number, y: number, value: number): void;
+  /**
+   * Gives the map a size in cells, and moves all in it so many columns right and rows down. Throws
+   * TypeError, RangeError, Refused (39).
+   */
+  resize(width: number, height: number, x?: number, y?: number): void;
+  /** The selected cells. */
+  readonly selection: Selection;
+  /**
+   * Selects a rectangle: replace, add, subtract (take out) or intersect (keep what is in both).
+   * Throws TypeError, RangeError.
+   */
+  select(
+    x: number, y: number, width: number, height: number, options?: { mode?: SelectionMode },
+  ): void;
+  /** Selects no cell; then edits change any cell. */
+  selectNone(): void;
+  /** How it stands: index, count, clean, depth. */
+  readonly status: Status;
+  /** All steps, each with its text, its action text, and whether it is a macro. */
+  readonly steps: readonly Step[];
+  /** What `undo` would undo; empty for nothing. */
+  readonly undoText: string;
+  /** What `redo` would redo; empty for nothing. */
+  readonly redoText: string;
+  /** The index that counts as saved; null where there is none any more. */
+  readonly cleanIndex: number | null;
+  /** Undoes the step below the index. Throws Refused (20, 21). */
+  undo(): void;
+  /** Redoes the step above the index. Throws Refused (20, 22). */
+  redo(): void;
+  /** Undoes or redoes up to an index. Throws TypeError, RangeError, Refused (20). */
+  goto(index: number): void;
+  /** Has the index count as saved. Throws Refused (20). */
+  markClean(): void;
+  /** Has no index count as saved. */
+  markDirty(): void;
+  /** Drops all steps, and undoes nothing; the document counts as saved then. */
+  clear(): void;
+  /**
+   * Keeps at most so many steps; 0 is no limit. Throws TypeError, RangeError, Refused (25, 39).
+   */
+  limit(count: number): void;
+  /**
+   * Makes one step of the edits in it; where they fail, it is undone. Throws TypeError,
+   * RangeError, Refused (24).
+   */
+  macro<Given>(
+    text: string, work: (document: Document) => Given, options?: { action?: string | null },
+  ): Given;
+  /** Merges the stamps and erases in it, as those of a brush. */
+  stroke<Given>(work: (document: Document) => Given): Given;
+  /** The whole map, as its file has it: a copy. */
+  map(): Members;
+  /** The same without the cells: a copy. */
+  outline(): Members;
+  /** The map as the bytes of a file; it counts as saved then. Throws Refused (20). */
+  saveBytes(): Promise<Uint8Array>;
+  /** Closes it. Throws Refused (13). */
+  close(): void;
+  /** Closes it, and drops unsaved changes. */
+  discard(): void;
+}
+
+/**
+ * The layers in no group, or those in a group, as they are at each call. A loop over them goes in
+ * drawing order; walk enters groups. A look-up finds a layer by its id, or the first of a name, in
+ * groups too.
+ */
+export class Layers {
+  private constructor();
+  /** The layer with an id, or the first of a name. Throws RangeError. */
+  get(key: number | string): Layer;
+  /** Whether there is one with an id, or of a name. */
+  has(key: number | string): boolean;
+  /** How many there are, a group as one. */
+  readonly size: number;
+  /** Each layer in drawing order, a group before those in it. */
+  walk(): IterableIterator<Layer>;
+  /**
+   * Adds a layer, `tile` or `object`, in no group, over the others. Throws TypeError, RangeError,
+   * Refused (40).
+   */
+  add(kind: string, name: string): number;
+  [Symbol.iterator](): IterableIterator<Layer>;
+}
+
+/**
+ * A layer, by its id. Where it was removed, a call throws Refused 30.
+ */
+export class Layer {
+  private constructor();
+  /** Its id. */
+  readonly id: number;
+  /** The document that it belongs to. */
+  readonly document: Document;
+  /** Its kind: tile, object, group or image. */
+  readonly kind: string;
+  /** Its name; set, it renames the layer. Throws TypeError, RangeError. */
+  name: string;
+  /** Whether it is shown; set, it shows or hides the layer. */
+  visible: boolean;
+  /** The layers in it, where it is a group. */
+  readonly layers: Layers;
+  /** The objects in it, where it is an object layer. */
+  readonly objects: Objects;
+  /** Its properties. */
+  readonly properties: Properties;
+  /** All that the map says of it, without cells: a copy. */
+  readonly members: Members;
+  /**
+   * The values of a rectangle, row by row; without a size, up to the map's edge. Throws TypeError,
+   * RangeError, Refused (31, 32).
+   */
+  cells(x?: number, y?: number, width?: number | null, height?: number | null): Uint32Array;
+  /**
+   * The same as a list of rows, as `stamp` takes them. Throws TypeError, RangeError, Refused (31,
+   * 32).
+   */
+  rows(x?: number, y?: number, width?: number | null, height?: number | null): number[][];
+  /**
+   * The tile of a cell; null where the cell is empty. Throws TypeError, RangeError, Refused (31,
+   * 32).
+   */
+  tile(x: number, y: number): Tile | null;
+  /**
+   * Moves it among the layers beside it; 0 is drawn first. Throws TypeError, RangeError, Refused
+   * (39).
+   */
+  move(place: number): void;
+  /** Removes it, and a group with all in it. */
+  remove(): void;
+}
+
+/**
+ * The objects of a layer, or of all layers, as they are at each call. A loop goes in drawing
+ * order.
+ */
+export class Objects {
+  private constructor();
+  /** The object with an id, or the first of a name. Throws RangeError. */
+  get(key: number | string): MapObject;
+  /** Whether there is one with an id, or of a name. */
+  has(key: number | string): boolean;
+  /** How many there are. */
+  readonly size: number;
+  /**
+   * Adds an object to an object layer, last, in pixels. Throws TypeError, RangeError, Refused (31,
+   * 39).
+   */
+  add(name: string, x: number, y: number, width?: number, height?: number): number;
+  [Symbol.iterator](): IterableIterator<MapObject>;
+}
+
+/**
+ * An object, by its id. Where it was removed, a call throws Refused 34.
+ */
+export class MapObject {
+  private constructor();
+  /** Its id. */
+  readonly id: number;
+  /** The document that it belongs to. */
+  readonly document: Document;
+  /** The layer that it is in. */
+  readonly layer: Layer;
+  /** Its name. */
+  readonly name: string;
+  /** Its class, as Tiled calls it. */
+  readonly type: string;
+  /** Its column in pixels. */
+  readonly x: number;
+  /** Its row in pixels. */
+  readonly y: number;
+  /** Its width in pixels, 0 for a point. */
+  readonly width: number;
+  /** Its height in pixels, 0 for a point. */
+  readonly height: number;
+  /** Whether it is shown. */
+  readonly visible: boolean;
+  /** Its tile, where it is one. */
+  readonly tile: Tile | null;
+  /** Its properties. */
+  readonly properties: Properties;
+  /** All that the map says of it: a copy. */
+  readonly members: Members;
+  /** Moves it to a place. Throws TypeError, RangeError. */
+  move(x: number, y: number, options?: { merge?: boolean }): void;
+  /** Gives it a size. Throws TypeError, RangeError, Refused (39). */
+  resize(width: number, height: number): void;
+  /** Removes it. */
+  remove(): void;
+}
+
+/**
+ * The properties of a map, a layer or an object, as they are at each call: with the calls of a
+ * Map. A value that is set keeps the type of the one that is there.
+ */
+export class Properties {
+  private constructor();
+  /** The value of a name. */
+  get(key: string): PropertyValue | undefined;
+  /** Whether there is one of a name. */
+  has(key: string): boolean;
+  /** How many there are. */
+  readonly size: number;
+  /** The names, in order. */
+  keys(): IterableIterator<string>;
+  /**
+   * The type of a name: string, int, float, bool, color, file, object or class. Throws RangeError.
+   */
+  typeOf(key: string): string;
+  /**
+   * Sets one: of a named type, else of the type that is there, else of the value's own. Throws
+   * TypeError, RangeError, Refused (40).
+   */
+  set(
+    key: string, value: string | number | boolean | MapObject, options?: { type?: string | null; merge?: boolean },
+  ): void;
+  /** Removes one. */
+  delete(key: string): boolean;
+  [Symbol.iterator](): IterableIterator<[name: string, value: PropertyValue]>;
+}
+
+/**
+ * The tilesets, as they are at each call. A loop goes in their order.
+ */
+export class Tilesets {
+  private constructor();
+  /**
+   * The tileset with a first id, or the first with a source, or, where the map has it in itself, a
+   * name. Throws RangeError.
+   */
+  get(key: number | string): Tileset;
+  /** Whether there is such a one. */
+  has(key: number | string): boolean;
+  /** How many there are. */
+  readonly size: number;
+  /**
+   * Adds one, by the path of its file from the map's folder; its first id is above all tiles
+   * there. Throws TypeError, RangeError, Refused (38).
+   */
+  add(firstId: number, source: string): number;
+  [Symbol.iterator](): IterableIterator<Tileset>;
+}
+
+/**
+ * A tileset, by its first id. Where it was removed, a call throws Refused 36.
+ */
+export class Tileset {
+  private constructor();
+  /** Its first id. */
+  readonly firstId: number;
+  /** The path of its file; null where the map has it in itself. */
+  readonly source: string | null;
+  /** Its name, where the map has it in itself. No file of a tileset is read. */
+  readonly name: string | null;
+  /** The value of a cell with a tile of this ID in Tiled. Throws TypeError, RangeError. */
+  value(
+    localId: number, options?: { flippedHorizontally?: boolean; flippedVertically?: boolean; flippedDiagonally?: boolean; turned?: boolean },
+  ): number;
+  /** Removes it. Throws Refused (37). */
+  remove(): void;
+}
+
+/**
+ * The cells that were selected when it was asked for. A loop over it gives each cell: [x, y].
+ */
+export class Selection {
+  private constructor();
+  /** The cells as runs of a row: row, column, length. */
+  readonly runs: readonly Run[];
+  /** Whether a cell is selected. */
+  has(x: number, y: number): boolean;
+  /** The number of cells. */
+  readonly size: number;
+  [Symbol.iterator](): IterableIterator<[x: number, y: number]>;
+}

@@ -1,0 +1,423 @@
+// A document of an editor, in the words of its caller.
+import { Closed, Refused } from "./faults.js";
+import { Properties } from "./properties.js";
+import { doubtful, partsOf, rowsOf } from "./rows.js";
+import { Seen } from "./seen.js";
+import { Selection } from "./selection.js";
+import { Tilesets } from "./tilesets.js";
+import { Layer, Layers, Objects } from "./views.js";
+import * as words from "./words.js";
+
+const MODES = ["replace", "add", "subtract", "intersect"];
+// A place past every map: a stamp there changes nothing.
+const NOWHERE = "1000000000 1000000000";
+const TEXT = "text ";
+const STATUS = /^ok (\d+)\/(\d+) (clean|dirty) (\d+)$/;
+
+/**
+ * A document of an editor: a map, its selection and its steps.
+ *
+ * A call makes its document the active one, and leaves it so. Where the document was closed, also where
+ * another one was opened under its name, and where the editor was closed, a call throws Closed. A call that
+ * a line does throws Refused, with that line; words that no line can say throw RangeError or TypeError, and
+ * nothing is done.
+ */
+export class Document {
+  // Editors make it: `new`, `open` and `documents` give it.
+  constructor(editor, name) {
+    this._editor = editor;
+    this._name = name;
+    this._isClosed = false;
+    this._stroke = null;
+  }
+
+  // ---- what each call does
+
+  _enter() {
+    if (this._isClosed) {
+      throw new Closed(`the document ${this._name}`);
+    }
+    this._keeping(() => this._editor.step(`use ${this._name}`));
+  }
+
+  // What work gives that changes nothing of what was seen.
+  _keeping(work) {
+    const seen = this._editor._seen;
+    const given = work();
+    this._editor._seen = seen;
+    return given;
+  }
+
+  // The reply to a line that may change the document, and to one that does not.
+  _say(line) {
+    this._enter();
+    return this._editor.step(line);
+  }
+
+  _ask(line) {
+    this._enter();
+    return this._keeping(() => this._editor.step(line));
+  }
+
+  _edit(line) {
+    this._say(line);
+  }
+
+  // The id of what a line adds.
+  _add(kind, line) {
+    this._say(line);
+    return kind === "layer" ? this._editor.lastLayerId() : this._editor.lastObjectId();
+  }
+
+  _look(answer) {
+    this._enter();
+    return answer(this._seenNow());
+  }
+
+  _seenNow() {
+    const seen = this._editor._seen;
+    if (seen !== null && seen.document === this._name) {
+      return seen;
+    }
+    this._editor._seen = new Seen(this._name, this._editor.outline());
+    return this._editor._seen;
+  }
+
+  // The same for a text of it, which makes no document active, and throws nothing.
+  _peek(answer) {
+    try {
+      return this._editor._restored(() => this._look(answer));
+    } catch {
+      return null;
+    }
+  }
+
+  // ---- what it is
+
+  get editor() {
+    return this._editor;
+  }
+
+  get name() {
+    return this._name;
+  }
+
+  get isClosed() {
+    return this._isClosed;
+  }
+
+  get width() {
+    return this._look((seen) => seen.outline.width);
+  }
+
+  get height() {
+    return this._look((seen) => seen.outline.height);
+  }
+
+  get tileWidth() {
+    return this._look((seen) => seen.outline.tilewidth);
+  }
+
+  get tileHeight() {
+    return this._look((seen) => seen.outline.tileheight);
+  }
+
+  get origin() {
+    this._enter();
+    return this._editor.origin();
+  }
+
+  get layers() {
+    return new Layers(this);
+  }
+
+  get objects() {
+    return new Objects(this);
+  }
+
+  get properties() {
+    return new Properties(this, "map", (seen) => seen.outline);
+  }
+
+  get tilesets() {
+    return new Tilesets(this);
+  }
+
+  map() {
+    this._enter();
+    return this._keeping(() => this._editor.map());
+  }
+
+  outline() {
+    this._enter();
+    return this._editor.outline();
+  }
+
+  // ---- its steps
+
+  get status() {
+    const [, index, count, state, depth] = STATUS.exec(this._ask("status"));
+    return Object.freeze({
+      index: Number(index), count: Number(count), clean: state === "clean", depth: Number(depth),
+    });
+  }
+
+  get steps() {
+    const { count } = this.status;
+    return Array.from({ length: count }, (_, place) =>
+      Object.freeze({
+        text: this._ask(`text ${place}`).slice(TEXT.length),
+        action: this._editor.actionText(place) ?? "",
+        isMacro: this._editor.isMacro(place) === true,
+      }),
+    );
+  }
+
+  get undoText() {
+    return this._ask("undotext").slice(TEXT.length);
+  }
+
+  get redoText() {
+    return this._ask("redotext").slice(TEXT.length);
+  }
+
+  get cleanIndex() {
+    this._enter();
+    return this._editor.cleanIndex();
+  }
+
+  undo() {
+    this._edit("undo");
+  }
+
+  redo() {
+    this._edit("redo");
+  }
+
+  goto(index) {
+    this._edit(`goto ${words.number(index, "an index")}`);
+  }
+
+  markClean() {
+    this._edit("clean");
+  }
+
+  markDirty() {
+    this._edit("dirty");
+  }
+
+  clear() {
+    this._edit("clear");
+  }
+
+  limit(count) {
+    this._edit(`limit ${words.number(count, "a limit")}`);
+  }
+
+  macro(text, work, { action = null } = {}) {
+    const said = words.macro(text, action);
+    const depth = this.status.depth + 1;
+    this._edit(`begin ${said}`);
+    return around(
+      () => work(this),
+      () => this._end(depth, false),
+      () => this._end(depth, depth === 1),
+    );
+  }
+
+  // Ends the macro of a depth, with those in it that lines have left open, unless lines have ended it.
+  _end(depth, isUndone) {
+    const isOpen = this.status.depth >= depth;
+    while (this.status.depth >= depth) {
+      this._say("end");
+    }
+    if (isOpen && isUndone) {
+      this._say("undo");
+    }
+  }
+
+  // ---- cells
+
+  stroke(work) {
+    const outer = this._stroke;
+    const end = () => {
+      this._stroke = outer;
+    };
+    this._stroke = outer ?? { hasStep: false };
+    return around(() => work(this), end, end);
+  }
+
+  stamp(layer, x, y, rows, { merge = false } = {}) {
+    const listed = rowsOf(rows);
+    const parts = [...partsOf(listed)];
+    const [left, top] = [words.coordinate(x, "x"), words.coordinate(y, "y")];
+    words.coordinate(top + parts[parts.length - 1].first, "y of the last rows");
+    const [width, height] = [listed[0].length, listed.length];
+    const area = { layer: this._idOf(layer), left, top, width, height };
+    if (parts.length === 1) {
+      this._paint("stamp", area, ` ${parts[0].values}`, merge, this._stroke);
+    } else {
+      this._stampParts(area, parts, listed, merge);
+    }
+  }
+
+  _stampParts(area, parts, rows, merge) {
+    // A value that is refused is refused before the first part.
+    this._say(`stamp ${area.layer} ${NOWHERE} 1 ${doubtful(rows)}`);
+    const stroke = this._stroke ?? { hasStep: false };
+    for (const [place, { first, height, values }] of parts.entries()) {
+      try {
+        this._paint("stamp", { ...area, top: area.top + first, height }, ` ${values}`, merge, stroke);
+      } catch (fault) {
+        if (!(fault instanceof Refused)) {
+          throw fault;
+        }
+        const told = `stamp: row ${first} and those below it of ${rows.length} rows; those above it stand, as a step`;
+        throw new Refused(fault.code, fault.words, told, place);
+      }
+    }
+  }
+
+  // Says a stamp, with its values, or an erase.
+  _paint(word, area, values, merge, stroke) {
+    const { layer, left, top, width, height } = area;
+    const rest = `${layer} ${left} ${top} ${width}${word === "stamp" ? values : ` ${height}`}`;
+    if (stroke === null || merge) {
+      this._say(`${word}${merge ? "+" : ""} ${rest}`);
+    } else if (stroke.hasStep) {
+      const { index } = this.status;
+      this._say(`${word}+ ${rest}`);
+      // Where paints have taken each other back, their step is gone.
+      stroke.hasStep = this.status.index >= index;
+    } else {
+      const before = this._cellsWithin(area);
+      this._say(`${word} ${rest}`);
+      const after = this._cellsWithin(area);
+      stroke.hasStep = before !== null && before.some((value, at) => value !== after[at]);
+    }
+  }
+
+  // The cells of a rectangle as far as it is on the map.
+  _cellsWithin({ layer, left, top, width, height }) {
+    const outline = this._look((seen) => seen.outline);
+    const [x, y] = [Math.max(left, 0), Math.max(top, 0)];
+    const right = Math.min(left + width, outline.width);
+    const bottom = Math.min(top + height, outline.height);
+    return this._editor.cells(layer, x, y, Math.max(right - x, 0), Math.max(bottom - y, 0));
+  }
+
+  erase(layer, x, y, width, height, { merge = false } = {}) {
+    const [left, top] = [words.coordinate(x, "x"), words.coordinate(y, "y")];
+    const size = { width: words.number(width, "a width"), height: words.number(height, "a height") };
+    this._paint("erase", { layer: this._idOf(layer), left, top, ...size }, "", merge, this._stroke);
+  }
+
+  fill(layer, x, y, value) {
+    const where = `${words.coordinate(x, "x")} ${words.coordinate(y, "y")}`;
+    this._edit(`fill ${this._idOf(layer)} ${where} ${words.number(value, "the value of a cell")}`);
+  }
+
+  // The id of a layer, of its id, or of the first one of a name.
+  _idOf(layer) {
+    if (layer instanceof Layer) {
+      if (layer.document !== this) {
+        throw new RangeError(`${layer} is no layer of ${this._name}`);
+      }
+      return layer.id;
+    }
+    return typeof layer === "string" ? this.layers.get(layer).id : words.number(layer, "the id of a layer");
+  }
+
+  // The width and the cells of a rectangle of a tile layer.
+  _cellsOf(layer, x, y, width, height) {
+    const { outline, members } = this._look((seen) => ({ outline: seen.outline, members: layer._has(seen) }));
+    const asked = `Layer ${layer.id}: cells ${x}, ${y}, ${width}, ${height}`;
+    if (members.type !== "tilelayer") {
+      throw new Refused(31, "layer of another kind", asked);
+    }
+    const [left, top] = [words.coordinate(x, "x"), words.coordinate(y, "y")];
+    const wide = width === null ? outline.width - left : words.coordinate(width, "a width");
+    const high = height === null ? outline.height - top : words.coordinate(height, "a height");
+    const cells = this._editor.cells(layer.id, left, top, wide, high);
+    if (cells === null) {
+      throw new Refused(32, "outside the map", asked);
+    }
+    return { wide, cells };
+  }
+
+  // ---- selection, size
+
+  get selection() {
+    this._enter();
+    return new Selection(this._editor.selection());
+  }
+
+  select(x, y, width, height, { mode = "replace" } = {}) {
+    const how = words.oneOf(mode, MODES, "the mode of a selection");
+    const where = `${words.coordinate(x, "x")} ${words.coordinate(y, "y")}`;
+    const size = `${words.number(width, "a width")} ${words.number(height, "a height")}`;
+    this._edit(`select ${how} ${where} ${size}`);
+  }
+
+  selectNone() {
+    this._edit("select none");
+  }
+
+  resize(width, height, x = 0, y = 0) {
+    const size = `${words.number(width, "a width")} ${words.number(height, "a height")}`;
+    this._edit(`resize ${size} ${words.coordinate(x, "x")} ${words.coordinate(y, "y")}`);
+  }
+
+  // ---- its file
+
+  async saveBytes() {
+    this._enter();
+    return this._editor.saveMap();
+  }
+
+  close() {
+    this._say(`close ${this._name}`);
+  }
+
+  discard() {
+    this._say(`discard ${this._name}`);
+  }
+
+  toString() {
+    if (this._isClosed) {
+      return `Document ${this._name}, closed`;
+    }
+    const told = this._peek(({ outline }) => `, ${outline.width} by ${outline.height}, ${this._ask("status").slice(3)}`);
+    return `Document ${this._name}${told ?? ""}`;
+  }
+
+  [Symbol.for("nodejs.util.inspect.custom")]() {
+    return `<${this}>`;
+  }
+}
+
+/**
+ * What work gives, or what its promise is kept with: behind `end`, and behind `undo` where it throws. What
+ * `undo` throws hides no fault of the work.
+ */
+function around(work, end, undo) {
+  const failed = (fault) => {
+    try {
+      undo();
+    } catch {
+      // The document or the editor is closed.
+    }
+    throw fault;
+  };
+  const done = (given) => {
+    end();
+    return given;
+  };
+  let given;
+  try {
+    given = work();
+  } catch (fault) {
+    return failed(fault);
+  }
+  return typeof given?.then === "function" ? given.then(done, failed) : done(given);
+}

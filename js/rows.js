@@ -1,0 +1,80 @@
+// The rows of a stamp, and the parts of it that fit into lines.
+import { GREATEST_NUMBER } from "./words.js";
+
+const WIDEST_ROW = 4096;
+const LONGEST_LINE = 65_535;
+// The most bytes of a stamp's line before its values.
+const LONGEST_HEAD = "stamp+ 4294967295 -1000000000 -1000000000 4096 ".length;
+const SHOWN = 100;
+/** The bits of a value that are no flags. */
+export const BASE = 0x0fff_ffff;
+
+/**
+ * Rows of values, of any nested arrays, typed arrays or other iterables of whole numbers. Throws
+ * RangeError where they are empty, ragged, too wide or beyond 32 bits, TypeError where a value is no whole
+ * number.
+ */
+export function rowsOf(rows) {
+  const listed = listOf(rows, "the rows of a stamp").map(rowOf);
+  if (listed.length === 0 || listed[0].length === 0) {
+    throw new RangeError("a stamp has no rows, or none with a value");
+  }
+  const width = listed[0].length;
+  const ragged = listed.findIndex((row) => row.length !== width);
+  if (ragged >= 0) {
+    throw new RangeError(
+      `the rows of a stamp are ragged: row 0 has ${width} values, and row ${ragged} has ${listed[ragged].length}`,
+    );
+  }
+  if (width > WIDEST_ROW) {
+    throw new RangeError(`a row of a stamp has at most ${WIDEST_ROW} values: ${width}`);
+  }
+  return listed;
+}
+
+function listOf(values, what) {
+  if (typeof values === "string" || typeof values?.[Symbol.iterator] !== "function") {
+    throw new TypeError(`${what} are arrays of whole numbers: ${String(values).slice(0, SHOWN)}`);
+  }
+  return Array.from(values);
+}
+
+function rowOf(row, place) {
+  const values = listOf(row, `the values of row ${place} of a stamp`);
+  for (const value of values) {
+    if (!Number.isInteger(value)) {
+      throw new TypeError(`row ${place} of a stamp has a value that is no whole number: ${String(value)}`);
+    }
+    if (value < 0 || value > GREATEST_NUMBER) {
+      throw new RangeError(`a value of a stamp has 32 bits: ${value} in row ${place}`);
+    }
+  }
+  return values;
+}
+
+/** The rows, cut so that each part fits into a line: its first row, its number of rows, its values. */
+export function* partsOf(rows) {
+  const room = LONGEST_LINE - LONGEST_HEAD;
+  let [first, size, said] = [0, 0, []];
+  for (const [place, row] of rows.entries()) {
+    const values = row.join(",");
+    if (said.length > 0 && size + values.length > room) {
+      yield { first, height: said.length, values: said.join(",") };
+      [first, size, said] = [place, 0, []];
+    }
+    said.push(values);
+    size += values.length + 1;
+  }
+  yield { first, height: said.length, values: said.join(",") };
+}
+
+/** The value that is the first to have no tileset, where any has none; 0 where all are empty. */
+export function doubtful(rows) {
+  let found = 0;
+  for (const value of rows.flat()) {
+    if (value !== 0 && (found === 0 || (value & BASE) < (found & BASE))) {
+      found = value;
+    }
+  }
+  return found;
+}

@@ -1,0 +1,42 @@
+// What was seen of a document's map: its outline, with what looks things up in it.
+
+/** The layers in drawing order, those that stand in a group behind it. */
+export function* drawn(layers) {
+  for (const layer of layers) {
+    yield layer;
+    yield* drawn(layer.layers ?? []);
+  }
+}
+
+/** The outline of a document, which nothing has changed since. */
+export class Seen {
+  constructor(document, outline) {
+    this.document = document;
+    this.outline = outline;
+    /** All layers by their ids, in drawing order. */
+    this.layers = new Map();
+    /** All objects by their ids, in drawing order, and the layer of each. */
+    this.objects = new Map();
+    this.layerOf = new Map();
+    for (const layer of drawn(outline.layers)) {
+      this.layers.set(layer.id, layer);
+      for (const object of layer.objects ?? []) {
+        this.objects.set(object.id, object);
+        this.layerOf.set(object.id, layer.id);
+      }
+    }
+    /** The tilesets by their first ids, in order. */
+    this.tilesets = new Map(outline.tilesets.map((each) => [each.firstgid, each]));
+  }
+
+  /** The layers in a group, or those in none; undefined where there is no such group. */
+  below(group) {
+    return group === null ? this.outline.layers : this.layers.get(group)?.layers ?? [];
+  }
+
+  /** The first id of the tileset that a value without flags is a tile of; null where none is. */
+  tilesetOf(value) {
+    const firsts = [...this.tilesets.keys()].filter((first) => first <= value);
+    return firsts.length > 0 ? Math.max(...firsts) : null;
+  }
+}

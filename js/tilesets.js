@@ -1,0 +1,127 @@
+// The tilesets of a document, and the tiles of its cells.
+import { Refused } from "./faults.js";
+import { BASE } from "./rows.js";
+import * as words from "./words.js";
+
+// The flags of a value, as Tiled has them.
+const FLAGS = {
+  flippedHorizontally: 0x8000_0000,
+  flippedVertically: 0x4000_0000,
+  flippedDiagonally: 0x2000_0000,
+  turned: 0x1000_0000,
+};
+const INSPECT = Symbol.for("nodejs.util.inspect.custom");
+
+/**
+ * A tileset of a document, by its first id. It stays the same however the map changes; a call throws
+ * Refused, 36, where the map has no tileset of that first id.
+ */
+export class Tileset {
+  constructor(document, firstId) {
+    this._document = document;
+    this.firstId = firstId;
+  }
+
+  get _members() {
+    const members = this._document._look((seen) => seen.tilesets.get(this.firstId));
+    if (members === undefined) {
+      throw new Refused(36, "no such tileset", this.toString());
+    }
+    return members;
+  }
+
+  /** The path of its file from the folder of the map; null where the map has it in itself. */
+  get source() {
+    return this._members.source ?? null;
+  }
+
+  /** Its name, where the map has it in itself; else null: no file of a tileset is read. */
+  get name() {
+    return this._members.name ?? null;
+  }
+
+  /** The value of a cell with its tile of this id, which Tiled shows as the tile's ID. */
+  value(localId, flips = {}) {
+    const base = this.firstId + words.number(localId, "the id of a tile");
+    if (base > BASE) {
+      throw new RangeError(`the id of a tile is at most ${BASE - this.firstId} here: ${localId}`);
+    }
+    const bits = Object.entries(FLAGS).filter(([name]) => flips[name]);
+    return bits.reduce((sum, [, bit]) => sum + bit, base);
+  }
+
+  /** Removes it from the map. */
+  remove() {
+    this._document._edit(`tileset remove ${this.firstId}`);
+  }
+
+  toString() {
+    return `Tileset ${this.firstId} of ${this._document.name}`;
+  }
+
+  [INSPECT]() {
+    return `<${this}>`;
+  }
+}
+
+/** The tile that a value, which is not 0, stands for. */
+export function tileOf(document, seen, value) {
+  const base = (value & BASE) >>> 0;
+  const first = seen.tilesetOf(base);
+  const flips = Object.entries(FLAGS).map(([name, bit]) => [name, (value & bit) !== 0]);
+  return Object.freeze({
+    value,
+    tileset: first === null ? null : new Tileset(document, first),
+    localId: first === null ? null : base - first,
+    ...Object.fromEntries(flips),
+  });
+}
+
+/** The tilesets of a document, in order, by first id, or by source or name. */
+export class Tilesets {
+  constructor(document) {
+    this._document = document;
+  }
+
+  *[Symbol.iterator]() {
+    for (const first of this._document._look((seen) => [...seen.tilesets.keys()])) {
+      yield new Tileset(this._document, first);
+    }
+  }
+
+  /** The number of tilesets. */
+  get size() {
+    return this._document._look((seen) => seen.tilesets.size);
+  }
+
+  _found(key) {
+    return this._document._look((seen) => {
+      if (typeof key === "number") {
+        return seen.tilesets.has(key) ? key : null;
+      }
+      const found = [...seen.tilesets.values()].find((each) => (each.source ?? each.name) === key);
+      return found?.firstgid ?? null;
+    });
+  }
+
+  /** The tileset with a first id, or the first with a source or a name. Throws RangeError. */
+  get(key) {
+    const first = this._found(key);
+    if (first === null) {
+      throw new RangeError(`there is no tileset ${JSON.stringify(key)}`);
+    }
+    return new Tileset(this._document, first);
+  }
+
+  /** Whether there is a tileset with a first id, a source or a name. */
+  has(key) {
+    return this._found(key) !== null;
+  }
+
+  /** Adds a tileset by the path of its file from the folder of the map, last, and gives its first id. */
+  add(firstId, source) {
+    const first = words.number(firstId, "the first id of a tileset");
+    this._document._edit(`tileset add ${first} ${words.text(source, "the source of a tileset")}`);
+    return first;
+  }
+}

@@ -1,0 +1,176 @@
+// Checks words before they become a line: what no line can say is told with the caller's own words, and
+// nothing is sent.
+
+const encoder = new TextEncoder();
+/** The most bytes of a text in a line. */
+export const LONGEST_TEXT = 200;
+export const GREATEST_COORDINATE = 1_000_000_000;
+export const GREATEST_NUMBER = 4_294_967_295;
+// What stands between the two texts of a macro.
+const DIVIDER = " || ";
+const DOCUMENT = /^[A-Za-z0-9_][A-Za-z0-9_.-]{0,63}$/;
+const COLOUR = /^#([0-9a-f]{6}|[0-9a-f]{8})$/;
+// eslint-disable-next-line no-control-regex
+const CONTROL = /[\u0000-\u001f\u007f]/;
+const HALF = /\p{Surrogate}/u;
+const SHOWN = 60;
+/** What a MapObject has its id under, so that it can be the value of a property. */
+export const OBJECT = Symbol("the id of an object");
+
+function shown(word) {
+  return word.length <= SHOWN ? JSON.stringify(word) : `${JSON.stringify(word.slice(0, SHOWN))}..`;
+}
+
+/** A value as a fault tells it. */
+function told(value) {
+  return typeof value === "string" ? shown(value) : String(value).slice(0, SHOWN);
+}
+
+/** A text that a line can have. Throws TypeError where it is none, RangeError where no line can say it. */
+export function text(word, what) {
+  if (typeof word !== "string") {
+    throw new TypeError(`${what} is a string: ${told(word)}`);
+  }
+  if (word === "") {
+    throw new RangeError(`${what} is empty, and no line can say that`);
+  }
+  if (CONTROL.test(word)) {
+    throw new RangeError(`${what} has a control character in it: ${shown(word)}`);
+  }
+  if (HALF.test(word)) {
+    throw new RangeError(`${what} has half of a character in it: ${shown(word)}`);
+  }
+  const size = encoder.encode(word).length;
+  if (size > LONGEST_TEXT) {
+    throw new RangeError(`${what} has ${size} bytes, and a line takes at most ${LONGEST_TEXT}: ${shown(word)}`);
+  }
+  return word;
+}
+
+/** The name of a property. Throws as `text` does, and RangeError for a space. */
+export function key(word) {
+  const said = text(word, "the name of a property");
+  if (said.includes(" ")) {
+    throw new RangeError(`the name of a property has a space in it, and no line can say that: ${shown(said)}`);
+  }
+  return said;
+}
+
+/**
+ * Both texts of a macro, as the line `begin` has them. Throws as `text` does, and RangeError where they
+ * would be divided at another place.
+ */
+export function macro(words, action) {
+  const said = text(words, "the text of a macro");
+  const isOne = action === null || action === undefined;
+  const whole = isOne ? said : said + DIVIDER + text(action, "the action text of a macro");
+  if (whole.indexOf(DIVIDER) !== (isOne ? -1 : said.length)) {
+    throw new RangeError(
+      `the text of a macro has "${DIVIDER}" in it, which divides it from its action text: ${shown(said)}`,
+    );
+  }
+  return whole;
+}
+
+/** The name of a document. Throws TypeError where it is no text, RangeError where no line can say it. */
+export function document(name) {
+  if (typeof name !== "string") {
+    throw new TypeError(`the name of a document is a string: ${told(name)}`);
+  }
+  if (!DOCUMENT.test(name)) {
+    throw new RangeError(
+      `the name of a document is 1 to 64 of A-Z a-z 0-9 _ . -, and begins with neither . nor -: ${shown(name)}`,
+    );
+  }
+  return name;
+}
+
+function whole(value, what) {
+  if (!Number.isInteger(value)) {
+    throw new TypeError(`${what} is a whole number: ${told(value)}`);
+  }
+  return value;
+}
+
+/** A coordinate. Throws TypeError where it is no whole number, RangeError where it is out of range. */
+export function coordinate(value, what) {
+  if (Math.abs(whole(value, what)) > GREATEST_COORDINATE) {
+    throw new RangeError(`${what} is from -1,000,000,000 to 1,000,000,000: ${value}`);
+  }
+  // -0 is spelled "0".
+  return value + 0;
+}
+
+/** A number from 0. Throws as `coordinate` does. */
+export function number(value, what) {
+  if (whole(value, what) < 0 || value > GREATEST_NUMBER) {
+    throw new RangeError(`${what} is from 0 to 4,294,967,295: ${value}`);
+  }
+  return value + 0;
+}
+
+/** A word of a few. Throws RangeError for any other. */
+export function oneOf(word, words, what) {
+  if (!words.includes(word)) {
+    throw new RangeError(`${what} is one of ${words.join(", ")}: ${told(word)}`);
+  }
+  return word;
+}
+
+// ---- properties
+
+/** The types of properties that a line can set. */
+export const TYPES = ["string", "file", "int", "bool", "color", "object"];
+
+/**
+ * The type and the value of a property, as the line `prop set` has them. Throws TypeError where the type
+ * takes no such value, RangeError where no line can say it.
+ */
+export function setting(name, value, kind) {
+  if (!TYPES.includes(kind)) {
+    throw new RangeError(`no line sets a property of the type ${kind}: ${shown(name)}`);
+  }
+  const what = `the property ${shown(name)}`;
+  if (kind === "object") {
+    return `object ${number(value?.[OBJECT] ?? value, what)}`;
+  }
+  const wanted = { int: "number", bool: "boolean" }[kind] ?? "string";
+  if (typeof value !== wanted || (kind === "int" && !Number.isInteger(value))) {
+    throw new TypeError(`${what} has the type ${kind}, and takes no such value: ${told(value)}`);
+  }
+  if (kind === "int") {
+    return `int ${coordinate(value, what)}`;
+  }
+  if (kind === "bool") {
+    return `bool ${value}`;
+  }
+  if (kind === "color" && !COLOUR.test(value)) {
+    throw new RangeError(`${what} is a color: # and 6 or 8 digits of 0-9a-f, and not ${shown(value)}`);
+  }
+  return `${kind} ${text(value, what)}`;
+}
+
+/**
+ * The type of a property that is set for the first time. Throws RangeError for a fraction, TypeError for
+ * what no line can say.
+ */
+export function typeOf(name, value) {
+  if (typeof value === "string") {
+    return "string";
+  }
+  if (typeof value === "boolean") {
+    return "bool";
+  }
+  if (typeof value === "number") {
+    if (!Number.isInteger(value)) {
+      throw new RangeError(`no line sets a property of the type float: ${shown(name)}`);
+    }
+    return "int";
+  }
+  if (value?.[OBJECT] !== undefined) {
+    return "object";
+  }
+  throw new TypeError(
+    `the property ${shown(name)} is a string, a whole number, a boolean or a MapObject: ${told(value)}`,
+  );
+}

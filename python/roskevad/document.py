@@ -1,0 +1,513 @@
+"""A document of an editor, in the words of its caller."""
+import contextlib
+import inspect
+import json
+import logging
+import os
+from array import array
+from dataclasses import dataclass
+from pathlib import Path
+from types import TracebackType
+from typing import TYPE_CHECKING, Any, Callable, ContextManager, Iterator, NamedTuple, NoReturn, Optional, TypeVar, Union, cast
+
+from . import words
+from .faults import Closed, Refused
+from .views import Layer, Layers, Objects
+from .library import NONE, SelectionRun
+from .properties import Properties
+from .rows import Part, doubtful, parts_of, rows_of
+from .seen import Members, Seen
+from .selection import Run, Selection
+from .tilesets import Tilesets
+
+if TYPE_CHECKING:
+    from .editor import Editor
+
+_LOG = logging.getLogger('roskevad')
+_Answer = TypeVar('_Answer')
+#: A layer, its id, or the name of the first one of that name.
+LayerLike = Union[int, str, Layer]
+MODES = ('replace', 'add', 'subtract', 'intersect')
+# A place past every map: a stamp there changes nothing.
+_NOWHERE = '1000000000 1000000000'
+
+
+@dataclass(frozen=True)
+class Status:
+    """How a document stands: the index and the count of its undo stack, whether it is clean, and how many macros are open."""
+
+    index: int
+    count: int
+    clean: bool
+    depth: int
+
+
+class Step(NamedTuple):
+    """A step of a document: its text, the text of its action, and whether it is a macro."""
+
+    text: str
+    action: str
+    is_macro: bool
+
+
+class _Area(NamedTuple):
+    """A rectangle of cells of a layer."""
+
+    layer: int
+    x: int
+    y: int
+    width: int
+    height: int
+
+
+class _Stroke:
+    """Paints that are one step: whether one of them has made it."""
+
+    def __init__(self) -> None:
+        self.has_step = False
+
+
+class Document:
+    """A document of an editor: a map, its selection and its steps.
+
+    A call makes its document the active one, and leaves it so. Where the document was closed, also where another one was opened
+    under its name, and where the editor was closed, a call raises Closed. A call that a line does raises Refused, with that
+    line, as docs/refusals.md has it; words that no line can say raise ValueError or TypeError, and nothing is done.
+    """
+
+    def __init__(self, editor: 'Editor', name: str):
+        """Editors make it: `new`, `open` and `documents` give it."""
+        self._editor = editor
+        self._name = name
+        self._is_closed = False
+        self._stroke: Optional[_Stroke] = None
+        self._path: Optional[Path] = None
+
+    # ---- what each call does
+    def _do(self, work: Callable[[], _Answer]) -> _Answer:
+        """Has work done in one turn of the editor, with this document as the active one."""
+
+        def entered() -> _Answer:
+            self._enter()
+            return work()
+
+        return self._editor._in_turn(entered)
+
+    def _enter(self) -> None:
+        if self._is_closed:
+            raise Closed(f'the document {self._name} is closed')
+        seen, line = self._editor._seen, f'use {self._name}'
+        self._editor._said(line, line)
+        self._editor._seen = seen
+
+    def _say(self, line: str) -> str:
+        """The reply to a line, in a turn."""
+        reply = self._editor._said(line, line).decode('utf-8', 'replace')
+        if _LOG.isEnabledFor(logging.DEBUG):
+            _LOG.debug('%s: %.200s: %.200s', self._name, line, reply)
+        return reply
+
+    def _ask(self, line: str) -> str:
+        """The reply to a line that changes nothing."""
+        seen = self._editor._seen
+        reply = self._say(line)
+        self._editor._seen = seen
+        return reply
+
+    def _edit(self, line: str) -> None:
+        self._do(lambda: self._say(line))
+
+    def _add(self, kind: str, line: str) -> int:
+        """The id of what a line adds."""
+
+        def work() -> int:
+            self._say(line)
+            return self._editor._call(f'next_{kind}_id') - 1
+
+        return self._do(work)
+
+    def _seen_now(self) -> Seen:
+        """What is seen of the map, in a turn."""
+        seen = self._editor._seen
+        if seen is None or seen.document != self._name:
+            seen = self._editor._seen = Seen(self._name, self._editor._outline('outline()'))
+        return seen
+
+    def _look(self, answer: Callable[[Seen], _Answer]) -> _Answer:
+        return self._do(lambda: answer(self._seen_now()))
+
+    def _peek(self, answer: Callable[[Seen], _Answer]) -> Optional[_Answer]:
+        """The same for a `repr`, which makes no document active, and raises nothing."""
+
+        def entered() -> _Answer:
+            self._enter()
+            return answer(self._seen_now())
+
+        with contextlib.suppress(Exception):
+            return self._editor._in_turn(lambda: self._editor._restored(entered))
+        return None
+
+    def _status_now(self) -> Status:
+        _, steps, state, depth = self._ask('status').split(' ')
+        index, count = steps.split('/')
+        return Status(int(index), int(count), state == 'clean', int(depth))
+
+    def _close(self) -> None:
+        self._is_closed = True
+
+    # ---- what it is
+    @property
+    def editor(self) -> 'Editor':
+        """The editor that it is open in."""
+        return self._editor
+
+    @property
+    def name(self) -> str:
+        """Its name in the editor."""
+        return self._name
+
+    @property
+    def path(self) -> Optional[Path]:
+        """The file that it was opened from, or saved to last; None where there is none."""
+        return self._path
+
+    @property
+    def is_closed(self) -> bool:
+        """Whether it was closed."""
+        return self._is_closed
+
+    @property
+    def width(self) -> int:
+        """The width of the map in cells."""
+        return self._look(lambda seen: int(seen.outline['width']))
+
+    @property
+    def height(self) -> int:
+        """The height of the map in cells."""
+        return self._look(lambda seen: int(seen.outline['height']))
+
+    @property
+    def tile_width(self) -> int:
+        """The width of a cell in pixels."""
+        return self._look(lambda seen: int(seen.outline['tilewidth']))
+
+    @property
+    def tile_height(self) -> int:
+        """The height of a cell in pixels."""
+        return self._look(lambda seen: int(seen.outline['tileheight']))
+
+    @property
+    def origin(self) -> tuple[int, int]:
+        """The column and the row at which its corner lies in the infinite map that it was opened as, in cells; else 0 and 0."""
+        return self._do(self._editor._origin)
+
+    @property
+    def layers(self) -> Layers:
+        """The layers, a live view."""
+        return Layers(self)
+
+    @property
+    def objects(self) -> Objects:
+        """The objects of all layers, a live view."""
+        return Objects(self)
+
+    @property
+    def properties(self) -> Properties:
+        """The properties of the map, a live view."""
+        return Properties(self, 'map', lambda seen: seen.outline)
+
+    @property
+    def tilesets(self) -> Tilesets:
+        """The tilesets, a live view."""
+        return Tilesets(self)
+
+    def map(self) -> Members:
+        """The map as its file has it: a copy."""
+        return self._do(lambda: cast(Members, json.loads(self._editor._shown('map()'))))
+
+    def outline(self) -> Members:
+        """The same without the cells: a copy."""
+        return self._do(lambda: self._editor._outline('outline()'))
+
+    # ---- its steps
+    @property
+    def status(self) -> Status:
+        """How it stands: index, count, clean, depth."""
+        return self._do(self._status_now)
+
+    @property
+    def steps(self) -> tuple[Step, ...]:
+        """All steps, done and undone; an open macro stands last."""
+
+        def step(place: int) -> Step:
+            text = self._ask(f'text {place}')[len('text '):]
+            action = self._editor._told('action_text', place) or b''
+            return Step(text, action.decode('utf-8', 'replace'), self._editor._call('is_macro', place) == 1)
+
+        return self._do(lambda: tuple(map(step, range(self._status_now().count))))
+
+    @property
+    def undo_text(self) -> str:
+        """The action text of the step that `undo` would undo; '' where there is none."""
+        return self._do(lambda: self._ask('undotext')[len('text '):])
+
+    @property
+    def redo_text(self) -> str:
+        """The action text of the step that `redo` would redo; '' where there is none."""
+        return self._do(lambda: self._ask('redotext')[len('text '):])
+
+    @property
+    def clean_index(self) -> Optional[int]:
+        """The index that counts as saved; None where there is none any more."""
+        index = self._do(lambda: self._editor._call('clean_index'))
+        return None if index == NONE else index
+
+    def undo(self) -> None:
+        """Undoes the step below the index. Raises Refused: 21 where there is none."""
+        self._edit('undo')
+
+    def redo(self) -> None:
+        """Redoes the step above the index. Raises Refused: 22 where there is none."""
+        self._edit('redo')
+
+    def goto(self, index: int) -> None:
+        """Undoes or redoes up to an index, or to the count where that is less. Raises TypeError, ValueError; Refused: 20 while a
+        macro is open."""
+        self._edit(f'goto {words.number(index, "an index")}')
+
+    def mark_clean(self) -> None:
+        """Has the index count as saved. Raises Refused: 20 while a macro is open."""
+        self._edit('clean')
+
+    def mark_dirty(self) -> None:
+        """Has no index count as saved."""
+        self._edit('dirty')
+
+    def clear(self) -> None:
+        """Drops all steps, and undoes nothing; the document counts as saved then."""
+        self._edit('clear')
+
+    def limit(self, count: int) -> None:
+        """Keeps at most so many steps; 0 is no limit. Raises TypeError, ValueError; Refused: 25 where there are steps, 39 above
+        1,000,000."""
+        self._edit(f'limit {words.number(count, "a limit")}')
+
+    def macro(self, text: str, action: Optional[str] = None) -> 'ContextManager[Document]':
+        """A `with` whose edits are one step of this text, and of this action text where it is another. On an exception the
+        outermost one ends and undoes it, one inside another only ends, and the exception goes on. Raises TypeError, ValueError;
+        Refused: 24 where 64 are open."""
+        return self._macro(words.macro(text, action))
+
+    @contextlib.contextmanager
+    def _macro(self, said: str) -> Iterator['Document']:
+        depth = self._do(self._status_now).depth + 1
+        try:
+            self._edit(f'begin {said}')
+            yield self
+        except BaseException:
+            # What goes wrong here hides no fault of the caller.
+            with contextlib.suppress(Refused, Closed):
+                self._do(lambda: self._end(depth, is_undone=depth == 1))
+            raise
+        self._do(lambda: self._end(depth, is_undone=False))
+
+    def _end(self, depth: int, is_undone: bool) -> None:
+        """Ends the macro of a depth, with those in it that lines have left open, unless lines have ended it."""
+        is_open = self._status_now().depth >= depth
+        while self._status_now().depth >= depth:
+            self._say('end')
+        if is_open and is_undone:
+            self._say('undo')
+
+    # ---- cells
+    def stroke(self) -> 'ContextManager[Document]':
+        """A `with` whose stamps and erases merge, as those of a brush: the first that changes something begins a step, and those
+        behind it go on with it. One inside another belongs to it."""
+        return self._painting()
+
+    @contextlib.contextmanager
+    def _painting(self) -> Iterator['Document']:
+        outer = self._stroke
+        self._stroke = outer or _Stroke()
+        try:
+            yield self
+        finally:
+            self._stroke = outer
+
+    def stamp(self, layer: LayerLike, x: int, y: int, rows: Any, merge: bool = False) -> None:
+        """Writes rows of values into a tile layer, from a cell on; a value 0 leaves its cell as it is. `rows` is any nested
+        sequence, or an array with two dimensions; with `merge` it is one step with a stamp of the same layer before it. Raises
+        TypeError; ValueError, also for ragged rows and values beyond 32 bits; Refused: 31 where it is no tile layer, 33 for a
+        value without a tileset."""
+        listed = rows_of(rows)
+        parts = list(parts_of(listed))
+        left, top = words.coordinate(x, 'x'), words.coordinate(y, 'y')
+        words.coordinate(top + parts[-1].first, 'y of the last rows')
+        self._do(lambda: self._stamp_parts(_Area(self._id_of(layer), left, top, len(listed[0]), len(listed)), parts, listed, merge))
+
+    def _stamp_parts(self, area: _Area, parts: list[Part], rows: list[list[int]], merge: bool) -> None:
+        if len(parts) == 1:
+            self._paint(area, f'{area.width} {parts[0].values}', merge, self._stroke)
+            return
+        # A value that is refused is refused before the first part.
+        self._say(f'stamp {area.layer} {_NOWHERE} 1 {doubtful(rows)}')
+        stroke = self._stroke or _Stroke()
+        for place, part in enumerate(parts):
+            at = area._replace(y=area.y + part.first, height=part.height)
+            try:
+                self._paint(at, f'{area.width} {part.values}', merge, stroke)
+            except Refused as refusal:
+                told = f'stamp: row {part.first} and those below it of {len(rows)} rows; those above it stand, as a step'
+                raise Refused(refusal.code, refusal.words, told, place, forms=()) from None
+
+    def _paint(self, area: _Area, rest: str, merge: bool, stroke: Optional[_Stroke]) -> None:
+        """Says a stamp, or an erase where the rest has no values."""
+        word = 'stamp' if ' ' in rest else 'erase'
+        said = f'{area.layer} {area.x} {area.y} {rest if word == "stamp" else f"{area.width} {area.height}"}'
+        if stroke is None or merge:
+            self._say(f'{word}{"+" if merge else ""} {said}')
+        elif stroke.has_step:
+            index = self._status_now().index
+            self._say(f'{word}+ {said}')
+            # Where paints have taken each other back, their step is gone.
+            stroke.has_step = self._status_now().index >= index
+        else:
+            before = self._cells_within(area)
+            self._say(f'{word} {said}')
+            stroke.has_step = self._cells_within(area) != before
+
+    def _cells_within(self, area: _Area) -> 'Optional[array[int]]':
+        """The cells of a rectangle as far as it is on the map."""
+        outline = self._seen_now().outline
+        left, top = max(area.x, 0), max(area.y, 0)
+        right, bottom = min(area.x + area.width, outline['width']), min(area.y + area.height, outline['height'])
+        return self._editor._cells(area.layer, left, top, max(right - left, 0), max(bottom - top, 0))
+
+    def erase(self, layer: LayerLike, x: int, y: int, width: int, height: int, merge: bool = False) -> None:
+        """Empties a rectangle of cells of a tile layer; with `merge` it is one step with an erase of the same layer before it.
+        Raises TypeError, ValueError; Refused: 31 where it is no tile layer."""
+        left, top = words.coordinate(x, 'x'), words.coordinate(y, 'y')
+        size = words.number(width, 'a width'), words.number(height, 'a height')
+        self._do(lambda: self._paint(_Area(self._id_of(layer), left, top, *size), '', merge, self._stroke))
+
+    def fill(self, layer: LayerLike, x: int, y: int, value: int) -> None:
+        """Writes a value into the cell and the cells of the same value that are joined to it. Raises TypeError, ValueError;
+        Refused: 31 where it is no tile layer, 32 outside the map, 33 for a value without a tileset."""
+        said = f'{words.coordinate(x, "x")} {words.coordinate(y, "y")} {words.number(value, "the value of a cell")}'
+        self._do(lambda: self._say(f'fill {self._id_of(layer)} {said}'))
+
+    def _id_of(self, layer: LayerLike) -> int:
+        """The id of a layer, in a turn. Raises KeyError where none has that name."""
+        if isinstance(layer, Layer):
+            if layer.document is not self:
+                raise ValueError(f'{layer!r} is no layer of {self._name!r}')
+            return layer.id
+        if isinstance(layer, str):
+            found = next((id for id, each in self._seen_now().layers.items() if each['name'] == layer), None)
+            if found is None:
+                raise KeyError(layer)
+            return found
+        return words.number(layer, 'the id of a layer')
+
+    def _cells_of(self, layer: Layer, x: int, y: int, width: Optional[int], height: Optional[int]) -> tuple[int, memoryview]:
+        """The width and the cells of a rectangle of a tile layer."""
+        left, top = words.coordinate(x, 'x'), words.coordinate(y, 'y')
+
+        def refuse(code: int, what: str) -> NoReturn:
+            raise Refused(code, what, f'Layer {layer.id}: cells {left}, {top}, {width}, {height}', forms=())
+
+        def work() -> tuple[int, memoryview]:
+            seen = self._seen_now()
+            if layer._has(seen)['type'] != 'tilelayer':
+                refuse(31, 'layer of another kind')
+            wide = seen.outline['width'] - left if width is None else words.coordinate(width, 'a width')
+            high = seen.outline['height'] - top if height is None else words.coordinate(height, 'a height')
+            cells = self._editor._cells(layer.id, left, top, wide, high)
+            if cells is None:
+                refuse(32, 'outside the map')
+            return wide, memoryview(cells.tobytes()).cast('I')
+
+        return self._do(work)
+
+    # ---- selection, size
+    @property
+    def selection(self) -> Selection:
+        """The selected cells: `runs`, `len`, and `(x, y) in` it. Later edits do not change it."""
+
+        def work() -> Selection:
+            run = SelectionRun()
+            runs = []
+            for place in range(self._editor._call('selection_count')):
+                self._editor._call('selection_run', place, run)
+                runs.append(Run(run.row, run.column, run.count))
+            return Selection(tuple(runs))
+
+        return self._do(work)
+
+    def select(self, x: int, y: int, width: int, height: int, mode: str = 'replace') -> None:
+        """Selects a rectangle of cells: it replaces the selection, or is added to it, or taken out of it (subtract), or only what
+        is in both stays (intersect). Raises TypeError, ValueError; Refused."""
+        how = words.one_of(mode, MODES, 'the mode of a selection')
+        where = f'{words.coordinate(x, "x")} {words.coordinate(y, "y")}'
+        self._edit(f'select {how} {where} {words.number(width, "a width")} {words.number(height, "a height")}')
+
+    def select_none(self) -> None:
+        """Selects no cell; then an edit changes any cell. Raises Refused."""
+        self._edit('select none')
+
+    def resize(self, width: int, height: int, x: int = 0, y: int = 0) -> None:
+        """Gives the map a size in cells, and moves all in it so many columns right and rows down. Raises TypeError, ValueError;
+        Refused: 39 for a size beyond the limits."""
+        size = f'{words.number(width, "a width")} {words.number(height, "a height")}'
+        self._edit(f'resize {size} {words.coordinate(x, "x")} {words.coordinate(y, "y")}')
+
+    # ---- its file
+    def save(self, path: 'Union[str, os.PathLike[str], None]' = None) -> None:
+        """Writes the map to a file, or to `path`, the one that it was opened from or saved to last; it counts as saved then. The
+        file is the old or the new one, whole, whatever falls in between. Raises ValueError where there is no such file, and none
+        is named; Refused: 20 while a macro is open, 51 where it cannot be written."""
+        if path is None and self._path is None:
+            raise ValueError(f'{self._name} has no file yet: save(path) names it')
+        self._save(Path(path or self._path or ''))
+
+    def _save(self, path: Path) -> None:
+        # What it does in a turn, since one has begun.
+        save = cast(Callable[..., str], inspect.unwrap(self._editor.save_file))
+        try:
+            self._do(lambda: save(self._editor, path))
+        except Refused as refusal:
+            raise refusal._of(f'save({os.fspath(path)!r})') from refusal.__cause__
+        self._path = path
+        _LOG.info('%s: saved to %s', self._name, path)
+
+    def save_bytes(self) -> bytes:
+        """The map as the bytes of a file; it counts as saved then. Raises Refused: 20 while a macro is open."""
+        save = cast(Callable[..., bytes], inspect.unwrap(self._editor.save_map))
+        return self._do(lambda: save(self._editor, all_maps=True))
+
+    def close(self) -> None:
+        """Closes it. Raises Refused: 13 where it has unsaved changes."""
+        self._leave('close')
+
+    def discard(self) -> None:
+        """Closes it, and drops unsaved changes."""
+        self._leave('discard')
+
+    def _leave(self, word: str) -> None:
+        self._edit(f'{word} {self._name}')
+        self._editor._forget(self._name)
+        _LOG.info('%s: closed', self._name)
+
+    def __enter__(self) -> 'Document':
+        return self
+
+    def __exit__(self, kind: Optional[type[BaseException]], fault: Optional[BaseException], trace: Optional[TracebackType]) -> None:
+        """Closes it at the end of a `with`: as `close` does, and behind an exception as `discard`."""
+        if not self._is_closed:
+            self.close() if fault is None else self.discard()
+
+    def __repr__(self) -> str:
+        if self._is_closed:
+            return f'<Document {self._name!r}, closed>'
+        told = self._peek(lambda seen: f'{seen.outline["width"]} by {seen.outline["height"]}, {self._ask("status")[len("ok "):]}')
+        return f'<Document {self._name!r}>' if told is None else f'<Document {self._name!r}, {told}>'

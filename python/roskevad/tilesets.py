@@ -1,0 +1,138 @@
+"""The tilesets of a document, and the tiles of its cells."""
+from typing import TYPE_CHECKING, Iterator, NamedTuple, Optional, Union
+
+from . import words
+from .faults import Refused
+from .rows import BASE
+from .seen import Members, Seen
+
+if TYPE_CHECKING:
+    from .document import Document
+
+# The flags of a value, as Tiled has them.
+_HORIZONTALLY, _VERTICALLY, _DIAGONALLY, _TURNED = 0x8000_0000, 0x4000_0000, 0x2000_0000, 0x1000_0000
+
+
+class Tileset:
+    """A tileset of a document, by its first id. It stays the same however the map changes; a call raises Refused, 36, where the
+    map has no tileset of that first id."""
+
+    def __init__(self, document: 'Document', first_id: int):
+        self._document = document
+        self.first_id = first_id
+
+    def _members(self) -> Members:
+        return self._document._look(self._find)
+
+    def _find(self, seen: Seen) -> Members:
+        if self.first_id not in seen.tilesets:
+            raise Refused(36, 'no such tileset', repr(self), forms=())
+        return seen.tilesets[self.first_id]
+
+    @property
+    def source(self) -> Optional[str]:
+        """The path of its file from the folder of the map; None where the map has it in itself. Raises Refused."""
+        source: Optional[str] = self._members().get('source')
+        return source
+
+    @property
+    def name(self) -> Optional[str]:
+        """Its name, where the map has it in itself; else None: no file of a tileset is read. Raises Refused."""
+        name: Optional[str] = self._members().get('name')
+        return name
+
+    def value(
+        self, local_id: int, flipped_horizontally: bool = False, flipped_vertically: bool = False, flipped_diagonally: bool = False,
+        turned: bool = False,
+    ) -> int:
+        """The value of a cell with its tile of this id, which Tiled shows as the tile's ID. Raises TypeError, and ValueError for
+        an id out of range."""
+        base = self.first_id + words.number(local_id, 'the id of a tile')
+        if base > BASE:
+            raise ValueError(f'the id of a tile is at most {BASE - self.first_id} here: {local_id}')
+        flags = zip((flipped_horizontally, flipped_vertically, flipped_diagonally, turned), _FLAGS)
+        return base + sum(bit for is_set, bit in flags if is_set)
+
+    def remove(self) -> None:
+        """Removes it from the map. Raises Refused: 37 where a tile of it is in use."""
+        self._document._edit(f'tileset remove {self.first_id}')
+
+    def __eq__(self, other: object) -> bool:
+        return isinstance(other, Tileset) and (self._document, self.first_id) == (other._document, other.first_id)
+
+    def __hash__(self) -> int:
+        return hash((self._document, self.first_id))
+
+    def __repr__(self) -> str:
+        return f'<Tileset {self.first_id} of {self._document.name!r}>'
+
+
+_FLAGS = (_HORIZONTALLY, _VERTICALLY, _DIAGONALLY, _TURNED)
+
+
+class Tile(NamedTuple):
+    """A tile of a cell or of an object: its value; its tileset and its id there, both None where no tileset has the value; and
+    whether it is flipped, or turned by 120 degrees on a hexagonal map."""
+
+    value: int
+    tileset: Optional[Tileset]
+    local_id: Optional[int]
+    flipped_horizontally: bool
+    flipped_vertically: bool
+    flipped_diagonally: bool
+    turned: bool
+
+
+def tile_of(document: 'Document', seen: Seen, value: int) -> Tile:
+    """The tile that a value, which is not 0, stands for."""
+    base = value & BASE
+    first = seen.tileset_of(base)
+    flags = [value & bit != 0 for bit in _FLAGS]
+    tileset = None if first is None else Tileset(document, first)
+    return Tile(value, tileset, None if first is None else base - first, *flags)
+
+
+class Tilesets:
+    """The tilesets of a document, in order: `[int]` is the one with that first id, `[str]` the first with that source, or with
+    that name where the map has it in itself; else KeyError."""
+
+    def __init__(self, document: 'Document'):
+        self._document = document
+
+    def __iter__(self) -> Iterator[Tileset]:
+        """Each tileset, in order."""
+        return iter([Tileset(self._document, first) for first in self._document._look(lambda seen: list(seen.tilesets))])
+
+    def __len__(self) -> int:
+        return self._document._look(lambda seen: len(seen.tilesets))
+
+    def _found(self, key: object) -> Optional[int]:
+        def find(seen: Seen) -> Optional[int]:
+            if isinstance(key, int):
+                return key if key in seen.tilesets else None
+            names = ((first, each.get('source', each.get('name'))) for first, each in seen.tilesets.items())
+            return next((first for first, name in names if name == key), None)
+
+        return self._document._look(find)
+
+    def __getitem__(self, key: Union[int, str]) -> Tileset:
+        """The tileset with a first id, or the first with a source or a name. Raises KeyError where there is none."""
+        first = self._found(key)
+        if first is None:
+            raise KeyError(key)
+        return Tileset(self._document, first)
+
+    def __contains__(self, key: object) -> bool:
+        """Whether there is a tileset with a first id, a source or a name."""
+        return key in list(self) if isinstance(key, Tileset) else self._found(key) is not None
+
+    def add(self, first_id: int, source: str) -> int:
+        """Adds a tileset by the path of its file from the folder of the map, last, and gives its first id. That must be above
+        those of all tiles there: the greatest first id plus the number of tiles of that tileset. Raises TypeError, ValueError;
+        Refused: 38 where it is not above the other first ids."""
+        first = words.number(first_id, 'the first id of a tileset')
+        self._document._edit(f'tileset add {first} {words.text(source, "the source of a tileset")}')
+        return first
+
+    def __repr__(self) -> str:
+        return f'<Tilesets of {self._document.name!r}>'

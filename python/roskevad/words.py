@@ -1,0 +1,146 @@
+"""Checks words before they become a line: what no line can say is told with the caller's own words, and nothing is sent."""
+import operator
+import re
+from numbers import Integral
+from typing import Any, Optional
+
+from .names import is_document_name
+
+#: The most bytes of a text in a line.
+LONGEST_TEXT = 200
+#: The greatest coordinate, and the greatest number, that a line can have.
+GREATEST_COORDINATE, GREATEST_NUMBER = 1_000_000_000, 4_294_967_295
+#: What stands between the two texts of a macro.
+DIVIDER = ' || '
+#: What a MapObject has its id under, so that it can be the value of a property.
+OBJECT = '_object_id'
+_COLOUR = re.compile('#([0-9a-f]{6}|[0-9a-f]{8})')
+_SHOWN = 60
+
+
+def _shown(word: str) -> str:
+    return repr(word) if len(word) <= _SHOWN else f'{word[:_SHOWN]!r}..'
+
+
+def text(word: object, what: str) -> str:
+    """A text that a line can have. Raises TypeError where it is no text, and ValueError where no line can say it."""
+    if not isinstance(word, str):
+        raise TypeError(f'{what} is a str: {type(word).__name__}')
+    if not word:
+        raise ValueError(f'{what} is empty, and no line can say that')
+    if any(ord(each) < 32 or ord(each) == 127 for each in word):
+        raise ValueError(f'{what} has a control character in it: {_shown(word)}')
+    try:
+        size = len(word.encode())
+    except UnicodeEncodeError:
+        raise ValueError(f'{what} has half of a character in it: {_shown(word)}') from None
+    if size > LONGEST_TEXT:
+        raise ValueError(f'{what} has {size} bytes, and a line takes at most {LONGEST_TEXT}: {_shown(word)}')
+    return word
+
+
+def key(word: object) -> str:
+    """The name of a property. Raises as `text` does, and ValueError for a space."""
+    said = text(word, 'the name of a property')
+    if ' ' in said:
+        raise ValueError(f'the name of a property has a space in it, and no line can say that: {_shown(said)}')
+    return said
+
+
+def macro(words: object, action: Optional[object]) -> str:
+    """Both texts of a macro, as the line `begin` has them. Raises as `text` does, and ValueError where they would be divided at
+    another place."""
+    said = text(words, 'the text of a macro')
+    whole = said if action is None else said + DIVIDER + text(action, 'the action text of a macro')
+    found = whole.find(DIVIDER)
+    if found != (-1 if action is None else len(said)):
+        raise ValueError(f'the text of a macro has {DIVIDER!r} in it, which divides it from its action text: {_shown(said)}')
+    return whole
+
+
+def document(name: object) -> str:
+    """The name of a document. Raises TypeError where it is no text, and ValueError where no line can say it."""
+    if not isinstance(name, str):
+        raise TypeError(f'the name of a document is a str: {type(name).__name__}')
+    if not is_document_name(name):
+        raise ValueError(f'the name of a document is 1 to 64 of A-Z a-z 0-9 _ . -, and begins with neither . nor -: {_shown(name)}')
+    return name
+
+
+def _whole(value: Any, what: str) -> int:
+    try:
+        return operator.index(value)
+    except TypeError:
+        raise TypeError(f'{what} is a whole number: {value!r}') from None
+
+
+def coordinate(value: object, what: str) -> int:
+    """A coordinate. Raises TypeError where it is no whole number, and ValueError where it is out of range."""
+    number = _whole(value, what)
+    if abs(number) > GREATEST_COORDINATE:
+        raise ValueError(f'{what} is from -1,000,000,000 to 1,000,000,000: {number}')
+    return number
+
+
+def number(value: object, what: str) -> int:
+    """A number from 0. Raises as `coordinate` does."""
+    whole = _whole(value, what)
+    if not 0 <= whole <= GREATEST_NUMBER:
+        raise ValueError(f'{what} is from 0 to 4,294,967,295: {whole}')
+    return whole
+
+
+def one_of(word: object, words: tuple[str, ...], what: str) -> str:
+    """A word of a few. Raises ValueError for any other."""
+    if word not in words:
+        raise ValueError(f'{what} is one of {", ".join(words)}: {word!r}')
+    return str(word)
+
+
+# ---- properties
+
+#: The types of properties that a line can set.
+TYPES = ('string', 'file', 'int', 'bool', 'color', 'object')
+_TAKES: dict[str, type] = {'string': str, 'file': str, 'int': int, 'bool': bool, 'color': str}
+
+
+def setting(name: str, value: Any, kind: str) -> str:
+    """The type and the value of a property, as the line `prop set` has them. Raises TypeError where the type takes no such
+    value, and ValueError where no line can say it."""
+    if kind not in TYPES:
+        raise ValueError(f'no line sets a property of the type {kind}: {name!r}')
+    what = f'the property {name!r}'
+    if kind == 'object':
+        return f'object {number(getattr(value, OBJECT, value), what)}'
+    whole = _as_whole(value) if kind == 'int' else value
+    takes: Any = _TAKES[kind]
+    if not isinstance(whole, takes) or kind == 'int' and isinstance(whole, bool):
+        raise TypeError(f'{what} has the type {kind}, which takes no {type(value).__name__}: {value!r}')
+    if kind == 'int':
+        return f'int {coordinate(whole, what)}'
+    if kind == 'bool':
+        return f'bool {"true" if whole else "false"}'
+    if kind == 'color' and not _COLOUR.fullmatch(whole):
+        raise ValueError(f'{what} is a color: # and 6 or 8 digits of 0-9a-f, and not {_shown(whole)}')
+    return f'{kind} {text(whole, what)}'
+
+
+def _as_whole(value: Any) -> Any:
+    """A number of another library as an int, and anything else as it is."""
+    return operator.index(value) if isinstance(value, Integral) and not isinstance(value, bool) else value
+
+
+def type_of(name: str, value: Any) -> str:
+    """The type of a property that is set for the first time. Raises ValueError for a float, and TypeError for what no line can
+    say."""
+    if isinstance(value, str):
+        return 'string'
+    if isinstance(value, bool):
+        return 'bool'
+    if isinstance(value, Integral):
+        return 'int'
+    if isinstance(value, float):
+        raise ValueError(f'no line sets a property of the type float: {name!r}')
+    if hasattr(value, OBJECT):
+        return 'object'
+    raise TypeError(f'the property {name!r} is a str, an int, a bool or a MapObject: {type(value).__name__}')

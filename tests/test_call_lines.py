@@ -1,0 +1,276 @@
+"""Does calls of documents in both packages, and beside them the lines that they stand for: documents,
+maps, steps and selections are the same then. So it tries stamps of any size, macros that fail,
+strokes, properties of each type, and what the views tell."""
+import json
+import subprocess
+import sys
+from dataclasses import dataclass, field
+from typing import Any, List, Tuple
+
+from lib.cases import Case, check_each, unlike
+from lib.places import TESTS, TOP
+
+sys.path.insert(0, str(TOP / 'python'))
+sys.path.insert(0, str(TOP / 'tools'))
+import roskevad  # noqa: E402
+from calls import LINES  # noqa: E402
+
+PACKAGES = ('nodejs',)
+# A map in which a stamp of all cells is longer than a line, and a stamp of its first cell.
+LARGE = ['new large 200 200 16 16 town.tsj', 'stamp 1 0 0 1 1']
+
+
+@dataclass
+class Scenario:
+    """Calls in each language, the lines that they stand for, and what the expressions tell behind them."""
+
+    name: str
+    python: str
+    javascript: str
+    lines: List[str]
+    values: List[Tuple[str, str, Any]] = field(default_factory=list)
+    before: List[str] = field(default_factory=lambda: LINES)
+
+
+def plain(name, calls, lines, **more):
+    """A scenario whose calls are the same in both, but for the case of their names."""
+    return Scenario(name, calls.replace('; ', '\n'), calls, lines, **more)
+
+
+SCENARIOS = [
+    plain('stamp', 'document.stamp(1, 1, 0, [[5, 6], [0, 8]]); document.stamp("Walls", -1, 2, [[7, 7, 7]])',
+          ['stamp 1 1 0 2 5,6,0,8', 'stamp 3 -1 2 3 7,7,7']),
+    Scenario('a stamp that merges', 'document.stamp(1, 1, 0, [[5]], merge=True)', 'document.stamp(1, 1, 0, [[5]], { merge: true })',
+             ['stamp+ 1 1 0 1 5']),
+    Scenario('other rows', 'import array\ndocument.stamp(1, 0, 0, (array.array("I", [5, 6]), range(7, 9)))\n'
+             'document.stamp(1, 0, 2, memoryview(bytes([3, 4, 5, 6])).cast("B", (2, 2)))',
+             'document.stamp(1, 0, 0, [Uint32Array.of(5, 6), new Set([7, 8])]); document.stamp(1, 0, 2, [[3, 4], [5, 6]])',
+             ['stamp 1 0 0 2 5,6,7,8', 'stamp 1 0 2 2 3,4,5,6']),
+    plain('erase and fill', 'document.erase(1, 0, 0, 2, 1); document.fill("Walls", 3, 2, 9)', ['erase 1 0 0 2 1', 'fill 3 3 2 9']),
+    Scenario('selections', 'document.select(0, 0, 2, 2)\ndocument.select(3, 0, 1, 3, mode="add")\ndocument.select(0, 0, 1, 1, "subtract")',
+             'document.select(0, 0, 2, 2); document.select(3, 0, 1, 3, { mode: "add" }); document.select(0, 0, 1, 1, { mode: "subtract" })',
+             ['select replace 0 0 2 2', 'select add 3 0 1 3', 'select subtract 0 0 1 1'],
+             [('[(x, y) in document.selection for x, y in ((0, 0), (1, 0), (2, 0), (3, 2), (3, 3), (-1, 0))]',
+               '[[0, 0], [1, 0], [2, 0], [3, 2], [3, 3], [-1, 0]].map(([x, y]) => document.selection.has(x, y))',
+               [False, True, False, True, False, False]),
+              ('[list(cell) for cell in document.selection]', '[...document.selection]', [[1, 0], [3, 0], [0, 1], [1, 1], [3, 1], [3, 2]]),
+              ('len(document.selection)', 'document.selection.size', 6),
+              ('[[run.row, run.column, run.length] for run in document.selection.runs]',
+               'document.selection.runs.map((run) => [run.row, run.column, run.length])', [[0, 1, 1], [0, 3, 1], [1, 0, 2], [1, 3, 1], [2, 3, 1]])]),
+    Scenario('no selection, and sizes', 'document.select(0, 0, 2, 2)\ndocument.select_none()\ndocument.resize(5, 4, 1, -1)',
+             'document.select(0, 0, 2, 2); document.selectNone(); document.resize(5, 4, 1, -1)',
+             ['select replace 0 0 2 2', 'select none', 'resize 5 4 1 -1'],
+             [('[document.width, document.height, document.tile_width, document.tile_height]',
+               '[document.width, document.height, document.tileWidth, document.tileHeight]', [5, 4, 16, 16])]),
+    plain('history', 'document.undo(); document.undo(); document.redo(); document.goto(3); document.clear(); document.limit(2)',
+          ['undo', 'undo', 'redo', 'goto 3', 'clear', 'limit 2']),
+    Scenario('marks', 'document.mark_dirty()\nfirst = document.clean_index\ndocument.mark_clean()',
+             'document.markDirty(); document.markClean()', ['dirty', 'clean'],
+             [('document.clean_index', 'document.cleanIndex', 7),
+              ('[document.status.index, document.status.count, document.status.clean, document.status.depth]',
+               '[document.status.index, document.status.count, document.status.clean, document.status.depth]', [7, 7, True, 0]),
+              ('[document.undo_text, document.redo_text]', '[document.undoText, document.redoText]', ['stamp tiles', ''])]),
+    # ---- macros
+    Scenario('a macro', 'with document.macro("Fence", action="draw fence"):\n  document.stamp(1, 0, 0, [[5]])',
+             'document.macro("Fence", () => document.stamp(1, 0, 0, [[5]]), { action: "draw fence" })',
+             ['begin Fence || draw fence', 'stamp 1 0 0 1 5', 'end'],
+             [('[[step.text, step.action, step.is_macro] for step in document.steps][-2:]',
+               'document.steps.map((step) => [step.text, step.action, step.isMacro]).slice(-2)',
+               [['Stamp', 'stamp tiles', False], ['Fence', 'draw fence', True]])]),
+    Scenario('a macro that fails', 'try:\n  with document.macro("A"):\n    document.stamp(1, 0, 0, [[5]])\n    document.layers["none"]\n'
+             'except KeyError:\n  pass',
+             'try { document.macro("A", () => { document.stamp(1, 0, 0, [[5]]); document.layers.get("none"); }); } catch (fault) {'
+             ' if (!(fault instanceof RangeError)) throw fault; }',
+             ['begin A', 'stamp 1 0 0 1 5', 'end', 'undo']),
+    Scenario('an inner macro that fails', 'with document.macro("A"):\n  try:\n    with document.macro("B"):\n      document.stamp(1, 0, 0, [[5]])\n'
+             '      document.stamp(2, 0, 0, [[5]])\n  except roskevad.Refused:\n    document.stamp(1, 1, 0, [[6]])',
+             'document.macro("A", () => { try { document.macro("B", () => { document.stamp(1, 0, 0, [[5]]); document.stamp(2, 0, 0, [[5]]); });'
+             ' } catch { document.stamp(1, 1, 0, [[6]]); } })',
+             ['begin A', 'begin B', 'stamp 1 0 0 1 5', 'end', 'stamp 1 1 0 1 6', 'end']),
+    Scenario('two macros that fail', 'try:\n  with document.macro("A"):\n    with document.macro("B"):\n      document.stamp(2, 0, 0, [[5]])\n'
+             'except roskevad.Refused:\n  pass',
+             'try { document.macro("A", () => document.macro("B", () => document.stamp(2, 0, 0, [[5]]))); } catch {}',
+             ['begin A', 'begin B', 'end', 'end', 'undo']),
+    Scenario('a macro in one of lines that fails', 'editor.step("begin A")\ntry:\n  with document.macro("B"):\n    document.stamp(2, 0, 0, [[5]])\n'
+             'except roskevad.Refused:\n  pass',
+             'editor.step("begin A"); try { document.macro("B", () => document.stamp(2, 0, 0, [[5]])); } catch {}',
+             ['begin A', 'begin B', 'end']),
+    Scenario('macros that lines end and begin', 'with document.macro("A"):\n  editor.step("end")\nwith document.macro("B"):\n  editor.step("begin C")',
+             'document.macro("A", () => editor.step("end")); document.macro("B", () => editor.step("begin C"))',
+             ['begin A', 'end', 'begin B', 'begin C', 'end', 'end']),
+    Scenario('a document that is closed in its macro', 'try:\n  with document.macro("A"):\n    document.discard()\n    document.undo()\n'
+             'except roskevad.Closed:\n  pass',
+             'try { document.macro("A", () => { document.discard(); document.undo(); }); } catch (fault) {'
+             ' if (!(fault instanceof roskevad.Closed)) throw fault; }',
+             ['discard town']),
+    # ---- strokes
+    Scenario('a stroke', 'with document.stroke():\n  document.stamp(1, 0, 0, [[1]])\n  document.stamp(1, 1, 0, [[5]])\n  document.stamp(1, 2, 0, [[5]])',
+             'document.stroke(() => { document.stamp(1, 0, 0, [[1]]); document.stamp(1, 1, 0, [[5]]); document.stamp(1, 2, 0, [[5]]); })',
+             ['stamp 1 0 0 1 1', 'stamp 1 1 0 1 5', 'stamp+ 1 2 0 1 5']),
+    Scenario('a stroke in a macro', 'with document.macro("A"):\n  document.stamp(1, 3, 0, [[5]])\n  with document.stroke():\n'
+             '    document.stamp(1, 3, 0, [[5]])\n    document.stamp(1, 2, 0, [[5]])\n    document.stamp(1, 1, 0, [[5]])\ndocument.undo()',
+             'document.macro("A", () => { document.stamp(1, 3, 0, [[5]]); document.stroke(() => { document.stamp(1, 3, 0, [[5]]);'
+             ' document.stamp(1, 2, 0, [[5]]); document.stamp(1, 1, 0, [[5]]); }); }); document.undo()',
+             ['begin A', 'stamp 1 3 0 1 5', 'stamp 1 3 0 1 5', 'stamp 1 2 0 1 5', 'stamp+ 1 1 0 1 5', 'end', 'undo']),
+    Scenario('a stroke at the limit', 'document.clear()\ndocument.limit(1)\ndocument.stamp(1, 3, 0, [[5]])\nwith document.stroke():\n'
+             '  document.stamp(1, 2, 0, [[5]])\n  document.stamp(1, 1, 0, [[5]])\ndocument.undo()',
+             'document.clear(); document.limit(1); document.stamp(1, 3, 0, [[5]]); document.stroke(() => { document.stamp(1, 2, 0, [[5]]);'
+             ' document.stamp(1, 1, 0, [[5]]); }); document.undo()',
+             ['clear', 'limit 1', 'stamp 1 3 0 1 5', 'stamp 1 2 0 1 5', 'stamp+ 1 1 0 1 5', 'undo']),
+    Scenario('a stroke that is taken back', 'with document.stroke():\n  document.stamp(1, 0, 0, [[5]])\n  document.stamp(1, 0, 0, [[1]])\n'
+             '  document.stamp(1, 1, 0, [[6]])',
+             'document.stroke(() => { document.stamp(1, 0, 0, [[5]]); document.stamp(1, 0, 0, [[1]]); document.stamp(1, 1, 0, [[6]]); })',
+             ['stamp 1 0 0 1 5', 'stamp+ 1 0 0 1 1', 'stamp 1 1 0 1 6']),
+    Scenario('a stroke of erases past the map', 'with document.stroke():\n  document.erase(1, -5, -5, 1, 1)\n  document.erase(1, 0, 0, 9, 1)\n'
+             '  document.erase(1, 0, 1, 9, 1)',
+             'document.stroke(() => { document.erase(1, -5, -5, 1, 1); document.erase(1, 0, 0, 9, 1); document.erase(1, 0, 1, 9, 1); })',
+             ['erase 1 -5 -5 1 1', 'erase 1 0 0 9 1', 'erase+ 1 0 1 9 1']),
+    # ---- stamps that are cut
+    Scenario('a stamp of the whole map', 'document.stamp(1, 0, 0, [[1000000000] * 200] * 200)\ndocument.undo()',
+             'document.stamp(1, 0, 0, Array(200).fill(Array(200).fill(1000000000))); document.undo()',
+             ['stamp 1 1 0 1 5', 'undo'], [('document.status.count', 'document.status.count', 2)], LARGE),
+    Scenario('its cells', 'document.stamp(1, 0, 0, [[1000000000 + y for _ in range(200)] for y in range(200)])\n'
+             'same = all(value == 1000000000 + at // 200 for at, value in enumerate(document.layers[1].cells()))\n'
+             'assert same and document.status.count == 2\ndocument.goto(1)',
+             'document.stamp(1, 0, 0, Array.from({ length: 200 }, (_, y) => Array(200).fill(1000000000 + y)));'
+             'if (document.status.count !== 2 || document.layers.get(1).cells().some((value, at) => value !== 1000000000 + Math.floor(at / 200))) '
+             'throw new Error("other cells"); document.goto(1)',
+             ['stamp 1 1 0 1 5', 'undo'], [], LARGE),
+    Scenario('one whose last value has no tileset', 'rows = [[1000000000] * 200] * 199 + [[2147483648] * 200]\n'
+             'try:\n  document.stamp(1, 0, 0, rows)\nexcept roskevad.Refused as refusal:\n  assert refusal.code == 33',
+             'try { document.stamp(1, 0, 0, [...Array(199).fill(Array(200).fill(1000000000)), Array(200).fill(2147483648)]); } catch (fault) {'
+             ' if (fault.code !== 33) throw fault; }',
+             [], [], LARGE),
+    Scenario('one whose first rows are there', 'rows = [[1] + [0] * 199] + [[0] * 200] * 199\nrows[199] = [1000000000] * 200\n'
+             'document.stamp(1, 0, 0, rows)\ndocument.undo()',
+             'document.stamp(1, 0, 0, [[1, ...Array(199).fill(0)], ...Array(198).fill(Array(200).fill(0)), Array(200).fill(1000000000)]);'
+             'document.undo()',
+             ['stamp 1 1 0 1 5', 'undo'], [], LARGE),
+    # ---- views
+    Scenario('properties', 'p = document.properties\np["author"] = "you"\np["people"] = 13\np["open"] = True\np["door"] = document.objects["door"]\n'
+             'p.set("sky", "#88ccff", type="color")\np.set("tune", "a.ogg", type="file")\np["sky"] = "#00000000"\np["tune"] = "b.ogg"\n'
+             'p.set("people", 14, merge=True)\ndel p["author"]\ndocument.objects[1].properties["locked"] = False\ndocument.layers[2].properties["a"] = -1',
+             'const p = document.properties; p.set("author", "you"); p.set("people", 13); p.set("open", true); p.set("door", document.objects.get("door"));'
+             'p.set("sky", "#88ccff", { type: "color" }); p.set("tune", "a.ogg", { type: "file" }); p.set("sky", "#00000000"); p.set("tune", "b.ogg");'
+             'p.set("people", 14, { merge: true }); p.delete("author"); document.objects.get(1).properties.set("locked", false);'
+             'document.layers.get(2).properties.set("a", -1)',
+             ['prop set map author string you', 'prop set map people int 13', 'prop set map open bool true', 'prop set map door object 1',
+              'prop set map sky color #88ccff', 'prop set map tune file a.ogg', 'prop set map sky color #00000000', 'prop set map tune file b.ogg',
+              'prop set+ map people int 14', 'prop remove map author', 'prop set object:1 locked bool false', 'prop set layer:2 a int -1'],
+             [('dict(document.properties)', 'Object.fromEntries(document.properties)',
+               {'people': 14, 'open': True, 'door': 1, 'sky': '#00000000', 'tune': 'b.ogg'}),
+              ('[document.properties.type_of(key) for key in document.properties]',
+               '[...document.properties.keys()].map((key) => document.properties.typeOf(key))', ['int', 'bool', 'object', 'color', 'file']),
+              ('["sky" in document.properties, "author" in document.properties, len(document.properties)]',
+               '[document.properties.has("sky"), document.properties.has("author"), document.properties.size]', [True, False, 5])]),
+    Scenario('layers', 'id = document.layers.add("tile", "Roof")\nroof = document.layers[id]\nroof.name = "Top"\nroof.visible = False\nroof.move(0)\n'
+             'document.layers["Walls"].remove()',
+             'const id = document.layers.add("tile", "Roof"); const roof = document.layers.get(id); roof.name = "Top"; roof.visible = false;'
+             'roof.move(0); document.layers.get("Walls").remove()',
+             ['layer add tile Roof', 'layer rename 4 Top', 'layer show 4 no', 'layer move 4 0', 'layer remove 3'],
+             [('[[each.id, each.kind, each.name, each.visible] for each in document.layers]',
+               '[...document.layers].map((each) => [each.id, each.kind, each.name, each.visible])',
+               [[4, 'tile', 'Top', False], [1, 'tile', 'Tile Layer 1', True], [2, 'object', 'Things', True]]),
+              ('[4 in document.layers, "Walls" in document.layers, len(document.layers)]',
+               '[document.layers.has(4), document.layers.has("Walls"), document.layers.size]', [True, False, 3])]),
+    Scenario('objects', 'id = document.layers["Things"].objects.add("key", 32, -8, 16, 16)\nkey = document.objects[id]\nkey.move(33, 0)\n'
+             'key.move(34, 0, merge=True)\nkey.resize(8, 9)\ndocument.objects["door"].remove()',
+             'const id = document.layers.get("Things").objects.add("key", 32, -8, 16, 16); const key = document.objects.get(id); key.move(33, 0);'
+             'key.move(34, 0, { merge: true }); key.resize(8, 9); document.objects.get("door").remove()',
+             ['object add 2 32 -8 16 16 key', 'object move 2 33 0', 'object move+ 2 34 0', 'object resize 2 8 9', 'object remove 1'],
+             [('[[each.id, each.name, each.type, each.x, each.y, each.width, each.height, each.visible, each.tile, each.layer.id] for each in document.objects]',
+               '[...document.objects].map((each) => [each.id, each.name, each.type, each.x, each.y, each.width, each.height, each.visible, each.tile,'
+               ' each.layer.id])', [[2, 'key', '', 34, 0, 8, 9, True, None, 2]]),
+              ('["key" in document.objects, 1 in document.objects, len(document.layers[1].objects)]',
+               '[document.objects.has("key"), document.objects.has(1), document.layers.get(1).objects.size]', [True, False, 0])]),
+    Scenario('tilesets and tiles', 'walls = document.tilesets[document.tilesets.add(33, "walls.tsj")]\n'
+             'document.stamp(1, 0, 0, [[walls.value(2, flipped_horizontally=True, turned=True), document.tilesets["town.tsj"].value(31)]])',
+             'const walls = document.tilesets.get(document.tilesets.add(33, "walls.tsj"));'
+             'document.stamp(1, 0, 0, [[walls.value(2, { flippedHorizontally: true, turned: true }), document.tilesets.get("town.tsj").value(31)]])',
+             ['tileset add 33 walls.tsj', 'stamp 1 0 0 2 2415919139,32'],
+             [('[[t.value, t.tileset.first_id, t.local_id, t.flipped_horizontally, t.flipped_vertically, t.flipped_diagonally, t.turned]'
+               ' for t in [document.layers[1].tile(0, 0), document.layers[1].tile(1, 0)]]',
+               '[0, 1].map((x) => document.layers.get(1).tile(x, 0)).map((t) => [t.value, t.tileset.firstId, t.localId, t.flippedHorizontally,'
+               ' t.flippedVertically, t.flippedDiagonally, t.turned])',
+               [[2415919139, 33, 2, True, False, False, True], [32, 1, 31, False, False, False, False]]),
+              ('[document.layers[1].tile(3, 2), document.layers[1].rows(0, 0, 2, 1), list(document.layers[1].cells(1, 0, 1, 2))]',
+               '[document.layers.get(1).tile(3, 2), document.layers.get(1).rows(0, 0, 2, 1), [...document.layers.get(1).cells(1, 0, 1, 2)]]',
+               [None, [[2415919139, 32]], [32, 0]]),
+              ('[[each.first_id, each.source, each.name] for each in document.tilesets]',
+               '[...document.tilesets].map((each) => [each.firstId, each.source, each.name])', [[1, 'town.tsj', None], [33, 'walls.tsj', None]])]),
+    Scenario('an unused tileset is removed', 'document.tilesets.add(33, "walls.tsj")\ndocument.tilesets["walls.tsj"].remove()',
+             'document.tilesets.add(33, "walls.tsj"); document.tilesets.get("walls.tsj").remove()', ['tileset add 33 walls.tsj', 'tileset remove 33']),
+    # ---- documents
+    Scenario('a document that is not active', 'other = editor.new("b", 2, 2, 8, 8, "b.tsj")\ndocument.stamp(1, 0, 0, [[5]])',
+             'editor.new("b", 2, 2, 8, 8, "b.tsj"); document.stamp(1, 0, 0, [[5]])', ['new b 2 2 8 8 b.tsj', 'use town', 'stamp 1 0 0 1 5'],
+             [('list(editor.documents)', '[...editor.documents.keys()]', ['town', 'b']),
+              ('editor.documents["town"] is document', 'editor.documents.get("town") === document', True),
+              ('editor.active is document', 'editor.active === document', True)]),
+    Scenario('what tells a document leaves another active', 'other = editor.new("b", 2, 2, 8, 8, "b.tsj")\n'
+             'repr(document), repr(document.layers[1]), str(document.properties)\nother.undo_text\nrepr(document)',
+             'const other = editor.new("b", 2, 2, 8, 8, "b.tsj"); String(document); other.undoText; String(document)',
+             ['new b 2 2 8 8 b.tsj']),
+    Scenario('none is active', 'editor.active = None', 'editor.active = null', ['use -'], [('editor.active', 'editor.active', None)]),
+    Scenario('one is made active', 'editor.new("b", 2, 2, 8, 8, "b.tsj")\neditor.active = document',
+             'editor.new("b", 2, 2, 8, 8, "b.tsj"); editor.active = document', ['new b 2 2 8 8 b.tsj', 'use town']),
+    Scenario('closed and opened anew', 'document.discard()\nagain = editor.new("town", 2, 2, 8, 8, "b.tsj")\nagain.close()\n'
+             'last = editor.open(b\'{"height":1,"infinite":false,"layers":[],"nextlayerid":1,"nextobjectid":1,"orientation":"orthogonal",'
+             '"renderorder":"right-down","tileheight":1,"tilesets":[],"tilewidth":1,"type":"map","version":"1.10","width":1}\')\n'
+             'assert document.is_closed and again.is_closed and not last.is_closed and last.name == "map"\nlast.discard()\n'
+             'editor.new("town", 2, 2, 8, 8, "b.tsj")',
+             'document.discard(); const again = editor.new("town", 2, 2, 8, 8, "b.tsj"); again.close();'
+             'const last = await editor.open(\'{"height":1,"infinite":false,"layers":[],"nextlayerid":1,"nextobjectid":1,"orientation":"orthogonal",'
+             '"renderorder":"right-down","tileheight":1,"tilesets":[],"tilewidth":1,"type":"map","version":"1.10","width":1}\');'
+             'if (!document.isClosed || !again.isClosed || last.isClosed || last.name !== "map") throw new Error("closed"); last.discard();'
+             'editor.new("town", 2, 2, 8, 8, "b.tsj")',
+             ['discard town', 'new town 2 2 8 8 b.tsj']),
+    Scenario('views of what is gone', 'layer, thing = document.layers[3], document.objects[1]\nlayer.remove()\nthing.remove()\ncodes = []\n'
+             'for look in (lambda: layer.name, lambda: thing.x, lambda: layer.layers[1], lambda: thing.properties["a"]):\n'
+             '  try:\n    look()\n  except roskevad.Refused as refusal:\n    codes.append(refusal.code)\nassert codes == [30, 34, 30, 34], codes',
+             'const [layer, thing] = [document.layers.get(3), document.objects.get(1)]; layer.remove(); thing.remove(); const codes = [];'
+             'for (const look of [() => layer.name, () => thing.x, () => layer.layers.get(1), () => thing.properties.get("a")]) {'
+             ' try { look(); } catch (fault) { codes.push(fault.code); } } if (String(codes) !== "30,34,30,34") throw new Error(codes)',
+             ['layer remove 3', 'object remove 1']),
+]
+
+
+def state_of(editor):
+    """How the active document stands, as lines tell it."""
+    status = editor.step('status')
+    count = 0 if status == 'ok none clean' else int(status.split(' ')[1].split('/')[1])
+    steps = [[editor.step(f'text {place}'), editor.action_text(place), editor.is_macro(place)] for place in range(count)]
+    shown = '' if status == 'ok none clean' else editor.step('show')
+    return [editor.step('list'), status, shown, steps, [list(run) for run in editor.selection()]]
+
+
+def wanted_of(scenario):
+    """How the lines leave the editor."""
+    with roskevad.Editor() as editor:
+        editor.run_lines([*scenario.before, *scenario.lines])
+        return state_of(editor), [wanted for _, _, wanted in scenario.values]
+
+
+def fault_in_python(case):
+    scenario = case.given
+    with roskevad.Editor() as editor:
+        editor.run_lines(scenario.before)
+        names = {'roskevad': roskevad, 'editor': editor, 'document': editor.active}
+        exec(scenario.python, names)
+        told = [eval(value, names) for value, _, _ in scenario.values]
+        return unlike(wanted_of(scenario), (state_of(editor), told))
+
+
+def test_python():
+    check_each([Case(scenario.name, scenario, None) for scenario in SCENARIOS], fault_in_python)
+
+
+def test_javascript():
+    given = [
+        {'lines': each.before, 'code': each.javascript, 'values': [value for _, value, _ in each.values]} for each in SCENARIOS
+    ]
+    done = subprocess.run(
+        ['node', TESTS / 'module' / 'scenarios.mjs'], input=json.dumps(given), capture_output=True, text=True, cwd=TOP
+    )
+    assert done.returncode == 0, done.stderr[-2000:]
+    cases = [Case(each.name, each, came) for each, came in zip(SCENARIOS, json.loads(done.stdout))]
+    check_each(cases, lambda case: unlike(wanted_of(case.given), (case.wanted['state'], case.wanted['told'])))

@@ -1,0 +1,306 @@
+"""Tries documents of the Python package beyond their lines: the files that they are opened from and
+saved to; threads, forks, signal handlers and interrupts; a memory that ends in the midst of a long
+stamp; what is logged, and what documents and their parts tell of themselves."""
+import json
+import logging
+import os
+import signal
+import subprocess
+import sys
+import tempfile
+import threading
+from pathlib import Path
+
+from lib.cases import Case, check_each, unlike
+from lib.places import EXAMPLE_MAPS, TOP
+
+sys.path.insert(0, str(TOP / 'python'))
+from roskevad import Closed, Editor, Refused  # noqa: E402
+
+TOWN = EXAMPLE_MAPS / 'town.tmj'
+
+
+class Named:
+    """A path of another library."""
+
+    def __init__(self, path):
+        self.path = path
+
+    def __fspath__(self):
+        return str(self.path)
+
+
+def see(wanted, came):
+    fault = unlike(wanted, came)
+    assert not fault, fault
+
+
+def raised(kind, call, *words):
+    try:
+        call(*words)
+    except kind as fault:
+        return fault
+    raise AssertionError(f'{call} has not raised {kind}')
+
+
+def made(editor):
+    return editor.new('a', 4, 3, 16, 16, 'a.tsj')
+
+
+# ---- files
+
+
+def fault_of_path(case):
+    """How a map that is opened from a path, edited and saved is not in its file, or None."""
+    with tempfile.TemporaryDirectory() as folder, Editor(folder=Named(folder)) as editor:
+        path = Path(folder) / 'my town.tmj'
+        path.write_bytes(TOWN.read_bytes())
+        document = editor.open(case.given(path))
+        document.stamp('Ground', 0, 0, [[13]])
+        document.save()
+        shown = editor.step('show')[len('map '):].encode()
+        return unlike(('my_town', True, shown), (document.name, document.status.clean, path.read_bytes()))
+
+
+def test_paths():
+    kinds = {'a text': str, 'a Path': Path, 'another': Named, 'from the folder': lambda path: path.name}
+    check_each([Case(name, kind, None) for name, kind in kinds.items()], fault_of_path)
+
+
+def test_other_files():
+    """The file that it was saved to last is the one that it is saved to."""
+    with tempfile.TemporaryDirectory() as folder, Editor(folder=folder) as editor:
+        document = made(editor)
+        see(None, document.path)
+        raised(ValueError, document.save)
+        document.save('a.tmj')
+        see((Path('a.tmj'), True), (document.path, document.status.clean))
+        document.stamp(1, 0, 0, [[5]])
+        refusal = raised(Refused, document.save, Path(folder) / 'none' / 'b.tmj')
+        see((51, f'save({folder + "/none/b.tmj"!r})'), (refusal.code, refusal.line))
+        see((Path('a.tmj'), False), (document.path, document.status.clean))
+        document.save()
+        see(editor.step('show')[len('map '):], (Path(folder) / 'a.tmj').read_text())
+        see((50, "open('none.tmj')"), (lambda fault: (fault.code, fault.line))(raised(Refused, editor.open, 'none.tmj')))
+
+
+def test_bytes():
+    with Editor() as editor:
+        documents = [editor.open(kind(TOWN.read_bytes())) for kind in (bytes, bytearray, memoryview)]
+        see(['map', 'map2', 'map3'], list(editor.documents))
+        see([None] * 3, [document.path for document in documents])
+        data = documents[1].save_bytes()
+        see((documents[1], editor.step('show')[len('map '):].encode()), (editor.active, data))
+
+
+def test_properties_of_other_types():
+    """A class and a float are read; what is read of a class is a copy."""
+    with Editor() as editor:
+        made(editor)
+        properties = [
+            {'name': 'c', 'type': 'class', 'propertytype': 'Door', 'value': {'a': 1}},
+            {'name': 'f', 'type': 'float', 'value': 1},
+        ]
+        data = json.dumps({**editor.map(), 'properties': properties}).encode()
+        document = editor.open(data)
+        document.properties['c']['a'] = 2
+        see({'c': {'a': 1}, 'f': 1.0}, dict(document.properties))
+        see((float, 'class', 'float'), (type(document.properties['f']), *map(document.properties.type_of, 'cf')))
+        for key, value in (('c', {'a': 2}), ('f', 2.5), ('f', 2)):
+            raised(ValueError, document.properties.__setitem__, key, value)
+        see(editor.map()['properties'], properties)
+
+
+def test_with_a_document():
+    """It is closed at its end, where nothing is unsaved; and dropped behind an exception."""
+    with Editor() as editor:
+        with made(editor) as document:
+            pass
+        see((True, []), (document.is_closed, list(editor.documents)))
+
+        def fail():
+            with made(editor) as second:
+                second.stamp(1, 0, 0, [[5]])
+                raise KeyError
+
+        raised(KeyError, fail)
+        see([], list(editor.documents))
+
+        def leave():
+            with made(editor) as third:
+                third.stamp(1, 0, 0, [[5]])
+
+        see(13, raised(Refused, leave).code)
+        see(['a'], list(editor.documents))
+
+
+# ---- what falls in between
+
+
+def test_no_memory_in_a_long_stamp():
+    """The rows of the parts before stand, as one step."""
+    with Editor() as editor:
+        document = editor.new('a', 200, 200, 16, 16, 'a.tsj')
+        said = editor._said
+
+        def refuse(line, call):
+            if line.startswith('stamp') and len(line) > 1000 and not line.startswith('stamp 1 0 0 '):
+                raise Refused(90, 'no memory', line)
+            return said(line, call)
+
+        editor._said = refuse
+        refusal = raised(Refused, document.stamp, 1, 0, 0, [[1000000000] * 200] * 200)
+        editor._said = said
+        cells = document.layers[1].cells()
+        rows = sum(map(bool, cells)) // 200
+        see((90, 1), (refusal.code, refusal.place))
+        see(True, 0 < rows < 200 and f'row {rows} and those below it' in str(refusal))
+        see(1, document.status.count)
+        document.undo()
+        see(0, sum(map(bool, document.layers[1].cells())))
+
+
+def test_an_interrupt_in_a_macro():
+    with Editor() as editor:
+        document = made(editor)
+
+        def work():
+            with document.macro('A'), document.macro('B'):
+                document.stamp(1, 0, 0, [[5]])
+                os.kill(os.getpid(), signal.SIGINT)
+                threading.Event().wait(10)
+
+        raised(KeyboardInterrupt, work)
+        see(('ok 0/1 clean 0', 0), (editor.step('status'), sum(document.layers[1].cells())))
+
+
+def test_a_handler_in_a_call():
+    """In the midst of a call of a document, and so between its lines, a call raises RuntimeError."""
+    with Editor() as editor:
+        document, other = made(editor), editor.new('b', 4, 3, 16, 16, 'a.tsj')
+        said, faults = editor._said, []
+
+        def interrupt(line, call):
+            reply = said(line, call)
+            faults.append(raised(RuntimeError, lambda: other.status))
+            faults.append(raised(RuntimeError, editor.step, 'use b'))
+            return reply
+
+        editor._said = interrupt
+        document.stamp(1, 0, 0, [[5]])
+        editor._said = said
+        see((4, document, 5), (len(faults), editor.active, document.layers[1].cells()[0]))
+
+
+def test_threads():
+    """Each has calls of its own document between those of others; a lock keeps others out."""
+    with Editor() as editor:
+        documents = [editor.new(f'a{number}', 8, 8, 16, 16, 'a.tsj') for number in range(4)]
+
+        def work(number):
+            for at in range(200):
+                documents[number].stamp(1, at % 8, at // 8 % 8, [[number + 1]])
+                with editor.lock, documents[number].macro('A'):
+                    documents[number].stamp(1, 0, 0, [[at % 7 + 1]])
+                    editor.step('stamp 1 1 0 1 9')
+
+        threads = [threading.Thread(target=work, args=[number]) for number in range(4)]
+        for thread in threads:
+            thread.start()
+        for thread in threads:
+            thread.join()
+        for number, document in enumerate(documents):
+            cells = list(document.layers[1].cells())
+            see([199 % 7 + 1, 9, *[number + 1] * 62], cells)
+
+
+def test_forks():
+    code = '''
+import os, sys, threading
+from roskevad import Closed, Editor
+editor = Editor()
+document = editor.new('a', 4, 3, 16, 16, 'a.tsj')
+child = os.fork()
+if child == 0:
+    for call in (lambda: document.status, lambda: editor.documents, lambda: editor.lock.__enter__(), lambda: document.stamp(1, 0, 0, [[5]])):
+        try:
+            call()
+        except Closed:
+            continue
+        os._exit(1)
+    os._exit(0 if repr(document) == "<Document 'a'>" and 'closed' in repr(editor) else 2)
+sys.exit(os.waitstatus_to_exitcode(os.waitpid(child, 0)[1]))
+'''
+    env = {**os.environ, 'PYTHONPATH': str(TOP / 'python')}
+    done = subprocess.run([sys.executable, '-c', code], env=env, capture_output=True, timeout=20)
+    see((0, b''), (done.returncode, done.stderr))
+
+
+# ---- what is told
+
+
+class Kept(logging.Handler):
+    def __init__(self):
+        super().__init__()
+        self.told = []
+
+    def emit(self, record):
+        self.told.append((record.levelname, record.getMessage()))
+
+
+def test_logging():
+    kept = Kept()
+    logger = logging.getLogger('roskevad')
+    logger.addHandler(kept)
+    try:
+        with Editor() as editor:
+            document = made(editor)
+            document.stamp(1, 0, 0, [[5]])
+            see([], kept.told)
+            logger.setLevel(logging.DEBUG)
+            document.stamp(1, 0, 0, [[6]])
+            document.discard()
+            editor.open(TOWN)
+    finally:
+        logger.removeHandler(kept)
+        logger.setLevel(logging.NOTSET)
+    wanted = [('DEBUG', 'a: stamp 1 0 0 1 6: ok 2/2 dirty 0'), ('DEBUG', 'a: discard a: ok none clean'), ('INFO', 'a: closed')]
+    wanted.append(('INFO', f'town: opened from {TOWN}'))
+    see(wanted, kept.told)
+
+
+def test_texts():
+    with Editor() as editor:
+        town = editor.open(TOWN)
+        rows = [
+            (editor, '<Editor of *town>'),
+            (town, "<Document 'town', 40 by 30, 0/0 clean 0>"),
+            (town.layers['Inn'], "<Layer 3 group 'Inn'>"),
+            (town.layers, "<Layers of 'town': ['Ground', 'Houses', 'Green', 'Square', 'Things', 'Places']>"),
+            (town.objects['key'], "<MapObject 4 'key' at 496, 400>"),
+            (town.objects['key'].properties, "Properties({'colour': '#ffc99a2a'})"),
+            (town.tilesets[1], "<Tileset 1 of 'town'>"),
+            (town.selection, '<Selection of 0 cells in 0 runs>'),
+        ]
+        check_each([Case(wanted, thing, wanted) for thing, wanted in rows], lambda case: unlike(case.wanted, repr(case.given)))
+        layer = town.layers['Square']
+        layer.remove()
+        see("<Layer 14 of 'town'>", repr(layer))
+        town.discard()
+        see(("<Document 'town', closed>", "<Layer 14 of 'town'>"), (repr(town), repr(layer)))
+        raised(Closed, lambda: layer.name)
+    see('<Editor, closed or in a call>', repr(editor))
+
+
+def test_views_are_equal_by_what_they_show():
+    with Editor() as editor:
+        town, other = editor.open(TOWN), editor.open(TOWN, 'other')
+        see(True, town.layers[1] == town.layers['Ground'] and town.layers[1] in town.layers)
+        see(True, town.layers[1] != other.layers[1] and other.layers[1] not in town.layers)
+        see(1, len({town.objects['key'], town.objects[4]}))
+        raised(ValueError, town.stamp, other.layers[1], 0, 0, [[1]])
+        see(town.layers[1].cells().tolist(), [value for row in town.layers[1].rows() for value in row])
+        cells = town.layers[1].cells()
+        raised(TypeError, cells.__setitem__, 0, 1)
+        town.stamp(1, 0, 0, [[5]])
+        see((1, 5), (cells[0], town.layers[1].cells()[0]))

@@ -1,0 +1,353 @@
+"""The calls of both packages, for Python and for JavaScript: the one table that says them.
+
+`tools/reference` writes from it the tables of docs/python.md and docs/javascript.md, and the declarations js/document.d.ts.
+tests/test_calls.py compares both packages with it: the names, the arguments, and what is raised, by a trial of each.
+
+Names are as Python spells them; JavaScript has them in camel case. Of the arguments, those behind a `;` are options: named ones in
+Python, and the members of one object, the last argument, in JavaScript. `work` is a function, which JavaScript takes where Python
+has a `with`.
+"""
+from dataclasses import dataclass, field
+from typing import Dict, List, Optional, Tuple
+
+#: What a trial finds: a document of these lines, and an editor that has it alone.
+LINES = [
+    'new town 4 3 16 16 town.tsj', 'layer add object Things', 'layer add tile Walls', 'object add 2 16 0 16 16 door',
+    'prop set map author string me', 'prop set map people int 12', 'prop set object:1 locked bool true', 'stamp 1 0 0 1 1',
+]
+#: What is raised, by a short word: in Python, and in JavaScript.
+FAULTS = {
+    'type': ('TypeError', 'TypeError'), 'value': ('ValueError', 'RangeError'), 'key': ('KeyError', 'RangeError'),
+    'closed': ('Closed', 'Closed'), 'busy': ('RuntimeError', ''),
+}
+#: What calls give, in Python and in TypeScript.
+GIVEN = {
+    '': ('', 'void'), 'int': ('int', 'number'), 'str': ('str', 'string'), 'bool': ('bool', 'boolean'), 'float': ('float', 'number'),
+    'bytes': ('bytes', 'Uint8Array'), 'bytes?': ('bytes or None', 'Uint8Array | null'), 'int?': ('int or None', 'number | null'),
+    'str?': ('str or None', 'string | null'), 'bool?': ('bool or None', 'boolean | null'), 'strs': ('list of str', 'string[]'),
+    'Tile?': ('Tile or None', 'Tile | null'), 'members': ('dict', 'Members'), 'Document?': ('Document or None', 'Document | null'),
+    'rows': ('list of lists of int', 'number[][]'), 'Path?': ('Path or None', ''), 'bytes!': ('bytes', 'Promise<Uint8Array>'),
+    'Document!': ('Document', 'Promise<Document>'), 'str!': ('str', 'Promise<string>'),
+}
+#: The types of arguments in TypeScript, by their names.
+ARGUMENTS = {
+    'layer': 'LayerLike', 'rows': 'Rows', 'merge': 'boolean', 'name': 'string', 'kind': 'string', 'key': 'number | string',
+    'mode': 'SelectionMode', 'text': 'string', 'action': 'string | null', 'tileset': 'string', 'source': 'string', 'type': 'string | null',
+    'flipped_horizontally': 'boolean', 'flipped_vertically': 'boolean', 'flipped_diagonally': 'boolean', 'turned': 'boolean',
+    'work': '(document: Document) => Given', 'value': 'number',
+}
+
+
+@dataclass(frozen=True)
+class Call:
+    """A call, or a value that is read, and perhaps set, as an attribute."""
+
+    name: str
+    takes: Optional[str]
+    does: str
+    line: str = ''
+    gives: str = ''
+    #: What is raised, each with an expression that must raise it: one for both, or one for each of the two.
+    raises: Dict[str, object] = field(default_factory=dict)
+    #: How it is written, where that is no plain call: in Python and in JavaScript.
+    written: Tuple[str, str] = ('', '')
+    #: Its name in JavaScript, where that is not the same one.
+    renamed: str = ''
+    #: The one package that has it.
+    only: str = ''
+    #: The types of arguments, where they are not those of their names.
+    types: Dict[str, str] = field(default_factory=dict)
+    is_set: bool = False
+
+
+@dataclass(frozen=True)
+class Kind:
+    """A class, and its calls."""
+
+    name: str
+    about: str
+    calls: List[Call]
+
+
+def value(name: str, gives: str, does: str, **more: object) -> Call:
+    return Call(name, None, does, gives=gives, **more)  # type: ignore[arg-type]
+
+
+EDITOR = Kind('Editor', 'An editor: documents in memory. A call of a closed one raises {closed}.', [
+    Call('create', 'limit=0, folder=".", module', 'Makes an editor. `limit` is the undo limit of its documents, where 0 is none.',
+         gives='Editor', written=("Editor(limit=0, folder='.')", 'await Editor.create({ limit, module })'),
+         raises={'value': ('roskevad.Editor(limit=-1)', 'await roskevad.Editor.create({ limit: -1 })')}),
+    Call('new', 'name, width, height, tile_width, tile_height, tileset',
+         'Opens a new map, sized in cells and in pixels, with an empty tile layer 1 and a tileset, whose first id is 1.',
+         'new DOC WIDTH HEIGHT TILE_WIDTH TILE_HEIGHT SOURCE', 'Document',
+         {'type': 'editor.new("a", "4", 3, 16, 16, "a.tsj")', 'value': 'editor.new("a b", 4, 3, 16, 16, "a.tsj")',
+          'refused 11': 'editor.new("town", 4, 3, 16, 16, "a.tsj")', 'refused 39': 'editor.new("a", 0, 3, 16, 16, "a.tsj")'}),
+    Call('open', 'source, name=None', 'Opens a map: the bytes of a file{path}.',
+         'open DOC FILE', 'Document!',
+         {'type': ('editor.open(5)', 'await editor.open(5)'),
+          'value': ('editor.open(b"{}", "a b")', 'await editor.open("{}", "a b")'),
+          'refused 11': ('editor.open(b"{}", "town")', 'await editor.open("{}", "town")'),
+          'refused 50': ('editor.open("/no.tmj")', ''), 'refused 51': ('editor.open("/", "a")', ''),
+          'refused 60 to 69': ('editor.open(b"{", "a")', 'await editor.open("{", "a")')},
+         written=('editor.open(source, name=None)', 'await editor.open(data, name)'), types={'source': 'Data'}),
+    value('documents', 'documents', 'The open documents by their names, in order of opening.', line='list'),
+    value('active', 'Document?', 'The active document; set, it makes a document active, or none.', line='use DOC', is_set=True,
+          raises={'value': ('setattr(editor, "active", other)', 'Reflect.set(editor, "active", other)')}),
+    value('lock', 'a `with`', 'Keeps other threads out of the editor, for several calls that belong together.', only='python'),
+    Call('unsaved', '', 'The names of the documents that are not clean.', gives='strs', only='python'),
+    Call('close', '', 'Closes the editor, and gives back its memory.'),
+])
+
+DOCUMENT = Kind('Document', 'A map, its selection and its steps. A call makes the document active, and leaves it so. Where it was '
+                'closed, also where another one was opened under its name, a call raises {closed}.', [
+    value('name', 'str', 'Its name in the editor.'),
+    value('editor', 'Editor', 'The editor that it is open in.'),
+    value('path', 'Path?', 'The file that it was opened from, or saved to last.', only='python'),
+    value('is_closed', 'bool', 'Whether it was closed.'),
+    value('width', 'int', 'The width of the map in cells.'),
+    value('height', 'int', 'The height of the map in cells.'),
+    value('tile_width', 'int', 'The width of a cell in pixels.'),
+    value('tile_height', 'int', 'The height of a cell in pixels.'),
+    value('origin', 'place', 'The column and the row at which its corner lies in the infinite map that it was; else {cell_0}.'),
+    value('layers', 'Layers', 'The layers.'),
+    value('objects', 'Objects', 'The objects of all layers.'),
+    value('properties', 'Properties', 'The properties of the map.'),
+    value('tilesets', 'Tilesets', 'The tilesets.'),
+    Call('stamp', 'layer, x, y, rows; merge=False', 'Writes rows of values from a cell on; a value 0 leaves its cell as it is.',
+         'stamp LAYER X Y WIDTH TILES', '',
+         {'type': 'document.stamp(1, 0, 0, [[1.5]])', 'value': 'document.stamp(1, 0, 0, [[1], [1, 2]])',
+          'key': 'document.stamp("Roof", 0, 0, [[1]])', 'refused 30': 'document.stamp(9, 0, 0, [[1]])',
+          'refused 31': 'document.stamp("Things", 0, 0, [[1]])', 'refused 33': 'document.stamp(1, 0, 0, [[2147483648]])'}),
+    Call('erase', 'layer, x, y, width, height; merge=False', 'Empties a rectangle of cells.', 'erase LAYER X Y WIDTH HEIGHT', '',
+         {'type': 'document.erase(1, "0", 0, 1, 1)', 'value': 'document.erase(1, 0, 0, -1, 1)', 'key': 'document.erase("Roof", 0, 0, 1, 1)',
+          'refused 30': 'document.erase(9, 0, 0, 1, 1)', 'refused 31': 'document.erase(2, 0, 0, 1, 1)'}),
+    Call('fill', 'layer, x, y, value', 'Writes a value into a cell and the cells of the same value that are joined to it.',
+         'fill LAYER X Y TILE', '',
+         {'type': 'document.fill(1, 0, 0, 1.5)', 'value': 'document.fill(1, 0, 0, -1)', 'key': 'document.fill("Roof", 0, 0, 1)',
+          'refused 30': 'document.fill(9, 0, 0, 1)', 'refused 31': 'document.fill(2, 0, 0, 1)', 'refused 32': 'document.fill(1, 4, 0, 1)',
+          'refused 33': 'document.fill(1, 0, 0, 2147483648)'}),
+    Call('resize', 'width, height, x=0, y=0', 'Gives the map a size in cells, and moves all in it so many columns right and rows down.',
+         'resize WIDTH HEIGHT X Y', '',
+         {'type': 'document.resize(4.5, 3)', 'value': 'document.resize(-1, 3)', 'refused 39': 'document.resize(0, 3)'}),
+    value('selection', 'Selection', 'The selected cells.'),
+    Call('select', 'x, y, width, height; mode="replace"',
+         'Selects a rectangle: replace, add, subtract (take out) or intersect (keep what is in both).',
+         'select replace|add|subtract|intersect X Y WIDTH HEIGHT', '',
+         {'type': 'document.select(0.5, 0, 1, 1)', 'value': 'document.select(0, 0, 1, 1, mode="cut")'}),
+    Call('select_none', '', 'Selects no cell; then edits change any cell.', 'select none'),
+    value('status', 'Status', 'How it stands: index, count, clean, depth.', line='status'),
+    value('steps', 'steps', 'All steps, each with its text, its action text, and whether it is a macro.', line='text PLACE'),
+    value('undo_text', 'str', 'What `undo` would undo; empty for nothing.', line='undotext'),
+    value('redo_text', 'str', 'What `redo` would redo; empty for nothing.', line='redotext'),
+    value('clean_index', 'int?', 'The index that counts as saved; {None} where there is none any more.'),
+    Call('undo', '', 'Undoes the step below the index.', 'undo', '',
+         {'refused 20': 'after("begin A") and document.undo()', 'refused 21': 'after("goto 0") and document.undo()'}),
+    Call('redo', '', 'Redoes the step above the index.', 'redo', '',
+         {'refused 20': 'after("begin A") and document.redo()', 'refused 22': 'document.redo()'}),
+    Call('goto', 'index', 'Undoes or redoes up to an index.', 'goto INDEX', '',
+         {'type': 'document.goto("1")', 'value': 'document.goto(-1)', 'refused 20': 'after("begin A") and document.goto(0)'}),
+    Call('mark_clean', '', 'Has the index count as saved.', 'clean', '', {'refused 20': 'after("begin A") and document.mark_clean()'}),
+    Call('mark_dirty', '', 'Has no index count as saved.', 'dirty'),
+    Call('clear', '', 'Drops all steps, and undoes nothing; the document counts as saved then.', 'clear'),
+    Call('limit', 'count', 'Keeps at most so many steps; 0 is no limit.', 'limit NUMBER', '',
+         {'type': 'document.limit("1")', 'value': 'document.limit(-1)', 'refused 25': 'document.limit(5)',
+          'refused 39': 'after("clear") and document.limit(1000001)'}),
+    Call('macro', 'text, work; action=None', 'Makes one step of the edits in it; where they fail, it is undone.', 'begin TEXT || ACTION', 'work',
+         {'type': ('document.macro(5)', 'document.macro(5, () => 0)'),
+          'value': ('document.macro("a || b")', 'document.macro("a || b", () => 0)'),
+          'refused 24': ('many("begin A", 64) and document.macro("b").__enter__()',
+                         'many("begin A", 64) && document.macro("b", () => 0)')},
+         written=('with document.macro(text, action=None):', 'document.macro(text, work, { action })')),
+    Call('stroke', 'work', 'Merges the stamps and erases in it, as those of a brush.', 'stamp+ LAYER X Y WIDTH TILES', 'work',
+         written=('with document.stroke():', 'document.stroke(work)')),
+    Call('map', '', 'The whole map, as its file has it: a copy.', 'show', 'members'),
+    Call('outline', '', 'The same without the cells: a copy.', gives='members'),
+    Call('save', 'path=None', 'Writes the map to a file, or to `document.path`; it counts as saved then.', 'save FILE',
+         raises={'value': 'document.save()', 'refused 20': 'after("begin A") and document.save("/dev/shm/none/a.tmj")',
+                 'refused 51': 'document.save("/dev/null/a.tmj")'}, only='python'),
+    Call('save_bytes', '', 'The map as the bytes of a file; it counts as saved then.', 'save FILE', 'bytes!',
+         {'refused 20': ('after("begin A") and document.save_bytes()', 'after("begin A") && await document.saveBytes()')},
+         written=('document.save_bytes()', 'await document.saveBytes()')),
+    Call('close', '', 'Closes it.', 'close DOC', '', {'refused 13': 'document.close()'}),
+    Call('discard', '', 'Closes it, and drops unsaved changes.', 'discard DOC'),
+])
+
+LAYERS = Kind('Layers', 'The layers in no group, or those in a group, as they are at each call. A loop over them goes in drawing '
+              'order; `walk` enters groups. A look-up finds a layer by its id, or the first of a name, in groups too.', [
+    Call('get', 'key', 'The layer with an id, or the first of a name.', gives='Layer',
+         raises={'key': ('document.layers["Roof"]', 'document.layers.get("Roof")')},
+         written=('layers[key]', 'layers.get(key)'), renamed='get'),
+    Call('has', 'key', 'Whether there is one with an id, or of a name.', gives='bool', written=('key in layers', 'layers.has(key)')),
+    value('size', 'int', 'How many there are, a group as one.', written=('len(layers)', 'layers.size')),
+    Call('walk', '', 'Each layer in drawing order, a group before those in it.', gives='each Layer'),
+    Call('add', 'kind, name', 'Adds a layer, `tile` or `object`, in no group, over the others.', 'layer add tile|object NAME', 'int',
+         {'type': 'document.layers.add("tile", 5)', 'value': 'document.layers.add("wall", "a")',
+          'refused 40': 'many("layer add tile a", 253) and document.layers.add("tile", "a")'}),
+])
+
+LAYER = Kind('Layer', 'A layer, by its id. Where it was removed, a call raises {Refused} 30.', [
+    value('id', 'int', 'Its id.'),
+    value('document', 'Document', 'The document that it belongs to.'),
+    value('kind', 'str', 'Its kind: tile, object, group or image.'),
+    value('name', 'str', 'Its name; set, it renames the layer.', line='layer rename LAYER NAME', is_set=True,
+          raises={'type': ('setattr(document.layers[1], "name", 5)', 'Reflect.set(document.layers.get(1), "name", 5)'),
+                  'value': ('setattr(document.layers[1], "name", "")', 'Reflect.set(document.layers.get(1), "name", "")')}),
+    value('visible', 'bool', 'Whether it is shown; set, it shows or hides the layer.', line='layer show LAYER yes|no', is_set=True),
+    value('layers', 'Layers', 'The layers in it, where it is a group.'),
+    value('objects', 'Objects', 'The objects in it, where it is an object layer.'),
+    value('properties', 'Properties', 'Its properties.'),
+    value('members', 'members', 'All that the map says of it, without cells: a copy.'),
+    Call('cells', 'x=0, y=0, width=None, height=None', 'The values of a rectangle, row by row; without a size, up to the map\'s edge.',
+         gives='cells', raises={'type': 'document.layers{1}.cells(0.5)',
+                                'value': 'document.layers{1}.cells(1000000001, 0, 1, 1)',
+                                'refused 31': 'document.layers{2}.cells()', 'refused 32': 'document.layers{1}.cells(4, 0, 1, 1)'},
+         types={'width': 'number | null', 'height': 'number | null'}),
+    Call('rows', 'x=0, y=0, width=None, height=None', 'The same as a list of rows, as `stamp` takes them.', gives='rows',
+         raises={'type': 'document.layers{1}.rows("a")', 'value': 'document.layers{1}.rows(1000000001, 0, 1, 1)',
+                 'refused 31': 'document.layers{2}.rows()', 'refused 32': 'document.layers{1}.rows(4, 0, 1, 1)'},
+         types={'width': 'number | null', 'height': 'number | null'}),
+    Call('tile', 'x, y', 'The tile of a cell; {None} where the cell is empty.', 'tile LAYER X Y', 'Tile?',
+         {'type': 'document.layers{1}.tile("a", 0)', 'value': 'document.layers{1}.tile(1000000001, 0)',
+          'refused 31': 'document.layers{2}.tile(0, 0)', 'refused 32': 'document.layers{1}.tile(4, 0)'}),
+    Call('move', 'place', 'Moves it among the layers beside it; 0 is drawn first.', 'layer move LAYER PLACE', '',
+         {'type': 'document.layers{1}.move("a")', 'value': 'document.layers{1}.move(-1)', 'refused 39': 'document.layers{1}.move(3)'}),
+    Call('remove', '', 'Removes it, and a group with all in it.', 'layer remove LAYER'),
+])
+
+OBJECTS = Kind('Objects', 'The objects of a layer, or of all layers, as they are at each call. A loop goes in drawing order.', [
+    Call('get', 'key', 'The object with an id, or the first of a name.', gives='MapObject',
+         raises={'key': ('document.objects["key"]', 'document.objects.get("key")')}, written=('objects[key]', 'objects.get(key)'), renamed='get'),
+    Call('has', 'key', 'Whether there is one with an id, or of a name.', gives='bool', written=('key in objects', 'objects.has(key)')),
+    value('size', 'int', 'How many there are.', written=('len(objects)', 'objects.size')),
+    Call('add', 'name, x, y, width=0, height=0', 'Adds an object to an object layer, last, in pixels.',
+         'object add LAYER X Y WIDTH HEIGHT NAME', 'int',
+         {'type': 'document.layers{2}.objects.add(5, 0, 0)', 'value': 'document.objects.add("a", 0, 0)',
+          'refused 31': 'document.layers{1}.objects.add("a", 0, 0)', 'refused 39': 'document.layers{2}.objects.add("a", 0, 0, 4294967295, 0)'}),
+])
+
+OBJECT = Kind('MapObject', 'An object, by its id. Where it was removed, a call raises {Refused} 34.', [
+    value('id', 'int', 'Its id.'),
+    value('document', 'Document', 'The document that it belongs to.'),
+    value('layer', 'Layer', 'The layer that it is in.'),
+    value('name', 'str', 'Its name.'),
+    value('type', 'str', 'Its class, as Tiled calls it.'),
+    value('x', 'float', 'Its column in pixels.'),
+    value('y', 'float', 'Its row in pixels.'),
+    value('width', 'float', 'Its width in pixels, 0 for a point.'),
+    value('height', 'float', 'Its height in pixels, 0 for a point.'),
+    value('visible', 'bool', 'Whether it is shown.'),
+    value('tile', 'Tile?', 'Its tile, where it is one.'),
+    value('properties', 'Properties', 'Its properties.'),
+    value('members', 'members', 'All that the map says of it: a copy.'),
+    Call('move', 'x, y; merge=False', 'Moves it to a place.', 'object move OBJECT X Y', '',
+         {'type': 'document.objects{1}.move(0.5, 0)', 'value': 'document.objects{1}.move(1000000001, 0)'}),
+    Call('resize', 'width, height', 'Gives it a size.', 'object resize OBJECT WIDTH HEIGHT', '',
+         {'type': 'document.objects{1}.resize(0.5, 0)', 'value': 'document.objects{1}.resize(-1, 0)',
+          'refused 39': 'document.objects{1}.resize(4294967295, 0)'}),
+    Call('remove', '', 'Removes it.', 'object remove OBJECT'),
+])
+
+PROPERTIES = Kind('Properties', 'The properties of a map, a layer or an object, as they are at each call: {mapping}. A value that is '
+                  'set keeps the type of the one that is there.', [
+    Call('get', 'key', 'The value of a name.', gives='PropertyValue | undefined',
+         raises={'key': ('document.properties["a"]', '')}, written=('properties[key]', 'properties.get(key)'), types={'key': 'string'}),
+    Call('has', 'key', 'Whether there is one of a name.', gives='bool', written=('key in properties', 'properties.has(key)'),
+         types={'key': 'string'}),
+    value('size', 'int', 'How many there are.', written=('len(properties)', 'properties.size')),
+    Call('keys', '', 'The names, in order.', gives='each str'),
+    Call('type_of', 'key', 'The type of a name: string, int, float, bool, color, file, object or class.', gives='str',
+         raises={'key': 'document.properties.type_of("a")'}, types={'key': 'string'}),
+    Call('set', 'key, value; type=None, merge=False', 'Sets one: of a named type, else of the type that is there, else of the value\'s own.',
+         'prop set OWNER KEY TYPE VALUE', '',
+         {'type': 'document.properties.set("people", "many")', 'value': 'document.properties.set("a", 1.5)',
+          'refused 40': 'many("prop set map a# int 1", 254) and document.properties.set("a", 1)'},
+         written=('properties[key] = value, properties.set(key, value, type=None, merge=False)', 'properties.set(key, value, { type, merge })'),
+         types={'key': 'string', 'value': 'string | number | boolean | MapObject'}),
+    Call('delete', 'key', 'Removes one.', 'prop remove OWNER KEY', 'deleted', {'key': ('document.properties.pop("a")', '')},
+         written=('del properties[key]', 'properties.delete(key)'), types={'key': 'string'}),
+])
+
+TILESETS = Kind('Tilesets', 'The tilesets, as they are at each call. A loop goes in their order.', [
+    Call('get', 'key', 'The tileset with a first id, or the first with a source, or, where the map has it in itself, a name.', gives='Tileset',
+         raises={'key': ('document.tilesets["a.tsj"]', 'document.tilesets.get("a.tsj")')},
+         written=('tilesets[key]', 'tilesets.get(key)'), renamed='get'),
+    Call('has', 'key', 'Whether there is such a one.', gives='bool', written=('key in tilesets', 'tilesets.has(key)')),
+    value('size', 'int', 'How many there are.', written=('len(tilesets)', 'tilesets.size')),
+    Call('add', 'first_id, source', 'Adds one, by the path of its file from the map\'s folder; its first id is above all tiles there.',
+         'tileset add FIRST SOURCE', 'int',
+         {'type': 'document.tilesets.add("a", "a.tsj")', 'value': 'document.tilesets.add(33, "")',
+          'refused 38': 'document.tilesets.add(1, "a.tsj")'}),
+])
+
+TILESET = Kind('Tileset', 'A tileset, by its first id. Where it was removed, a call raises {Refused} 36.', [
+    value('first_id', 'int', 'Its first id.'),
+    value('source', 'str?', 'The path of its file; {None} where the map has it in itself.'),
+    value('name', 'str?', 'Its name, where the map has it in itself. No file of a tileset is read.'),
+    Call('value', 'local_id; flipped_horizontally=False, flipped_vertically=False, flipped_diagonally=False, turned=False',
+         'The value of a cell with a tile of this ID in Tiled.', gives='int',
+         raises={'type': 'document.tilesets{1}.value("a")', 'value': 'document.tilesets{1}.value(-1)'}),
+    Call('remove', '', 'Removes it.', 'tileset remove FIRST', '', {'refused 37': 'document.tilesets{1}.remove()'}),
+])
+
+SELECTION = Kind('Selection', 'The cells that were selected when it was asked for. A loop over it gives each cell: {cell}.', [
+    value('runs', 'runs', 'The cells as runs of a row: row, column, length.'),
+    Call('has', 'x, y', 'Whether a cell is selected.', gives='bool', written=('(x, y) in selection', 'selection.has(x, y)')),
+    value('size', 'int', 'The number of cells.', written=('len(selection)', 'selection.size')),
+])
+
+#: The classes of documents and of what they have, in the order of the pages.
+KINDS = [EDITOR, DOCUMENT, LAYERS, LAYER, OBJECTS, OBJECT, PROPERTIES, TILESETS, TILESET, SELECTION]
+
+#: Records, which have values and no calls.
+RECORDS = {
+    'Status': [('index', 'int', 'how many steps are done'), ('count', 'int', 'how many steps there are'),
+               ('clean', 'bool', 'whether it counts as saved'), ('depth', 'int', 'how many macros are open')],
+    'Step': [('text', 'str', 'its text'), ('action', 'str', 'the text of its action'), ('is_macro', 'bool', 'whether it is a macro')],
+    'Run': [('row', 'int', 'its row'), ('column', 'int', 'its first column'), ('length', 'int', 'its number of cells')],
+    'Tile': [('value', 'int', 'the value of the cell'), ('tileset', 'Tileset?', 'its tileset, if there is one'),
+             ('local_id', 'int?', 'its ID in Tiled'), ('flipped_horizontally', 'bool', 'whether it is flipped so'),
+             ('flipped_vertically', 'bool', 'or so'), ('flipped_diagonally', 'bool', 'or so'),
+             ('turned', 'bool', 'whether it is turned by 120 degrees, on a hexagonal map')],
+}
+
+#: The calls of an editor that take lines, or the active document: the name of each, its arguments and what it does.
+LINE_CALLS = [
+    Call('step', 'line', 'Does a line, and gives its reply; the refused one raises.', gives='str',
+         raises={'type': ('editor.step(b"undo")', ''), 'value': ('editor.step("undo\\n")', ''), 'refused': 'after("goto 0") and editor.step("undo")'}),
+    Call('step_bytes', 'line', 'Does a line of bytes, and gives the reply whatever it is.', gives='bytes?'),
+    Call('run_lines', 'lines', 'Does lines in one call, up to the first that is refused.', gives='strs',
+         raises={'value': 'editor.run_lines(["undo\\n"])', 'refused': 'editor.run_lines(["undo", "redo", "redo"])'}),
+    Call('run_bytes', 'session', 'Does the lines of a session, whatever the replies.', gives='bytes', only='javascript'),
+    Call('put_file', 'name, data', 'Puts bytes under a name, for the lines `open` and `save`.',
+         raises={'type': ('editor.put_file("a", 5)', ''), 'value': ('editor.put_file("a b", b"")', 'editor.putFile("a b", "")')}),
+    Call('file', 'name', 'The bytes under a name.', gives='bytes?'),
+    Call('remove_file', 'name', 'Takes a file out, and says whether there was one.', gives='bool'),
+    Call('files', '', 'The names of these files.', gives='strs'),
+    Call('open_map', 'name, data; all_maps=False', 'Opens a document with the bytes of a map.', gives='str', only='python',
+         raises={'refused': 'editor.open_map("town", b"{}")'}),
+    Call('open_map', 'name, data', 'Opens a document with the bytes of a map.', gives='str!', only='javascript',
+         raises={'refused': 'await editor.openMap("town", "{}")'}),
+    Call('save_map', '; all_maps=False', 'The active map as bytes; it counts as saved then.', gives='bytes', only='python',
+         raises={'refused 10': 'after("use -") and editor.save_map()'}),
+    Call('save_map', '', 'The active map as bytes; it counts as saved then.', gives='bytes!', only='javascript',
+         raises={'refused 10': 'after("use -") && await editor.saveMap()'}),
+    value('origin', 'place', 'Where the corner of the active map lies that was infinite.', only='python'),
+    Call('origin', '', 'Where the corner of the active map lies that was infinite.', gives='place', only='javascript'),
+    Call('open_file', 'path, name=None', 'Opens a document with the map of a file.', gives='str', only='python',
+         raises={'refused': 'editor.open_file("/no.tmj")'}),
+    Call('save_file', 'path', 'Writes the active map to a file.', gives='str', only='python',
+         raises={'refused': 'editor.save_file("/dev/null/a.tmj")'}),
+    Call('map', '', 'The active map.', gives='members', raises={'refused 10': 'after("use -") and editor.map()'}),
+    Call('outline', '', 'The same without the cells.', gives='members', raises={'refused 10': 'after("use -") and editor.outline()'}),
+    Call('cells', 'layer, x, y, width, height', 'The cells of a rectangle; {None} where it is not there.', gives='cells?'),
+    Call('layer_id', 'name', 'The id of the first layer of a name.', gives='int', raises={'key': 'editor.layer_id("Roof")'}),
+    Call('object_id', 'name', 'The id of the first object of a name.', gives='int', raises={'key': 'editor.object_id("key")'}),
+    Call('last_layer_id', '', 'The id of the layer that was added last.', gives='int',
+         raises={'refused 10': 'after("use -") and editor.last_layer_id()'}),
+    Call('last_object_id', '', 'The id of the object that was added last.', gives='int',
+         raises={'refused 10': 'after("use -") and editor.last_object_id()'}),
+    Call('selection', '', 'The runs of the selection: row, first column, number of cells.', gives='runs'),
+    Call('clean_index', '', 'The index that counts as saved.', gives='int?'),
+    Call('is_macro', 'at', 'Whether the step at a place is a macro.', gives='bool?'),
+    Call('action_text', 'at', 'The text for the action of the step at a place.', gives='str?'),
+]
