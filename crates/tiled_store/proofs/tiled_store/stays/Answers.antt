@@ -1,4 +1,4 @@
-use Rattle.std.proofs.Common.{◌≡◌, ◌⊎◌, inl, inr, ℕ, List, Bool, true, Ok, Err, None, refl, sym, ◌∙◌}
+use Rattle.std.proofs.Common.{◌⊎◌, inl, inr, ℕ, List, Bool, true, Ok, Err, None, refl}
 use Rattle.tiled_maps.specs.declared.fault.Fault.TheVariants.{NotJson}
 use Rattle.tiled_maps.specs.Texts.{SetsAside, PutsBack}
 use Rattle.tiled_maps.proofs.LookAnswers.{SetsAside-nothing, PutsBack-nothing}
