@@ -1,0 +1,54 @@
+// Plays a session: lines from the clipboard or from a file.
+import { button, byId, element, shown } from "./dom.js";
+import { isEdit, isQuiet } from "./line_kinds.js";
+
+const MACRO = "Session";
+
+export class Player {
+  constructor(bench) {
+    this.bench = bench;
+    this.editor = bench.editor;
+    byId("play").onclick = () => this.ask();
+  }
+
+  // Shows the lines that are to be played, to be pasted, read from the clipboard or from a file.
+  async ask() {
+    const text = element("textarea", { name: "session", rows: 12, spellcheck: false, placeholder: "session lines, one below the other" });
+    const input = element("input", { type: "file", hidden: true, id: "session-file", onchange: async () => (text.value = await input.files[0].text()) });
+    const paste = async () => {
+      try {
+        text.value = await navigator.clipboard.readText();
+      } catch (fault) {
+        this.bench.say(`The browser gives no clipboard: ${fault.message}. Paste the lines by Ctrl+V.`);
+      }
+    };
+    const row = element("div", { className: "answers" }, button("From the clipboard", "", paste), button("From a file", "", () => input.click()), input,
+      element("button", { type: "submit", value: "Play", textContent: "Play" }), button("Cancel", "Esc", () => dialog.close("")));
+    const dialog = element("dialog", { id: "session" }, element("form", { method: "dialog" }, element("h2", { textContent: "Play a session" }), text, row));
+    if (await shown(dialog)) await this.play(text.value);
+  }
+
+  // Plays lines: as one macro where all are edits of the active document, and else one by one, up to the first that is refused.
+  async play(text) {
+    const lines = text.split(/\r?\n/).filter(line => !isQuiet(line));
+    const { active, depth } = this.editor.state;
+    if (!lines.length) return;
+    const isMacro = active !== null && depth === 0 && lines.every(isEdit);
+    const { done, at } = await (isMacro ? this.asMacro(lines) : this.oneByOne(lines));
+    if (done.isHeard) this.bench.say(`${lines.length} lines were played${isMacro ? ", as one step" : ""}.`);
+    else this.bench.say(`Line ${at + 1} of ${lines.length}, '${lines[at].slice(0, 80)}': ${done.refusal?.slice(3) ?? done.barred}.${isMacro ? " Nothing is changed." : ""} ${done.why ?? ""}`);
+  }
+
+  asMacro(lines) {
+    const begun = this.editor.doLines([`begin ${MACRO}`]);
+    if (!begun.isHeard) return { done: begun, at: 0 };
+    const done = this.editor.doLines(lines);
+    this.editor.doLines(done.isHeard ? ["end"] : ["end", "undo"]);
+    return { done, at: done.replies.length - 1 };
+  }
+
+  async oneByOne(lines) {
+    const done = await this.editor.send(lines);
+    return { done, at: done.replies.length - 1 };
+  }
+}
