@@ -124,9 +124,8 @@ def test_killed_in_a_replay():
     with Life(PAGE.as_uri()) as life:
         page = opened(life)
         choose(page, 'Ground')
-        lines = [f'stamp 1 {at % 40} {at // 40 % 30} 1 {1 + at % 30}' for at in range(20_000)]
+        lines = [f'stamp 1 {at % 40} {at // 40 % 30} 1 {1 + (at + at // 1200) % 30}' for at in range(20_000)]
         page.editor.lines(*lines)
-        page.settle()
         before = page.editor.shown(), standing(page)
         assert before[1][1] > 15_000
         life.kill()
@@ -182,13 +181,13 @@ def test_journals_that_are_not_restored():
     with Life(PAGE.as_uri()) as life:
         page = opened(life)
         page.editor.lines('stamp 1 3 20 1 12')
-        page.settle()
         page.editor.lines('stamp 1 4 20 1 12')
-        page.settle()
         life.kill()
         page = life.begin()
         for change, told in CHANGES.items():
             assert page.driver.execute_async_script(CHANGE, change) == ''
+            page.js('roskevad.recovery.start()')
+            page.wait(lambda: len(page.notices()) == 1, 'it is offered anew')
             page.answer('Restore')
             page.wait(lambda: told in ''.join(page.notices()), told)
             assert 'It is kept' in page.notices()[0], page.notices()

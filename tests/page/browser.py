@@ -109,10 +109,12 @@ class Session:
 
     def lines(self, *said):
         """The replies to lines, all of which are done."""
-        return self.page.js(
+        told = self.page.js(
             'return roskevad.editor.send(arguments[0], {isFree: true}).then(done => done.replies)',
             said,
         )
+        self.page.settle()
+        return told
 
     def state(self):
         return self.page.js(

@@ -134,6 +134,12 @@ export class Documents {
       const told = await ask(`${open.name} has changes that are not saved.`, [], ["Discard and reload"]);
       if (!told) return false;
     }
+    try {
+      await this.editor.place.read(path);
+    } catch (fault) {
+      this.bench.say(`${path}: ${fault.message}.`);
+      return false;
+    }
     const { word } = this.editor.notes.files.get(open.name);
     await this.bench.act([`discard ${open.name}`, `open ${open.name} ${word}`]);
     return true;

@@ -1,7 +1,7 @@
 // The journal of a window: each accepted line that changes something, with its reply, and the bytes that each `open` had read. It is in
 // the browser's database, and stays there until the documents are closed.
 import { Database } from "./database.js";
-import { sumOf } from "./hashes.js";
+import { hashOf, sumOf } from "./hashes.js";
 
 // The most bytes of a journal, where a unit of a text counts as one.
 const BOUND = 256 * 1024 * 1024;
@@ -190,7 +190,8 @@ export class Journal extends EventTarget {
     let count = 0;
     for await (const { at, entries, sum } of this.database.recordsOf(row.id)) {
       if (at !== count || !Array.isArray(entries)) throw new Damaged(`its record ${count} is missing`);
-      if (recordSum(entries) !== sum) throw new Damaged(`its record ${count} is not as it was written`);
+      const isSame = recordSum(entries) === sum && (await areFilesSame(entries));
+      if (!isSame) throw new Damaged(`its record ${count} is not as it was written`);
       yield* entries;
       count++;
     }
@@ -200,6 +201,12 @@ export class Journal extends EventTarget {
   forget(id) {
     return this.database.forget(id);
   }
+}
+
+// Whether the files of entries have the bytes that they were kept with.
+async function areFilesSame(entries) {
+  for (const { file } of entries) if (file && (await hashOf(file.bytes)) !== file.hash) return false;
+  return true;
 }
 
 function sizeOf(entries) {

@@ -81,6 +81,7 @@ export class ChosenFiles {
 
   async read(path) {
     const found = this.files.get(path);
+    if (found?.file && (await this.look(path)).size < 0) throw new Failed("it has changed; choose it anew by 'Open files'");
     return found ? { bytes: found.bytes, mark: await markOf(found.bytes, found.time) } : null;
   }
 

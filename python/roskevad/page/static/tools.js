@@ -139,10 +139,15 @@ class ObjectTool {
   // Where the object goes: with Ctrl on the grid.
   goal(place, event) {
     const { map } = this.bench;
-    const onGrid = (length, side) => (event.ctrlKey || event.metaKey ? Math.round(length / side) * side : Math.round(length));
-    const x = this.drag.x + place.pixelX - this.drag.from.pixelX;
-    const y = this.drag.y + place.pixelY - this.drag.from.pixelY;
-    return { id: this.drag.id, x: onGrid(x, map.tileWidth), y: onGrid(y, map.tileHeight) };
+    const isOnGrid = event.ctrlKey || event.metaKey;
+    // Where the hand has not moved it one way, it keeps the whole part that it has there, and so its fraction.
+    const moved = (from, by, side) => {
+      if (isOnGrid) return Math.round((from + by) / side) * side;
+      return by === 0 ? Math.floor(from) : Math.round(from + by);
+    };
+    const x = moved(this.drag.x, place.pixelX - this.drag.from.pixelX, map.tileWidth);
+    const y = moved(this.drag.y, place.pixelY - this.drag.from.pixelY, map.tileHeight);
+    return { id: this.drag.id, x, y };
   }
 
   move(place, event) {
@@ -155,7 +160,7 @@ class ObjectTool {
     if (!this.drag) return;
     const { marks } = this.bench;
     const goal = this.goal(place, event);
-    const isMoved = goal.x !== this.drag.x || goal.y !== this.drag.y;
+    const isMoved = goal.x !== Math.floor(this.drag.x) || goal.y !== Math.floor(this.drag.y);
     this.drag = null;
     if (isMoved && marks.dragged) {
       await this.bench.act([`object move ${goal.id} ${goal.x} ${goal.y}`]);
