@@ -1,28 +1,41 @@
 // What the library sets aside of a map, in its tree.
 
-/** The name under which it stands. */
-export const RESERVED = "roskevad";
-const COORDINATES = ["x", "y", "width", "height"];
+// The name under which it stands, in the map, in layers and objects.
+const RESERVED = "roskevad";
+// The names of an object's place, with what it was moved by, and of its size.
+const MOVED = [["x", "movedx"], ["y", "movedy"], ["width", null], ["height", null]];
 const HALF = 2 ** 32;
 
-/**
- * The value in which fractions are put back as numbers, and notes are taken out. The value itself is changed.
- */
-export function putBack(value) {
+/** The tree of a map in which fractions are numbers again, and no note is left. The tree itself is changed. */
+export function restored(tree) {
+  return restoredValue(tree, infiniteNote(tree));
+}
+
+/** The column and the row of an infinite map where the corner of the finite one lies; [0, 0] of any other. */
+export function originOf(tree) {
+  const { x = 0, y = 0 } = infiniteNote(tree);
+  return [x, y];
+}
+
+function infiniteNote(tree) {
+  return tree[RESERVED]?.infinite ?? {};
+}
+
+function restoredValue(value, note) {
   if (Array.isArray(value)) {
     for (let at = 0; at < value.length; at++) {
       if (typeof value[at] === "object") {
-        value[at] = putBack(value[at]);
+        value[at] = restoredValue(value[at], note);
       }
     }
     return value;
   }
-  return value !== null && typeof value === "object" ? putBackMembers(value) : value;
+  return value !== null && typeof value === "object" ? restoredMembers(value, note) : value;
 }
 
-function putBackMembers(members) {
+function restoredMembers(members, note) {
   for (const [name, value] of Object.entries(members)) {
-    const exact = putBack(value);
+    const exact = restoredValue(value, note);
     if (exact !== value) {
       put(members, name, exact);
     }
@@ -32,13 +45,8 @@ function putBackMembers(members) {
     return numberOf(notes, members);
   }
   if (notes !== null && typeof notes === "object") {
-    for (const name of COORDINATES) {
-      // An edit has changed one that is not its whole part any more.
-      if (typeof notes[name] === "number" && members[name] === Math.floor(notes[name])) {
-        put(members, name, notes[name]);
-      }
-    }
     delete members[RESERVED];
+    putCoordinates(members, notes, note);
   }
   return members;
 }
@@ -55,6 +63,16 @@ function numberOf(halves, members) {
   view.setUint32(4, halves[1]);
   const number = view.getFloat64(0);
   return Number.isFinite(number) ? number : members;
+}
+
+// The coordinates of an object that are noted and that no edit has changed. One of an infinite map was moved.
+function putCoordinates(members, notes, note) {
+  for (const [name, moved] of MOVED) {
+    const by = note[moved] ?? 0;
+    if (typeof notes[name] === "number" && Math.floor(notes[name]) === members[name] + by) {
+      put(members, name, notes[name] - by);
+    }
+  }
 }
 
 // A member may have any name, as `__proto__`.

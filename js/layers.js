@@ -1,11 +1,20 @@
 // Where the layers of a map stand in its text, so that some members can be written anew and all else stays as it is, digit by
 // digit. A text that is no JSON has no layers, or some; the library refuses it.
+
+/** The member of a layer that names how it was packed, while it is unpacked. */
+export const NOTE = "roskevad_compression";
+
 const SPACE = /[ \t\n\r]*/y;
 const SCALAR = /[^\s,:[\]{}"]+/y;
 const MARK = /["[\]{}]/g;
 // How deep layers of a map may stand, and how many it may have. A map with more is refused by the library.
 const MOST_DEEP = 17;
 const MOST_LAYERS = 256;
+
+// The members that are looked at. Others are gone over.
+const NAMES = new Set([
+  "chunks", "compression", "compressionlevel", "data", "encoding", "height", "layers", "width", NOTE,
+]);
 
 /** A part of a text that is written anew. */
 export class Edit {
@@ -46,67 +55,110 @@ export class Part {
 
   /** The members of an object, by their names; the last one where there are several. None of any other value. */
   members() {
-    const found = new Map();
-    let at = this._inside("{");
-    while (at !== null) {
-      const nameEnd = this.text[at] === '"' ? behindString(this.text, at) : null;
-      const colon = nameEnd === null ? null : behindSpace(this.text, nameEnd);
-      if (colon === null || this.text[colon] !== ":") {
-        break;
-      }
-      const start = behindSpace(this.text, colon + 1);
-      const end = endOf(this.text, start);
-      if (end === null) {
-        break;
-      }
-      const name = new Part(this.text, at, nameEnd).value;
-      found.set(name, new Part(this.text, start, end, at, nameEnd));
-      at = behindComma(this.text, end);
-    }
-    return found;
+    const { text, start } = this;
+    return text[start] === "{" ? readMembers(text, start, (_, at) => endOf(text, at)).found : new Map();
   }
 
   /** The entries of an array. None of any other value. */
   *entries() {
-    let at = this._inside("[");
-    while (at !== null) {
-      const end = endOf(this.text, at);
+    const { text, start } = this;
+    let at = text[start] === "[" ? behindSpace(text, start + 1) : text.length;
+    while (at < text.length && text[at] !== "]") {
+      const end = endOf(text, at);
       if (end === null) {
         return;
       }
-      yield new Part(this.text, at, end);
-      at = behindComma(this.text, end);
+      yield new Part(text, at, end);
+      at = behindComma(text, end);
     }
-  }
-
-  // Where the first name or entry stands, if the value begins so and has one.
-  _inside(bracket) {
-    return this.text[this.start] === bracket ? behindSpace(this.text, this.start + 1) : null;
   }
 }
 
-/** The members of a map, and those of each of its layers, also in groups; of no layer where they are too many. */
+/**
+ * The members of a map, and those of each of its layers, also in groups; of no layer where they are too many,
+ * or the text is cut short. No part of the text is gone through twice.
+ */
 export function mapAndLayers(text) {
+  const walk = new Walk(text);
   const start = behindSpace(text, 0);
-  const map = new Part(text, start, text.length).members();
-  const layers = [];
-  for (const layer of layersIn(map, 1)) {
-    layers.push(layer);
-    if (layers.length > MOST_LAYERS) {
-      return { map, layers: [] };
-    }
+  if (text[start] !== "{") {
+    return { map: new Map(), layers: [] };
   }
-  return { map, layers };
+  const { found, end } = readMembers(text, start, (name, at) => walk.member(name, at));
+  return { map: found, layers: end === null ? [] : walk.layers };
 }
 
-function* layersIn(members, depth) {
-  for (const entry of members.get("layers")?.entries() ?? []) {
-    const layer = entry.members();
-    yield layer;
-    if (depth < MOST_DEEP) {
-      yield* layersIn(layer, depth + 1);
-    }
+// A walk through the layers of a map, and through the groups among them.
+class Walk {
+  constructor(text) {
+    this.layers = [];
+    this._text = text;
+    this._depth = 0;
   }
+
+  // Where a member of the map or of a layer ends; layers in it are read.
+  member(name, start) {
+    if (name !== "layers" || this._text[start] !== "[" || this._depth === MOST_DEEP) {
+      return endOf(this._text, start);
+    }
+    this._depth += 1;
+    const end = readEntries(this._text, start, (at) => this._layer(at));
+    this._depth -= 1;
+    return end;
+  }
+
+  _layer(start) {
+    if (this._text[start] !== "{") {
+      return endOf(this._text, start);
+    }
+    const { found, end } = readMembers(this._text, start, (name, at) => this.member(name, at));
+    this.layers.push(found);
+    return this.layers.length <= MOST_LAYERS ? end : null;
+  }
+}
+
+// The members of the object that stands here, and where it ends; null where it does not. A function says where
+// the value of a member ends.
+function readMembers(text, start, endOfMember) {
+  const found = new Map();
+  let at = behindSpace(text, start + 1);
+  while (text[at] === '"') {
+    const nameEnd = behindString(text, at);
+    const colon = behindSpace(text, nameEnd ?? text.length);
+    if (nameEnd === null || text[colon] !== ":") {
+      return { found, end: null };
+    }
+    const name = nameAt(text, at, nameEnd);
+    const valueStart = behindSpace(text, colon + 1);
+    const end = endOfMember(name, valueStart);
+    if (end === null) {
+      return { found, end: null };
+    }
+    if (NAMES.has(name)) {
+      found.set(name, new Part(text, valueStart, end, at, nameEnd));
+    }
+    at = behindComma(text, end);
+  }
+  return { found, end: text[at] === "}" ? at + 1 : null };
+}
+
+// The name that stands here. Few have an escape.
+function nameAt(text, start, end) {
+  const name = text.slice(start + 1, end - 1);
+  return name.includes("\\") ? new Part(text, start, end).value : name;
+}
+
+// Where the array that stands here ends; null where it does not. A function says where an entry ends.
+function readEntries(text, start, endOfEntry) {
+  let at = behindSpace(text, start + 1);
+  while (at < text.length && text[at] !== "]") {
+    const end = endOfEntry(at);
+    if (end === null) {
+      return null;
+    }
+    at = behindComma(text, end);
+  }
+  return at < text.length ? at + 1 : null;
 }
 
 // Where what a pattern matches ends, or null.
@@ -119,10 +171,10 @@ function behindSpace(text, at) {
   return matched(SPACE, text, at);
 }
 
-// Where the next name or entry stands, behind a comma; null where none is there.
+// Where the next name, entry or bracket stands, behind a comma if there is one.
 function behindComma(text, at) {
   const comma = behindSpace(text, at);
-  return text[comma] === "," ? behindSpace(text, comma + 1) : null;
+  return text[comma] === "," ? behindSpace(text, comma + 1) : comma;
 }
 
 // Where the value that stands here ends, or null.

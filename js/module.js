@@ -10,8 +10,9 @@ export const NONE = 2 ** 32 - 1;
 export const CLOSED = NONE - 1;
 export const NO_MEMORY = NONE - 2;
 export const BAD_NAME = NONE - 4;
+const NOT_JSON = NONE - 5;
 // Why a map is not set aside, or put back: what the calls answer, and the words of the program.
-export const ASIDE_FAULTS = new Map([
+const ASIDE_FAULTS = new Map([
   [NONE - 6, 'a member has the reserved name "roskevad"'],
   [NONE - 7, "set aside or put back, it would nest deeper than 127"],
   [NONE - 8, "a chunk has no place, no size, or not a cell for each of its places"],
@@ -19,8 +20,9 @@ export const ASIDE_FAULTS = new Map([
   [NONE - 10, "made finite, its layers have more than 16,777,216 cells"],
   [NONE - 11, "made finite, it would not come back as it was"],
 ]);
-// A size is not above it: the memory has at most 3 GiB.
-const GREATEST_SIZE = 3 * 2 ** 30;
+// The longest text that is made, as in the program.
+const LONGEST = 67_108_864;
+const TOO_LONG = "set aside or put back, it would be longer than 67,108,864 bytes";
 
 // The module beside this file, and the section with the version at its end.
 const BESIDE = new URL("./roskevad.wasm", import.meta.url);
@@ -183,21 +185,26 @@ export class Module {
   }
 
   /**
-   * What a call without a slot makes of bytes: the answer, and the bytes that it copies; null where it has
-   * none. It is called once more where the room, which grows with the bytes, was too small. Throws NoMemory.
+   * What a call without a slot makes of the text of a map: the text, null where it makes none; and why not,
+   * in words, else null. The text is made once more where it has no room. Throws NoMemory.
    */
-  made(data, name) {
-    const given = bytesOf(data);
+  made(name, given) {
     const call = this.calls[name] ?? (() => NONE);
     return this.holding(given.length, (at) => {
       this.bytes().set(given, at);
       const copied = (room) => this.holding(room, (to) => {
-        const answer = call(at, given.length, to, room);
-        this.number(answer);
-        return { answer, bytes: answer <= room ? this.bytes().slice(to, to + answer) : null };
+        const size = this.number(call(at, given.length, to, room));
+        return [size, size !== null && size <= room ? this.bytes().slice(to, to + size) : null];
       });
-      const first = copied(2 * given.length + ROOM);
-      return first.bytes === null && first.answer < GREATEST_SIZE ? copied(first.answer) : first;
+      const room = Math.min(2 * given.length + ROOM, LONGEST);
+      const [size, text] = copied(room);
+      // A text that is no JSON is refused by its reader.
+      if (text !== null || size === null || size === NOT_JSON) {
+        return { text, why: null };
+      }
+      return size <= LONGEST
+        ? { text: copied(size)[1], why: null }
+        : { text, why: ASIDE_FAULTS.get(size) ?? TOO_LONG };
     });
   }
 

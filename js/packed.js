@@ -1,14 +1,15 @@
 // Maps whose layers are compressed: unpacked before the library reads them, and packed again behind it.
-import { Edit, edited, mapAndLayers } from "./layers.js";
+import { Edit, NOTE, edited, mapAndLayers } from "./layers.js";
 
-/** The member of a layer that names how it was packed, while it is unpacked. */
-export const NOTE = "roskevad_compression";
-export const NOTE_TAKEN = `a layer has a member of the reserved name "${NOTE}"`;
-export const TOO_LONG = "unpacked, its layers have more than 67,108,864 bytes";
+const NOTE_TAKEN = `a layer has a member of the reserved name "${NOTE}"`;
+const TOO_LONG = "unpacked, its layers have more than 67,108,864 bytes";
 
 // What the host calls the formats. That of a stream is told by its first two bytes, as Tiled does.
 const FORMATS = new Map([["zlib", "deflate"], ["gzip", "gzip"]]);
 const GZIP = [0x1f, 0x8b];
+// A stream of the byte 97, and a byte behind it; and a promise of whether the host sees that.
+const BEHIND_END = Uint8Array.of(0x78, 0x9c, 0x4b, 4, 0, 0, 0x62, 0, 0x62, 0);
+let seesEnd = null;
 const CELL_BYTES = 4;
 const MOST_CELLS = 1_048_576;
 const MOST_BYTES = 67_108_864;
@@ -32,7 +33,7 @@ export class Unpackable extends Error {
 export async function unpacked(bytes) {
   const text = seen(bytes);
   if (text === null) {
-    return { bytes, isUnpacked: false, why: null };
+    return { bytes, why: null };
   }
   const { map, layers } = mapAndLayers(text);
   if (layers.some((layer) => layer.has(NOTE))) {
@@ -47,8 +48,7 @@ export async function unpacked(bytes) {
       edits.push(...(await unpackedLayer(layer, packings[at], cellsOf(map), budget)));
     }
   }
-  const isUnpacked = edits.length > 0;
-  return { bytes: isUnpacked ? new TextEncoder().encode(edited(text, edits)) : bytes, isUnpacked, why };
+  return { bytes: edits.length > 0 ? new TextEncoder().encode(edited(text, edits)) : bytes, why };
 }
 
 /** The bytes of a map with those layers packed that note how; the same bytes where none does. */
@@ -115,10 +115,11 @@ async function unpackedLayer(layer, packing, cells, budget) {
   const edits = [new Edit(name.start, name.end, `"","${NOTE}":"${packing}"`)];
   for (const [holder, count] of holdersOf(layer, cells)) {
     const data = holder.get("data")?.value;
-    // Where there is no size or no text, the library says so.
-    if (typeof data === "string" && count !== null) {
-      edits.push(dataEdit(holder, await unpackedData(data, count * CELL_BYTES, budget)));
+    if (typeof data !== "string" || count === null) {
+      // The library says so.
+      return edits;
     }
+    edits.push(dataEdit(holder, await unpackedData(data, count * CELL_BYTES, budget)));
   }
   return edits;
 }
@@ -153,11 +154,17 @@ async function unpackedData(data, size, budget) {
   }
   const bytes = bytesOfBase64(data);
   const came = bytes && (await inflated(bytes, size));
-  // Some hosts do not see bytes behind the end of a stream: without the last byte it must be cut short.
-  if (!came || came.length !== size || (await inflated(bytes.subarray(0, -1), size))) {
+  if (!came || came.length !== size || !(await endsThere(bytes, size))) {
     throw new Unpackable(66, "the data of a layer does not unpack to 4 bytes a cell");
   }
   return came;
+}
+
+// Whether nothing stands behind the end of a stream. A host that does not see that by itself finds the stream
+// cut short without its last byte.
+async function endsThere(bytes, size) {
+  seesEnd ??= inflated(BEHIND_END, 1).then((came) => came === null);
+  return (await seesEnd) || (await inflated(bytes.subarray(0, -1), size)) === null;
 }
 
 // At most so many bytes of a stream; null where it has more, or is cut short or damaged.
@@ -211,12 +218,13 @@ function base64Size(size) {
   return Math.ceil(size / 3) * 4;
 }
 
-// The bytes of a text in base64, with all its padding; null where it is none.
+// The bytes of a text in base64, in which space may stand; null where it is none.
 function bytesOfBase64(text) {
-  if (text.length % 4 !== 0 || !/^[A-Za-z0-9+/]*={0,2}$/.test(text)) {
+  const plain = text.replace(/[ \t\r\n]/g, "");
+  if (plain.length % 4 !== 0 || !/^[A-Za-z0-9+/]*={0,2}$/.test(plain)) {
     return null;
   }
-  return Uint8Array.from(atob(text), (character) => character.charCodeAt(0));
+  return Uint8Array.from(atob(plain), (character) => character.charCodeAt(0));
 }
 
 function base64Of(bytes) {

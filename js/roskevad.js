@@ -2,9 +2,9 @@
 //
 //   const editor = await Editor.create({ limit: 0 });
 //   editor.step("new town 4 3 16 16 town.tsj");
-import { RESERVED, putBack } from "./aside.js";
+import { originOf, restored } from "./aside.js";
 import { Closed, NoMemory, Refused } from "./faults.js";
-import { ASIDE_FAULTS, BAD_NAME, DONE, Module, NONE, bytesOf, textOf } from "./module.js";
+import { BAD_NAME, DONE, Module, NONE, bytesOf, textOf } from "./module.js";
 import { Unpackable, packed, unpacked } from "./packed.js";
 
 export { BadModule, Broken, Closed, NoMemory, Refused } from "./faults.js";
@@ -216,11 +216,11 @@ export class Editor {
   async openMap(name, data) {
     const call = `openMap(${JSON.stringify(name)})`;
     this._open();
-    const { bytes, isUnpacked, why } = await withCode(call, unpacked(bytesOf(data)));
-    const text = this._setAside(bytes, call);
-    const reply = this._openBytes(name, text, call, why);
-    this._hasSetAside ||= isUnpacked || text !== bytes;
-    return reply;
+    const given = bytesOf(data);
+    const { bytes, why } = await withCode(call, unpacked(given));
+    const text = this._made("set_aside", bytes, call);
+    this._hasSetAside ||= text !== given;
+    return this._openBytes(name, text, call, why);
   }
 
   /**
@@ -230,8 +230,8 @@ export class Editor {
    */
   async saveMap() {
     const call = "saveMap()";
-    const shown = this._say("show", call).subarray(MAP.length);
-    const bytes = this._hasSetAside ? this._putBack(shown) : shown;
+    const shown = this._say("show", call).slice(MAP.length);
+    const bytes = this._hasSetAside ? this._made("put_back", shown, call) : shown;
     this._say("clean", call);
     if (!this._hasSetAside) {
       return bytes;
@@ -256,17 +256,13 @@ export class Editor {
     return reply;
   }
 
-  // The text of a map with what the format refuses set aside; the same bytes where there is nothing.
-  _setAside(bytes, call) {
-    const { answer, bytes: text } = this._module.made(bytes, "set_aside");
-    if (ASIDE_FAULTS.has(answer)) {
-      throw refusedCall(STORE_FAILED, "store failed", call, ASIDE_FAULTS.get(answer));
+  // What a call of the library makes of the text of a map; the same bytes where it makes none.
+  _made(name, bytes, call) {
+    const { text, why } = this._module.made(name, bytes);
+    if (why !== null) {
+      throw refusedCall(STORE_FAILED, "store failed", call, why);
     }
     return text ?? bytes;
-  }
-
-  _putBack(bytes) {
-    return this._module.made(bytes, "put_back").bytes ?? bytes;
   }
 
   // Opens bytes, which stand among the files under a free name meanwhile.
@@ -319,8 +315,8 @@ export class Editor {
    * [0, 0] of a map that was not infinite. Throws Refused.
    */
   origin() {
-    const note = JSON.parse(this._outlineText("origin()"))[RESERVED]?.infinite;
-    return this._hasSetAside && note ? [note.x, note.y] : [0, 0];
+    const tree = JSON.parse(this._outlineText("origin()"));
+    return this._hasSetAside ? originOf(tree) : [0, 0];
   }
 
   _outlineText(asked) {
@@ -334,7 +330,7 @@ export class Editor {
   // The tree of a text, in which nothing is set aside.
   _tree(text) {
     const tree = JSON.parse(text);
-    return this._hasSetAside ? putBack(tree) : tree;
+    return this._hasSetAside ? restored(tree) : tree;
   }
 
   /**

@@ -1,5 +1,6 @@
 """Opens, edits and saves maps with fractions by `tile_editor --all-maps`, and compares replies and
-files with the plain model of tests/lib/asides.py, which sets fractions aside and puts them back. The
+files with the plain model of tests/lib/asides.py, which sets fractions aside and puts them back;
+tests/test_infinite_maps.py does so with infinite maps. The
 maps are made here; numbers at the edge of what a float can be stand in one of them. Random edits,
 undos and redos follow in runs of their own. Maps that need nothing set aside are saved as without
 the option: the sessions of `sessions/` are heard with it. What is refused says why on standard
@@ -27,6 +28,7 @@ from lib.cases import CORES, Case, check_each, in_processes, passed, fail_with, 
 from lib.growths import Refuser, Session
 from lib.json_texts import text_behind, tree_of
 from lib.maps import new_map, objects_in, property_of, text_of, thing, things, tiles
+from lib.places import EXAMPLE_MAPS
 from lib.refusals import refusal
 from lib.sessions import all_runs, fault_of_run, heard, joined
 
@@ -182,8 +184,9 @@ def with_option(run):
 
 
 def test_sessions_with_the_option():
-    """All but those in which a map is refused for a fraction."""
-    runs = [run for run in all_runs() if refusal(61).encode() not in run.replies]
+    """All but those in which a map is refused for a fraction, or since it is infinite."""
+    opened = [refusal(code).encode() for code in (61, 64)]
+    runs = [run for run in all_runs() if not any(reply in run.replies for reply in opened)]
     check_each(map(with_option, runs), fault_of_run, CORES)
 
 
@@ -243,9 +246,11 @@ def begun(name):
     """A session with the option, over a map with fractions."""
     lines = {
         'a map with fractions': 'open m m.tmj,object move 1 30 40,save n.tmj,undo,save n.tmj,show',
+        'an infinite map': 'open m infinite.tmj,stamp 1 9 9 1 7,save n.tmj,undo,save n.tmj,show',
         'files that are refused': 'open m taken.tmj,open m deep.tmj,open m m.tmj,save n.tmj',
     }[name].split(',')
     before = {
+        'infinite.tmj': (EXAMPLE_MAPS / 'infinite.tmj').read_bytes(),
         'm.tmj': text_of(map_with(things(1, thing(1, x=1.5)))),
         'taken.tmj': kept('{"roskevad":1}'),
         'deep.tmj': kept(nested(125)),
@@ -266,7 +271,7 @@ _sessions = {}
 
 
 def begun_sessions():
-    for name in ('a map with fractions', 'files that are refused'):
+    for name in ('a map with fractions', 'an infinite map', 'files that are refused'):
         if name not in _sessions:
             _sessions[name] = begun(name)
     return _sessions
@@ -286,8 +291,8 @@ def test_each_growth():
 
 
 def is_opened(data):
-    """Whether the editor opens what Tiled exported: it is neither infinite nor compressed."""
-    return not re.search(rb'"infinite": ?true|"compression": ?"[a-z]', data)
+    """Whether the editor opens what Tiled exported: it is not compressed."""
+    return not re.search(rb'"compression": ?"[a-z]', data)
 
 
 def fault_of_export(case):

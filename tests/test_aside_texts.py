@@ -1,13 +1,15 @@
-"""Sets aside and puts back the fractions of 20,000 texts of maps that are changed by chance, by
-`map_report --table`, and compares the trees of what comes with the plain model of
-tests/lib/asides.py. Each text is a map of `examples/maps` or `sessions/maps`, into which stand-ins,
-notes, fractions and the reserved name are put, some of them damaged, and which has one more change of
-tests/lib/broken.py; all from a fixed seed. A text that was set aside is put back: that is the tree of
-the source again.
+"""Sets aside and puts back 20,000 texts of maps that are changed by chance, by `map_report --table`,
+and compares the trees of what comes with the plain model of tests/lib/asides.py. Each text is a map
+of `examples/maps` or `sessions/maps`, into which stand-ins, notes, fractions, chunks and the reserved
+name are put, some of them damaged, and which has one more change of tests/lib/broken.py; all from a
+fixed seed. Of an infinite map a text of a finite one must come, or one of the faults that it can
+have. A text that was set aside is put back: that is the tree of the source again.
 
 native/heap_peaks.c measures the heap that an opening of some of these texts takes with `--all-maps`:
-less than 320 bytes for a byte of the file, since a short fraction becomes an object. Each growth is refused in turn
-while the fractions of a map are set aside and put back."""
+less than 320 bytes for a byte of the file, since a short fraction becomes an object, and for an
+infinite map less than 200 for each cell of the finite one. Each growth is refused in turn while a map
+is set aside and put back."""
+import json
 import random
 import subprocess
 import tempfile
@@ -15,30 +17,37 @@ from dataclasses import dataclass
 from pathlib import Path
 
 from lib.asides import (
+    INFINITE_FAULTS,
     NAME_TAKEN,
     NOT_JSON,
     OPTION,
     TOO_DEEP,
+    UNLIKE,
     aside,
-    back,
     exact,
     exact_text,
     has_fraction,
     has_name,
     is_too_deep,
+    put_back,
+    set_aside,
 )
 from lib.broken import WAYS, Text, originals
 from lib.cases import CORES, Case, check_each, fail_with, in_processes, passed, unlike
 from lib.growths import count_of, refusing
+from lib.infinite import cells_in_all, is_infinite
 from lib.json_texts import tree_of
+from lib.maps import text_of
 from lib.native import interposed
-from lib.places import IN_MEMORY, MAP_REPORT, TILE_EDITOR
+from lib.places import EXAMPLE_MAPS, IN_MEMORY, MAP_REPORT, TILE_EDITOR
 
 IS_LONG = True
 SEED, TEXTS, TEXTS_OF_RUN, SECONDS = 20261126, 20_000, 100, 60
 # The longest map that is changed; the bytes of heap that a byte of a file may take, and the bytes that
 # a shorter file counts as.
 LONGEST, HEAP, SHORTEST = 12_000, 320, 128
+# The bytes of heap that a cell of a finite map may take which was infinite.
+CELL = 200
 # Of so many texts the heap is measured in one.
 ONE_OF = 10
 AS_IT_IS = 'as it is'
@@ -73,6 +82,11 @@ PARTS = [
     b'{"roskevad":0.5,"roskevad":1}',
     b'{"roskeva\\u0064":1}',
     b'"roskevad"',
+    b'{"chunks":[],"type":"tilelayer"}',
+    b'[{"data":[1,0],"height":1,"width":2,"x":-16,"y":3}]',
+    b'[{"data":[1,0.5],"height":1,"width":2,"x":-16,"y":3}]',
+    b'[{"data":"AQAAAA==","height":1,"width":1,"x":3,"y":3},{"data":"?","height":1,"width":1,"x":3,"y":3}]',
+    b'2147483648',
     b'[' * 60 + b'0.5' + b']' * 60,
     b'[' * 123 + b'0.5' + b']' * 123,
     b'{"a":' * 122 + b'{"roskevad":[1071644672,0]}' + b'}' * 122,
@@ -81,16 +95,28 @@ PARTS = [
 
 @dataclass(frozen=True)
 class Answer:
-    """What must be answered for a text: words, or a tree with each float as its bits."""
+    """What must be answered for a text: words, a tree with each float as its bits, or for an infinite
+    map any finite one without fractions, or why there is none."""
 
     words: str = ''
     tree: object = None
+    is_finite: bool = False
 
     def fault(self, came):
         """How what came differs, or None."""
+        if self.is_finite:
+            return fault_of_finite(came)
         if self.words:
             return unlike(self.words, came)
         return unlike(self.tree, exact_text(came.encode()))
+
+
+def fault_of_finite(came):
+    if came in (*INFINITE_FAULTS.values(), UNLIKE, TOO_DEEP):
+        return None
+    found = tree_of(came.encode())
+    is_right = found and found[0].get('infinite') is False and not has_fraction(found[0])
+    return None if is_right else f'came {came[:400]!r}'
 
 
 def answers_of(data):
@@ -100,8 +126,10 @@ def answers_of(data):
         return Answer(NOT_JSON), Answer(NOT_JSON)
     (tree,) = found
     if has_name(tree):
-        return Answer(NAME_TAKEN), Answer(tree=exact(back(tree)))
+        return Answer(NAME_TAKEN), Answer(tree=exact(put_back(tree)))
     as_it_is = Answer(AS_IT_IS)
+    if is_infinite(tree) and not is_too_deep(aside(tree)):
+        return Answer(is_finite=True), as_it_is
     if not has_fraction(tree):
         return as_it_is, as_it_is
     new = aside(tree)
@@ -202,7 +230,8 @@ def faults_of_heap(cases, folder):
         return
     for number, heap in zip(numbers, heaps):
         length = max(len(cases[number].given), SHORTEST)
-        if heap >= HEAP * length:
+        found = tree_of(cases[number].given)
+        if heap >= HEAP * length + CELL * (cells_in_all(aside(*found)) if found else 0):
             yield f'{cases[number].name}: {heap} bytes of heap for a file of {length}'
 
 
@@ -255,4 +284,7 @@ def fault_of_growths(case):
 
 
 def test_each_growth_of_a_call():
-    check_each([Case('aside', SOURCE, ASIDE), Case('back', ASIDE, SOURCE)], fault_of_growths, CORES)
+    infinite = json.loads((EXAMPLE_MAPS / 'infinite.tmj').read_bytes())
+    source, text = text_of(infinite), text_of(set_aside(infinite))
+    pairs = [('aside', SOURCE, ASIDE), ('back', ASIDE, SOURCE), ('aside', source, text), ('back', text, source)]
+    check_each([Case(*pair) for pair in pairs], fault_of_growths, CORES)

@@ -1,5 +1,6 @@
 """Tries the prompt of the Python package: command lines, files of any name, the end of the input
 while work is not saved, an output that is closed; and at a terminal Ctrl+C, Ctrl-D and Tab."""
+import json
 import os
 import pty
 import select
@@ -156,6 +157,27 @@ def test_files_of_any_name():
             return unlike(case.wanted, came[: len(case.wanted)])
 
         check_each([Case(row[0][-1], *row) for row in rows], fault_of)
+
+
+def test_all_maps():
+    """A map with fractions is opened and saved as it was, but for what an edit names; a refusal says
+    why."""
+    with tempfile.TemporaryDirectory() as folder:
+        data = (EXAMPLE_MAPS / 'opacity_half.tmj').read_bytes()
+        (Path(folder) / 'half.tmj').write_bytes(data)
+        (Path(folder) / 'taken.tmj').write_bytes(data.replace(b'"opacity"', b'"roskevad"'))
+        (Path(folder) / 'zlib.tmj').write_bytes((EXAMPLE_MAPS / 'zlib.tmj').read_bytes())
+        lines = ['open half.tmj', 'layer rename 1 Hall', 'save saved.tmj', 'open taken.tmj', 'open zlib.tmj']
+        came = replies(lines, folder)
+        saved = json.loads((Path(folder) / 'saved.tmj').read_bytes())
+        size = (Path(folder) / 'saved.tmj').stat().st_size
+        wanted = ['ok 0/0 clean 0', '  document half', 'ok 1/1 dirty 0', f'saved saved.tmj {size}']
+        wanted += ['no 51 store failed', '  a member has the reserved name "roskevad"']
+        wanted += ['ok 0/0 clean 0', '  document zlib']
+        fault = unlike(wanted, came[: len(wanted)]) or unlike(
+            [0.5, 'Hall'], [saved['layers'][0][name] for name in ('opacity', 'name')]
+        )
+        assert not fault, fault
 
 
 # ---- at a terminal

@@ -225,13 +225,18 @@ def report(name, data, *lines):
     return Case(name, data, lines)
 
 
-def fault(code, place, changes, then=OPENS):
+def fault(code, place, changes, then=None):
     """The good map with some changes, which is refused for what stands at a place. If that is a
-    fraction, a line says what comes then."""
+    fraction, or the map is infinite, a line says what comes with `--all-maps`. The good map has no
+    chunks, so as an infinite one it is of one cell, which its layers are not."""
     tree = changed(changes)
-    wanted = (
-        report_of_fractions(tree, place, then) if code == 61 else report_of_fault(code, tree, place)
-    )
+    if code == 61:
+        wanted = report_of_fractions(tree, place, then or OPENS)
+    elif code == 64:
+        then = then or with_all_maps(66, 'layers[0].width', 4)
+        wanted = f'{report_of_fault(code, tree, place)}\n  {then}'
+    else:
+        wanted = report_of_fault(code, tree, place)
     return report(f'{code} at {place}, {changes}', json.dumps(tree).encode(), wanted)
 
 
@@ -410,7 +415,7 @@ TABLE = [
     (68, 'width', {'width': 0, 'layers[0].id': 'x'}),
     (63, 'tilewidth', {'tilewidth': '16', 'layers': ABSENT}),
     (68, 'height', {'width': 2048, 'height': 513, 'tilewidth': 0}),
-    (64, 'infinite', {'infinite': True, 'nextlayerid': 0}),
+    (64, 'infinite', {'infinite': True, 'nextlayerid': 0}, with_all_maps(68, 'nextlayerid', 0)),
     (62, 'tilesets', {'tilesets': ABSENT, 'properties': 7}),
     (63, 'layers[2].layers[0].objects', {THINGS + '.objects': {}, 'tilesets': 7}),
     # those of a layer
@@ -594,7 +599,7 @@ def good_maps():
 
 
 EXAMPLES = {
-    'infinite.tmj': f'{refusal(64)}: infinite is true',
+    'infinite.tmj': f'{refusal(64)}: infinite is true\n  {OPENS}',
     'opacity_half.tmj': report_of_fractions(
         json.loads(example_maps()['opacity_half.tmj']), 'layers[0].opacity'
     ),

@@ -52,7 +52,8 @@ def reply_to(editor: Editor, line: str) -> str:
             return editor.save_file(rest)
         return editor.step(line)
     except Refused as refusal:
-        return '\n'.join([f'no {refusal.code} {refusal.words}', *(f'  {form}' for form in refusal.forms)])
+        more = refusal.forms if refusal.why is None else (refusal.why,)
+        return '\n'.join([f'no {refusal.code} {refusal.words}', *(f'  {each}' for each in more)])
     except MemoryError:
         return 'no 90 no memory'
 

@@ -12,9 +12,11 @@ from pathlib import Path
 from typing import TYPE_CHECKING, Any, Callable, Iterable, NoReturn, Optional, Protocol, TypeVar, Union, cast
 
 from . import library
+from .aside import origin_of, put_back, restored, set_aside
 from .faults import Closed, Refused
 from .library import LIBRARY, Heard, SelectionRun, Slot
 from .names import document_name
+from .rooms import Room
 from .saving import Saving
 
 if TYPE_CHECKING:
@@ -71,16 +73,6 @@ class _Unsettled(Protocol):
     def settle(self) -> None: ...
 
 
-class _Room:
-    """Where the library puts what it tells."""
-
-    def __init__(self, size: int):
-        # A slice of it is bytes, which typeshed does not know.
-        self.bytes: Any = ctypes.create_string_buffer(size)
-        self.at = ctypes.addressof(self.bytes)
-        self.size = size
-
-
 _Method = TypeVar('_Method', bound=Callable[..., Any])
 
 
@@ -129,10 +121,12 @@ class Editor:
         self._unsettled: Optional[_Unsettled] = None
         # Whether a save has failed: then what is read of a file need not be what the disk has, and is compared no more.
         self._has_failed = False
+        # Whether anything of a map was set aside or unpacked. Until then maps are saved as the editor holds them.
+        self._has_set_aside = False
         self._slot = Slot()
         self._process = _forks[0]
         self._at = ctypes.byref(self._slot)
-        self._room = _Room(4096)
+        self._room = Room(4096)
         self.folder = Path(folder)
         if not 0 <= limit <= 1_000_000:
             raise ValueError(f'a limit is from 0 to 1000000: {limit}')
@@ -185,7 +179,7 @@ class Editor:
         if size == library.NONE:
             return None
         if size > self._room.size:
-            self._room = _Room(size)
+            self._room = Room(size)
             self._call('reply' if name == 'step' else name, *(() if name == 'step' else words), self._room.at, size)
         told: bytes = self._room.bytes[:size]
         return told
@@ -276,7 +270,7 @@ class Editor:
     def _run(self, words: list[bytes]) -> list[str]:
         data = b''.join(word + b'\n' for word in words)
         if 32 * len(words) > self._room.size:
-            self._room = _Room(32 * len(words))
+            self._room = Room(32 * len(words))
         done, heard = 0, Heard()
         replies: list[str] = []
         while data:
@@ -324,21 +318,44 @@ class Editor:
 
     # ---- maps as bytes
     @_turn
-    def open_map(self, name: str, data: 'ReadableBuffer') -> str:
-        """Opens a document of that name with a map that is given as the bytes of a file, in a bytes-like object. Raises
-        Refused."""
-        return self._open(name, _data_of(data, 'open_map'), f'open_map({name!r})')
+    def open_map(self, name: str, data: 'ReadableBuffer', *, all_maps: bool = False) -> str:
+        """Opens a document of that name with a map that is given as the bytes of a file, in a bytes-like object; with `all_maps`
+        any map that Tiled saves as JSON, as `open_file` does. Raises Refused."""
+        given, call = _data_of(data, 'open_map'), f'open_map({name!r})'
+        return self._open_any(name, given, call) if all_maps else self._open(name, given, call)
 
     @_turn
-    def save_map(self) -> bytes:
-        """The active document's map as the bytes of a file; its index is the clean one then. Raises Refused."""
+    def save_map(self, *, all_maps: bool = False) -> bytes:
+        """The active document's map as the bytes of a file; its index is the clean one then. With `all_maps` what was set aside
+        is put back, as `save_file` does. Raises Refused."""
         data = self._shown('save_map()')
+        whole = self._whole(data, 'save_map()') if all_maps else data
         self._said('clean', 'save_map()')
-        return data
+        return whole
 
     def _shown(self, call: str) -> bytes:
-        """The active document's map as the bytes of a file."""
+        """The active document's map as the editor holds it."""
         return self._said('show', call)[len(b'map '):]
+
+    def _whole(self, data: bytes, call: str) -> bytes:
+        """A map that the editor holds, with what was set aside put back, and packed as it was."""
+        return put_back(data, call) if self._has_set_aside else data
+
+    def _tree(self, text: bytes) -> dict[str, Any]:
+        """The tree of a map that the editor holds, in which nothing is set aside."""
+        tree: dict[str, Any] = json.loads(text)
+        return restored(tree) if self._has_set_aside else tree
+
+    def _open_any(self, document: str, data: bytes, call: str) -> str:
+        """Opens a document with any map that Tiled saves as JSON: layers are unpacked, and what the format refuses is set aside."""
+        text, why = set_aside(data, call)
+        self._has_set_aside = self._has_set_aside or text is not data
+        try:
+            return self._open(document, text, call)
+        except Refused as refusal:
+            if refusal.code == 65 and why is not None:
+                raise Refused(65, refusal.words, call, forms=(), why=why) from None
+            raise
 
     def _open(self, document: str, data: Optional[bytes], call: str) -> str:
         """Opens a document with these bytes, which stand in the store under a free name meanwhile."""
@@ -358,12 +375,14 @@ class Editor:
     # ---- maps of a folder
     @_turn
     def open_file(self, path: Union[str, 'os.PathLike[str]'], name: Optional[str] = None) -> str:
-        """Opens a document with the map of a file. Its name is the one that `document_name` makes from the file's, where none
-        is given. Raises Refused: 50 where there is no such file, 51 where it cannot be read."""
+        """Opens a document with the map of a file, any that Tiled saves as JSON: what the editor's format refuses is set aside, as
+        fractions, and layers are unpacked. Its name is the one that `document_name` makes from the file's, where none is given.
+        Raises Refused: 50 where there is no such file, 51 where it cannot be read or set aside; `why` has the reason then."""
         call = f'open_file({os.fspath(path)!r})' if name is None else f'open_file({os.fspath(path)!r}, {name!r})'
         data, fault = _read(self.folder / path)
+        document = document_name(path) if name is None else name
         try:
-            return self._open(document_name(path) if name is None else name, data, call)
+            return self._open(document, None, call) if data is None else self._open_any(document, data, call)
         except Refused as refusal:
             if fault is not None and refusal.code == 50:
                 raise _failed(call) from fault
@@ -372,12 +391,12 @@ class Editor:
     @_turn
     def save_file(self, path: Union[str, 'os.PathLike[str]']) -> str:
         """Writes the active document's map to a file: beside it first, and then in its place; its index is the clean one
-        then. A file that has these bytes stays as it is. Raises Refused: 51 where it cannot be written, and the clean index
+        then. What was set aside is put back, if no edit has changed it. A file that has these bytes stays as it is. Raises Refused: 51 where it cannot be written, and the clean index
         stays. Where an exception falls in between, as that of Ctrl+C, the file is the old or the new one, and the index is
         the clean one if it is the new one."""
         call = f'save_file({os.fspath(path)!r})'
         self._refuse_save(call)
-        data = self._shown(call)
+        data = self._whole(self._shown(call), call)
         saving = self._unsettled = Saving(self.folder / path, data, self._mark_clean, not self._has_failed)
         try:
             saving.write()
@@ -409,21 +428,30 @@ class Editor:
     # ---- the active document
     @_turn
     def map(self) -> dict[str, Any]:
-        """The active document's map, as `show` gives it. Raises Refused."""
-        shown: dict[str, Any] = json.loads(self._shown('map()'))
-        return shown
+        """The active document's map, as `show` gives it, but with fractions as floats. Raises Refused."""
+        return self._tree(self._shown('map()'))
 
     @_turn
     def outline(self) -> dict[str, Any]:
         """The active document's map as `map` gives it, without the member `data` of tile layers. Raises Refused."""
         return self._outline('outline()')
 
+    @property
+    @_turn
+    def origin(self) -> tuple[int, int]:
+        """The column and the row at which the corner of the active document's map lies in the infinite map that it was opened as,
+        in cells; 0 and 0 where it was not infinite. Raises Refused."""
+        tree = json.loads(self._outline_text('origin'))
+        return origin_of(tree) if self._has_set_aside else (0, 0)
+
     def _outline(self, call: str) -> dict[str, Any]:
+        return self._tree(self._outline_text(call))
+
+    def _outline_text(self, call: str) -> bytes:
         text = self._told('outline')
         if text is None:
             raise Refused(10, 'no active document', call, forms=())
-        outline: dict[str, Any] = json.loads(text)
-        return outline
+        return text
 
     @_turn
     def cells(self, layer: int, x: int, y: int, width: int, height: int) -> 'Optional[array[int]]':

@@ -10,12 +10,12 @@ class Refused(Exception):
     `code` is the number of the refusal, `words` what it says, and `line` what the caller wrote: a line, as `undo`, or a call,
     as `save_file('a.tmj')`. Where a line is of no command, or is not as its command has it, `forms` are the forms to write it
     in; a call has none. Where it was one of many lines, `place` is its place among them, from 0, and `replies` are those to the
-    lines before it, which are done.
+    lines before it, which are done. `why` says of a map why it is not set aside, put back or unpacked, if that is so.
     """
 
     def __init__(
         self, code: int, words: str, line: str, place: Optional[int] = None, replies: Iterable[str] = (),
-        forms: Optional[tuple[str, ...]] = None,
+        forms: Optional[tuple[str, ...]] = None, why: Optional[str] = None,
     ):
         self.code = code
         self.words = words
@@ -23,11 +23,13 @@ class Refused(Exception):
         self.place = place
         self.replies = list(replies)
         self.forms = forms if forms is not None else forms_of(line) if code in (3, 4) else ()
+        self.why = why
         # An exception is copied and pickled by its arguments, and so it goes from one process to another.
-        super().__init__(code, words, line, place, self.replies, self.forms)
+        super().__init__(code, words, line, place, self.replies, self.forms, why)
 
     def __str__(self) -> str:
-        return '\n  '.join([f'{self.code} {self.words}: {self.line[:200]}', *self.forms])
+        more = self.forms if self.why is None else (self.why, *self.forms)
+        return '\n  '.join([f'{self.code} {self.words}: {self.line[:200]}', *more])
 
 
 class Closed(Exception):

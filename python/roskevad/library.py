@@ -11,6 +11,14 @@ CLOSED = 2**64 - 2
 NO_MEMORY = 2**64 - 3
 TOO_GREAT = 2**64 - 4
 BAD_NAME = 2**64 - 5
+# Why nothing is set aside of a map, or put back.
+NOT_JSON = 2**64 - 6
+NAME_TAKEN = 2**64 - 7
+TOO_DEEP = 2**64 - 8
+BAD_CHUNK = 2**64 - 9
+OVERLAP = 2**64 - 10
+TOO_LARGE = 2**64 - 11
+UNLIKE = 2**64 - 12
 
 
 class Slot(ctypes.Structure):
@@ -58,6 +66,8 @@ _PARAMETERS = {
     'cells': [_SLOT, ctypes.c_uint32, _SIZE, _SIZE, _SIZE, _SIZE, _ROOM, _SIZE],
     'outline': [_SLOT, _ROOM, _SIZE],
     'close': [_SLOT],
+    'set_aside': [_BYTES, _SIZE, _ROOM, _SIZE],
+    'put_back': [_BYTES, _SIZE, _ROOM, _SIZE],
     'version': [_ROOM, _SIZE],
 }
 

@@ -1,10 +1,12 @@
 """What `--all-maps` makes of a map's tree, plainly: its fractions are set aside, and put back, by the
-rules of docs/map-files.md. Trees are those of lib/json_texts.py, in which a number that is no whole
-number of 64 bits is a float; and a run of the program with that option."""
+rules of docs/map-files.md; an infinite map is made finite, and back, by lib/infinite.py. Trees are
+those of lib/json_texts.py, in which a number that is no whole number of 64 bits is a float; and a run
+of the program with that option."""
 import json
 import math
 import struct
 
+from lib.infinite import finite_of, infinite_of
 from lib.json_texts import depth_of, text_behind, tree_of
 from lib.maps import text_of
 from lib.model import Editor, Play
@@ -13,8 +15,15 @@ from lib.sessions import fault_of_reasons, fault_of_replies, heard
 OPTION = '--all-maps'
 RESERVED = 'roskevad'
 NAME_TAKEN = 'a member has the reserved name "roskevad"'
-TOO_DEEP = 'with its fractions set aside it nests deeper than 127'
+TOO_DEEP = 'set aside or put back, it would nest deeper than 127'
 NOT_JSON = 'not JSON'
+# The words for each fault of lib/infinite.py, and for a map that would not come back.
+INFINITE_FAULTS = {
+    'BadChunk': 'a chunk has no place, no size, or not a cell for each of its places',
+    'Overlap': 'two chunks of a layer overlap',
+    'TooLarge': 'made finite, its layers have more than 16,777,216 cells',
+}
+UNLIKE = 'made finite, it would not come back as it was'
 MAP, LAYER, OBJECT, COORDINATE, VERSION, ELSEWHERE = range(6)
 COORDINATES = ('x', 'y', 'width', 'height')
 
@@ -100,6 +109,20 @@ def back(value):
     }
 
 
+# ---- a whole map
+
+
+def set_aside(tree):
+    """The tree of a map as it is set aside. A fault of lib/infinite.py says why there is none."""
+    whole = aside(tree)
+    return finite_of(whole) or whole
+
+
+def put_back(tree):
+    """The tree of a map in which what was set aside is put back."""
+    return back(infinite_of(tree) or tree)
+
+
 # ---- what stands in a tree
 
 
@@ -147,11 +170,11 @@ class TiledEditor(Editor):
 
     def open(self, name, file):
         (tree,) = tree_of(self.files[file])
-        self.add(name, text_behind(aside(tree)))
+        self.add(name, text_behind(set_aside(tree)))
 
     def save(self, document, file):
         reply = super().save(document, file)
-        self.files[file] = text_of(back(json.loads(document.now.text)))
+        self.files[file] = text_of(put_back(json.loads(document.now.text)))
         return reply
 
 

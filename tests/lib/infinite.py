@@ -66,7 +66,7 @@ def chunked_layers(layers):
 def box_of(tree):
     """The left, top, right and bottom of all chunks, from an even column and row on."""
     found = []
-    for layer in chunked_layers(tree['layers']):
+    for layer in chunked_layers(tree.get('layers', [])):
         if type(layer['chunks']) is not list:
             raise Fault('BadChunk')
         found += [rectangle_of(chunk) for chunk in layer['chunks']]
@@ -77,9 +77,26 @@ def box_of(tree):
     return left, top, right, max(y + height for _, y, _, height in found)
 
 
+def cells_in_all(tree):
+    """How many cells the layers of the finite map of a tree have in all; 0 where there is none."""
+    try:
+        left, top, right, bottom = box_of(tree) if is_infinite(tree) else (0, 0, 0, 0)
+        width, height = right - left, bottom - top
+        is_small = max(width, height) <= MOST_SIDE and width * height <= MOST_CELLS
+        return len(list(chunked_layers(tree.get('layers', [])))) * width * height if is_small else 0
+    except (Fault, KeyError, TypeError, AttributeError):
+        return 0
+
+
 def chunk_side(tree, name):
-    side = tree.get('editorsettings', {}).get('chunksize', {}).get(name, 0)
-    return min(max(side, LEAST_CHUNK), MOST_SIDE) if side else USUAL_CHUNK
+    side = tree.get('editorsettings', {}).get('chunksize', {}).get(name)
+    return min(max(side, LEAST_CHUNK), MOST_SIDE) if is_whole(side, 1, 1 << 64) else USUAL_CHUNK
+
+
+def tile_side(tree, name):
+    """The side of a tile in pixels; 0 where the map names no whole number."""
+    side = tree.get(name)
+    return side if type(side) is int else 0
 
 
 def data_of(values, is_text):
@@ -110,23 +127,29 @@ def finite_layer(layer, left, top, width, height):
 
 
 def move_objects(layers, x, y):
+    """Moves objects by pixels; what is past 64 bits comes in at the other end."""
     for layer in layers:
         for item in layer.get('objects', []):
             for name, by in (('x', x), ('y', y)):
-                if type(item.get(name)) is int:
-                    item[name] += by
+                if is_whole(item.get(name), -(1 << 63), (1 << 63) - 1):
+                    item[name] = (item[name] + by + (1 << 63)) % (1 << 64) - (1 << 63)
         move_objects(layer.get('layers', []), x, y)
 
 
 def every_layer(layers):
     for layer in layers:
-        yield layer
-        yield from every_layer(layer.get('layers', []))
+        if type(layer) is dict:
+            yield layer
+            yield from every_layer(layer.get('layers', []))
+
+
+def is_infinite(tree):
+    return type(tree) is dict and tree.get('infinite') is True
 
 
 def finite_of(tree):
     """The finite map of an infinite one; None for a map that is not infinite."""
-    if tree.get('infinite') is not True:
+    if not is_infinite(tree):
         return None
     tree = copy.deepcopy(tree)
     left, top, right, bottom = box_of(tree)
@@ -135,16 +158,16 @@ def finite_of(tree):
     across, down = chunk_side(tree, 'width'), chunk_side(tree, 'height')
     note = {'x': left, 'y': top}
     if is_small:
-        if len(list(chunked_layers(tree['layers']))) * width * height > MOST_LAYER_CELLS:
+        if len(list(chunked_layers(tree.get('layers', [])))) * width * height > MOST_LAYER_CELLS:
             raise Fault('TooLarge')
         moved = [0, 0]
         if tree.get('orientation', 'orthogonal') == 'orthogonal':
-            moved = [left * tree.get('tilewidth', 0), top * tree.get('tileheight', 0)]
+            moved = [left * tile_side(tree, 'tilewidth'), top * tile_side(tree, 'tileheight')]
         note.update(chunkwidth=across, chunkheight=down, lostx=left % across, losty=top % down)
         note.update(movedx=moved[0], movedy=moved[1])
-        for layer in every_layer(tree['layers']):
+        for layer in every_layer(tree.get('layers', [])):
             finite_layer(layer, left, top, width, height)
-        move_objects(tree['layers'], -moved[0], -moved[1])
+        move_objects(tree.get('layers', []), -moved[0], -moved[1])
     else:
         names = ('chunkwidth', 'chunkheight', 'lostx', 'losty', 'movedx', 'movedy')
         note.update({name: 0 for name in names})
@@ -157,15 +180,23 @@ def finite_of(tree):
 # ---- back
 
 
-def spans(side, lost, limit):
-    """The blocks of a side, as far as they lie on the map."""
-    edges = range(-lost, limit, side)
-    return [(max(edge, 0), min(edge + side, limit)) for edge in edges]
+def block_of(note, x, y):
+    """The row and column of the block that a cell lies in."""
+    return (y + note['losty']) // note['chunkheight'], (x + note['lostx']) // note['chunkwidth']
 
 
-def cells_in(rectangle):
+def block_at(note, width, height, row, column):
+    """A block as a rectangle, as far as it lies on the map."""
+    left = column * note['chunkwidth'] - note['lostx']
+    top = row * note['chunkheight'] - note['losty']
+    right, bottom = left + note['chunkwidth'], top + note['chunkheight']
+    return max(left, 0), max(top, 0), min(right, width), min(bottom, height)
+
+
+def rows_in(rectangle, width):
+    """The slices of a layer's cells that are the rows of a rectangle."""
     left, top, right, bottom = rectangle
-    return [(x, y) for y in range(top, bottom) for x in range(left, right)]
+    return [slice(y * width + left, y * width + right) for y in range(top, bottom)]
 
 
 def around(rectangles):
@@ -174,23 +205,20 @@ def around(rectangles):
 
 
 def new_rectangles(note, width, height, cells, covered):
-    """Rectangles for the cells that are not 0 and that none covers."""
+    """Rectangles for the cells that are not 0 and that none covers, which has a 1 for each cell."""
+    blocks = {}
+    for at, value in enumerate(cells):
+        if value and not covered[at]:
+            y, x = divmod(at, width)
+            blocks.setdefault(block_of(note, x, y), []).append((x, y, x + 1, y + 1))
     found = []
-    for top, bottom in spans(note['chunkheight'], note['losty'], height):
-        for left, right in spans(note['chunkwidth'], note['lostx'], width):
-            block = left, top, right, bottom
-            news = [
-                (x, y, x + 1, y + 1)
-                for x, y in cells_in(block)
-                if cells[y * width + x] and (x, y) not in covered
-            ]
-            if not news:
-                continue
-            for whole in (block, around(news)):
-                if covered.isdisjoint(cells_in(whole)):
-                    news = [whole]
-                    break
-            found += news
+    for block in sorted(blocks):
+        news = blocks[block]
+        for whole in (block_at(note, width, height, *block), around(news)):
+            if not any(any(covered[row]) for row in rows_in(whole, width)):
+                news = [whole]
+                break
+        found += news
     return found
 
 
@@ -208,14 +236,17 @@ def infinite_layer(layer, note, width, height):
         right, bottom = min(x + across, width), min(y + down, height)
         if x < right and y < bottom:
             rectangles.append((x, y, right, bottom))
-    covered = {cell for rectangle in rectangles for cell in cells_in(rectangle)}
+    covered = bytearray(width * height)
+    for rectangle in rectangles:
+        for row in rows_in(rectangle, width):
+            covered[row] = b'\1' * (row.stop - row.start)
     news = new_rectangles(note, width, height, cells, covered)
     rectangles += news
     for name in ('data', 'width', 'height'):
         layer.pop(name, None)
     layer['chunks'] = [
         {
-            'data': data_of([cells[y * width + x] for x, y in cells_in(rectangle)], is_text),
+            'data': data_of([cell for row in rows_in(rectangle, width) for cell in cells[row]], is_text),
             'height': rectangle[3] - rectangle[1],
             'width': rectangle[2] - rectangle[0],
             'x': note['x'] + rectangle[0],
@@ -233,14 +264,14 @@ def infinite_layer(layer, note, width, height):
 
 def infinite_of(tree):
     """The infinite map that a finite one is; None for one that was not infinite."""
-    if MARK not in tree:
+    if type(tree) is not dict or type(tree.get(MARK)) is not dict or 'infinite' not in tree[MARK]:
         return None
     tree = copy.deepcopy(tree)
     note = tree.pop(MARK)['infinite']
     width, height = tree.pop('width'), tree.pop('height')
-    for layer in every_layer(tree['layers']):
+    for layer in every_layer(tree.get('layers', [])):
         infinite_layer(layer, note, width, height)
-    move_objects(tree['layers'], note['movedx'], note['movedy'])
+    move_objects(tree.get('layers', []), note['movedx'], note['movedy'])
     tree.update({name: note[name] for name in ('width', 'height') if name in note})
     tree['infinite'] = True
     return tree
@@ -371,7 +402,7 @@ def edit(chosen, tree):
     width, height = tree['width'], tree['height']
     if chosen.random() < 0.4:
         width, height = (max(1, side + chosen.randint(-9, 9)) for side in (width, height))
-    for layer in every_layer(tree['layers']):
+    for layer in every_layer(tree.get('layers', [])):
         for item in layer.get('objects', []):
             if chosen.random() < 0.3:
                 item['x'] = chosen.randint(-99, 99)

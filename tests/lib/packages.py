@@ -7,6 +7,9 @@ import subprocess
 import sys
 
 SELENIUM = 'python3-selenium'
+ZSTANDARD = 'python3-zstandard'
+# The modules of packages that this interpreter need not have: Debian's own may run a step.
+OF_DEBIAN = {SELENIUM: 'selenium', ZSTANDARD: 'zstandard'}
 # The command that each package brings.
 COMMANDS = {
     'chromium': 'chromium',
@@ -23,28 +26,24 @@ MODULES = {'python3-venv': 'ensurepip'}
 BROWSER = ('chromium', 'chromium-driver', SELENIUM)
 
 
-def pythons():
-    """The interpreters here that have selenium: this one, or Debian's own."""
+def pythons(modules):
+    """The interpreters here that have these modules: this one, or Debian's own."""
     for path in (sys.executable, '/usr/bin/python3'):
-        if (
-            os.path.exists(path)
-            and subprocess.run(
-                [path, '-c', 'import selenium'], stderr=subprocess.DEVNULL
-            ).returncode
-            == 0
-        ):
+        words = [path, '-c', f'import {", ".join(modules)}']
+        if os.path.exists(path) and subprocess.run(words, stderr=subprocess.DEVNULL).returncode == 0:
             yield path
 
 
 def python(packages):
-    """An interpreter for a step that needs these packages: one with selenium where that is among
-    them."""
-    return next(pythons(), sys.executable) if SELENIUM in packages else sys.executable
+    """An interpreter for a step that needs these packages: one with their modules, where there is
+    one."""
+    modules = [OF_DEBIAN[package] for package in packages if package in OF_DEBIAN]
+    return next(pythons(modules), sys.executable) if modules else sys.executable
 
 
 def is_there(package):
-    if package == SELENIUM:
-        return any(pythons())
+    if package in OF_DEBIAN:
+        return any(pythons([OF_DEBIAN[package]]))
     if package in MODULES:
         return importlib.util.find_spec(MODULES[package]) is not None
     return bool(shutil.which(COMMANDS[package]))

@@ -7,48 +7,14 @@ import {
 } from "./module_bytes.mjs";
 import { deepCases } from "./deep_cases.mjs";
 import { loaded } from "./loaded.mjs";
+import { MAP_CHECKS } from "./map_checks.mjs";
+import { refused, same, thrown, thrownLater } from "./wanted.mjs";
 
 const encoder = new TextEncoder();
 const decoder = new TextDecoder();
 // Enough for an editor, and too little for the deep cases.
 const SMALL_STACK = 32_768;
 const NEW = "new town 4 3 16 16 town.tsj";
-
-function same(given, wanted, what = "") {
-  const [came, want] = [given, wanted].map((each) => JSON.stringify(each));
-  if (came !== want) {
-    throw new Error(`${what} wanted ${want}, came ${came}`.trim());
-  }
-}
-
-// What a call throws, which must be of a kind.
-function thrown(kind, call) {
-  try {
-    call();
-  } catch (fault) {
-    if (fault instanceof kind) {
-      return fault;
-    }
-    throw fault;
-  }
-  throw new Error(`${call} has thrown nothing`);
-}
-
-async function thrownLater(kind, work, what) {
-  try {
-    await work;
-  } catch (fault) {
-    return thrown(kind, () => {
-      throw fault;
-    });
-  }
-  throw new Error(`${what} has thrown nothing`);
-}
-
-// What a call throws that a line of `no CODE ..` is the reply to.
-function refused(code, call) {
-  same(thrown(Refused, call).code, code);
-}
 
 // The calls of an editor that a closed or a broken one answers by a fault.
 const CALLS = [
@@ -69,6 +35,7 @@ const CALLS = [
   (editor) => editor.actionText(0),
   (editor) => editor.lastLayerId(),
   (editor) => editor.lastObjectId(),
+  (editor) => editor.origin(),
 ];
 
 async function linesAndReplies() {
@@ -411,7 +378,7 @@ const CHECKS = [
   linesAndReplies, bytesAsLines, manyLines, filesInMemory, whatNoLineTells, cellsAndOutlines,
   closedEditors, editorsOfOneModule,
   editorsInWorkers, editorsWithoutMemory, modulesThatAreNone, modulesFromEachSource, brokenModules,
-  deepestCases, memoryGivenBack,
+  deepestCases, memoryGivenBack, ...MAP_CHECKS,
 ];
 
 /** What came of each check: its name, and what is wrong, or null. */

@@ -11,7 +11,9 @@ int main(void)
     roskevad_run run = {0, 0, 0};
     roskevad_heard heard = {0, 0, 0, 0};
     const size_t told[] = {ROSKEVAD_DONE, ROSKEVAD_NONE, ROSKEVAD_IS_CLOSED, ROSKEVAD_NO_MEMORY, ROSKEVAD_TOO_GREAT, ROSKEVAD_BAD_NAME};
-    size_t sum = told[0] + sizeof ROSKEVAD_VERSION;
+    const size_t faults[] = {ROSKEVAD_NOT_JSON, ROSKEVAD_NAME_TAKEN, ROSKEVAD_TOO_DEEP, ROSKEVAD_BAD_CHUNK, ROSKEVAD_OVERLAP,
+                             ROSKEVAD_TOO_LARGE, ROSKEVAD_UNLIKE};
+    size_t sum = told[0] + faults[0] + sizeof ROSKEVAD_VERSION;
     sum += roskevad_editor_open(&slot, ROSKEVAD_GREATEST_LIMIT);
     sum += roskevad_editor_step(&slot, line, sizeof line - 1, room, sizeof room);
     sum += roskevad_editor_reply(&slot, room, sizeof room);
@@ -30,6 +32,8 @@ int main(void)
     sum += roskevad_editor_next_object_id(&slot);
     sum += roskevad_editor_cells(&slot, 1, 0, 0, 2, 2, cells, 4);
     sum += roskevad_editor_outline(&slot, room, sizeof room);
+    sum += roskevad_editor_set_aside(line, sizeof line - 1, room, sizeof room);
+    sum += roskevad_editor_put_back(ROSKEVAD_NULL, 0, ROSKEVAD_NULL, 0);
     sum += roskevad_editor_version(room, sizeof room);
     roskevad_editor_close(&slot);
     return sum == 0;

@@ -152,6 +152,53 @@ static void check_names(roskevad_slot *slot)
     WANT(roskevad_editor_action_text(slot, SIZE_MAX, room, 64) == ROSKEVAD_NONE);
 }
 
+/* What is made of a text by a call without a slot, with a buffer that is one byte too short and with one that is not. */
+static void check_made(size_t (*make)(const void *, size_t, void *, size_t), const char *given, const char *wanted)
+{
+    char room[128];
+    size_t size = strlen(wanted);
+    memset(room, 'x', sizeof room);
+    WANT(make(given, strlen(given), room, size - 1) == size && room[0] == 'x');
+    WANT(make(given, strlen(given), room, sizeof room) == size && memcmp(room, wanted, size) == 0 && room[size] == 'x');
+}
+
+/* What is answered for a text of which nothing is set aside, or put back. */
+static void check_unmade(size_t (*make)(const void *, size_t, void *, size_t), const char *given, size_t wanted)
+{
+    char room[128];
+    memset(room, 'x', sizeof room);
+    WANT(make(given, strlen(given), room, sizeof room) == wanted && room[0] == 'x');
+}
+
+#define HALF_ASIDE "{\"a\":{\"roskevad\":[1071644672,0]}}"
+#define CHUNK(more) "{\"data\":[1],\"height\":1,\"width\":1,\"x\":0,\"y\":0" more "}"
+#define INFINITE(layers) "{\"infinite\":true,\"layers\":[" layers "]}"
+
+/* Fractions and infinite maps, set aside and put back, and each reason why not. */
+static void check_asides(void)
+{
+    static char deep[300], large[2000];
+    check_made(roskevad_editor_set_aside, "{\"a\":0.5}", HALF_ASIDE);
+    check_made(roskevad_editor_put_back, HALF_ASIDE, "{\"a\":0.5}");
+    check_unmade(roskevad_editor_set_aside, "{\"a\":1,\"version\":1.5}", ROSKEVAD_NONE);
+    check_unmade(roskevad_editor_put_back, "{\"a\":0.5}", ROSKEVAD_NONE);
+    check_unmade(roskevad_editor_set_aside, "{\"a\":1", ROSKEVAD_NOT_JSON);
+    check_unmade(roskevad_editor_put_back, "\"\377\"", ROSKEVAD_NOT_JSON);
+    WANT(roskevad_editor_set_aside(NULL, 0, NULL, 0) == ROSKEVAD_NOT_JSON);
+    check_unmade(roskevad_editor_set_aside, "{\"roskevad\":1}", ROSKEVAD_NAME_TAKEN);
+    memset(deep, '[', 126);
+    memcpy(deep + 126, "0.5", 3);
+    memset(deep + 129, ']', 126);
+    check_unmade(roskevad_editor_set_aside, deep, ROSKEVAD_TOO_DEEP);
+    check_unmade(roskevad_editor_set_aside, INFINITE("{\"chunks\":[{}]}"), ROSKEVAD_BAD_CHUNK);
+    check_unmade(roskevad_editor_set_aside, INFINITE("{\"chunks\":[" CHUNK("") "," CHUNK("") "]}"), ROSKEVAD_OVERLAP);
+    check_unmade(roskevad_editor_set_aside, INFINITE("{\"chunks\":[" CHUNK(",\"a\":1") "]}"), ROSKEVAD_UNLIKE);
+    strcpy(large, "{\"infinite\":true,\"layers\":[{\"chunks\":[" CHUNK("") ",{\"data\":[1],\"height\":1,\"width\":1,\"x\":1023,\"y\":1023}]}");
+    for (int layer = 0; layer < 16; layer++)
+        strcat(large, ",{\"chunks\":[]}");
+    check_unmade(roskevad_editor_set_aside, strcat(large, "]}"), ROSKEVAD_TOO_LARGE);
+}
+
 /* Lines of which one is refused, on a slot with no document. */
 static void check_lines(roskevad_slot *slot)
 {
@@ -188,6 +235,7 @@ static void run_random(size_t lines)
     roskevad_slot slot = ROSKEVAD_CLOSED;
     check_closed(&slot);
     check_edges(&slot);
+    check_asides();
     check_lines(&slot);
     check_told(&slot);
     check_cells(&slot);
@@ -258,6 +306,29 @@ static void show_outline(roskevad_slot *slot)
     WANT(size < sizeof text && fwrite(text, 1, size, stdout) == size);
 }
 
+/* The text that a call makes, asked for again where there was no memory for it. Its size. */
+static size_t made_at_last(size_t (*make)(const void *, size_t, void *, size_t), const char *given, size_t length, char *text, size_t room)
+{
+    text[0] = 'x';
+    size_t size = make(given, length, text, room);
+    if (size == ROSKEVAD_NO_MEMORY) {
+        WANT(text[0] == 'x');
+        size = make(given, length, text, room);
+    }
+    WANT(size < room && fwrite(text, 1, size, stdout) == size);
+    return size;
+}
+
+/* Sets aside an infinite map with a fraction, and puts it back. */
+static void turn_aside(void)
+{
+    static const char GIVEN[] = INFINITE("{\"chunks\":[" CHUNK("") "],\"opacity\":0.5}");
+    char aside[1024], back[1024];
+    size_t size = made_at_last(roskevad_editor_set_aside, GIVEN, sizeof GIVEN - 1, aside, sizeof aside);
+    size = made_at_last(roskevad_editor_put_back, aside, size, back, sizeof back);
+    WANT(size == sizeof GIVEN - 1 && memcmp(back, GIVEN, size) == 0);
+}
+
 /* Has the C library make what it keeps for itself. */
 static void take_a_block(void)
 {
@@ -291,6 +362,7 @@ static void run_script(void)
     size_t size = roskevad_editor_file(&slot, "town.tmj", 8, bytes, sizeof bytes);
     WANT(size < sizeof bytes && fwrite(bytes, 1, size, stdout) == size);
     roskevad_editor_close(&slot);
+    turn_aside();
     WANT(mallinfo2().uordblks == before);
 }
 

@@ -6,7 +6,7 @@ use map_json::{MapFault, MapRefusal, read_map_along};
 use serde_json::{Error, Value};
 use std::alloc::Global;
 use std::io::{self, Write};
-use tiled_maps::{Fault, set_aside};
+use tiled_maps::{Fault, LONGEST, set_aside};
 
 /// The code and the words of a refusal.
 pub fn words_of(refusal: MapRefusal) -> &'static str {
@@ -59,7 +59,7 @@ fn write_refused<W: Write>(
     }
 }
 
-// Writes what the editor answers with `--all-maps` to a map whose fractions are set aside, where there is memory to know it.
+// Writes what the editor answers with `--all-maps` to a map that is set aside, where there is memory to know it.
 fn write_aside<W: Write>(alloc: Global, text: &[u8], output: &mut W) -> io::Result<()> {
     let mut place = Place::new(alloc);
     match read_map_along(alloc, text, &mut place) {
@@ -72,9 +72,12 @@ fn write_aside<W: Write>(alloc: Global, text: &[u8], output: &mut W) -> io::Resu
     }
 }
 
-// Writes what the editor answers with `--all-maps` to a map with fractions.
+// Writes what the editor answers with `--all-maps` to a map with fractions, or to an infinite one.
 fn write_with_all_maps<W: Write>(alloc: Global, bytes: &[u8], output: &mut W) -> io::Result<()> {
     match set_aside(alloc, bytes) {
+        Ok(Some(text)) if text.len() > LONGEST => {
+            output.write_all(b"\n  with --all-maps: set aside, it would be longer than 67,108,864 bytes")
+        }
         Ok(Some(text)) => write_aside(alloc, &text, output),
         Ok(None) | Err(Fault::Memory) => Ok(()),
         Err(fault) => {
@@ -96,7 +99,8 @@ fn write_all_fractions<W: Write>(alloc: Global, bytes: &[u8], output: &mut W) ->
 }
 
 /// Writes the line of a map that is refused, with the place at which the reader stopped. Where that is lost, there was no
-/// memory. If the map is refused for a fraction, a line for each of them follows.
+/// memory. If the map is refused for a fraction, a line for each of them follows; and for a fraction, or since it is infinite,
+/// what the editor answers with `--all-maps`.
 pub fn write_refusal<W: Write>(
     alloc: Global,
     file: &str,
@@ -109,8 +113,10 @@ pub fn write_refusal<W: Write>(
     match fault {
         MapFault::Refused(refusal) if !place.is_lost() => {
             write_refused(alloc, bytes, refusal, place, output)?;
-            if refusal == MapRefusal::Fraction {
-                write_all_fractions(alloc, bytes, output)?;
+            match refusal {
+                MapRefusal::Fraction => write_all_fractions(alloc, bytes, output)?,
+                MapRefusal::Infinite => write_with_all_maps(alloc, bytes, output)?,
+                _ => {}
             }
         }
         MapFault::Refused(_) | MapFault::Memory => output.write_all(b"no 90 no memory")?,

@@ -87,7 +87,7 @@ pub struct Options<'a> {
     pub limit: usize,
     /// Whether the first refused line ends the program, and unsaved changes are a failure.
     pub is_strict: bool,
-    /// Whether maps with fractions are opened, too.
+    /// Whether infinite maps and maps with fractions are opened, too.
     pub opens_all_maps: bool,
 }
 
@@ -129,7 +129,7 @@ fn strict_arg<'a>(alloc: Global) -> Arg<'a>
         .help("Stops at the first refused line, and fails where a document is left unsaved")
 }
 
-// The option that opens maps with fractions.
+// The option that opens infinite maps and maps with fractions.
 fn all_maps_arg<'a>(alloc: Global) -> Arg<'a>
     ensures rule { rule_of result ≡ all_maps_option }
     ensures plain { IsPlainArg result }
@@ -138,7 +138,7 @@ fn all_maps_arg<'a>(alloc: Global) -> Arg<'a>
     Arg::new(alloc, "all_maps")
         .long("all-maps")
         .action(ArgAction::SetTrue)
-        .help("Opens maps with fractions, too, and puts back on saving what no edit changed")
+        .help("Opens infinite maps and maps with fractions, too, and puts back what no edit changed")
 }
 
 // The command with its options.

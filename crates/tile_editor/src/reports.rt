@@ -51,7 +51,7 @@ impl<'a, R: Eprint> Report for ErrorLines<'a, R> {
     }
 }
 
-/// Says on standard error why a file of a folder is not loaded.
+/// Says on standard error why a file of a folder is not loaded or not saved.
 #[derive(Drop)]
 pub struct FolderFaults<'a, R> {
     rt: &'a R,
@@ -69,6 +69,12 @@ impl<'a, R: Eprint> FaultReport for FolderFaults<'a, R> {
     fn refused(&self, name: &str, fault: Fault) {
         let folder = self.folder;
         let reason = fault.words();
+        let _ = eprintln!(self.rt; "tile_editor: {folder}/{name}: {reason}");
+    }
+
+    fn too_long(&self, name: &str) {
+        let folder = self.folder;
+        let reason = "set aside or put back, it would be longer than 67,108,864 bytes";
         let _ = eprintln!(self.rt; "tile_editor: {folder}/{name}: {reason}");
     }
 }

@@ -3,4 +3,5 @@ pub mod Places
 pub mod Fractions
 pub mod Aside
 pub mod Back
+pub mod Trees
 pub mod Texts

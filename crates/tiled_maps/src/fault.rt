@@ -1,5 +1,6 @@
 ghost use Rattle.std.specs.Prelude.{◌≡◌};
 ghost use Rattle.tiled_maps.specs.declared.fault.Fault.TheVariants.{Memory};
+ghost use Rattle.tiled_maps.specs.Trees.{fault_of};
 
 use std::alloc::AllocError;
 
@@ -12,8 +13,16 @@ pub enum Fault {
     NotJson,
     /// A member has the name `roskevad`.
     NameTaken,
-    /// With its fractions set aside, the map would nest deeper than 127.
+    /// The text that would be given nests deeper than 127.
     TooDeep,
+    /// A chunk of an infinite map has no place or size, lies past 2^31 cells, or has not a whole number for each cell.
+    BadChunk,
+    /// Two chunks of a layer overlap.
+    Overlap,
+    /// Made finite, the layers would have more than 16,777,216 cells in all.
+    TooLarge,
+    /// Made finite, the map would not come back as it was: a chunk has members of its own, or a layer has chunks and data.
+    Unlike,
 }
 
 impl Fault {
@@ -23,7 +32,12 @@ impl Fault {
             Fault::Memory => "out of memory",
             Fault::NotJson => "not JSON",
             Fault::NameTaken => "a member has the reserved name \"roskevad\"",
-            Fault::TooDeep => "with its fractions set aside it nests deeper than 127",
+            Fault::TooDeep => "set aside or put back, it would nest deeper than 127",
+            Fault::BadChunk =>
+                "a chunk has no place, no size, or not a cell for each of its places",
+            Fault::Overlap => "two chunks of a layer overlap",
+            Fault::TooLarge => "made finite, its layers have more than 16,777,216 cells",
+            Fault::Unlike => "made finite, it would not come back as it was",
         }
     }
 }
@@ -33,5 +47,19 @@ impl From<AllocError> for Fault {
 
     fn from(_error: AllocError) -> Fault {
         Fault::Memory
+    }
+}
+
+impl From<infinite_maps::Fault> for Fault {
+    ghost from_gives = { λ f e. e ≡ fault_of f };
+
+    fn from(fault: infinite_maps::Fault) -> Fault {
+        match fault {
+            infinite_maps::Fault::Memory => Fault::Memory,
+            infinite_maps::Fault::BadChunk => Fault::BadChunk,
+            infinite_maps::Fault::Overlap => Fault::Overlap,
+            infinite_maps::Fault::TooLarge => Fault::TooLarge,
+            infinite_maps::Fault::Unlike => Fault::Unlike,
+        }
     }
 }

@@ -9,6 +9,7 @@ mod fractions;
 mod members;
 mod place;
 mod text;
+mod tree;
 
 pub use fault::Fault;
-pub use text::{put_back, set_aside};
+pub use text::{LONGEST, put_back, set_aside};

@@ -3,18 +3,18 @@ ghost use Rattle.std.specs.Prelude.{◌≡◌};
 ghost use Rattle.serde_json.specs.View.{view as data_of};
 ghost use Rattle.tiled_maps.specs.Texts.{Reads, SetsAside, PutsBack};
 
-use crate::aside::aside;
 use crate::back::back;
 use crate::fault::Fault;
 use crate::fraction::RESERVED_NAME;
 use crate::fractions::has_fraction;
 use crate::members::{has_name, is_within};
 use crate::place::Place;
+use crate::tree::{MAX_DEPTH, finite, infinite, whole};
 use serde_json::Value;
 use std::alloc::Global;
 
-/// How deep a JSON text may nest.
-const MAX_DEPTH: u8 = 127;
+/// The bytes of the longest text that a caller is to take from these calls, or to give them: as of a file that is loaded.
+pub const LONGEST: usize = 67_108_864;
 
 // The tree that the bytes have.
 fn read(alloc: Global, bytes: &[u8]) -> Result<Value, Fault>
@@ -32,15 +32,18 @@ fn read(alloc: Global, bytes: &[u8]) -> Result<Value, Fault>
     }
 }
 
-/// The text of a map with its fractions set aside, or `None` if it has none: then the bytes can be read as they are.
+/// The text of a map with its fractions set aside and, if it is infinite, made finite; or `None` if it has no fraction and is not
+/// infinite: then the bytes can be read as they are.
 ///
 /// A fraction is a number that is no whole number of 64 bits; the version of the map is none. In the text a stand-in takes its
 /// place: an object whose one member, `roskevad`, has the halves of the number's 64 bits. The `x`, `y`, `width` and `height` of
 /// an object of an object layer keep their whole part in its place, rounded down and as far as 64 bits reach; the object gets a
-/// member `roskevad`, which has the stand-in of each of them that is a fraction.
+/// member `roskevad`, which has the stand-in of each of them that is a fraction. Then the map is made finite as by
+/// `infinite_maps::made_finite`; a map above its limits gets its sizes alone.
 ///
-/// `NotJson` where the bytes have no tree, `NameTaken` where a member has the name `roskevad` already, `TooDeep` where the stand-ins
-/// would nest too deep, and `Memory` where there was not enough. What `put_back` makes of the text has the tree of the bytes again.
+/// `NotJson` where the bytes have no tree, `NameTaken` where a member has the name `roskevad` already, `TooDeep` where the text
+/// would nest too deep, and `Memory` where there was not enough. `BadChunk`, `Overlap`, `TooLarge` and `Unlike` come for infinite
+/// maps alone. What `put_back` makes of the text has the tree of the bytes again. The caller bounds how long the text may be.
 pub fn set_aside(alloc: Global, bytes: &[u8]) -> Result<Option<Vec<u8>>, Fault>
     ensures { SetsAside bytes.now result }
 {
@@ -48,24 +51,29 @@ pub fn set_aside(alloc: Global, bytes: &[u8]) -> Result<Option<Vec<u8>>, Fault>
     if has_name(RESERVED_NAME, &value) {
         return Err(Fault::NameTaken);
     }
-    if !has_fraction(Place::Map, &value) {
-        return Ok(None);
+    let is_whole = !has_fraction(Place::Map, &value);
+    let whole = whole(alloc, is_whole, value)?;
+    match finite(alloc, &whole)? {
+        Some(finite) => {
+            drop(whole);
+            Ok(Some(finite.to_vec(alloc)?))
+        }
+        None => if is_whole {
+            Ok(None)
+        } else {
+            Ok(Some(whole.to_vec(alloc)?))
+        },
     }
-    let whole = aside(alloc, Place::Map, &value)?;
-    drop(value);
-    if !is_within(MAX_DEPTH, &whole) {
-        return Err(Fault::TooDeep);
-    }
-    let text = whole.to_vec(alloc)?;
-    Ok(Some(text))
 }
 
 /// The text of a map in which what was set aside is put back, or `None` if nothing was: then the bytes are the text.
 ///
-/// A stand-in becomes its number. A coordinate of an object becomes the number that the object's note of it has, if it still is
-/// that number's whole part; else an edit has changed it, and it stays. Notes go, and anything else under `roskevad` stays.
+/// A map that was infinite is made infinite, as by `infinite_maps::made_infinite`. A stand-in becomes its number. A coordinate of
+/// an object becomes the number that the object's note of it has, if it still is that number's whole part; else an edit has
+/// changed it, and it stays. Notes go, and anything else under `roskevad` stays.
 ///
-/// `NotJson` where the bytes have no tree, and `Memory` where there was not enough. No other fault comes.
+/// `NotJson` where the bytes have no tree, `TooDeep` where the text would nest too deep, and `Memory` where there was not enough.
+/// No other fault comes, and of what `set_aside` gave only `Memory`. The caller bounds how long the text may be.
 pub fn put_back(alloc: Global, bytes: &[u8]) -> Result<Option<Vec<u8>>, Fault>
     ensures { PutsBack bytes.now result }
 {
@@ -73,8 +81,12 @@ pub fn put_back(alloc: Global, bytes: &[u8]) -> Result<Option<Vec<u8>>, Fault>
     if !has_name(RESERVED_NAME, &value) {
         return Ok(None);
     }
-    let exact = back(alloc, &value)?;
-    drop(value);
+    let map = infinite(alloc, value)?;
+    let exact = back(alloc, &map)?;
+    drop(map);
+    if !is_within(MAX_DEPTH, &exact) {
+        return Err(Fault::TooDeep);
+    }
     let text = exact.to_vec(alloc)?;
     Ok(Some(text))
 }

@@ -1,7 +1,10 @@
 use tiled_maps::Fault;
 
-/// Where a store says why it does not load a file.
+/// Where a store says why it does not load or store a file.
 pub trait FaultReport {
-    /// The file of this name has a member of the reserved name, or would nest too deep.
+    /// The file of this name is not loaded, or what is to be stored would nest too deep.
     fn refused(&self, name: &str, fault: Fault);
+
+    /// What is set aside of the file of this name, or put back of its text, is longer than 67,108,864 bytes.
+    fn too_long(&self, name: &str);
 }

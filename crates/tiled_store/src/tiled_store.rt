@@ -6,18 +6,19 @@ ghost use Rattle.tiled_store.specs.Stored.{LoadsFrom, StoresTo};
 use crate::fault_report::FaultReport;
 use map_store::{MapStore, StoreFault};
 use std::alloc::Global;
-use tiled_maps::{Fault, put_back, set_aside};
+use tiled_maps::{Fault, LONGEST, put_back, set_aside};
 
-/// The files of another store. A load sets the fractions of a map aside, and a store puts them back; or both leave a text as it
-/// is, if the store was made so.
+/// The files of another store. A load sets the fractions of a map aside and makes an infinite map finite, and a store puts back
+/// what was set aside; or both leave a text as it is, if the store was made so.
 ///
-/// A file is loaded as it is if it is no JSON, so that its reader refuses it. If a member has the reserved name, or the file would
-/// nest too deep, the load is refused as `Device`, and the report is told why. Nothing is claimed of the files themselves.
+/// A file is loaded as it is if it is no JSON, so that its reader refuses it. For another fault of `set_aside`, or if its text is
+/// longer than `LONGEST`, the load is refused as `Device`, and the report is told why; so is a store for `put_back`, and then no
+/// file changes. Nothing is claimed of the files themselves.
 #[derive(Drop)]
 pub struct TiledStore<S, T> {
     /// The other store.
     pub store: S,
-    /// Whether fractions are set aside and put back.
+    /// Whether maps are set aside and put back.
     pub sets_aside: bool,
     /// Whether a load has set anything aside. Until one has, texts are stored as they are.
     pub has_set_aside: bool,
@@ -27,7 +28,7 @@ pub struct TiledStore<S, T> {
 }
 
 impl<S: MapStore, T: FaultReport> TiledStore<S, T> {
-    /// Over a store, and with a report of what is refused. Fractions are set aside, or texts are left as they are.
+    /// Over a store, and with a report of what is refused. Maps are set aside, or texts are left as they are.
     pub fn new(store: S, report: T, sets_aside: bool) -> TiledStore<S, T>
         ensures store { result.store ≡ store }
         ensures sets { result.sets_aside ≡ sets_aside }
@@ -50,6 +51,14 @@ impl<S: MapStore, T: FaultReport> TiledStore<S, T> {
         StoreFault::Device
     }
 
+    // Tells the report of a text that is too long, and gives the answer.
+    fn too_long(&self, name: &str) -> StoreFault
+        ensures { result ≡ StoreFault.Device }
+    {
+        self.report.too_long(name);
+        StoreFault::Device
+    }
+
     // Counts a fault of the device.
     fn counted(&mut self, fault: StoreFault) -> StoreFault
         ensures value { result ≡ fault }
@@ -65,7 +74,7 @@ impl<S: MapStore, T: FaultReport> TiledStore<S, T> {
         fault
     }
 
-    // Loads a file, and sets its fractions aside. A fault is not counted yet.
+    // Loads a file, and sets aside what is to be. A fault is not counted yet.
     fn loaded(&mut self, alloc: Global, name: &str) -> Result<Vec<u8>, StoreFault>
         ensures loads { IsTrue (S.stored self.old.store).honest → IsTrue self.old.sets_aside
             → LoadsFrom name.now (S.stored self.old.store) result (S.stored self.new.store) self.new.has_set_aside }
@@ -80,6 +89,7 @@ impl<S: MapStore, T: FaultReport> TiledStore<S, T> {
             return Ok(bytes);
         }
         match set_aside(alloc, bytes.as_slice()) {
+            Ok(Some(text)) if text.len() > LONGEST => Err(self.too_long(name)),
             Ok(Some(text)) => {
                 self.has_set_aside = true;
                 Ok(text)
@@ -87,8 +97,7 @@ impl<S: MapStore, T: FaultReport> TiledStore<S, T> {
             Ok(None) => Ok(bytes),
             Err(Fault::NotJson) => Ok(bytes),
             Err(Fault::Memory) => Err(StoreFault::Memory),
-            Err(Fault::NameTaken) => Err(self.refused(name, Fault::NameTaken)),
-            Err(Fault::TooDeep) => Err(self.refused(name, Fault::TooDeep)),
+            Err(fault) => Err(self.refused(name, fault)),
         }
     }
 
@@ -107,12 +116,12 @@ impl<S: MapStore, T: FaultReport> TiledStore<S, T> {
             return self.store.store(alloc, name, bytes);
         }
         match put_back(alloc, bytes) {
+            Ok(Some(text)) if text.len() > LONGEST => Err(self.too_long(name)),
             Ok(Some(text)) => self.store.store(alloc, name, text.as_slice()),
             Ok(None) => self.store.store(alloc, name, bytes),
             Err(Fault::Memory) => Err(StoreFault::Memory),
-            Err(Fault::NotJson | Fault::NameTaken | Fault::TooDeep) => {
-                self.store.store(alloc, name, bytes)
-            }
+            Err(Fault::NotJson) => self.store.store(alloc, name, bytes),
+            Err(fault) => Err(self.refused(name, fault)),
         }
     }
 }

@@ -1,4 +1,4 @@
-// What a text becomes whose fractions are set aside, or put back.
+// What a text becomes that is set aside, or put back.
 use std::alloc::Global;
 use std::io::{self, Write};
 use tiled_maps::{Fault, put_back, set_aside};
@@ -12,7 +12,7 @@ fn write_text<W: Write>(text: Result<Option<Vec<u8>>, Fault>, output: &mut W) ->
     }
 }
 
-/// Writes the text in which fractions are set aside, or why there is none.
+/// Writes the text as it is set aside, or why there is none.
 pub fn write_set_aside<W: Write>(alloc: Global, bytes: &[u8], output: &mut W) -> io::Result<()> {
     write_text(set_aside(alloc, bytes), output)
 }

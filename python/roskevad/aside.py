@@ -1,0 +1,121 @@
+"""What the editor's format refuses of a map is set aside before it is read, and put back when it is saved."""
+import math
+import struct
+from typing import Any, Optional
+
+from . import library
+from .faults import Refused
+from .library import LIBRARY
+from .packed import Unpackable, packed, unpacked
+from .rooms import Room
+
+# The name under which it stands, in the map, in layers and objects.
+_RESERVED = 'roskevad'
+# The names of an object's place, with what it was moved by, and of its size.
+_MOVED = {'x': 'movedx', 'y': 'movedy', 'width': None, 'height': None}
+# Why that is refused, in the words of the program.
+_FAULTS = {
+    library.NAME_TAKEN: 'a member has the reserved name "roskevad"',
+    library.TOO_DEEP: 'set aside or put back, it would nest deeper than 127',
+    library.BAD_CHUNK: 'a chunk has no place, no size, or not a cell for each of its places',
+    library.OVERLAP: 'two chunks of a layer overlap',
+    library.TOO_LARGE: 'made finite, its layers have more than 16,777,216 cells',
+    library.UNLIKE: 'made finite, it would not come back as it was',
+}
+# The longest text that is made, as in the program.
+_LONGEST = 67_108_864
+_TOO_LONG = 'set aside or put back, it would be longer than 67,108,864 bytes'
+_WORDS = {51: 'store failed', 66: 'bad data'}
+
+
+def set_aside(data: bytes, call: str) -> tuple[bytes, Optional[str]]:
+    """The text of a map that `open` can read, where it can; and why a layer stays packed, in words. Raises Refused, with the call:
+    51 and 66."""
+    try:
+        found = unpacked(data)
+    except Unpackable as fault:
+        raise _refused(fault, call) from None
+    return _made('set_aside', found.data, call), found.why
+
+
+def put_back(data: bytes, call: str) -> bytes:
+    """The text of a map as it was before. Raises Refused, with the call: 51."""
+    try:
+        return packed(_made('put_back', data, call))
+    except Unpackable as fault:
+        raise _refused(fault, call) from None
+
+
+def _refused(fault: Unpackable, call: str) -> Refused:
+    return Refused(fault.code, _WORDS[fault.code], call, forms=(), why=fault.why)
+
+
+def _made(name: str, data: bytes, call: str) -> bytes:
+    """What a call of the library makes of a text: the same, where it makes none. The text is made once more, where it has no room."""
+    function = getattr(LIBRARY, f'roskevad_{name}')
+    room = Room(min(2 * len(data) + 65_536, _LONGEST))
+    size: int = function(data, len(data), room.at, room.size)
+    if room.size < size <= _LONGEST:
+        room = Room(size)
+        size = function(data, len(data), room.at, room.size)
+    if size == library.NO_MEMORY:
+        raise MemoryError
+    # A text that is no JSON is refused by its reader.
+    if size in (library.NONE, library.NOT_JSON):
+        return data
+    if size > _LONGEST:
+        raise Refused(51, _WORDS[51], call, forms=(), why=_FAULTS.get(size, _TOO_LONG))
+    text: bytes = room.bytes[:size]
+    return text
+
+
+# ---- trees
+def restored(tree: dict[str, Any]) -> dict[str, Any]:
+    """The tree of a map in which fractions are numbers again, and no note is left. It stays finite."""
+    found: dict[str, Any] = _restored(tree, _infinite_note(tree))
+    return found
+
+
+def origin_of(tree: dict[str, Any]) -> tuple[int, int]:
+    """The column and the row of an infinite map where the corner of the finite one lies; 0 and 0 of any other map."""
+    note = _infinite_note(tree)
+    return note.get('x', 0), note.get('y', 0)
+
+
+def _infinite_note(tree: dict[str, Any]) -> dict[str, Any]:
+    notes = tree.get(_RESERVED)
+    note = notes.get('infinite') if isinstance(notes, dict) else None
+    return note if isinstance(note, dict) else {}
+
+
+def _restored(value: Any, note: dict[str, Any]) -> Any:
+    if isinstance(value, list):
+        return [_restored(each, note) if isinstance(each, (dict, list)) else each for each in value]
+    if not isinstance(value, dict):
+        return value
+    members = {name: _restored(member, note) for name, member in value.items()}
+    notes = members.get(_RESERVED)
+    if isinstance(notes, list) and len(members) == 1:
+        return _number_of(notes, members)
+    if isinstance(notes, dict):
+        del members[_RESERVED]
+        members.update(_exact(members, notes, note))
+    return members
+
+
+def _number_of(halves: list[Any], members: dict[str, Any]) -> Any:
+    """The number that an object of nothing but the halves of its bits stands for, else the object."""
+    if len(halves) < 2 or not all(type(half) is int and 0 <= half < 2**32 for half in halves[:2]):
+        return members
+    number: float = struct.unpack('>d', struct.pack('>2I', *halves[:2]))[0]
+    return number if math.isfinite(number) else members
+
+
+def _exact(members: dict[str, Any], notes: dict[str, Any], note: dict[str, Any]) -> dict[str, float]:
+    """The coordinates of an object that are noted and that no edit has changed. An object of an infinite map was moved."""
+    exact = {}
+    for name, moved in _MOVED.items():
+        noted, by = notes.get(name), note.get(moved, 0) if moved else 0
+        if isinstance(noted, float) and math.floor(noted) == members.get(name, math.nan) + by:
+            exact[name] = noted - by
+    return exact

@@ -1,0 +1,159 @@
+"""Maps whose layers are compressed: unpacked before the library reads them, and packed again behind it.
+
+    data = packed(put_back(..))          what a file has
+    unpacked(data).data                  what the library reads
+
+While a layer is unpacked, a member of it notes how it was packed. The level stands in the map's own `compressionlevel`, which the
+library keeps. Layers that are added meanwhile have no such note, and are arrays.
+"""
+import base64
+import binascii
+from typing import Any, Iterator, NamedTuple, Optional
+
+from .layers import NOTE, Edit, Members, edited, map_and_layers
+from .packings import pack, unpack, why_not
+
+_NOTE_TAKEN = f'a layer has a member of the reserved name "{NOTE}"'
+_TOO_LONG = 'unpacked, its layers have more than 67,108,864 bytes'
+_BAD_DATA = 'the data of a layer does not unpack to 4 bytes a cell'
+_NO_SPACE = str.maketrans('', '', ' \t\r\n')
+_CELL_BYTES, _MOST_CELLS, _MOST_BYTES = 4, 1_048_576, 67_108_864
+
+
+class Unpackable(Exception):
+    """Why a map is not unpacked or packed: a number of docs/refusals.md, and the reason in words."""
+
+    def __init__(self, code: int, why: str):
+        super().__init__(code, why)
+        self.code = code
+        self.why = why
+
+
+class Unpacked(NamedTuple):
+    """A map that is unpacked as far as it can be."""
+
+    #: Its bytes: the same, where no layer is packed.
+    data: bytes
+    #: Why a layer stays as it is, in words; `None` where none is packed any more.
+    why: Optional[str]
+
+
+def unpacked(data: bytes) -> Unpacked:
+    """A map with its layers unpacked. Raises Unpackable: 51 where a layer has the member of a note, or they are too many bytes; 66
+    where data do not unpack to four bytes a cell. Nothing is unpacked any further."""
+    text = _text_of(data) if b'compression"' in data or b'\\u' in data else None
+    if text is None:
+        return Unpacked(data, None)
+    members, layers = map_and_layers(text)
+    if any(NOTE in layer for layer in layers):
+        raise Unpackable(51, _NOTE_TAKEN)
+    why = next(filter(None, (why_not(packing) for packing in map(_packing_of, layers) if packing)), None)
+    unpacker = _Unpacker(_cells_of(members))
+    edits = [edit for layer in layers for edit in unpacker.edits(layer)]
+    return Unpacked(edited(text, edits).encode() if edits else data, why)
+
+
+def packed(data: bytes) -> bytes:
+    """A map with those layers packed that note how. Raises Unpackable: 51 where that can't be done here."""
+    text = _text_of(data) if f'"{NOTE}"'.encode() in data else None
+    if text is None:
+        return data
+    members, layers = map_and_layers(text)
+    told = _value_of(members, 'compressionlevel')
+    level = told if type(told) is int else -1
+    return edited(text, [edit for layer in layers for edit in _packing_edits(layer, level)]).encode()
+
+
+def _text_of(data: bytes) -> Optional[str]:
+    """The text of bytes in UTF-8; `None` where they are none."""
+    try:
+        return data.decode()
+    except UnicodeDecodeError:
+        return None
+
+
+def _value_of(members: Members, name: str) -> Any:
+    return members[name].value() if name in members else None
+
+
+def _packing_of(layer: Members) -> Optional[str]:
+    """How a layer is packed; `None` where it is not."""
+    packing = _value_of(layer, 'compression')
+    is_packed = isinstance(packing, str) and packing and _value_of(layer, 'encoding') == 'base64'
+    return packing if is_packed else None
+
+
+def _cells_of(members: Members) -> Optional[int]:
+    """How many cells a map or a chunk says that it has; `None` where it does not say so, or has too many."""
+    width, height = _value_of(members, 'width'), _value_of(members, 'height')
+    is_size = type(width) is int and type(height) is int and width > 0 and height > 0
+    return width * height if is_size and width * height <= _MOST_CELLS else None
+
+
+def _holders_of(layer: Members, cells: Optional[int]) -> Iterator[tuple[Members, Optional[int]]]:
+    """What holds data of a layer: the layer, or each of its chunks; with how many cells it has."""
+    if 'data' in layer:
+        yield layer, cells
+    if 'chunks' in layer:
+        for entry in layer['chunks'].entries():
+            chunk = entry.members()
+            yield chunk, _cells_of(chunk)
+
+
+class _Unpacker:
+    """Unpacks the layers of a map with so many cells."""
+
+    def __init__(self, cells: Optional[int]):
+        self._cells = cells
+        self._rest = _MOST_BYTES
+
+    def edits(self, layer: Members) -> Iterator[Edit]:
+        """What changes in the text of a layer."""
+        packing = _packing_of(layer)
+        if packing is None or why_not(packing):
+            return
+        named = layer['compression']
+        yield Edit(named.start, named.end, f'"","{NOTE}":"{packing}"')
+        for holder, cells in _holders_of(layer, self._cells):
+            data = _value_of(holder, 'data')
+            if not isinstance(data, str) or cells is None:
+                # The library says so.
+                return
+            yield _data_edit(holder, self._unpacked(packing, data, cells * _CELL_BYTES))
+
+    def _unpacked(self, packing: str, data: str, size: int) -> bytes:
+        self._rest -= -(-size // 3) * 4
+        if self._rest < 0:
+            raise Unpackable(51, _TOO_LONG)
+        found = unpack(packing, _decoded(data) or b'', size)
+        if found is None:
+            raise Unpackable(66, _BAD_DATA)
+        return found
+
+
+def _packing_edits(layer: Members, level: int) -> Iterator[Edit]:
+    """What changes in the text of a layer that is packed, if it notes how."""
+    packing = _value_of(layer, NOTE)
+    if not isinstance(packing, str):
+        return
+    why = why_not(packing)
+    if why:
+        raise Unpackable(51, why)
+    note = layer[NOTE]
+    yield Edit(note.name_start, note.name_end, '"compression"')
+    for holder, _ in _holders_of(layer, None):
+        data = _value_of(holder, 'data')
+        if isinstance(data, str):
+            yield _data_edit(holder, pack(packing, _decoded(data) or b'', level))
+
+
+def _data_edit(holder: Members, data: bytes) -> Edit:
+    return Edit(holder['data'].start, holder['data'].end, f'"{base64.b64encode(data).decode()}"')
+
+
+def _decoded(text: str) -> Optional[bytes]:
+    """The bytes of a text in base64, in which space may stand; `None` where it is none."""
+    try:
+        return base64.b64decode(text.translate(_NO_SPACE).encode('ascii'), validate=True)
+    except (UnicodeEncodeError, binascii.Error):
+        return None

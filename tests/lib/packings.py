@@ -1,0 +1,94 @@
+"""Maps whose layers are compressed, plainly: they are packed here, and unpacked again to compare them."""
+import base64
+import copy
+import gzip
+import struct
+import zlib
+
+from lib.maps import layers_in
+
+CSV, PLAIN, ZLIB, GZIP, ZSTANDARD = 'csv', 'base64', 'zlib', 'gzip', 'zstd'
+PACKINGS = (CSV, PLAIN, ZLIB, GZIP, ZSTANDARD)
+
+
+def zstandard():
+    """The package, which Debian's own interpreter has."""
+    import zstandard as package
+
+    return package
+
+
+def packed_bytes(data, packing, level=-1):
+    """Bytes as Tiled packs them, with a level of its own where that is -1."""
+    if packing == ZLIB:
+        return zlib.compress(data, level)
+    if packing == GZIP:
+        return gzip.compress(data, 6 if level == -1 else level, mtime=0)
+    if packing == ZSTANDARD:
+        return zstandard().ZstdCompressor(level=6 if level == -1 else level).compress(data)
+    return data
+
+
+def unpacked_bytes(data, packing):
+    if packing == ZLIB:
+        return zlib.decompress(data)
+    if packing == GZIP:
+        return gzip.decompress(data)
+    if packing == ZSTANDARD:
+        return zstandard().ZstdDecompressor().decompress(data)
+    return data
+
+
+def text_of_bytes(data):
+    return base64.b64encode(data).decode()
+
+
+def data_of(cells, packing, level=-1):
+    """The data of a layer or a chunk."""
+    if packing == CSV:
+        return list(cells)
+    return text_of_bytes(packed_bytes(struct.pack(f'<{len(cells)}I', *cells), packing, level))
+
+
+def packing_of(layer):
+    return layer.get('compression') or layer.get('encoding') or CSV
+
+
+def cells_in(data, packing):
+    if isinstance(data, list):
+        return data
+    plain = unpacked_bytes(base64.b64decode(data, validate=True), packing)
+    return list(struct.unpack(f'<{len(plain) // 4}I', plain))
+
+
+def holders(layer):
+    """What holds data of a tile layer: the layer, or its chunks."""
+    return layer['chunks'] if 'chunks' in layer else [layer]
+
+
+def with_packing(tree, packing, level=-1):
+    """A map with its tile layers packed so. Those of the map that is given are packed in any way."""
+    tree = copy.deepcopy(tree)
+    for layer in layers_in(tree['layers']):
+        if layer['type'] != 'tilelayer':
+            continue
+        old = packing_of(layer)
+        for holder in holders(layer):
+            holder['data'] = data_of(cells_in(holder['data'], old), packing, level)
+        for name in ('encoding', 'compression'):
+            layer.pop(name, None)
+        if packing != CSV:
+            layer.update(encoding='base64', compression='' if packing == PLAIN else packing)
+    return {**tree, 'compressionlevel': level}
+
+
+def with_cells(tree):
+    """A map with the cells of its layers as lists of numbers. How they were packed stays told."""
+    tree = copy.deepcopy(tree)
+    for layer in layers_in(tree['layers']):
+        if layer['type'] == 'tilelayer':
+            packing = packing_of(layer)
+            for holder in holders(layer):
+                holder['data'] = cells_in(holder['data'], packing)
+            layer['compression'] = packing
+    return tree

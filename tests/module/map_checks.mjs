@@ -1,0 +1,279 @@
+// Checks of maps as Tiled saves them, in Node and in browsers alike. checks.mjs has the others.
+import { Closed, Editor, NoMemory, documentName } from "../../js/roskevad.js";
+import { refusedLater, same, thrownLater } from "./wanted.mjs";
+
+const encoder = new TextEncoder();
+const decoder = new TextDecoder();
+const BAD_DATA = "the data of a layer does not unpack to 4 bytes a cell";
+const NAME_TAKEN = 'a member has the reserved name "roskevad"';
+const FORMATS = { zlib: "deflate", gzip: "gzip" };
+const [WIDTH, HEIGHT] = [6, 5];
+const CELLS = Uint32Array.from({ length: WIDTH * HEIGHT }, (_, at) => 1 + (at % 9));
+
+function base64(bytes) {
+  return btoa(String.fromCharCode(...bytes));
+}
+
+function bytesOf(text) {
+  return Uint8Array.from(atob(text), (character) => character.charCodeAt(0));
+}
+
+async function streamed(bytes, stream) {
+  return new Uint8Array(await new Response(new Blob([bytes]).stream().pipeThrough(stream)).arrayBuffer());
+}
+
+const packed = (bytes, packing) => streamed(bytes, new CompressionStream(FORMATS[packing]));
+const unpacked = (bytes, packing) => streamed(bytes, new DecompressionStream(FORMATS[packing]));
+
+function tiles(id, members) {
+  return { id, name: `Layer ${id}`, opacity: 1, type: "tilelayer", visible: true, x: 0, y: 0, ...members };
+}
+
+function things(id, ...objects) {
+  return { id, name: `Layer ${id}`, objects, opacity: 1, type: "objectgroup", visible: true, x: 0, y: 0 };
+}
+
+function thing(id, members) {
+  const always = { height: 0, name: "", rotation: 0, type: "", visible: true, width: 0 };
+  return { id, ...always, x: 0, y: 0, ...members };
+}
+
+function mapOf(layers, members) {
+  const tree = {
+    compressionlevel: -1, height: HEIGHT, infinite: false, layers, nextlayerid: 50, nextobjectid: 100,
+    orientation: "orthogonal", renderorder: "right-down", tiledversion: "1.10.2", tileheight: 16,
+    tilesets: [{ firstgid: 1, source: "a.tsj" }], tilewidth: 16, type: "map", version: "1.10", width: WIDTH,
+  };
+  return JSON.stringify({ ...tree, ...members });
+}
+
+function packedMap(data, packing, members) {
+  const layer = { data, compression: packing, encoding: "base64", height: HEIGHT, width: WIDTH };
+  return mapOf([tiles(1, { ...layer, ...members })]);
+}
+
+function plainMap() {
+  return mapOf([tiles(1, { data: [...CELLS], height: HEIGHT, width: WIDTH })]);
+}
+
+async function savedTree(editor) {
+  return JSON.parse(decoder.decode(await editor.saveMap()));
+}
+
+// A map that needs nothing is opened and saved as by the lines.
+async function mapsThatNeedNothing() {
+  const [first, second] = [await Editor.create(), await Editor.create()];
+  first.putFile("m.tmj", plainMap());
+  first.step("open m m.tmj");
+  same(await second.openMap("m", encoder.encode(plainMap())), "ok 0/0 clean 0");
+  same(second.step("show"), first.step("show"));
+  same(`map ${decoder.decode(await second.saveMap())}`, first.step("show"));
+  same([second.files(), second.origin()], [[], [0, 0]]);
+  second.putFile("roskevad0.tmj", "mine");
+  same(await second.openMap("n", plainMap()), "ok 0/0 clean 0");
+  same([second.files(), decoder.decode(second.file("roskevad0.tmj"))], [["roskevad0.tmj"], "mine"]);
+  first.close();
+  second.close();
+}
+
+async function packedMaps() {
+  for (const packing of ["zlib", "gzip"]) {
+    const editor = await Editor.create();
+    const data = base64(await packed(new Uint8Array(CELLS.buffer), packing));
+    const spaced = `\n   ${data.slice(0, 8)} ${data.slice(8)}\n`;
+    for (const [name, text] of [["a", data], ["b", spaced], ["c", data.replaceAll("/", "\\/")]]) {
+      const source = packedMap("DATA", packing, { compression: packing }).replace("DATA", text);
+      const given = source.replaceAll("\n", "\\n");
+      same(await editor.openMap(name, given), "ok 0/0 clean 0", `${packing} ${name}`);
+      same([...editor.cells(1, 0, 0, WIDTH, HEIGHT)], [...CELLS]);
+    }
+    editor.step("stamp 1 0 0 1 3");
+    editor.step("layer add tile New");
+    const { layers: [layer, added] } = await savedTree(editor);
+    same([layer.compression, layer.encoding, added.compression], [packing, "base64", undefined]);
+    same([added.data.length, layer.roskevad_compression], [WIDTH * HEIGHT, undefined]);
+    const cells = await unpacked(bytesOf(layer.data), packing);
+    same([...new Uint32Array(cells.buffer)], [3, ...CELLS.slice(1)]);
+    editor.close();
+  }
+}
+
+async function damagedRows(packing) {
+  const cells = new Uint8Array(CELLS.buffer);
+  const whole = await packed(cells, packing);
+  const rows = [
+    new Uint8Array(), encoder.encode("abcdefgh".repeat(9)), Uint8Array.of(...whole, 120),
+    Uint8Array.of(...whole, ...whole), await packed(cells.subarray(1), packing),
+    await packed(Uint8Array.of(...cells, 1), packing), await packed(new Uint8Array(10_000_000), packing),
+  ];
+  for (let at = 1; at < whole.length; at += 5) {
+    rows.push(whole.subarray(0, at));
+  }
+  rows.push(whole.subarray(0, -1));
+  return rows.map(base64);
+}
+
+async function damagedData() {
+  const editor = await Editor.create();
+  for (const packing of ["zlib", "gzip"]) {
+    for (const [at, data] of [...(await damagedRows(packing)), "a*b=", "abc"].entries()) {
+      const { code, words, line, why } = await refusedLater(editor.openMap("m", packedMap(data, packing)));
+      same([code, words, line, why], [66, "bad data", 'openMap("m")', BAD_DATA], `${packing} ${at}:`);
+    }
+  }
+  same([editor.files(), editor.step("list")], [[], "docs"]);
+  editor.close();
+}
+
+// A hundred megabytes in a few bytes.
+async function bombs() {
+  const editor = await Editor.create();
+  const data = base64(await packed(new Uint8Array(100_000_000), "zlib"));
+  same((await refusedLater(editor.openMap("m", packedMap(data, "zlib")))).code, 66);
+  editor.close();
+}
+
+async function mapsThatAreRefused() {
+  const editor = await Editor.create();
+  const rows = [
+    [packedMap("", "zstd"), 65, "JavaScript has no Zstandard"],
+    [packedMap("", "lzma"), 65, "there is no compression lzma"],
+    [packedMap("", "zlib", { roskevad_compression: "zlib" }), 51,
+      'a layer has a member of the reserved name "roskevad_compression"'],
+    [mapOf([], { kept: { roskevad: 1 } }), 51, NAME_TAKEN],
+    [`${"[".repeat(126)}0.5${"]".repeat(126)}`, 51, "set aside or put back, it would nest deeper than 127"],
+    ["{", 60, null],
+    [Uint8Array.of(34, 255, 34), 60, null],
+    ["[1.5]", 69, null],
+  ];
+  for (const [text, code, why] of rows) {
+    const fault = await refusedLater(editor.openMap("m", text));
+    same([fault.code, fault.why, fault.line, fault.forms], [code, why, 'openMap("m")', []]);
+    same(fault.message.includes(why ?? fault.words), true, fault.message);
+  }
+  same((await refusedLater(editor.openMap("a b", plainMap()))).code, 4);
+  same((await refusedLater(editor.saveMap())).line, "saveMap()");
+  same([editor.files(), editor.step("list")], [[], "docs"]);
+  editor.close();
+}
+
+function fractions() {
+  const door = thing(1, { x: 10.5, y: -0.25, width: 3.75, height: 8, rotation: 1e300 });
+  const line = thing(2, { polyline: [{ x: 0, y: 1.5 }], x: 5e-324, y: 7 });
+  return [{ ...things(1, door, line), opacity: 0.125 }];
+}
+
+async function mapsWithFractions() {
+  const editor = await Editor.create();
+  await editor.openMap("m", mapOf(fractions()));
+  for (const tree of [editor.map(), editor.outline(), await savedTree(editor)]) {
+    same(tree.layers.map(sorted), fractions().map(sorted));
+  }
+  editor.step("object move 1 10 50");
+  const [door] = editor.map().layers[0].objects;
+  same([door.x, door.y, door.width, door.rotation], [10.5, 50, 3.75, 1e300]);
+  const { layers: [{ objects: [saved] }] } = await savedTree(editor);
+  same([saved.x, saved.y, saved.width], [10.5, 50, 3.75]);
+  editor.close();
+}
+
+// The same value with the members of its objects in order.
+function sorted(value) {
+  if (Array.isArray(value)) {
+    return value.map(sorted);
+  }
+  if (typeof value !== "object") {
+    return value;
+  }
+  return Object.fromEntries(Object.keys(value).sort().map((name) => [name, sorted(value[name])]));
+}
+
+async function infiniteMaps() {
+  const cells = await packed(Uint8Array.of(5, 0, 0, 0, 6, 0, 0, 0), "zlib");
+  const chunk = { data: base64(cells), height: 1, width: 2, x: -16, y: 32 };
+  const layer = tiles(1, {
+    chunks: [chunk], compression: "zlib", encoding: "base64", height: 1, startx: -16, starty: 32, width: 2,
+  });
+  const source = mapOf([layer, things(2, thing(1, { x: -250.5, y: 515.25 }))], { infinite: true });
+  const editor = await Editor.create();
+  await editor.openMap("m", source);
+  const { layers: [, { objects: [{ x, y }] }], infinite } = editor.map();
+  same([editor.origin(), infinite, x, y], [[-16, 32], false, 5.5, 3.25]);
+  same([...editor.cells(1, 0, 0, 2, 1)], [5, 6]);
+  editor.step("stamp 1 0 0 1 7");
+  editor.step("undo");
+  const saved = await savedTree(editor);
+  const data = saved.layers[0].chunks[0].data;
+  same([...(await unpacked(bytesOf(data), "zlib"))], [5, 0, 0, 0, 6, 0, 0, 0]);
+  saved.layers[0].chunks[0].data = chunk.data;
+  same(sorted(saved), sorted(JSON.parse(source)));
+  editor.close();
+}
+
+// What is done until the bytes are there is not called saved.
+async function workWhileSaving() {
+  const editor = await Editor.create();
+  const data = base64(await packed(new Uint8Array(CELLS.buffer), "zlib"));
+  await editor.openMap("m", packedMap(data, "zlib"));
+  await editor.openMap("other", plainMap());
+  editor.step("use m");
+  editor.step("stamp 1 0 0 1 3");
+  const saving = editor.saveMap();
+  editor.step("stamp 1 1 0 1 4");
+  const { layers: [layer] } = JSON.parse(decoder.decode(await saving));
+  const cells = new Uint32Array((await unpacked(bytesOf(layer.data), "zlib")).buffer);
+  same([...cells.slice(0, 2), editor.cleanIndex(), editor.step("status")], [3, 2, 1, "ok 2/2 dirty 0"]);
+  editor.step("begin M");
+  same((await refusedLater(editor.saveMap())).code, 20);
+  editor.step("end");
+  await saveThatFails(editor);
+  editor.close();
+}
+
+// A save that fails leaves no clean index, in its own document alone.
+async function saveThatFails(editor) {
+  const { CompressionStream: had } = globalThis;
+  globalThis.CompressionStream = class {
+    constructor() {
+      throw new NoMemory();
+    }
+  };
+  try {
+    const failing = editor.saveMap();
+    editor.step("use other");
+    await thrownLater(NoMemory, failing, "a save");
+  } finally {
+    globalThis.CompressionStream = had;
+  }
+  same([editor.step("list"), editor.step("status")], ["docs m *other", "ok 0/0 clean 0"]);
+  editor.step("use m");
+  same([editor.cleanIndex(), editor.step("status")], [null, "ok 3/3 dirty 0"]);
+}
+
+async function mapsOfClosedEditors() {
+  const editor = await Editor.create();
+  const data = base64(await packed(new Uint8Array(CELLS.buffer), "zlib"));
+  await editor.openMap("m", packedMap(data, "zlib"));
+  const [saving, opening] = [editor.saveMap(), editor.openMap("n", packedMap(data, "zlib"))];
+  editor.close();
+  same(JSON.parse(decoder.decode(await saving)).layers[0].compression, "zlib");
+  await thrownLater(Closed, opening, "a map of a closed editor");
+  await thrownLater(Closed, editor.openMap("n", plainMap()), "a closed editor");
+  await thrownLater(Closed, editor.saveMap(), "a closed editor");
+}
+
+async function namesOfDocuments() {
+  const names = {
+    "my town.v2.tmj": "my_town.v2", "a/b.tmj": "b", ".tmj": "tmj", "": "map", "-.-": "map", "Straße.tmj": "Stra_e",
+    "🌲.tmj": "_", "a.": "a.", a: "a",
+  };
+  for (const [file, wanted] of Object.entries(names)) {
+    same(documentName(file), wanted, file);
+  }
+  same(documentName("a".repeat(99)), "a".repeat(64));
+}
+
+export const MAP_CHECKS = [
+  mapsThatNeedNothing, packedMaps, damagedData, bombs, mapsThatAreRefused, mapsWithFractions, infiniteMaps,
+  workWhileSaving, mapsOfClosedEditors, namesOfDocuments,
+];

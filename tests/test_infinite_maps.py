@@ -1,0 +1,483 @@
+"""Makes infinite maps finite and infinite again by `--all-maps`. 10,000 infinite maps made by chance are
+set aside by `map_report --table`, edited, and put back, and their trees are compared with those of the
+plain program tests/lib/infinite.py, which has one entry for each cell: untouched, the map comes back
+as it was; edited, each cell stands where it stood; and what was put back is set aside again. Maps at
+the edges of the rules, and maps that are refused, are named here with what must come. Random sessions
+open, edit, undo and save infinite maps by `tile_editor --all-maps`, beside the plain model. Debian's
+package `tiled` has infinite maps: they are edited, moved and saved, and real Tiled, which exports what
+was saved, reads the same cells."""
+import itertools
+import json
+import random
+import subprocess
+import tempfile
+from pathlib import Path
+
+from lib import infinite, tiled_package
+from lib.asides import (
+    INFINITE_FAULTS,
+    OPTION,
+    TOO_DEEP,
+    UNLIKE,
+    TiledPlay,
+    exact,
+    exact_text,
+    fault_of_tiled_run,
+    put_back,
+    set_aside,
+)
+from lib.cases import CORES, Case, check_each, fail_with, in_processes, passed, unlike
+from lib.json_texts import tree_of
+from lib.maps import group, layer_of, map_of, packed, text_of, thing, things
+from lib.places import EXAMPLES, IN_MEMORY, MAP_REPORT
+from lib.refusals import refusal
+from lib.sessions import heard
+
+IS_LONG = True
+PACKAGES = ('tiled',)
+SEED, MAPS, MAPS_OF_RUN, SECONDS, RUNS, STEPS = 20261128, 10_000, 100, 60, 60, 30
+AS_IT_IS = 'as it is'
+
+
+def exact_tree(tree):
+    """A tree as its text is read."""
+    return exact_text(json.dumps(tree).encode())
+
+
+# ---- the calls
+
+
+def table(lines, folder):
+    """What `map_report --table` answers to each line that sets aside or puts back."""
+    done = subprocess.run(
+        [MAP_REPORT, '--table'], input=lines.encode(), capture_output=True, timeout=SECONDS, cwd=folder
+    )
+    assert done.returncode == 0, f'status {done.returncode}, {done.stderr[:300]!r}'
+    rows = [row.partition(b' => ') for row in done.stdout.split(b'\n')[:-1]]
+    return [answer for front, _, answer in rows if front.startswith((b'aside ', b'back '))]
+
+
+def answers(word, texts):
+    """What comes where each of these texts is set aside, or put back."""
+    with tempfile.TemporaryDirectory(dir=IN_MEMORY) as folder:
+        for at, text in enumerate(texts):
+            (Path(folder) / f'm{at}').write_bytes(text)
+        return table(''.join(f'load m{at} m{at}\n{word} m{at}\n' for at in range(len(texts))), folder)
+
+
+def faults_of_answers(what, wanted, came):
+    """How trees that came as texts differ from those that are wanted."""
+    for number, (tree, text) in enumerate(zip(wanted, came)):
+        fault = unlike(exact_tree(tree), exact_text(text))
+        if fault:
+            yield f'{what} {number}: {fault[:600]}'
+
+
+def faults_of_maps(first):
+    """What is wrong with the maps of one run, the first of which has this number."""
+    chosen = random.Random(SEED * MAPS + first)
+    trees = [infinite.some_map(chosen) for _ in range(MAPS_OF_RUN)]
+    finite = [set_aside(tree) for tree in trees]
+    edited = json.loads(json.dumps(finite))
+    for tree in edited:
+        infinite.edit(chosen, tree)
+    saved = [put_back(tree) for tree in edited]
+    texts = answers('aside', [json.dumps(tree).encode() for tree in trees])
+    backs = answers('back', texts)
+    saves = answers('back', [json.dumps(tree).encode() for tree in edited])
+    faults = [
+        *faults_of_answers('set aside', finite, texts),
+        *faults_of_answers('put back', trees, backs),
+        *faults_of_answers('edited', saved, saves),
+        *faults_of_answers('set aside again', map(set_aside, saved), answers('aside', saves)),
+        *(infinite.wrong_cells(*pair) for pair in zip(edited, map(json.loads, saves))),
+    ]
+    return [f'maps from {first}: {fault}' for fault in faults if fault]
+
+
+def test_maps_by_chance():
+    fail_with(
+        fault for some in in_processes(faults_of_maps, range(0, MAPS, MAPS_OF_RUN)) for fault in some
+    )
+    passed(MAPS)
+
+
+# ---- maps at the edges
+
+
+def chunk(x, y, width, height, data=None, **members):
+    data = [1] * (width * height) if data is None else data
+    return {'data': data, 'height': height, 'width': width, 'x': x, 'y': y, **members}
+
+
+def spread(*chunks, **members):
+    """A tile layer in chunks."""
+    own = {'chunks': list(chunks), 'height': 16, 'startx': 0, 'starty': 0, 'width': 16}
+    return layer_of(1, 'tilelayer', **{**own, **members})
+
+
+def plane(*layers, **members):
+    """An infinite map."""
+    return map_of(*layers, **{'infinite': True, 'height': 20, 'width': 30, **members})
+
+
+BASE64 = {'encoding': 'base64', 'compression': ''}
+HALF = {'roskevad': [1071644672, 0]}
+DOOR = thing(1, x=-0.5, y=40, polygon=[{'x': 0.5, 'y': 1}], rotation=0.25)
+FAR = 1 << 31
+SOUND = [
+    ('no layer', plane()),
+    ('a layer without chunks', plane(spread())),
+    ('no layers', {'infinite': True}),
+    ('a negative corner', plane(spread(chunk(-16, -32, 16, 16), chunk(0, 0, 16, 16)))),
+    ('odd places', plane(spread(chunk(-3, 5, 2, 7)), things(2, DOOR))),
+    ('one row', plane(spread(chunk(-4095, 0, 4095, 1)))),
+    ('as many columns as there may be', plane(spread(chunk(-2, 0, 1, 1), chunk(4093, 255, 1, 1)))),
+    ('base64', plane(spread(chunk(3, 3, 2, 1, packed([7, (1 << 32) - 1])), **BASE64))),
+    ('chunks of zeros', plane(spread(chunk(0, 0, 4, 4, [0] * 16), chunk(8, 8, 4, 4, [0] * 16)))),
+    ('fractions everywhere', plane(spread(chunk(-7, 1, 1, 1), opacity=0.5, startx=0.5), things(2, DOOR), version=1.5, width=0.1)),
+    ('a fraction for a layer', plane(0.5, spread(chunk(0, 0, 1, 1)))),
+    ('a fraction as the chunk size', plane(spread(chunk(0, 0, 1, 1)), editorsettings={'chunksize': {'width': 0.5, 'height': 32}})),
+    ('a fraction as the tile size', plane(spread(chunk(9, 9, 1, 1)), things(2, DOOR), tilewidth=0.5)),
+    ('groups', plane(group(5, group(6, spread(chunk(-2, 0, 2, 2)), things(2, DOOR))))),
+    ('staggered', plane(spread(chunk(-3, -3, 1, 1)), things(2, DOOR), orientation='staggered')),
+    ('an object far away', plane(spread(chunk(-16, 0, 1, 1)), things(2, thing(1, x=1e300, y=-(2**63))))),
+    ('above the limits', plane(spread(chunk(0, 0, 1, 1), chunk(5000, 5000, 1, 1)))),
+    ('at the ends of the plane', plane(spread(chunk(-FAR, -FAR, 1, 1), chunk(FAR, FAR, FAR, FAR, [])))),
+    ('two layers', plane(spread(chunk(-16, 0, 2, 1)), spread(chunk(4, 4, 1, 2), height=0.5))),
+]
+# With data that are compressed a layer stays as it is.
+PACKED = ('packed', plane(spread(chunk(0, 0, 2, 2, 'eJxjYGBgAAAABAAB'), encoding='base64', compression='zlib')))
+
+
+def fault_of_sound(case):
+    """A map must be set aside as the plain program says, and come back as it was."""
+    text = json.dumps(case.given).encode()
+    (came,) = answers('aside', [text])
+    fault = unlike(exact_tree(set_aside(case.given)), exact_text(came))
+    if fault:
+        return f'set aside: {fault[:600]}'
+    (again,) = answers('back', [came])
+    fault = unlike(exact_text(text), exact_text(again))
+    return fault and f'put back: {fault[:600]}'
+
+
+def test_maps_at_the_edges():
+    check_each([Case(name, tree, None) for name, tree in [*SOUND, PACKED]], fault_of_sound, CORES)
+
+
+# ---- what is refused
+
+BAD, OVERLAP, LARGE = (INFINITE_FAULTS[name] for name in ('BadChunk', 'Overlap', 'TooLarge'))
+
+
+def with_chunk(**members):
+    return plane(spread({**chunk(0, 0, 2, 1), **members}))
+
+
+def without(name):
+    tree = with_chunk()
+    del tree['layers'][0]['chunks'][0][name]
+    return tree
+
+
+def in_groups(levels, layer):
+    for number in range(levels):
+        layer = group(100 + number, layer)
+    return layer
+
+
+REFUSED = [
+    ('two chunks at one place', plane(spread(chunk(0, 0, 2, 1), chunk(0, 0, 2, 1))), OVERLAP),
+    ('chunks that share a cell', plane(spread(chunk(0, 0, 2, 2), chunk(1, 1, 2, 2))), OVERLAP),
+    ('a chunk within another', plane(spread(chunk(0, 0, 4, 4), chunk(1, 1, 1, 1))), OVERLAP),
+    ('chunks that share a cell in a group', plane(in_groups(3, spread(chunk(0, 0, 2, 2), chunk(1, 1, 2, 2)))), OVERLAP),
+    *((f'no {name}', without(name), BAD) for name in ('x', 'y', 'width', 'height', 'data')),
+    ('no columns', with_chunk(width=0), BAD),
+    ('fewer rows than none', with_chunk(height=-1), BAD),
+    ('a fraction of a column', with_chunk(width=2.5), BAD),
+    ('a whole number written as a fraction', with_chunk(x=1e0), BAD),
+    ('a place that is a text', with_chunk(y='0'), BAD),
+    ('a place past the plane', with_chunk(x=FAR + 1), BAD),
+    ('a place far before the plane', with_chunk(y=-(2**63)), BAD),
+    ('a size past the plane', with_chunk(height=FAR + 1), BAD),
+    ('a size of 64 bits', with_chunk(width=2**64 - 1), BAD),
+    ('a cell too few', with_chunk(data=[1]), BAD),
+    ('a cell too many', with_chunk(data=[1, 2, 3]), BAD),
+    ('a cell below 0', with_chunk(data=[1, -1]), BAD),
+    ('a cell that is a fraction', with_chunk(data=[1, 0.5]), BAD),
+    ('a cell that is a list', with_chunk(data=[1, [1]]), BAD),
+    ('data that are no list', with_chunk(data=1), BAD),
+    ('data that are base64 in a layer of lists', with_chunk(data=packed([1, 2])), BAD),
+    ('a list in a layer of base64', plane(spread(chunk(0, 0, 1, 1), **BASE64)), BAD),
+    ('no base64', plane(spread(chunk(0, 0, 1, 1, '?'), **BASE64)), BAD),
+    ('half a cell in base64', plane(spread(chunk(0, 0, 1, 1, 'AAA='), **BASE64)), BAD),
+    ('two cells for one in base64', plane(spread(chunk(0, 0, 1, 1, packed([1, 2])), **BASE64)), BAD),
+    ('base64 with a blank', plane(spread(chunk(0, 0, 1, 1, ' AAAAAA=='), **BASE64)), BAD),
+    ('a chunk that is a number', plane(spread(1)), BAD),
+    ('a chunk that is a fraction', plane(spread(0.5)), BAD),
+    ('a chunk that is a list', plane(spread([chunk(0, 0, 1, 1)])), BAD),
+    ('chunks that are a text', plane(spread(chunks='a')), BAD),
+    ('chunks of the map itself, and of no form', plane(chunks=1), BAD),
+    ('a chunk with a member of its own', with_chunk(more=1), UNLIKE),
+    ('a layer with chunks and data', plane(spread(chunk(0, 0, 1, 1), data=[1])), UNLIKE),
+    ('17 layers of 1,048,576 cells', plane(*(spread(chunk(0, 0, 1, 1), chunk(1023, 1023, 1, 1)) for _ in range(17))), LARGE),
+    ('a map of chunks deep in arrays', plane(spread(chunk(0, 0, 1, 1), kept=json.loads('[' * 123 + '0.5' + ']' * 123))), TOO_DEEP),
+]
+
+
+def nested(levels, innermost):
+    """The text of a map with a layer within so many lists of layers."""
+    layer = json.dumps(innermost)
+    return ('{"infinite":true,"layers":' + '[' * levels + layer + ']' * levels + '}').encode()
+
+
+def fault_of_refused(case):
+    (came,) = answers('aside', [json.dumps(case.given).encode()])
+    return unlike(case.wanted, came.decode()[:200])
+
+
+def test_maps_that_are_refused():
+    check_each([Case(name, tree, words) for name, tree, words in REFUSED], fault_of_refused, CORES)
+
+
+def test_maps_that_nest():
+    """A layer without chunks nests two levels deeper as a note has its rectangles; put back, a new
+    layer does for its chunks."""
+    layer = layer_of(1, 'tilelayer', chunks=[])
+    texts = [nested(levels, layer) for levels in (122, 123, 124, 125, 126)]
+    deep = [exact_text(text) is not None for text in texts]
+    came = [text.decode()[:90] for text in answers('aside', texts)]
+    kinds = [text if not text.startswith('{') else 'a text' for text in came]
+    wanted = ['a text' if levels <= 124 else TOO_DEEP for levels in (122, 123, 124, 125)]
+    fault = unlike((wanted, True), (kinds[:4], deep[3]))
+    assert not fault, fault
+    note = '"height":1,"infinite":false,"roskevad":{"infinite":{"chunkheight":16,"chunkwidth":16}},"width":1'
+    backs = [
+        f'{{"layers":{"[" * levels}{{"data":[1]}}{"]" * levels},{note}}}'.encode()
+        for levels in (122, 123, 124, 125)
+    ]
+    came = [text.decode()[:90] for text in answers('back', backs)]
+    kinds = [text if not text.startswith('{') else 'a text' for text in came]
+    fault = unlike(['a text' if levels <= 122 else TOO_DEEP for levels in (122, 123, 124, 125)], kinds)
+    assert not fault, fault
+
+
+NOTES = [
+    ('a note that is no object', 1),
+    ('an empty note', {}),
+    ('sides of 0', {'chunkwidth': 0, 'chunkheight': 0}),
+    ('great numbers', {name: 2**64 - 1 for name in ('x', 'y', 'chunkwidth', 'lostx', 'movedx', 'width')}),
+    ('fractions', {name: HALF for name in ('x', 'y', 'chunkwidth', 'lostx', 'movedx', 'width')}),
+    ('lost more than there is', {'chunkwidth': 4, 'chunkheight': 4, 'lostx': 5000, 'losty': 5000}),
+]
+LAYERS = [
+    {'data': [1, 2]},
+    {'data': [1], 'roskevad': {'chunks': [[0, 0, 1, 1], [0, 0, 1, 1]]}},
+    {'data': [1], 'roskevad': {'chunks': [[2**64 - 1] * 4, [0], 1, HALF, [0, 0, 5000, 5000]]}},
+    {'data': [1], 'roskevad': [1, 2]},
+    {'data': '????'},
+    {'data': 'AQAAAA=='},
+    {'data': [1], 'objects': [{'x': 2**63 - 1, 'y': HALF}]},
+]
+
+
+def test_notes_that_were_changed():
+    """Each text is answered: by another one, since notes are looked up with care."""
+    texts = [
+        json.dumps({'height': 1, 'layers': LAYERS, 'roskevad': {'infinite': note}, 'width': 1}).encode()
+        for _, note in NOTES
+    ]
+    for (name, _), came in zip(NOTES, answers('back', texts)):
+        tree = exact_text(came)
+        assert tree and tree[0]['infinite'] == (bool, True), f'{name}: came {came[:300]!r}'
+    passed(len(NOTES))
+
+
+# ---- sessions
+
+
+def drawn_layers(chosen, ids, depth):
+    for _ in range(chosen.randint(1, 3)):
+        number = next(ids)
+        kind = chosen.choice(('tiles', 'tiles', 'things', 'group' if depth else 'tiles'))
+        if kind == 'tiles':
+            is_text = chosen.random() < 0.5
+            chunks = infinite.some_chunks(chosen, is_text, chosen.random() < 0.5)
+            members = {'encoding': 'base64', 'compression': ''} if is_text else {}
+            yield spread(*chunks, id=number, name='tiles', opacity=chosen.choice((1, 0.5)), **members)
+        elif kind == 'things':
+            places = (chosen.randint(-99, 99), chosen.choice((10.5, -0.25, 7)))
+            yield things(number, *(thing(next(ids), x=x, y=places[0]) for x in places))
+        else:
+            yield group(number, *drawn_layers(chosen, ids, depth - 1))
+
+
+class Drawing(TiledPlay):
+    """An infinite map that is edited by chance."""
+
+    def __init__(self, number):
+        self.chosen = chosen = random.Random(SEED + number)
+        tree = plane(
+            spread(chunk(16 * chosen.randint(-3, 3), -16, 16, 16), id=1),
+            *drawn_layers(chosen, itertools.count(2), 2),
+            orientation=chosen.choice(('orthogonal', 'isometric', 'staggered')),
+            tilewidth=chosen.randint(1, 20),
+        )
+        super().__init__(f'drawing {number}', {'m.tmj': json.dumps(tree, indent=1).encode()})
+        self.hear('open m m.tmj', 'save same.tmj')
+        self.sizes = self.size()
+        for _ in range(STEPS):
+            self.hear(self.line())
+        self.hear('show', 'save n.tmj', 'goto 0', 'save o.tmj', 'open again n.tmj', 'show', 'open old o.tmj')
+
+    def size(self):
+        tree = json.loads(self.document.now.text)
+        return tree['width'], tree['height']
+
+    def line(self):
+        chosen = self.chosen
+        columns, rows = self.size()
+        number, x, y = chosen.randint(1, 9), chosen.randrange(columns), chosen.randrange(rows)
+        return chosen.choice(
+            [
+                f'stamp {number} {x} {y} 1 7',
+                f'stamp {number} {x} {y} 2 7,8',
+                f'erase {number} {x} {y} {chosen.randint(1, 9)} {chosen.randint(1, 9)}',
+                f'fill {number} {x} {y} {chosen.randint(0, 3)}',
+                f'object move {number} {chosen.randint(-99, 99)} {y}',
+                f'resize {chosen.randint(1, columns + 9)} {chosen.randint(1, rows + 9)} {chosen.randint(-5, 9)} {chosen.randint(-5, 9)}',
+                f'resize {columns + 4} {rows} 4 0',
+                'layer add tile New',
+                f'layer remove {number}',
+                'undo',
+                'undo',
+                'redo',
+            ]
+        )
+
+
+def fault_of_drawing(number):
+    run = Drawing(number)
+    fault = fault_of_tiled_run(run)
+    source = tree_of(run.before['m.tmj'])[0]
+    for layer in infinite.every_layer(source['layers']):
+        layer.pop('compression', None)
+    source['version'] = '1.10'
+    fault = fault or unlike(exact(source), exact_text(run.after['same.tmj']))
+    return fault and f'{run.name}: {fault[:900]}'
+
+
+def test_random_edits():
+    fail_with(fault for fault in in_processes(fault_of_drawing, range(RUNS), 4) if fault)
+    passed(RUNS)
+
+
+OPENED = [
+    ('above the limits', plane(spread(chunk(0, 0, 1, 1), chunk(5000, 5000, 1, 1))), 68, None),
+    ('packed', PACKED[1], 65, None),
+    ('chunks that overlap', plane(spread(chunk(0, 0, 2, 1), chunk(0, 0, 2, 1))), 51, OVERLAP),
+    ('a cell too few', with_chunk(data=[1]), 51, BAD),
+    ('too many cells', REFUSED[-2][1], 51, LARGE),
+    ('chunks and data', plane(spread(chunk(0, 0, 1, 1), data=[1])), 51, UNLIKE),
+    ('a cell past 32 bits', with_chunk(data=[1, 1 << 32]), 66, None),
+    ('no chunk', plane(layer_of(1, 'tilelayer')), 62, None),
+]
+
+
+def fault_of_opened(case):
+    """What is wrong with the reply to `open`, or with what standard error says."""
+    code, reason = case.wanted
+    done, _ = heard(b'open m m.tmj\nlist\n', {'m.tmj': json.dumps(case.given).encode()}, [OPTION])
+    errors = f'tile_editor: maps/m.tmj: {reason}\n' if reason else ''
+    wanted = (0, f'{refusal(code)}\ndocs\n', errors)
+    return unlike(wanted, (done.returncode, done.stdout.decode(), done.stderr.decode()))
+
+
+def test_maps_that_do_not_open():
+    cases = [Case(name, tree, (code, reason)) for name, tree, code, reason in OPENED]
+    check_each(cases, fault_of_opened, CORES)
+
+
+TOO_LONG = 'set aside or put back, it would be longer than 67,108,864 bytes'
+
+
+def test_texts_that_are_too_long():
+    """A file of some kilobytes, which would be a text of 16,777,216 cells of five digits; and a short
+    one that grows as it is put back."""
+    long = plane(*(spread(chunk(0, 0, 1, 1), chunk(1023, 1023, 1, 1), id=number) for number in range(1, 17)))
+    wide = [chunk(0, y, 1023, 1, [12345] * 1023) for y in range(1023)]
+    long['layers'] = [spread(*wide, id=number) for number in range(1, 13)]
+    done, _ = heard(b'open m m.tmj\n', {'m.tmj': json.dumps(long).encode()}, [OPTION])
+    wanted = (f'{refusal(51)}\n', f'tile_editor: maps/m.tmj: {TOO_LONG}\n')
+    fault = unlike(wanted, (done.stdout.decode(), done.stderr.decode()))
+    assert not fault, fault
+
+
+# ---- Tiled
+
+
+def cells_of_file(data):
+    """The values of each tile layer by their place on the plane, without zeros, in drawing order."""
+    layers = infinite.every_layer(json.loads(data)['layers'])
+    found = [infinite.cell_places(layer) for layer in layers if 'chunks' in layer]
+    return [{place: value for place, value in cells.items() if value} for cells in found]
+
+
+def objects_of_file(data):
+    layers = infinite.every_layer(json.loads(data)['layers'])
+    return [(item['x'], item['y']) for layer in layers for item in layer.get('objects', [])]
+
+
+def sources(folder):
+    """Infinite maps as Tiled exports them: its own, and that of `examples/maps`."""
+    for path in tiled_package.unpacked(folder):
+        if 'infinite="1"' in path.read_text():
+            data = tiled_package.exported(path, path.parent, f'{path.stem}.tmj')
+            if data is not None and b'"compression":"z' not in data.replace(b' ', b''):
+                yield path.parent, f'{path.stem}.tmj', data
+    own = Path(folder) / 'own'
+    own.mkdir()
+    for name in ('infinite.tmj', 'tiles.tsx', 'tiles.png'):
+        (own / name).write_bytes((EXAMPLES / 'maps' / name).read_bytes())
+    yield own, 'infinite.tmj', (own / 'infinite.tmj').read_bytes()
+
+
+def fault_of_export(folder, name, data):
+    """A map of Tiled is edited and saved, moved and saved, and undone and saved. Tiled reads the cells
+    and objects that the plain model tells, and of the last the same as of the source."""
+    run = TiledPlay(name, {name: data})
+    run.hear(f'open m {name}', 'save same.tmj')
+    tree = json.loads(run.document.now.text)
+    layer = next(layer for layer in infinite.every_layer(tree['layers']) if layer['type'] == 'tilelayer')
+    width, height = tree['width'], tree['height']
+    run.hear(f'stamp {layer["id"]} 0 0 2 3,2', f'stamp {layer["id"]} {width - 1} {height - 1} 1 5')
+    run.hear('save drawn.tmj', f'resize {width + 20} {height + 20} 10 2', f'stamp {layer["id"]} 0 0 2 2,3')
+    run.hear('save moved.tmj', 'goto 0', 'save old.tmj')
+    fault = fault_of_tiled_run(run)
+    if fault:
+        return fault
+    _, files = heard(run.session, run.before, run.options)
+    for saved in ('same.tmj', 'drawn.tmj', 'moved.tmj', 'old.tmj'):
+        (folder / saved).write_bytes(files[saved])
+        again = tiled_package.exported(folder / saved, folder, f'again_{saved}')
+        wanted = data if saved in ('same.tmj', 'old.tmj') else run.after[saved]
+        for what in (cells_of_file, objects_of_file):
+            fault = unlike(what(wanted), what(again))
+            if fault:
+                return f'{saved}: {what.__name__}: {fault[:600]}'
+        passed()
+    first = tiled_package.exported(folder / name, folder, 'again_source.tmj')
+    return unlike(exact_text(first), exact_text((folder / 'again_same.tmj').read_bytes()))
+
+
+def test_maps_of_tiled():
+    with tempfile.TemporaryDirectory() as folder:
+        found = list(sources(folder))
+        assert len(found) > 1, 'the package tiled has no infinite maps'
+        fail_with(
+            f'{name}: {fault}'
+            for place, name, data in found
+            for fault in [fault_of_export(place, name, data)]
+            if fault
+        )

@@ -1,0 +1,344 @@
+"""Opens, edits and saves maps with fractions, infinite maps and packed ones by the Python package, and
+compares what is saved with the source, number by number. Tiled's own example maps are among them, as
+Tiled exports them in each tile layer format, finite and infinite; Tiled exports what was saved, and
+that has the same numbers as its export of the source. Maps that need nothing set aside are opened and
+saved byte for byte as without. Data that are cut short, damaged, too long, or that would take very
+much memory are refused by name. Zstandard is packed and unpacked by Debian's `python3-zstandard`."""
+import base64
+import json
+import random
+import subprocess
+import sys
+import tempfile
+import zlib
+from pathlib import Path
+
+from lib import tiled_package
+from lib.any_maps import exports, in_each_format, saved_as, some_map
+from lib.asides import exact, exact_text
+from lib.cases import CORES, Case, check_each, passed, unlike
+from lib.json_texts import tree_of
+from lib.maps import map_of, new_map, property_of, text_of, thing, things, tiles
+from lib.packings import (
+    GZIP,
+    ZLIB,
+    ZSTANDARD,
+    data_of,
+    packed_bytes,
+    text_of_bytes,
+    with_packing,
+    zstandard,
+)
+from lib.places import TOP, example_maps
+
+sys.path.insert(0, str(TOP / 'python'))
+from roskevad import Editor, Refused, packings  # noqa: E402
+
+IS_LONG = True
+PACKAGES = ('tiled', 'python3-zstandard')
+SEED, RUNS = 20261128, 60
+WORDS = {51: 'store failed', 65: 'compressed', 66: 'bad data'}
+NAME_TAKEN = 'a member has the reserved name "roskevad"'
+NOTE_TAKEN = 'a layer has a member of the reserved name "roskevad_compression"'
+BAD_DATA = 'the data of a layer does not unpack to 4 bytes a cell'
+TOO_LONG = 'unpacked, its layers have more than 67,108,864 bytes'
+
+
+def opened(data, **more):
+    """An editor with a map."""
+    editor = Editor(**more)
+    editor.open_map('m', data, all_maps=True)
+    return editor
+
+
+# ---- what is opened and saved
+
+
+def edit_by_chance(editor, chosen):
+    width, height = editor.outline()['width'], editor.outline()['height']
+    editor.step('layer add tile New')
+    layer = editor.last_layer_id()
+    for _ in range(20):
+        line = chosen.choice((
+            f'stamp {layer} {chosen.randrange(width)} {chosen.randrange(height)} 1 7',
+            'prop set map a string b',
+            f'layer rename {layer} Another',
+            'undo', 'undo', 'redo',
+        ))
+        try:
+            editor.step(line)
+        except Refused as refusal:
+            # There is nothing to undo or to redo, or the layer is not there.
+            assert refusal.code in (21, 22, 30), refusal
+
+
+def fault_of_drawing(case):
+    chosen = random.Random(f'{SEED} {case.given}')
+    source = some_map(chosen)
+    with opened(json.dumps(source).encode()) as editor:
+        edit_by_chance(editor, chosen)
+        editor.step('goto 0')
+        data = editor.save_map(all_maps=True)
+    return unlike(saved_as(source), saved_as(json.loads(data)))
+
+
+def test_random_maps():
+    check_each([Case(f'map {number}', number, None) for number in range(RUNS)], fault_of_drawing, CORES)
+
+
+def test_layers_stay_packed():
+    """With the level of the file; a layer that is added is an array."""
+    cells = [1 + at % 9 for at in range(30)]
+    for packing in (ZLIB, GZIP, ZSTANDARD):
+        for level in (-1, 1, 9):
+            tree = with_packing(map_of(tiles(1, 6, 5, data=cells), width=6, height=5), packing, level)
+            with opened(json.dumps(tree).encode()) as editor:
+                editor.step('stamp 1 0 0 1 3')
+                editor.step('layer add tile New')
+                first, second = json.loads(editor.save_map(all_maps=True))['layers']
+            wanted = packing, text_of_bytes(packed_bytes(_words([3, *cells[1:]]), packing, level))
+            came = first['compression'], _without_system(first['data'], packing)
+            fault = unlike((wanted[0], _without_system(wanted[1], packing)), came) or unlike([0] * 30, second['data'])
+            assert not fault and 'compression' not in second, f'{packing} {level}: {fault}'
+            passed()
+
+
+def _words(values):
+    return b''.join(value.to_bytes(4, 'little') for value in values)
+
+
+def _without_system(text, packing):
+    """Packed data without the byte in which gzip tells its system."""
+    data = base64.b64decode(text)
+    return data[:9] + data[10:] if packing == GZIP else data
+
+
+def test_maps_that_need_nothing():
+    """They are opened and saved byte for byte as ever."""
+    rows = {name: data for name, data in example_maps().items() if _is_plain(name)}
+    assert len(rows) > 5
+    for name, data in rows.items():
+        with Editor() as editor:
+            editor.open_map('plain', data)
+            editor.open_map('any', data, all_maps=True)
+            trees = [(editor.step(f'use {each}'), editor.step('show'))[1] for each in ('plain', 'any')]
+            texts = [editor.save_map(), editor.save_map(all_maps=True)]
+        assert trees[0] == trees[1] and texts[0] == texts[1], name
+        passed()
+
+
+def _is_plain(name):
+    with Editor() as editor:
+        try:
+            return bool(editor.open_map('m', example_maps()[name]))
+        except Refused:
+            return False
+
+
+# ---- the tree of a map
+
+
+def test_trees():
+    """`map` and `outline` have floats, and no note; an edited coordinate stays as it was set."""
+    door = thing(1, x=10.5, y=-0.25, width=3.75, height=8, rotation=1e300)
+    line = thing(2, x=2.0, y=7, polyline=[{'x': 0, 'y': 1.5}])
+    tree = new_map(6, 5, 16, 16, 'town.tsj')
+    tree.update(layers=[things(1, door, line, opacity=0.125)], nextlayerid=2, nextobjectid=9)
+    tree['properties'] = [property_of('a', 'float', 0.1)]
+    with opened(json.dumps(tree).encode()) as editor:
+        wanted = [json.loads(json.dumps(tree['layers'])), tree['properties']]
+        for came in (editor.map(), editor.outline()):
+            assert not unlike(exact(wanted), exact([came['layers'], came['properties']]))
+            assert 'roskevad' not in json.dumps(came)
+        assert editor.origin == (0, 0)
+        editor.step('object move 1 10 50')
+        item = editor.map()['layers'][0]['objects'][0]
+        assert (item['x'], item['y'], item['width']) == (10.5, 50, 3.75)
+        passed(5)
+
+
+def test_origins():
+    """An infinite map stays finite in the trees. What its objects were moved by is a whole number."""
+    chunk = {'x': -16, 'y': 32, 'width': 2, 'height': 1, 'data': [5, 6]}
+    layer = tiles(1, 2, 1, chunks=[chunk], startx=-16, starty=32)
+    del layer['data']
+    tree = new_map(2, 1, 16, 16, 'town.tsj')
+    tree.update(layers=[layer, things(2, thing(1, x=-250.5, y=515.25))], nextlayerid=3, nextobjectid=2, infinite=True)
+    with opened(json.dumps(tree).encode()) as editor:
+        came = editor.map()
+        item = came['layers'][1]['objects'][0]
+        fault = unlike(((-16, 32), False, [5, 6]), (editor.origin, came['infinite'], came['layers'][0]['data']))
+        assert not fault, fault
+        assert (item['x'], item['y']) == (5.5, 3.25), item
+        editor.step('close m')
+        try:
+            editor.origin
+            raise AssertionError('an origin without a document')
+        except Refused as refusal:
+            assert (refusal.code, refusal.line) == (10, 'origin')
+    passed(4)
+
+
+# ---- what is refused
+
+
+def refused(code, why, data):
+    """What is wrong with how a map is refused, or None. Nothing of it is left."""
+    with Editor() as editor:
+        try:
+            came = editor.open_map('m', data, all_maps=True)
+        except Refused as refusal:
+            came = refusal.code, refusal.words, refusal.why, refusal.line, refusal.forms
+        left = editor.files(), editor.step('list')
+    return unlike((code, WORDS[code], why, "open_map('m')", ()), came) or unlike(([], 'docs'), left)
+
+
+def with_data(data, packing=ZLIB, width=6, height=5, **members):
+    layer = tiles(1, width, height, data=data, encoding='base64', compression=packing, **members)
+    return json.dumps(map_of(layer, width=width, height=height)).encode()
+
+
+def damaged():
+    """Data of 30 cells that are at fault, of each packing."""
+    cells = _words(range(30))
+    for packing in (ZLIB, GZIP, ZSTANDARD):
+        whole = packed_bytes(cells, packing)
+        rows = {
+            'nothing': b'',
+            'no such stream': b'abcdefgh' * 9,
+            'a byte behind it': whole + b'x',
+            'a stream behind it': whole * 2,
+            'a byte too few': packed_bytes(cells[:-1], packing),
+            'a byte too many': packed_bytes(cells + b'x', packing),
+            'ten million bytes': packed_bytes(bytes(10_000_000), packing),
+        }
+        rows.update({f'cut at {at}': whole[:at] for at in range(1, len(whole), 7)})
+        rows['without its last byte'] = whole[:-1]
+        for name, data in rows.items():
+            yield Case(f'{packing}, {name}', with_data(text_of_bytes(data), packing), (66, BAD_DATA))
+    yield Case('no base64', with_data('a*b='), (66, BAD_DATA))
+    yield Case('base64 that is cut', with_data('abc'), (66, BAD_DATA))
+
+
+def test_damaged_data():
+    check_each(list(damaged()), lambda case: refused(*case.wanted, case.given))
+
+
+def chunks_with(count, side, data):
+    """An infinite map with so many chunks of the same data."""
+    chunks = [{'x': side * at, 'y': 0, 'width': side, 'height': side, 'data': data} for at in range(count)]
+    layer = tiles(1, 1, 1, chunks=chunks, encoding='base64', compression=ZLIB)
+    del layer['data']
+    return json.dumps(map_of(layer, width=1, height=1, infinite=True)).encode()
+
+
+def kept(**members):
+    return text_of({**new_map(1, 1, 16, 16, 'a.tsj'), **members})
+
+
+def test_maps_that_are_refused():
+    bad_chunk = 'a chunk has no place, no size, or not a cell for each of its places'
+    two = [{'x': at, 'y': 0, 'width': 2, 'height': 1, 'data': [1, 2]} for at in (0, 1)]
+    overlapping = tiles(1, 1, 1, chunks=two)
+    del overlapping['data']
+    rows = [
+        ('the name', 51, NAME_TAKEN, kept(a=[{'roskevad': 1}])),
+        ('the note', 51, NOTE_TAKEN, with_data(data_of([1] * 30, ZLIB), roskevad_compression='zlib')),
+        ('too deep', 51, 'set aside or put back, it would nest deeper than 127',
+         kept(a='deep').replace(b'"deep"', b'[' * 125 + b'0.5' + b']' * 125)),
+        ('another packing', 65, "there is no compression 'lzma'", with_data('', 'lzma')),
+        ('a chunk of another size', 66, BAD_DATA, chunks_with(1, 16, data_of([1] * 255, ZLIB))),
+        ('a chunk without a size', 51, bad_chunk, chunks_with(1, 0, data_of([1], ZLIB))),
+        ('chunks that overlap', 51, 'two chunks of a layer overlap', kept(infinite=True, layers=[overlapping])),
+        ('too many bytes', 51, TOO_LONG, chunks_with(13, 1024, data_of([0] * 1024 * 1024, ZLIB))),
+    ]
+    check_each([Case(name, data, (code, why)) for name, code, why, data in rows],
+               lambda case: refused(*case.wanted, case.given))
+
+
+def test_zstandard_is_missing():
+    """Then a map is refused as 65, which says what is wanted; a map that is open is not saved."""
+    data = with_data(data_of([1] * 30, ZSTANDARD), ZSTANDARD)
+    with opened(data) as editor:
+        modules, packings._MODULES = packings._MODULES, ()
+        try:
+            why = 'Zstandard needs Python 3.14, or the package backports.zstd or zstandard'
+            fault = refused(65, why, data)
+            assert not fault, fault
+            editor.step('stamp 1 0 0 1 4')
+            try:
+                editor.save_map(all_maps=True)
+                raise AssertionError('it was saved')
+            except Refused as refusal:
+                assert (refusal.code, refusal.why) == (51, why), refusal
+            assert editor.step('status') == 'ok 1/1 dirty 0'
+        finally:
+            packings._MODULES = modules
+    passed(3)
+
+
+BOMB = '''
+import json, resource, sys, zlib
+sys.path.insert(0, {path!r})
+from roskevad import Editor, Refused
+data = open({file!r}, 'rb').read()
+most = resource.getrusage(resource.RUSAGE_SELF).ru_maxrss
+with Editor() as editor:
+    try:
+        editor.open_map('m', data, all_maps=True)
+    except Refused as refusal:
+        assert refusal.code == 66, refusal
+grown = resource.getrusage(resource.RUSAGE_SELF).ru_maxrss - most
+assert grown < 30_000, f'{{grown}} KB'
+'''
+
+
+def test_bombs():
+    """Two gigabytes in a few bytes are refused, and the memory stays as it was."""
+    for packing in (ZLIB, GZIP, ZSTANDARD):
+        data = with_data(text_of_bytes(_bomb(packing)), packing)
+        with tempfile.TemporaryDirectory() as folder:
+            file = Path(folder) / 'bomb.tmj'
+            file.write_bytes(data)
+            code = BOMB.format(path=str(TOP / 'python'), file=str(file))
+            done = subprocess.run([sys.executable, '-c', code], capture_output=True, text=True, timeout=120)
+        assert done.returncode == 0, f'{packing}: {done.stderr[-600:]}'
+        passed()
+
+
+def _bomb(packing):
+    piece, count = bytes(1 << 20), 2048
+    if packing == ZSTANDARD:
+        packer = zstandard().ZstdCompressor(level=1).compressobj()
+    else:
+        packer = zlib.compressobj(1, zlib.DEFLATED, 31 if packing == GZIP else 15)
+    return b''.join([*(packer.compress(piece) for _ in range(count)), packer.flush()])
+
+
+# ---- Tiled's own maps
+
+
+def fault_of_export(case):
+    """A map that Tiled exported is opened, edited, undone and saved: it has the same numbers, and
+    Tiled exports both the same."""
+    path = case.given
+    with Editor(folder=path.parent) as editor:
+        editor.open_file(path.name, 'm')
+        editor.step('layer add tile New')
+        editor.step('prop set map a int 1')
+        editor.step('goto 0')
+        editor.save_file(f'saved_{path.name}')
+    source, saved = path.read_bytes(), (path.parent / f'saved_{path.name}').read_bytes()
+    again = [
+        exact_text(tiled_package.exported(path.parent / each, path.parent, f'again_{each}'))
+        for each in (path.name, f'saved_{path.name}')
+    ]
+    return unlike(saved_as(tree_of(source)[0]), saved_as(tree_of(saved)[0])) or unlike(*again)
+
+
+def test_maps_of_tiled():
+    with tempfile.TemporaryDirectory() as folder:
+        paths = list(exports(folder))
+        assert len(paths) >= 12, f'Tiled has exported {len(paths)} maps'
+        desert = next(path for path in paths if path.stem == 'desert')
+        check_each([Case(path.name, path, None) for path in [*paths, *in_each_format(desert)]], fault_of_export)
