@@ -1,6 +1,7 @@
 """Works with documents on the page in Chromium: steps, macros, files, refusals, the box of lines,
 sessions that are copied and played, the page loaded anew, and two windows. Most is done on the one
 file, and files and sessions also on what `./tile_page` serves."""
+import json
 import shutil
 import subprocess
 from pathlib import Path
@@ -347,3 +348,34 @@ def test_two_windows():
         assert standing(page) == (1, 1)
         [offered] = page.notices()
         assert 'other (0 steps)' in offered, offered
+
+
+# Maps that only `--all-maps` opens, each with what the page shows of it.
+ALL_MAPS = {
+    'zlib.tmj': 'return roskevad.editor.map.layers[0].isTiles',
+    'opacity_half.tmj': 'return roskevad.editor.map.layers[0].opacity === 0.5',
+    'infinite.tmj': 'return roskevad.editor.map.layers[0].isTiles',
+}
+
+
+def test_all_maps():
+    """Maps that `--all-maps` opens open here, with their fractions shown, and are saved so."""
+    bench = Bench(empty=True)
+    with bench as page:
+        # A module without the calls that set aside opens what is packed alone.
+        has_calls = page.js('return "set_aside" in roskevad.editor.module.calls')
+        for name in ALL_MAPS if has_calls else ('zlib.tmj',):
+            page.choose_files(bench.folder / name)
+            assert page.editor.state()['active'] == name[:-4], page.bubble()
+            assert page.js(ALL_MAPS[name]) is True, name
+            before = json.loads((bench.folder / name).read_text())
+            page.editor.lines('prop set map author string me')
+            page.ctrl('s')
+            after = json.loads(bench.saved(name))
+            assert after.pop('properties') == [{'name': 'author', 'type': 'string', 'value': 'me'}]
+            assert [each.get('opacity') for each in after['layers']] == [
+                each.get('opacity') for each in before['layers']
+            ]
+            kept = before.keys() - {'layers', 'version'}
+            assert {key: after[key] for key in kept} == {key: before[key] for key in kept}, name
+            passed()
