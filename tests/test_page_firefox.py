@@ -15,9 +15,8 @@ PAGE = TOP / 'python' / 'roskevad' / 'page' / 'roskevad.html'
 FILES = [EXAMPLE_MAPS / name for name in ('tiles.tsx', 'tiles.png', 'town.tmj')]
 CONTROL, SHIFT = '\ue009', '\ue008'
 STATE = '''
-const {editor} = window.roskevad;
-editor.takeState();
-return {index: editor.state.index, count: editor.state.count, isClean: editor.state.isClean};'''
+const {index, count, isClean} = window.roskevad.editor.standing();
+return {index, count, isClean};'''
 
 
 def standing(fox):

@@ -1,12 +1,18 @@
 """Works on a folder that `./tile_page` serves, in Chromium: files that change outside, saves that are
 slow, refused or over another file, files of any name and in sub-folders, tilesets beside the maps, and
-a server that ends."""
+a server that ends. And on a folder that the browser gives, which is one of its own here, since its
+chooser takes no answer from a test."""
+import contextlib
+import functools
+import http.server
 import json
 import shutil
+import tempfile
+import threading
+from pathlib import Path
 
-from lib.maps import layers_in
 from lib.places import EXAMPLE_MAPS
-from page.bench import Bench, cells_with, choose, spelled, standing, take_tile
+from page.bench import PAGE, Bench, cells_with, choose, spelled, standing, take_tile
 from page.browser import Keys, Page, Server, browser
 
 NEEDS_BROWSER = True
@@ -33,10 +39,6 @@ def answer(page, text):
     page.fill_in(text)
 
 
-def active_layers(page):
-    return [layer['name'] for layer in layers_in(page.editor.map()['layers'])]
-
-
 def test_a_file_that_changes_outside():
     """The page says so when it gets the focus; a reload shows what the file has, and its steps end."""
     bench = Bench(served=True)
@@ -53,7 +55,8 @@ def test_a_file_that_changes_outside():
         assert standing(page) == (1, 1), 'what is not saved is not reloaded without a question'
         page.answer('Reload')
         answer(page, 'Discard and reload')
-        assert page.editor.map() == json.loads(OTHER) and standing(page) == (0, 0)
+        assert page.editor.map()['layers'] == json.loads(OTHER)['layers']
+        assert standing(page) == (0, 0)
         assert page.notices() == []
         focus(page)
         assert page.notices() == []
@@ -287,3 +290,87 @@ def test_two_windows_of_a_folder():
         answer(page, 'Cancel')
         assert (bench.folder / 'town.tmj').read_bytes() == saved
         page.driver.get_log('browser')
+
+
+# ---- a folder that the browser gives
+
+
+@contextlib.contextmanager
+def site():
+    """The page's one file at an address of this machine, from a server that gives nothing else."""
+    with tempfile.TemporaryDirectory() as top:
+        shutil.copy(PAGE, top)
+        (Path(top) / 'blank.html').write_text('<!doctype html>')
+
+        class Quiet(http.server.SimpleHTTPRequestHandler):
+            def log_message(self, *_):
+                """Tells nothing."""
+
+        served = functools.partial(Quiet, directory=top)
+        with http.server.ThreadingHTTPServer(('127.0.0.1', 0), served) as server:
+            threading.Thread(target=server.serve_forever, daemon=True).start()
+            yield f'http://127.0.0.1:{server.server_address[1]}'
+            server.shutdown()
+
+
+PUT = '''
+const [files, done] = arguments;
+(async () => {
+  const top = await navigator.storage.getDirectory();
+  for (const [path, bytes] of Object.entries(files)) {
+    let folder = top;
+    for (const part of path.split("/").slice(0, -1)) folder = await folder.getDirectoryHandle(part, {create: true});
+    const to = await (await folder.getFileHandle(path.split("/").pop(), {create: true})).createWritable();
+    await to.write(new Uint8Array(bytes));
+    await to.close();
+  }
+})().then(() => done(""), fault => done(String(fault)));'''
+READ = '''
+const [path, done] = arguments;
+roskevad.editor.place.read(path).then(found => done(found && [...found.bytes]), fault => done(String(fault)));'''
+TAKE = '''
+const done = arguments[0];
+navigator.storage.getDirectory().then(folder => roskevad.panel.takeFolder(folder));
+setTimeout(done, 500);'''
+
+
+def bytes_in(page, path):
+    return bytes(page.driver.execute_async_script(READ, path))
+
+
+def test_a_folder_of_the_browser():
+    """Maps of the folder and of those in it are opened and saved in their places; a file that has changed
+    or come is not replaced without a question; and a page that is loaded anew has the folder."""
+    names = ('tiles.tsx', 'tiles.png', 'town.tmj', 'layers.tmj')
+    with site() as address:
+        page = Page(browser(), f'{address}/roskevad.html')
+        page.clear(f'{address}/blank.html')
+        files = {name: (EXAMPLE_MAPS / name).read_bytes() for name in names}
+        town = files['town.tmj'].replace(b'"tiles.tsx"', b'"../tiles.tsx"')
+        page.open()
+        given = {**files, 'deep/my town.tmj': town}
+        assert page.driver.execute_async_script(PUT, {k: list(v) for k, v in given.items()}) == ''
+        page.driver.execute_async_script(TAKE)
+        page.fill_in(file='deep/my town.tmj')
+        assert page.js('return roskevad.tilesets.all.map(set => set.image !== null)') == [True]
+        draw(page)
+        page.ctrl('s')
+        assert bytes_in(page, 'deep/my town.tmj') == page.editor.shown()
+        assert not page.texts('.tab.unsaved') and page.find('#save-hint').text == ''
+        page.ctrl('s', Keys.SHIFT)
+        page.fill_in(file='layers.tmj')
+        assert 'is there already' in page.find('dialog').text
+        answer(page, 'Cancel')
+        assert bytes_in(page, 'layers.tmj') == files['layers.tmj']
+        page.editor.lines('stamp 1 0 0 1 5')
+        page.reload()
+        assert page.notices() == [] and standing(page) == (2, 2)
+        assert page.js('return roskevad.editor.place.kind') == 'folder'
+        changed = {'deep/my town.tmj': list(OTHER)}
+        assert page.driver.execute_async_script(PUT, changed) == ''
+        focus(page)
+        assert 'deep/my town.tmj has changed outside' in page.notices()[0]
+        page.ctrl('s')
+        answer(page, 'Replace it')
+        assert bytes_in(page, 'deep/my town.tmj') == page.editor.shown()
+        page.driver.get('about:blank')

@@ -118,8 +118,8 @@ class Session:
 
     def state(self):
         return self.page.js(
-            'const {editor} = roskevad; editor.takeState();'
-            'return {...editor.state, selection: editor.session.selection()}'
+            'const {editor} = roskevad;'
+            'return {...editor.standing(), selection: editor.session.selection()}'
         )
 
     def map(self):

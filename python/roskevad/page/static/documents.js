@@ -74,7 +74,7 @@ export class Documents {
 
   // ---- saving
   save() {
-    const { file, active, isClean } = this.editor.state;
+    const { file, active, isClean } = this.editor.standing();
     if (!active) return this.bench.act(["save map.tmj"]);
     if (!file) return this.saveAs();
     if (!isClean) return this.saveTo(file);
@@ -148,7 +148,7 @@ export class Documents {
   // ---- closing
   // Closes a document; where it is not saved, asks first.
   async close(name) {
-    const { documents } = this.editor.state;
+    const documents = this.editor.documents();
     if (documents.find(each => each.name === name)?.isClean) return this.closed(name);
     const told = await ask(`${name} has changes that are not saved.`, [], ["Save and close", "Discard"]);
     if (told?.answer === "Discard") return this.closed(name, "discard");

@@ -329,14 +329,21 @@ export class Editor extends EventTarget {
   // ---- what is told
   // Tells how all stands once the journal has what was done.
   tellSoon() {
-    this.telling ??= this.journal.kept().then(() => {
-      this.telling = null;
-      if (this.isBroken) return;
-      this.takeState();
+    this.isTold = false;
+    this.telling ??= this.tellAll();
+  }
+
+  async tellAll() {
+    while (!this.isTold && !this.isBroken) {
+      this.isTold = true;
+      const standing = this.standing();
+      await this.journal.kept();
+      Object.assign(this.state, standing, { change: this.state.change + 1 });
       this.tell("state");
-      // What is closed is kept no more.
-      if (!this.state.documents.length && this.journal.row?.count) this.journal.restart([]);
-    });
+    }
+    this.telling = null;
+    // What is closed is kept no more.
+    if (!this.notes.sessions.size && this.journal.row?.count) this.journal.restart([]);
   }
 
   // Whether nothing is written, or about to be told.
@@ -344,15 +351,16 @@ export class Editor extends EventTarget {
     return !this.telling && !this.underWay && !this.writes.size;
   }
 
-  takeState() {
+  // How the active document and its steps stand now.
+  standing() {
     const stands = this.stand();
     const first = Math.max(0, stands.index - this.steps);
     const last = Math.min(stands.count, stands.index + this.steps);
     const steps = Array.from({ length: Math.max(0, last - first) }, (_, at) => this.step(first + at));
     const { active, file } = this.notes;
     const isWriting = this.notes.isWriting(active);
-    Object.assign(this.state, stands, { change: this.state.change + 1, documents: this.documents(), active, file: file?.path ?? null,
-      cleanIndex: this.session.cleanIndex(), firstStep: first, steps, isWriting, isClean: stands.isClean && !isWriting });
+    return { ...stands, documents: this.documents(), active, file: file?.path ?? null, cleanIndex: this.session.cleanIndex(), firstStep: first, steps,
+      isWriting, isClean: stands.isClean && !isWriting };
   }
 
   stand() {

@@ -33,7 +33,7 @@ export function lock(id) {
 export class Journal extends EventTarget {
   constructor(version, limit) {
     super();
-    Object.assign(this, { version, limit, bound: BOUND, row: null, queue: [], fault: null, isFlushing: null, work: Promise.resolve() });
+    Object.assign(this, { version, limit, bound: BOUND, row: null, queue: [], fault: null, isFlushing: null, added: 0, written: 0, waiting: [], work: Promise.resolve() });
     // What is told of this window's documents, and where its files are: [{ name, path, steps, isClean }] and { kind, title, folder }.
     this.summary = () => [];
     this.source = () => ({});
@@ -69,6 +69,7 @@ export class Journal extends EventTarget {
     this.fault = fault;
     this.queue = [];
     this.isFlushing = null;
+    this.tellWritten(this.added);
     this.dispatchEvent(new CustomEvent("broken", { detail: fault }));
   }
 
@@ -77,6 +78,7 @@ export class Journal extends EventTarget {
   add(entry) {
     if (this.fault) return;
     this.queue.push(entry);
+    this.added++;
     this.isFlushing ??= this.run(() => this.flush());
   }
 
@@ -86,9 +88,18 @@ export class Journal extends EventTarget {
     return this.work;
   }
 
-  // Resolves when all that was added is on the disk, or is kept no more.
-  async kept() {
-    while (this.isFlushing || this.queue.length) await this.work;
+  // Resolves when all that was added until now is on the disk, or is kept no more.
+  kept() {
+    if (this.fault || this.written >= this.added) return Promise.resolve();
+    return new Promise(resolve => this.waiting.push({ count: this.added, resolve }));
+  }
+
+  // Tells those who wait for what is written by now.
+  tellWritten(count) {
+    this.written = count;
+    const done = this.waiting.filter(each => each.count <= count);
+    this.waiting = this.waiting.filter(each => each.count > count);
+    for (const { resolve } of done) resolve();
   }
 
   async flush() {
@@ -103,6 +114,7 @@ export class Journal extends EventTarget {
         rows.put(row);
       });
       this.row = row;
+      this.tellWritten(this.written + entries.length);
     }
     this.isFlushing = null;
     if (this.isFull) this.dispatchEvent(new Event("full"));
@@ -133,6 +145,7 @@ export class Journal extends EventTarget {
   restart(entries) {
     return this.run(async () => {
       if (!this.row || this.fault) return;
+      this.written += this.queue.length;
       this.queue = [];
       const record = { journal: this.id, at: 0, entries, sum: recordSum(entries) };
       const row = { ...this.row, count: entries.length ? 1 : 0, size: (this.row.files ?? 0) + sizeOf(entries), documents: this.summary() };

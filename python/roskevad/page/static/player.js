@@ -31,7 +31,8 @@ export class Player {
   // Plays lines: as one macro where all are edits of the active document, and else one by one, up to the first that is refused.
   async play(text) {
     const lines = text.split(/\r?\n/).filter(line => !isQuiet(line));
-    const { active, depth } = this.editor.state;
+    const { active } = this.editor.notes;
+    const { depth } = this.editor.stand();
     if (!lines.length) return;
     const isMacro = active !== null && depth === 0 && lines.every(isEdit);
     const { done, at } = await (isMacro ? this.asMacro(lines) : this.oneByOne(lines));

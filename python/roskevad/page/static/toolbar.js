@@ -76,7 +76,7 @@ export class Toolbar {
 
   turnMacro() {
     const name = byId("macro-name");
-    this.bench.act([this.editor.state.depth ? "end" : `begin ${name.value}`]);
+    this.bench.act([this.editor.stand().depth ? "end" : `begin ${name.value}`]);
     name.blur();
   }
 
