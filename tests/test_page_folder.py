@@ -13,7 +13,7 @@ from pathlib import Path
 
 from lib.places import EXAMPLE_MAPS
 from page.bench import PAGE, Bench, cells_with, choose, spelled, standing, take_tile
-from page.browser import Keys, Page, Server, browser
+from page.browser import Keys, Page, Server, browser, started
 
 NEEDS_BROWSER = True
 IS_LONG = True
@@ -374,3 +374,18 @@ def test_a_folder_of_the_browser():
         answer(page, 'Replace it')
         assert bytes_in(page, 'deep/my town.tmj') == page.editor.shown()
         page.driver.get('about:blank')
+
+
+def test_an_address_that_is_not_safe():
+    """From another host without https the page says what is missing, and does nothing."""
+    with site() as address:
+        driver = started('--host-resolver-rules=MAP example.test 127.0.0.1')
+        try:
+            page = Page(driver, f'{address.replace("127.0.0.1", "example.test")}/roskevad.html')
+            driver.get(page.address)
+            page.wait(page.notices, 'the page says something')
+            [told] = page.notices()
+            assert 'cannot work here' in told and 'https' in told, told
+            assert page.js('return document.body.dataset.isReady ?? null') is None
+        finally:
+            driver.quit()

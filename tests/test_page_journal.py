@@ -26,7 +26,7 @@ const tell = (kind, cell) => {
   const [clientX, clientY] = view.middleOf(...cell);
   view.box.dispatchEvent(new PointerEvent(kind, {clientX, clientY, button: 0, pointerId: 7, bubbles: true}));
 };
-let number = 0;
+let number = editor.stand().count;
 globalThis.drawing = setInterval(() => {
   roskevad.bench.takeStamp({width: 1, height: 1, values: [1 + number % 30]});
   const [x, y] = [number * 3 % 36, Math.floor(number / 12) % 30];

@@ -339,7 +339,7 @@ def test_a_disk_that_is_full():
         door.want('412 where a folder has the name', got[0] == 412, got)
         before = b'x' * 5
         (folder / 'c.tmj').write_bytes(before)
-        limit = f'ulimit -f 64; exec "$0" "$@"'
+        limit = 'ulimit -f 64; exec "$0" "$@"'
         limited = subprocess.Popen(
             ['bash', '-c', limit, TOP / 'tile_page', '--folder', folder, '--port', '0'],
             stdout=subprocess.PIPE,

@@ -22,7 +22,11 @@ import { Toolbar } from "./toolbar.js";
 import { Tools } from "./tools.js";
 
 // What the page needs of the browser.
-const NEEDED = { "a page that is safe: from a disk, by https, or of this machine": () => isSecureContext, WebAssembly: () => WebAssembly.Module, "locks": () => navigator.locks };
+const NEEDED = {
+  "an address that is safe: of a disk, by https, or of this machine": () => isSecureContext,
+  WebAssembly: () => globalThis.WebAssembly?.Module,
+  "locks (Web Locks)": () => navigator.locks,
+};
 
 function bytesOf(coded) {
   const text = atob(coded);
@@ -31,122 +35,121 @@ function bytesOf(coded) {
   return bytes;
 }
 
-// What the server tells, where the page came from `tile_page`.
+// The parts of the page, and what each shows when something has changed.
+class Page {
+  constructor(editor) {
+    this.editor = editor;
+    this.tilesets = new Tilesets(editor);
+    this.view = new MapView(byId("view"), editor, this.tilesets);
+    this.marks = new Marks(this.view, editor, this.tilesets);
+    const bench = this.bench = new Bench(editor, this.view, this.marks, this.tilesets);
+    this.tools = new Tools(bench);
+    this.documents = new Documents(bench);
+    this.toolbar = new Toolbar(bench, this.tools, this.documents);
+    this.palette = new Palette(bench, this.tilesets);
+    this.layers = new LayerPanel(bench);
+    this.properties = new PropertyPanel(bench);
+    this.steps = new StepPanel(bench);
+    this.panel = new PlacePanel(bench, this.documents, this.tilesets);
+    this.recovery = new Recovery(bench, this.panel);
+    this.lines = new LinePanel(bench);
+    this.player = new Player(bench);
+    this.shownDocument = null;
+    this.listen();
+    this.tools.choose("brush");
+  }
+
+  listen() {
+    const { bench, editor, marks, panel, view } = this;
+    panel.onTilesets = () => this.showTilesets().catch(fault => console.warn(fault));
+    editor.addEventListener("map", () => this.showMap());
+    editor.addEventListener("cells", ({ detail }) => view.refresh(detail));
+    editor.addEventListener("selection", () => marks.redraw());
+    editor.addEventListener("state", () => this.showState());
+    bench.addEventListener("free", () => this.showState());
+    bench.addEventListener("chosen", () => this.showChosen());
+    bench.addEventListener("hand", () => this.showHand());
+    view.onMove = () => {
+      byId("scale").textContent = `${Math.round(view.scale * 100)} %`;
+      marks.redraw();
+    };
+  }
+
+  // Another map: its tilesets may be others, and where its document is another one it is shown whole.
+  async showMap() {
+    const { active } = this.editor.notes;
+    this.bench.settle();
+    if (active !== this.shownDocument) this.view.fit();
+    this.shownDocument = active;
+    this.view.takeMap();
+    this.marks.redraw();
+    await this.showTilesets();
+  }
+
+  async showTilesets() {
+    const { bench, tilesets } = this;
+    if (!(await tilesets.take(this.editor.map))) return;
+    this.palette.show();
+    this.view.redraw();
+    this.panel.showMissing();
+    if (bench.map && !tilesets.of(bench.fillValue)) bench.takeStamp({ width: 1, height: 1, values: [tilesets.all[0]?.first ?? 1] });
+  }
+
+  showState() {
+    if (this.bench.isHeld) return;
+    const { active, index, count, isClean, isWriting, depth } = this.editor.state;
+    this.documents.show();
+    this.steps.show();
+    this.toolbar.show();
+    const standing = `${index}/${count} ${isWriting ? "is being saved" : isClean ? "saved" : "not saved"}${depth ? `, ${depth} open` : ""}`;
+    byId("standing").textContent = active ? standing : "";
+    this.showChosen();
+  }
+
+  showChosen() {
+    this.layers.show();
+    this.properties.show();
+  }
+
+  showHand() {
+    const { layer, map, place } = this.bench;
+    const cell = place?.cell;
+    const value = cell && layer?.isTiles && map.isInside(...cell) ? map.value(layer.id, ...cell) : null;
+    byId("place").textContent = cell && map ? `${cell.join(", ")}${value === null ? "" : ` tile ${value}`}` : "";
+  }
+}
+
+// What the server tells, where the page came from `tile_page`; null where it is gone already.
 async function servedBy(key) {
   const place = new ServedFiles(key);
-  try {
-    return { place, told: await place.told() };
-  } catch (fault) {
-    notice("server", `The server tells nothing: ${fault.message}.`, [["Load anew", () => location.reload()]]);
-    return null;
-  }
+  place.addEventListener("gone", ({ detail }) => {
+    const words = `${detail} Saving has to wait; all else goes on. If it starts at the same port with another key, open its new address in this tab.`;
+    notice("server", words, [["Try again", () => place.told().then(() => true, () => false)]]);
+  });
+  place.addEventListener("back", () => endNotice("server"));
+  return { place, told: await place.told().catch(() => ({ files: [], limit: 0 })) };
 }
 
 async function start() {
   const missing = Object.keys(NEEDED).filter(name => !NEEDED[name]());
   if (missing.length) return notice("needed", `This page cannot work here. It needs ${missing.join(", ")}.`);
   const key = new URLSearchParams(location.search).get("key");
-  const [module, served] = await Promise.all([Module.load(bytesOf(byId("module").textContent)), key && servedBy(key)]);
+  const [module, served] = await Promise.all([Module.load(bytesOf(byId("module").textContent)), key === null ? null : servedBy(key)]);
   const editor = new Editor(module, served?.told.limit ?? 0);
   if (served) editor.place = served.place;
-  const page = put(editor);
-  if (served) seeServer(served.place);
+  const page = new Page(editor);
   await editor.journal.start();
   page.panel.start();
   page.toolbar.show();
   const isRestored = await page.recovery.start();
   if (!isRestored && served) for (const path of served.told.files) await page.documents.openPath(path);
   editor.tellSoon();
-  await editor.journal.kept();
+  await editor.telling;
   // For the console, and for scripts that try the page.
-  globalThis.roskevad = { editor, sumOf: recordSum, ...page };
+  page.sumOf = recordSum;
+  globalThis.roskevad = page;
   document.body.dataset.isReady = "yes";
   return page;
-}
-
-function seeServer(place) {
-  place.addEventListener("gone", ({ detail }) => {
-    const words = `${detail} Saving has to wait; all else goes on. If it starts at the same port with another key, open its new address in this tab.`;
-    notice("server", words, [["Try again", () => place.told().then(() => true, () => false)]]);
-  });
-  place.addEventListener("back", () => endNotice("server"));
-}
-
-function put(editor) {
-  const tilesets = new Tilesets(editor);
-  const view = new MapView(byId("view"), editor, tilesets);
-  const marks = new Marks(view, editor, tilesets);
-  const bench = new Bench(editor, view, marks, tilesets);
-  const tools = new Tools(bench);
-  const documents = new Documents(bench);
-  const toolbar = new Toolbar(bench, tools, documents);
-  const palette = new Palette(bench, tilesets);
-  const layers = new LayerPanel(bench);
-  const properties = new PropertyPanel(bench);
-  const steps = new StepPanel(bench);
-  const panel = new PlacePanel(bench, documents, tilesets);
-  const recovery = new Recovery(bench, panel);
-  new LinePanel(bench);
-  new Player(bench);
-  let shownDocument = null;
-
-  // Another map: its tilesets may be others.
-  async function showMap() {
-    bench.settle();
-    if (editor.notes.active !== shownDocument) {
-      shownDocument = editor.notes.active;
-      view.fit();
-    }
-    view.takeMap();
-    marks.redraw();
-    await showTilesets();
-  }
-
-  async function showTilesets() {
-    if (!(await tilesets.take(editor.map))) return;
-    palette.show();
-    view.redraw();
-    panel.showMissing();
-    if (bench.map && !tilesets.of(bench.fillValue)) bench.takeStamp({ width: 1, height: 1, values: [tilesets.all[0]?.first ?? 1] });
-  }
-
-  function showState() {
-    if (bench.isHeld) return;
-    documents.show();
-    steps.show();
-    toolbar.show();
-    const { active, index, count, isClean, isWriting, depth } = editor.state;
-    const standing = `${index}/${count} ${isWriting ? "is being saved" : isClean ? "saved" : "not saved"}${depth ? `, ${depth} open` : ""}`;
-    byId("standing").textContent = active ? standing : "";
-    showChosen();
-  }
-
-  function showChosen() {
-    layers.show();
-    properties.show();
-  }
-
-  function showHand() {
-    const { cell } = bench.place ?? {};
-    const { layer, map } = bench;
-    const value = cell && layer?.isTiles && map.isInside(...cell) ? map.value(layer.id, ...cell) : null;
-    byId("place").textContent = cell && map ? `${cell.join(", ")}${value === null ? "" : ` tile ${value}`}` : "";
-  }
-
-  panel.onTilesets = () => showTilesets().catch(fault => console.warn(fault));
-  editor.addEventListener("map", showMap);
-  editor.addEventListener("cells", ({ detail }) => view.refresh(detail));
-  editor.addEventListener("selection", () => marks.redraw());
-  editor.addEventListener("state", showState);
-  bench.addEventListener("free", showState);
-  bench.addEventListener("chosen", showChosen);
-  bench.addEventListener("hand", showHand);
-  view.onMove = () => {
-    byId("scale").textContent = `${Math.round(view.scale * 100)} %`;
-    marks.redraw();
-  };
-  tools.choose("brush");
-  return { bench, view, tools, tilesets, documents, toolbar, panel, recovery };
 }
 
 await start();
