@@ -40,7 +40,8 @@ export class Documents {
       this.close(name);
     }, { className: "close" });
     const onclick = () => isActive || this.bench.act([`use ${name}`]);
-    const tab = element("div", { className: "tab", title: path ?? "in no file yet", data: { document: name }, onclick }, mark, element("span", { textContent: name }), close);
+    const shown = { className: "tab", title: path ?? "in no file yet", data: { document: name }, onclick };
+    const tab = element("div", shown, mark, element("span", { textContent: name }), close);
     tab.classList.toggle("on", isActive);
     tab.classList.toggle("unsaved", !isClean);
     return tab;

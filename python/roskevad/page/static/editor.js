@@ -387,7 +387,8 @@ export class Editor extends EventTarget {
 
   // What the journal tells of the documents, for who finds it later.
   summary() {
-    return this.isBroken ? this.journal.row.documents : this.documents().map(({ name, path, count, isClean }) => ({ name, path, steps: count, isClean }));
+    if (this.isBroken) return this.journal.row.documents;
+    return this.documents().map(({ name, path, count, isClean }) => ({ name, path, steps: count, isClean }));
   }
 
   // The session of the active document.

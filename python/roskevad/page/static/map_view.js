@@ -244,8 +244,10 @@ export class MapView {
     const last = (origin, side, length) => Math.floor((length - origin) / this.scale / side) + 2;
     const within = (cell, most) => Math.max(0, Math.min(most, cell));
     return [
-      within(first(this.originX, tileWidth) - right - aside, width), within(first(this.originY, tileHeight) - aside, height),
-      within(last(this.originX, tileWidth, this.canvas.width) + aside, width), within(last(this.originY, tileHeight, this.canvas.height) + up + aside, height),
+      within(first(this.originX, tileWidth) - right - aside, width),
+      within(first(this.originY, tileHeight) - aside, height),
+      within(last(this.originX, tileWidth, this.canvas.width) + aside, width),
+      within(last(this.originY, tileHeight, this.canvas.height) + up + aside, height),
     ];
   }
 

@@ -17,9 +17,11 @@ export class PlacePanel {
       await this.takeChosen([...input.files]);
       input.value = "";
     } });
-    const more = [button("Open files", "Choose maps, tilesets and images; or drop them here. A save is a download then", () => input.click(), { id: "open-files" }), input];
+    const title = "Choose maps, tilesets and images; or drop them here. A save is a download then";
+    const more = [button("Open files", title, () => input.click(), { id: "open-files" }), input];
     if (globalThis.showDirectoryPicker) {
-      more.unshift(button("Open folder", "Choose the folder of the maps and of their tilesets; a save goes there", () => this.chooseFolder(), { id: "open-folder" }));
+      const said = "Choose the folder of the maps and of their tilesets; a save goes there";
+      more.unshift(button("Open folder", said, () => this.chooseFolder(), { id: "open-folder" }));
     }
     byId("file-actions").append(...more);
     addEventListener("dragover", event => event.preventDefault());
@@ -87,7 +89,8 @@ export class PlacePanel {
     if (!missing.length) return endNotice("tilesets");
     const [first, ...others] = missing;
     const more = others.length ? ` and ${others.length} more` : "";
-    return notice("tilesets", `Not found: ${first}${more}. ${this.editor.place.advice(first)} Its tiles are drawn as numbers.`, [["OK", () => {}]], "mild");
+    const words = `Not found: ${first}${more}. ${this.editor.place.advice(first)} Its tiles are drawn as numbers.`;
+    return notice("tilesets", words, [["OK", () => {}]], "mild");
   }
 }
 

@@ -3,6 +3,8 @@ import { button, byId, element, shown } from "./dom.js";
 import { isEdit, isQuiet } from "./line_kinds.js";
 
 const MACRO = "Session";
+// How many characters of a refused line are said.
+const LONGEST_LINE = 80;
 
 export class Player {
   constructor(bench) {
@@ -14,7 +16,8 @@ export class Player {
   // Shows the lines that are to be played, to be pasted, read from the clipboard or from a file.
   async ask() {
     const text = element("textarea", { name: "session", rows: 12, spellcheck: false, placeholder: "session lines, one below the other" });
-    const input = element("input", { type: "file", hidden: true, id: "session-file", onchange: async () => (text.value = await input.files[0].text()) });
+    const read = async () => (text.value = await input.files[0].text());
+    const input = element("input", { type: "file", hidden: true, id: "session-file", onchange: read });
     const paste = async () => {
       try {
         text.value = await navigator.clipboard.readText();
@@ -22,9 +25,11 @@ export class Player {
         this.bench.say(`The browser gives no clipboard: ${fault.message}. Paste the lines by Ctrl+V.`);
       }
     };
-    const row = element("div", { className: "answers" }, button("From the clipboard", "", paste), button("From a file", "", () => input.click()), input,
+    const row = element("div", { className: "answers" },
+      button("From the clipboard", "", paste), button("From a file", "", () => input.click()), input,
       element("button", { type: "submit", value: "Play", textContent: "Play" }), button("Cancel", "Esc", () => dialog.close("")));
-    const dialog = element("dialog", { id: "session" }, element("form", { method: "dialog" }, element("h2", { textContent: "Play a session" }), text, row));
+    const form = element("form", { method: "dialog" }, element("h2", { textContent: "Play a session" }), text, row);
+    const dialog = element("dialog", { id: "session" }, form);
     if (await shown(dialog)) await this.play(text.value);
   }
 
@@ -36,8 +41,12 @@ export class Player {
     if (!lines.length) return;
     const isMacro = active !== null && depth === 0 && lines.every(isEdit);
     const { done, at } = await (isMacro ? this.asMacro(lines) : this.oneByOne(lines));
-    if (done.isHeard) this.bench.say(`${lines.length} lines were played${isMacro ? ", as one step" : ""}.`);
-    else this.bench.say(`Line ${at + 1} of ${lines.length}, '${lines[at].slice(0, 80)}': ${done.refusal?.slice(3) ?? done.barred}.${isMacro ? " Nothing is changed." : ""} ${done.why ?? ""}`);
+    if (done.isHeard) {
+      this.bench.say(`${lines.length} lines were played${isMacro ? ", as one step" : ""}.`);
+      return;
+    }
+    const line = `Line ${at + 1} of ${lines.length}, '${lines[at].slice(0, LONGEST_LINE)}'`;
+    this.bench.say(`${line}: ${done.refusal?.slice(3) ?? done.barred}.${isMacro ? " Nothing is changed." : ""} ${done.why ?? ""}`);
   }
 
   asMacro(lines) {

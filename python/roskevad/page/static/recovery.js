@@ -9,7 +9,8 @@ const SAID = "roskevad-said-that-nothing-is-kept";
 // The word behind `#` of a window that is opened for a journal.
 const RESTORE = "restore=";
 
-const namesOf = row => row.documents.map(({ name, steps, isClean }) => `${name} (${steps} ${steps === 1 ? "step" : "steps"}${isClean ? "" : ", not saved"})`).join(", ");
+const nameOf = ({ name, steps, isClean }) => `${name} (${steps} ${steps === 1 ? "step" : "steps"}${isClean ? "" : ", not saved"})`;
+const namesOf = row => row.documents.map(nameOf).join(", ");
 const timeOf = row => new Date(row.changed).toLocaleString();
 
 export class Recovery {
@@ -17,7 +18,7 @@ export class Recovery {
     Object.assign(this, { bench, panel, editor: bench.editor, journal: bench.editor.journal });
     this.journal.addEventListener("broken", ({ detail }) => this.sayBroken(detail));
     this.journal.addEventListener("full", () => this.sayFull());
-    this.editor.addEventListener("broken", ({ detail }) => notice("editor", `The editor was broken off: ${detail}. What was done is in the journal.`, [["Load anew", () => location.reload()]]));
+    this.editor.addEventListener("broken", ({ detail }) => this.sayEnded(detail));
     addEventListener("beforeunload", event => this.mayLeave() || event.preventDefault());
   }
 
@@ -141,6 +142,10 @@ export class Recovery {
   }
 
   // ---- where nothing is kept, or no more
+  sayEnded(why) {
+    notice("editor", `The editor was broken off: ${why}. What was done is in the journal.`, [["Load anew", () => location.reload()]]);
+  }
+
   sayBroken(fault) {
     if (sessionStorage.getItem(SAID)) return;
     sessionStorage.setItem(SAID, "yes");
