@@ -14,7 +14,7 @@ from typing import IO, Dict, List, Optional, cast
 
 HERE = Path(__file__).resolve().parent
 PROJECT = (HERE / 'pyproject.toml').read_text()
-SUFFIXES = {'.py', '.html', '.css', '.js'}
+SUFFIXES = {'.py', '.html'}
 TAG = 'py3-none-manylinux2014_x86_64'
 EDITABLE_TAG = 'py3-none-any'
 # What the package needs besides: a source archive has it among its files, and a clone elsewhere.
@@ -62,8 +62,9 @@ def beside(name: str) -> bytes:
 
 
 def sources() -> Dict[str, bytes]:
-    """The files of the package, with those of the page."""
-    paths = sorted(path for path in (HERE / NAME).rglob('*') if path.suffix in SUFFIXES or path.name == 'py.typed')
+    """The files of the package, with the page, but without what the page is built from."""
+    paths = sorted(path for path in (HERE / NAME).rglob('*')
+                   if (path.suffix in SUFFIXES or path.name == 'py.typed') and path.parent.name != 'static')
     return {path.relative_to(HERE).as_posix(): path.read_bytes() for path in paths}
 
 

@@ -31,7 +31,7 @@ def test_seen():
     """The town is drawn as its tilesets have it; a hidden layer goes, and so does a group; all
     comes back."""
     with Bench() as page:
-        places = list(free_places(page.server.map(), 3))
+        places = list(free_places(page.editor.map(), 3))
         see_colours(page, places)
         ground = choose(page, 'Ground')
         page.click(f'#layers li[data-layer="{ground}"] .eye')
@@ -68,7 +68,7 @@ def test_tilesets():
             page.click(f'.tab[data-document="{name[:-4]}"]')
             places = [
                 place
-                for place in free_places(page.server.map())
+                for place in free_places(page.editor.map())
                 if name != 'town.tmj' or place[0] % 4 == 0
             ]
             assert places
@@ -168,7 +168,7 @@ def test_objects_seen():
 def test_palette():
     """The palette has the tiles of the tileset."""
     with Bench() as page:
-        tiles = Tiles(page, page.server.map())
+        tiles = Tiles(page, page.editor.map())
         wanted = {(at % 8, at // 8): tiles.colour(at + 1, 8, 8) for at in range(32)}
         solid = {place: colour[:3] for place, colour in wanted.items() if colour[3] == 255}
         code = 'const pen = document.getElementById("palette").getContext("2d"); return arguments[0].map(([x, y]) => [...pen.getImageData(x, y, 1, 1).data])'
@@ -186,7 +186,7 @@ def test_tiles_as_tiled():
     bench = Bench(empty=True)
     with bench as page:
         tiles.put_map(bench.folder)
-        page.say('open sizes sizes.tmj')
+        page.choose_files(*sorted(bench.folder.glob('*.tsx')), bench.folder / 'sizes.tmj')
         page.js(
             'const {view} = roskevad; view.scale = 1; view.originX = view.originY = 40; view.redraw()'
         )

@@ -42,9 +42,15 @@ LINES_BETWEEN = [
 ]
 
 
-def tell_server(page, line):
-    page.server.lines(line)
+def tell(page, line):
+    page.editor.lines(line)
     page.settle()
+
+
+# The cells that the page has drawn last, of which it has asked the editor, or drawn them itself.
+SEEN = '''
+const {editor: {map}, view: {seen}} = roskevad;
+return [seen.box, [...seen.cellsOf(map.layers[0].id)]]'''
 
 
 def take_tool(page, numbers):
@@ -61,16 +67,16 @@ def take_tool(page, numbers):
 def draw(page, numbers):
     """Draws a stroke: it is one step or none, and an undo gives back the map before it. Gives
     whether the map has changed, and whether a step vanished on the way."""
-    before, (index, _), lines = page.server.map(), standing(page), len(spelled(page))
+    before, (index, _), lines = page.editor.map(), standing(page), len(spelled(page))
     page.stroke(random_way(numbers))
-    now, after, depth = page.server.map(), standing(page)[0], page.server.state()['depth']
+    now, after, depth = page.editor.map(), standing(page)[0], page.editor.state()['depth']
     said = spelled(page)[lines:]
-    assert page.js('return [...roskevad.editor.map.layers[0].cells]') == now['layers'][0]['data']
+    assert page.js(SEEN) == [[0, 0, 10, 8], now['layers'][0]['data']]
     assert depth or after == index + (now != before), (said, index, after)
     if not depth and now != before:
-        page.server.lines('undo')
-        assert page.server.map() == before, said
-        page.server.lines('redo')
+        page.editor.lines('undo')
+        assert page.editor.map() == before, said
+        page.editor.lines('redo')
     page.settle()
     return now != before, sum(line.startswith(('stamp ', 'erase ')) for line in said) > 1
 
@@ -79,12 +85,12 @@ def test_random_strokes():
     numbers, came = random.Random(20261125), []
     with Bench(empty=True) as page:
         page.say('new a 10 8 16 16 tiles.tsx')
-        tell_server(
+        tell(
             page, 'stamp 1 0 0 10 ' + ','.join(str(numbers.choice([1, 2])) for _ in range(80))
         )
         for _ in range(STROKES):
             if numbers.random() < 0.3:
-                tell_server(page, numbers.choice(LINES_BETWEEN))
+                tell(page, numbers.choice(LINES_BETWEEN))
             take_tool(page, numbers)
             came.append(draw(page, numbers))
             passed()

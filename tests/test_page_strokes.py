@@ -119,7 +119,7 @@ def test_fill_and_selection():
         } | {(10, 3), (10, 4)}
         selected = {
             (column + i, row)
-            for row, column, count in page.server.state()['selection']
+            for row, column, count in page.editor.state()['selection']
             for i in range(count)
         }
         assert selected == inside
@@ -132,7 +132,7 @@ def test_fill_and_selection():
         page.drag([(10, 3)])
         assert spelled(page)[-1] == f'fill {ground} 10 3 5' and cell(page, ground, 10, 4) == 5
         page.ctrl('a', Keys.SHIFT)
-        assert page.server.state()['selection'] == []
+        assert page.editor.state()['selection'] == []
         see_colours(page, inside)
 
 
@@ -146,7 +146,7 @@ def test_fill_with_holes():
         page.drag([(0, 0), (1, 1)], button=2)
         page.drag([(6, 4)])
         assert spelled(page)[-1] == 'fill 1 6 4 12', spelled(page)
-        assert page.server.map()['layers'][0]['data'].count(12) == 47
+        assert page.editor.map()['layers'][0]['data'].count(12) == 47
 
 
 def test_stamp_of_selected():
@@ -245,7 +245,7 @@ def test_tools_by_mouse():
 def test_second_tileset():
     """Tiles of another tileset of the map are chosen in the palette, and drawn."""
     with Bench('two_tilesets.tmj') as page:
-        sets = page.server.map()['tilesets']
+        sets = page.editor.map()['tilesets']
         Select(page.find('#tilesets')).select_by_value(str(sets[1]['firstgid']))
         take_tile(page, (1, 0))
         layer = page.js('return roskevad.bench.layerId')

@@ -29,7 +29,7 @@ def test_objects():
     with Bench() as page:
         number = next(
             o['id']
-            for layer in layers_in(page.server.map()['layers'])
+            for layer in layers_in(page.editor.map()['layers'])
             for o in layer.get('objects', ())
             if o['name'] == 'Inn'
         )
@@ -77,7 +77,7 @@ def test_layers():
         page.drag([(1, 1)])
         assert cell(page, number, 1, 1) != 0
         page.click('#layer-down')
-        place = len(page.server.map()['layers']) - 2
+        place = len(page.editor.map()['layers']) - 2
         assert (
             spelled(page)[-1] == f'layer move {number} {place}'
             and page.texts('#layers .name')[0] != 'Clouds over all'
@@ -92,7 +92,7 @@ def test_layers():
         assert layer_of(page, 'Mist')['id'] == number
         page.click('#add-object-layer')
         page.fill_in(name='Signs')
-        assert page.server.map()['layers'][-1]['type'] == 'objectgroup'
+        assert page.editor.map()['layers'][-1]['type'] == 'objectgroup'
         page.click('#remove-layer')
         assert 'Signs' not in page.texts('#layers .name')
 
@@ -122,10 +122,10 @@ def test_groups():
         assert 'layer of another kind' in page.bubble()
         page.click('#layer-down')
         assert (
-            page.server.map()['layers'][0]['id'] == houses['id']
+            page.editor.map()['layers'][0]['id'] == houses['id']
             and page.texts('#layers .name')[-1] != 'Ground'
         )
-        see_colours(page, list(free_places(page.server.map(), 9)))
+        see_colours(page, list(free_places(page.editor.map(), 9)))
         page.click('#remove-layer')
         assert len(page.texts('#layers li')) == len(shown) - 1 - inside
         page.ctrl('z')
@@ -174,7 +174,7 @@ def test_kinds_of_properties():
             f'prop set map a_{kind} {kind} {value}' for kind, value in values.items()
         ]
         told = {
-            each['name']: (each['type'], each['value']) for each in page.server.map()['properties']
+            each['name']: (each['type'], each['value']) for each in page.editor.map()['properties']
         }
         assert (
             told['a_int'] == ('int', -5)
@@ -193,7 +193,7 @@ def test_resize():
     with Bench() as page:
         page.click('#resize')
         page.fill_in(width=42, height=31, right=2, down=1)
-        town = page.server.map()
+        town = page.editor.map()
         assert spelled(page) == ['resize 42 31 2 1'] and (town['width'], town['height']) == (42, 31)
         see_colours(page, [(x, y) for x, y in free_places(town, 7)])
 
@@ -204,7 +204,7 @@ def places_in_view(page):
         'const box = roskevad.view.box.getBoundingClientRect();'
         'return [box.left, box.top, box.right, box.bottom]'
     )
-    cells = list(free_places(page.server.map()))
+    cells = list(free_places(page.editor.map()))
     places = zip(cells, page.places(cells, (5, 9)))
     return [
         cell for cell, (x, y) in places if left < x - 2 < right - 4 and top < y - 2 < bottom - 4
@@ -238,14 +238,14 @@ def test_moving():
         assert [moved[0] - after[0], moved[1] - after[1]] == [30, 17] and not spelled(page)
         see_colours(
             page,
-            [(x, y) for x, y in free_places(page.server.map(), 2) if 8 < x < 16 and 8 < y < 14],
+            [(x, y) for x, y in free_places(page.editor.map(), 2) if 8 < x < 16 and 8 < y < 14],
         )
         for way in ((-160, 90), (70, -200), (40, 60)):
             page.drag_points([[800, 500], [800 + way[0], 500 + way[1]]], button=1)
         see_colours(page, places_in_view(page))
         page.click('#fit')
         page.click('#grid')
-        see_colours(page, free_places(page.server.map(), 11))
+        see_colours(page, free_places(page.editor.map(), 11))
 
 
 def test_keys():

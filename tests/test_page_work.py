@@ -1,5 +1,7 @@
-"""Works with documents on the page in Chromium: steps, macros, files, refusals, the box of lines, a
-session that is copied, the page loaded anew, two tabs on one editor, and a server that ends."""
+"""Works with documents on the page in Chromium: steps, macros, files, refusals, the box of lines,
+sessions that are copied and played, the page loaded anew, and two windows. Most is done on the one
+file, and files and sessions also on what `./tile_page` serves."""
+import json
 import shutil
 import subprocess
 from pathlib import Path
@@ -9,7 +11,7 @@ from lib.maps import layers_in
 from lib.places import BIN, EXAMPLE_MAPS
 from lib.refusals import refusal
 from page.bench import Bench, cell, cells_with, choose, see_colours, spelled, standing, take_tile
-from page.browser import Keys, Server
+from page.browser import Keys
 
 NEEDS_BROWSER = True
 IS_LONG = True
@@ -53,60 +55,79 @@ def test_macro():
         page.click('#macro')
         page.drag([(3, 20), (6, 20)])
         page.drag([(3, 22), (6, 22)])
-        state = page.server.state()
+        state = page.editor.state()
         assert state['depth'] == 1 and 'End macro' in page.find('#macro').text, (
             state['depth'],
             spelled(page),
         )
-        page.open()
+        page.reload()
         assert (
             'End macro' in page.find('#macro').text
         ), 'a page that is loaded anew knows the open macro'
         page.click('#macro')
-        state = page.server.state()
+        state = page.editor.state()
         assert state['depth'] == 0 and [
             (step['text'], step['isMacro']) for step in state['steps']
         ] == [('Fence', True)]
         assert page.texts('#steps li .kind')[-1] == 'macro'
 
 
-def test_files():
+def work_with_files(bench):
     """Save, save as, open, and close with a question; the saved mark at tabs and steps."""
-    bench = Bench()
     with bench as page:
         choose(page, 'Ground')
         take_tile(page, (3, 1))
         page.drag([(3, 20)])
-        assert page.texts('.tab.unsaved') and not page.server.state()['isClean']
+        assert page.texts('.tab.unsaved') and not page.editor.state()['isClean']
         page.ctrl('s')
         assert spelled(page)[-1] == 'save town.tmj' and not page.texts('.tab.unsaved')
         assert page.texts('#steps li .clean')[-1] == 'saved'
+        assert bench.saved('town.tmj') == page.editor.shown()
+        page.ctrl('s')
+        assert spelled(page)[-1] == 'save town.tmj' and len(spelled(page)) == 2
+        assert 'saved already' in page.bubble(), 'a map that is saved is not written'
         page.drag([(4, 20)])
         page.ctrl('s', Keys.SHIFT)
         page.fill_in(file='town2.tmj')
-        assert (bench.folder / 'town2.tmj').read_bytes() == page.server.ask('GET', '/map')
+        assert bench.saved('town2.tmj') == page.editor.shown()
         page.ctrl('o')
         page.fill_in(file='layers.tmj')
-        assert [each['name'] for each in page.server.state()['documents']] == ['town', 'layers']
+        assert [each['name'] for each in page.editor.state()['documents']] == ['town', 'layers']
         page.drag([(0, 0), (3, 0)])
         page.find('.tab[data-document="layers"] .close').click()
         page.fill_in('Cancel')
-        assert len(page.server.state()['documents']) == 2
+        assert len(page.editor.state()['documents']) == 2
         page.click('.tab[data-document="town"]')
-        assert page.server.state()['active'] == 'town'
+        assert page.editor.state()['active'] == 'town'
         page.find('.tab[data-document="layers"] .close').click()
-        before = (bench.folder / 'layers.tmj').read_bytes()
+        before = (EXAMPLE_MAPS / 'layers.tmj').read_bytes()
         page.fill_in('Save and close')
-        assert [each['name'] for each in page.server.state()['documents']] == ['town']
-        assert (bench.folder / 'layers.tmj').read_bytes() != before
+        page.wait(
+            lambda: [each['name'] for each in page.editor.state()['documents']] == ['town'],
+            'it is closed once it is saved',
+        )
+        assert bench.saved('layers.tmj') not in (before, b'')
         page.click('.tab[data-document="town"]')
         page.drag([(6, 20)])
         page.find('.tab[data-document="town"] .close').click()
         page.fill_in('Discard')
-        assert page.server.state()['documents'] == [] and page.find('#empty').is_displayed()
+        assert page.editor.state()['documents'] == [] and page.find('#empty').is_displayed()
         page.click('#new')
         page.fill_in(name='small', width=5, height=4)
-        assert page.server.state()['active'] == 'small'
+        assert page.editor.state()['active'] == 'small'
+
+
+def test_files():
+    """Saves are downloads, of which the page says so beside the button."""
+    bench = Bench()
+    assert bench.page.find('#save-hint').text == 'is a download'
+    work_with_files(bench)
+
+
+def test_files_of_a_folder():
+    bench = Bench(served=True)
+    assert bench.page.find('#save-hint').text == ''
+    work_with_files(bench)
 
 
 def test_refusals():
@@ -114,11 +135,11 @@ def test_refusals():
     with Bench() as page:
         things = next(
             layer['name']
-            for layer in layers_in(page.server.map()['layers'])
+            for layer in layers_in(page.editor.map()['layers'])
             if layer['type'] == 'objectgroup'
         )
         choose(page, things)
-        before, count = page.server.map(), standing(page)
+        before, count = page.editor.map(), standing(page)
         page.keys('b')
         page.drag([(3, 20), (9, 20)])
         place = page.js(
@@ -135,7 +156,7 @@ def test_refusals():
         page.js('roskevad.editor.map.data.tilesets.length')
         page.say('frobnicate 1')
         assert 'unknown command' in page.bubble()
-        assert page.server.map() == before and standing(page) == count and not spelled(page)
+        assert page.editor.map() == before and standing(page) == count and not spelled(page)
         refused = page.texts('#lines li.refused .reply')
         assert refused == [refusal(31), refusal(3)], refused
 
@@ -203,37 +224,71 @@ def work_on(page):
         page.say(line)
 
 
-def test_session():
-    """'Copy as session' is played by the program to the same files, with a limit."""
-    bench = Bench(limit=6)
+def copied(page):
+    """What 'Copy as session' puts on the clipboard."""
+    origin = '' if page.address.startswith('file:') else page.address.split('/?')[0]
+    rights = {'permissions': ['clipboardReadWrite', 'clipboardSanitizedWrite']}
+    page.driver.execute_cdp_cmd(
+        'Browser.grantPermissions', {**rights, **({'origin': origin} if origin else {})}
+    )
+    page.click('#copy')
+    return page.js('return navigator.clipboard.readText()')
+
+
+def copy_and_play(bench):
     with bench as page:
-        page.driver.execute_cdp_cmd(
-            'Browser.grantPermissions',
-            {
-                'origin': page.server.address.split('/?')[0],
-                'permissions': ['clipboardReadWrite', 'clipboardSanitizedWrite'],
-            },
-        )
         work_on(page)
-        page.click('#copy')
-        session = page.js('return navigator.clipboard.readText()')
+        session = copied(page)
         assert (
-            session.encode() == page.server.session()
+            session.encode() == page.editor.session()
             and 'frob' not in session
             and 'other' not in session
         )
         folder = played(bench, session.encode(), EXAMPLE_MAPS)
         for name in ('end.tmj', 'town.tmj'):
-            assert (folder / name).read_bytes() == (bench.folder / name).read_bytes()
+            assert (folder / name).read_bytes() == bench.saved(name)
         passed(len(session.splitlines()))
 
 
-def other_tab(page):
-    """A second tab with the page, and the way back to the first one."""
-    first = page.driver.current_window_handle
-    page.driver.switch_to.new_window('tab')
-    page.open()
-    return first, page.driver.current_window_handle
+def test_session():
+    """'Copy as session' is played by the program to the same files."""
+    copy_and_play(Bench())
+
+
+def test_session_of_a_folder():
+    """The same with a limit."""
+    copy_and_play(Bench(limit=6, served=True))
+
+
+def play(page, text):
+    """Plays lines by the dialog."""
+    page.find('#play').click()
+    page.js('document.querySelector("#session textarea").value = arguments[0]', text)
+    page.fill_in('Play')
+
+
+def test_play():
+    """Edits of the active document are played as one step, and at a refused line not at all; other
+    lines one by one, up to the first that is refused."""
+    with Bench() as page:
+        ground = choose(page, 'Ground')
+        before = page.editor.map()
+        play(page, f'# a wall\nstamp {ground} 3 20 2 12,12\n\nstamp+ {ground} 5 20 1 12\r\n')
+        assert standing(page) == (1, 1) and cells_with(page, 'Ground', 12) >= {(3, 20), (5, 20)}
+        assert page.texts('#steps li .kind')[-1] == 'macro' and '2 lines' in page.bubble()
+        page.ctrl('z')
+        play(page, f'stamp {ground} 3 20 1 12\nstamp 99 0 0 1 1\nundo')
+        assert page.editor.map() != before and 'no such layer' in page.bubble()
+        page.ctrl('z')
+        play(page, f'stamp {ground} 3 20 1 12\nstamp 99 0 0 1 1\nstamp {ground} 4 20 1 12')
+        assert page.editor.map() == before and standing(page)[0] == 0
+        assert 'Line 2 of 3' in page.bubble() and 'Nothing is changed' in page.bubble()
+        play(page, 'new small 5 4 16 16 tiles.tsx\nstamp 1 0 0 1 5\nfrob\nnew never 5 4 16 16 tiles.tsx')
+        names = [each['name'] for each in page.editor.state()['documents']]
+        assert names == ['town', 'small'] and standing(page) == (1, 1)
+        page.say('begin Open')
+        play(page, 'stamp 1 1 0 1 5\nstamp 99 0 0 1 5')
+        assert page.editor.state()['depth'] == 1 and cell(page, 1, 1, 0) == 5, 'no macro in a macro'
 
 
 def test_loaded_anew():
@@ -259,8 +314,7 @@ def test_loaded_anew():
         page.keys('b')
         page.drag([(3, 21), (8, 21)])
         before, runs = seen(page), page.js('return roskevad.editor.map.runs')
-        page.driver.refresh()
-        page.open()
+        page.reload()
         assert seen(page) == before, (seen(page), before)
         assert (
             page.js('return roskevad.editor.map.runs') == runs and cell(page, ground, 4, 21) == 12
@@ -269,94 +323,59 @@ def test_loaded_anew():
         page.drag([(3, 22), (5, 22)])
         page.click('#macro')
         assert (
-            standing(page)[1] == page.server.state()['count'] and page.server.state()['depth'] == 0
+            standing(page)[1] == page.editor.state()['count'] and page.editor.state()['depth'] == 0
         )
 
 
-def test_two_tabs():
-    """Two tabs have one editor: each sees what the other does, and a stroke never joins one of the
-    other tab."""
+def test_two_windows():
+    """Two windows have editors of their own: what one does, another does not see; and what one has is
+    not offered to the other while it lives."""
     with Bench() as page:
-        ground = choose(page, 'Ground')
+        choose(page, 'Ground')
         take_tile(page, (3, 1))
         page.drag([(3, 20), (6, 20)])
-        first, second = other_tab(page)
-        assert standing(page) == (1, 1) and cells_with(page, 'Ground', 12) >= {(3, 20)}
-        choose(page, 'Ground')
-        take_tile(page, (5, 0))
-        page.drag([(3, 21), (6, 21)])
-        page.driver.switch_to.window(first)
-        page.settle()
-        see_colours(page, [(4, 20), (4, 21)])
-        page.drag([(3, 22), (6, 22)])
-        assert standing(page) == (3, 3), spelled(page)
-        # The other tab draws in the middle of this one's stroke: the lines of this stroke that come
-        # behind begin a step of their own.
-        page.js(
-            '''const hand = (kind, [x, y]) => document.getElementById("view").dispatchEvent(
-                     new PointerEvent(kind, {clientX: x, clientY: y, button: 0, pointerId: 7, bubbles: true}));
-                   document.getElementById("view").setPointerCapture = () => {};
-                   globalThis.hand = hand; hand("pointerdown", arguments[0]); hand("pointermove", arguments[1]);''',
-            page.point((3, 24)),
-            page.point((4, 24)),
-        )
-        page.settle()
-        page.server.lines(f'stamp {ground} 20 24 1 6')
-        for x in (6, 7):
-            page.js('hand("pointermove", arguments[0])', page.point((x, 24)))
-            page.settle()
-        page.js('hand("pointerup", arguments[0])', page.point((7, 24)))
-        page.settle()
-        said = spelled(page)
-        assert standing(page)[1] == 6, said[-6:]
-        page.ctrl('z')
-        assert cell(page, ground, 20, 24) == 6, said[-6:]
-        page.driver.switch_to.window(second)
-        page.settle()
-        assert page.find('#standing').text.startswith('5/6')
+        first = page.driver.current_window_handle
+        page.driver.switch_to.new_window('tab')
+        page.open()
+        assert page.editor.state()['documents'] == [] and page.notices() == []
+        page.say('new other 5 4 16 16 tiles.tsx')
         page.driver.close()
         page.driver.switch_to.window(first)
+        page.settle()
+        assert [each['name'] for each in page.editor.state()['documents']] == ['town']
+        assert standing(page) == (1, 1)
+        page.reload()
+        assert standing(page) == (1, 1)
+        [offered] = page.notices()
+        assert 'other (0 steps)' in offered, offered
 
 
-# Presses a button on the map, and counts what the page has asked for.
-PRESS = '''
-const view = document.getElementById("view"), [clientX, clientY] = arguments;
-view.setPointerCapture = () => {};
-view.dispatchEvent(new PointerEvent("pointerdown",
-  {clientX, clientY, button: 0, pointerId: 7, bubbles: true}));'''
-ASKED = 'return performance.getEntriesByType("resource").length'
+# Maps that only `--all-maps` opens, each with what the page shows of it.
+ALL_MAPS = {
+    'zlib.tmj': 'return roskevad.editor.map.layers[0].isTiles',
+    'opacity_half.tmj': 'return roskevad.editor.map.layers[0].opacity === 0.5',
+    'infinite.tmj': 'return roskevad.editor.map.layers[0].isTiles',
+}
 
 
-def test_server_that_ends():
-    """Where the server is gone the page says so, and sends nothing; behind a new start its new
-    address works."""
-    bench = Bench()
+def test_all_maps():
+    """Maps that `--all-maps` opens open here, with their fractions shown, and are saved so."""
+    bench = Bench(empty=True)
     with bench as page:
-        choose(page, 'Ground')
-        take_tile(page, (3, 1))
-        page.drag([(3, 20), (6, 20)])
-        page.ctrl('s')
-        bench.server.end()
-        page.wait(
-            lambda: 'has ended' in page.find('#gone').text, 'the page says that the server is gone'
-        )
-        before = page.texts('#lines li'), page.js(ASKED)
-        page.js(PRESS, *page.point((3, 22)))
-        page.find('#layer-up').click()
-        page.find('#line').send_keys('undo', Keys.ENTER)
-        page.wait(lambda: 'ended' in page.bubble(), 'the hand is told')
-        page.js('return new Promise(done => setTimeout(done, 1500))')
-        assert (page.texts('#lines li'), page.js(ASKED)) == before
-        page.driver.get_log('browser')
-        bench.server = page.server = Server(
-            bench.folder, '--port', str(bench.server.parts.port), str(bench.folder / 'town.tmj')
-        )
-        page.find('#try-again').click()
-        page.wait(
-            lambda: 'Another server' in page.find('#gone').text,
-            'the page says that another server is there',
-        )
-        page.driver.get_log('browser')
-        page.open()
-        assert cells_with(page, 'Ground', 12) >= {(x, 20) for x in range(3, 7)}
-        assert standing(page) == (0, 0)
+        # A module without the calls that set aside opens what is packed alone.
+        has_calls = page.js('return "set_aside" in roskevad.editor.module.calls')
+        for name in ALL_MAPS if has_calls else ('zlib.tmj',):
+            page.choose_files(bench.folder / name)
+            assert page.editor.state()['active'] == name[:-4], page.bubble()
+            assert page.js(ALL_MAPS[name]) is True, name
+            before = json.loads((bench.folder / name).read_text())
+            page.editor.lines('prop set map author string me')
+            page.ctrl('s')
+            after = json.loads(bench.saved(name))
+            assert after.pop('properties') == [{'name': 'author', 'type': 'string', 'value': 'me'}]
+            assert [each.get('opacity') for each in after['layers']] == [
+                each.get('opacity') for each in before['layers']
+            ]
+            kept = before.keys() - {'layers', 'version'}
+            assert {key: after[key] for key in kept} == {key: before[key] for key in kept}, name
+            passed()

@@ -1,6 +1,6 @@
-"""A server over a copy of the example maps with the page of it, what is asked of both, and the
-colours that the page must show by the images of the tilesets. The state is looked at by lines, and
-what is seen by its pixels."""
+"""The page over a copy of the example maps, what is asked of its editor, and the colours that the page
+must show by the images of the tilesets. The state is looked at by lines, and what is seen by its
+pixels."""
 import base64
 import json
 import shutil
@@ -9,39 +9,76 @@ from pathlib import Path
 from xml.etree import ElementTree
 
 from lib.maps import cells_of, layers_in
-from lib.places import EXAMPLE_MAPS
-from page.browser import Page, Server, browser, pixels
+from lib.places import EXAMPLE_MAPS, TOP
+from page.browser import DOWNLOADS, Page, Server, browser, pixels
 
+PAGE = TOP / 'python' / 'roskevad' / 'page' / 'roskevad.html'
+TILE_KINDS = ('.tsx', '.tsj', '.png')
 FLIPS = (0x80000000, 0x40000000, 0x20000000)
 # What stands behind the map.
 GROUND = (0x5B, 0x60, 0x68)
 
 
 class Bench:
-    """A server over a copy of the maps, with the town or other maps open, and the page of it.
-    Behind the test the browser may have logged no error."""
+    """The page over a copy of the example maps, with the town or other maps open: the one file, for
+    which all files of the copy are chosen, or, if `served`, what `./tile_page` serves. Behind the
+    test the browser may have logged no error."""
 
-    def __init__(self, *files, limit=None, empty=False):
+    def __init__(self, *files, limit=None, empty=False, served=False):
         self.top = tempfile.TemporaryDirectory()
         self.folder = Path(self.top.name) / 'maps'
         shutil.copytree(EXAMPLE_MAPS, self.folder)
         self.options = [] if limit is None else ['--limit', str(limit)]
-        names = [] if empty else files or ('town.tmj',)
+        self.names = [] if empty else files or ('town.tmj',)
         browser().get_log('browser')
-        self.server = Server(
-            self.folder, *self.options, *(str(self.folder / name) for name in names)
+        self.server = None
+        if served:
+            self.server = self.serve()
+            self.page = Page(browser(), self.server.address)
+            self.page.clear(f'{self.server.address.split("?")[0]}files')
+        else:
+            self.page = Page(browser(), PAGE.as_uri())
+            blank = Path(self.top.name) / 'blank.html'
+            blank.write_text('<!doctype html>')
+            self.page.clear(blank.as_uri())
+        browser().get_log('browser')
+        self.page.open()
+        if not served:
+            self.choose()
+
+    def serve(self, *words):
+        names = [str(self.folder / name) for name in self.names]
+        return Server(self.folder, *self.options, *words, *names)
+
+    def choose(self):
+        """Chooses the files: those that are no maps, and the maps that are opened. The others are
+        there to be opened."""
+        paths = [path for path in sorted(self.folder.iterdir()) if path.suffix in TILE_KINDS]
+        others = [path for path in self.folder.glob('*.tmj') if path.name not in self.names]
+        self.page.js(
+            'roskevad.editor.place.take(arguments[0].map(([path, text]) => ({path, bytes: new TextEncoder().encode(text)})))',
+            [[path.name, path.read_text()] for path in others],
         )
-        self.page = Page(self.server)
+        self.page.choose_files(*paths, *(self.folder / name for name in self.names))
+
+    def saved(self, name):
+        """The bytes of a map that the page has saved, in the folder or among the downloads."""
+        if self.server is not None:
+            return (self.folder / name).read_bytes()
+        self.page.wait(lambda: (DOWNLOADS / name).exists(), f'{name} is downloaded')
+        data = (DOWNLOADS / name).read_bytes()
+        (DOWNLOADS / name).unlink()
+        return data
 
     def __enter__(self):
         return self.page
 
     def __exit__(self, kind, *_):
-        # A page that still looks at its server would log that it is gone.
-        self.page.driver.get('about:blank')
-        self.server.end()
-        self.top.cleanup()
         errors = self.page.log()
+        self.page.driver.get('about:blank')
+        if self.server is not None:
+            self.server.end()
+        self.top.cleanup()
         assert kind or not errors, f'the browser has logged {errors}'
 
 
@@ -49,7 +86,7 @@ class Bench:
 
 
 def layer_of(page, name):
-    return next(layer for layer in layers_in(page.server.map()['layers']) if layer['name'] == name)
+    return next(layer for layer in layers_in(page.editor.map()['layers']) if layer['name'] == name)
 
 
 def choose(page, name):
@@ -60,11 +97,11 @@ def choose(page, name):
 
 
 def cell(page, layer, x, y):
-    return int(page.server.lines(f'tile {layer} {x} {y}')[0].split(' ')[1])
+    return int(page.editor.lines(f'tile {layer} {x} {y}')[0].split(' ')[1])
 
 
 def cells_with(page, name, value):
-    data, width = layer_of(page, name)['data'], page.server.map()['width']
+    data, width = layer_of(page, name)['data'], page.editor.map()['width']
     return {(at % width, at // width) for at, each in enumerate(data) if each == value}
 
 
@@ -79,18 +116,18 @@ def take_tile(page, place):
 
 def spelled(page):
     """The lines of the session so far, without the first one."""
-    return page.server.session().decode().splitlines()[1:]
+    return page.editor.session().decode().splitlines()[1:]
 
 
 def standing(page):
-    state = page.server.state()
+    state = page.editor.state()
     return state['index'], state['count']
 
 
 def object_of(page, number):
     return next(
         each
-        for layer in layers_in(page.server.map()['layers'])
+        for layer in layers_in(page.editor.map()['layers'])
         for each in layer.get('objects', ())
         if each['id'] == number
     )
@@ -186,7 +223,7 @@ def wanted_colour(town, place, pixel, tiles):
 
 def see_colours(page, places, pixel=(5, 9)):
     """Looks at a pixel in each of these cells, on the screen and in the tilesets' images."""
-    places, town = list(places), page.server.map()
+    places, town = list(places), page.editor.map()
     tiles = Tiles(page, town)
     for place, shown in zip(places, page.colours(page.places(places, pixel))):
         wanted = wanted_colour(town, place, pixel, tiles)

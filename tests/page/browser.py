@@ -2,7 +2,6 @@
 import atexit
 import base64
 import functools
-import http.client
 import json
 import os
 import shutil
@@ -24,9 +23,24 @@ from selenium.webdriver.common.keys import Keys
 WAIT = 60
 
 
+# Where the browser puts what it downloads.
+DOWNLOADS = Path(tempfile.mkdtemp(prefix='roskevad_downloads_'))
+atexit.register(shutil.rmtree, DOWNLOADS, ignore_errors=True)
+
+
 @functools.cache
 def browser():
     """Chromium by its driver, one for all tests of a step. It keeps what the page logs."""
+    # Chromium leaves files behind, so it has a folder of its own.
+    folder = tempfile.mkdtemp(prefix='roskevad_chromium_')
+    atexit.register(shutil.rmtree, folder, ignore_errors=True)
+    driver = started(folder=folder)
+    atexit.register(driver.quit)
+    return driver
+
+
+def started(*more, folder=None):
+    """A new Chromium."""
     flags = webdriver.ChromeOptions()
     for flag in (
         '--headless=new',
@@ -34,21 +48,20 @@ def browser():
         '--disable-dev-shm-usage',
         '--window-size=1320,1040',
         '--force-device-scale-factor=1',
+        *more,
     ):
         flags.add_argument(flag)
     if os.getuid() == 0:
         # Chromium has no sandbox for root.
         flags.add_argument('--no-sandbox')
     flags.binary_location = shutil.which('chromium')
-    flags.set_capability('goog:loggingPrefs', {'browser': 'ALL'})
-    # Chromium leaves files behind, so it has a folder of its own.
-    folder = tempfile.mkdtemp(prefix='roskevad_chromium_')
-    atexit.register(shutil.rmtree, folder, ignore_errors=True)
-    service = Service(shutil.which('chromedriver'), env={**os.environ, 'TMPDIR': folder})
-    started = webdriver.Chrome(service=service, options=flags)
-    atexit.register(started.quit)
-    started.set_window_size(1320, 1040)
-    return started
+    flags.set_capability('goog:loggingPrefs', {'browser': 'ALL', 'performance': 'ALL' if more else 'OFF'})
+    downloads = {'download.default_directory': str(DOWNLOADS), 'download.prompt_for_download': False}
+    flags.add_experimental_option('prefs', downloads)
+    env = {**os.environ, **({'TMPDIR': folder} if folder else {})}
+    driver = webdriver.Chrome(service=Service(shutil.which('chromedriver'), env=env), options=flags)
+    driver.set_window_size(1320, 1040)
+    return driver
 
 
 PIXELS = '''
@@ -77,51 +90,81 @@ class Server:
         self.program = subprocess.Popen(
             [TOP / 'tile_page', '--folder', folder, *words], stdout=subprocess.PIPE, text=True
         )
-        self.address = self.program.stdout.readline().strip()
+        self.told = [self.program.stdout.readline().strip() for _ in range(3)]
+        self.address = self.told[1]
         self.parts = urllib.parse.urlsplit(self.address)
-
-    def ask(self, method, path, body=None, **words):
-        link = http.client.HTTPConnection(self.parts.netloc, timeout=60)
-        query = urllib.parse.urlencode({'key': self.parts.query.removeprefix('key='), **words})
-        link.request(method, f'{path}?{query}', body)
-        answer = link.getresponse()
-        data = answer.read()
-        link.close()
-        assert answer.status == 200, (path, answer.status)
-        return data
-
-    def lines(self, *said):
-        return (
-            self.ask('POST', '/lines', ''.join(line + '\n' for line in said)).decode().splitlines()
-        )
-
-    def state(self):
-        return json.loads(self.ask('GET', '/state', steps=100000))
-
-    def change(self, known):
-        """The count of changes; little else is told where it is the one that is known."""
-        return json.loads(self.ask('GET', '/state', change=known, lines=10**9))['change']
-
-    def map(self):
-        return json.loads(self.ask('GET', '/map'))
-
-    def session(self):
-        return self.ask('GET', '/session')
 
     def end(self):
         self.program.terminate()
-        self.program.wait(WAIT)
+        status = self.program.wait(WAIT)
+        self.program.stdout.close()
+        return status
+
+
+class Session:
+    """The editor in a page: lines for it, and what it has."""
+
+    def __init__(self, page):
+        self.page = page
+
+    def lines(self, *said):
+        """The replies to lines, all of which are done."""
+        told = self.page.js(
+            'return roskevad.editor.send(arguments[0], {isFree: true}).then(done => done.replies)',
+            said,
+        )
+        self.page.settle()
+        return told
+
+    def state(self):
+        return self.page.js(
+            'const {editor} = roskevad;'
+            'return {...editor.standing(), selection: editor.session.selection()}'
+        )
+
+    def map(self):
+        return json.loads(self.shown())
+
+    def shown(self):
+        """The bytes of the map, as the line `show` tells them."""
+        return self.page.js('return roskevad.editor.session.step("show").slice(4)').encode()
+
+    def session(self):
+        return self.page.js('return roskevad.editor.copied()').encode()
+
+
+# Where a question stands on the page, what is under way waits for its answer.
+QUIET = 'return roskevad.editor.isQuiet || document.querySelector("dialog[open]") !== null'
+CLEAR = '''
+const done = arguments[0];
+sessionStorage.clear();
+const asked = indexedDB.deleteDatabase("roskevad");
+asked.onsuccess = () => done("");
+asked.onerror = asked.onblocked = () => done("the journals are still open");'''
 
 
 class Page:
     """A tab of the browser with the page in it, and the hand on it."""
 
-    def __init__(self, server):
-        self.driver, self.server = browser(), server
-        self.open()
+    def __init__(self, driver, address):
+        self.driver, self.address = driver, address
+        self.editor = Session(self)
+
+    def clear(self, blank):
+        """Has the browser forget all that pages of an origin have kept, by another page of it."""
+        self.driver.get(blank)
+        told = self.driver.execute_async_script(CLEAR)
+        assert not told, told
 
     def open(self, address=None):
-        self.driver.get(address or self.server.address)
+        self.driver.get(address or self.address)
+        self.wait_ready()
+
+    def reload(self):
+        self.driver.refresh()
+        self.wait_ready()
+
+    def wait_ready(self):
         self.wait(lambda: self.js('return document.body.dataset.isReady'), 'the page is ready')
         self.settle()
 
@@ -137,18 +180,38 @@ class Page:
         raise AssertionError(f'not within {WAIT} seconds: {what}')
 
     def settle(self):
-        """Waits until the page shows what the editor has."""
-
-        def is_settled():
-            change = self.js(
-                'const {editor} = roskevad; return editor.isCurrent && editor.isQuiet ? editor.state.change : -1'
-            )
-            return change >= 0 and change == self.server.change(change)
-
-        self.wait(is_settled, 'the page has what the editor has')
+        """Waits until the page shows what the editor has, and the journal has it."""
+        self.wait(lambda: self.js(QUIET), 'the page is quiet')
         self.js(
             'return new Promise(done => requestAnimationFrame(() => requestAnimationFrame(done)))'
         )
+
+    def notices(self):
+        return self.texts('#notices .notice')
+
+    def answer(self, text):
+        """Clicks at a button of a notice."""
+        for each in self.driver.find_elements(By.CSS_SELECTOR, '#notices button'):
+            if each.text == text:
+                each.click()
+                self.js('return new Promise(done => setTimeout(done, 50))')
+                break
+        else:
+            raise AssertionError(f'no notice has {text}: {self.notices()}')
+        self.settle()
+
+    def choose_files(self, *paths):
+        """Chooses files, as the chooser of 'Open files' gives them."""
+        self.find('#files').send_keys('\n'.join(map(str, paths)))
+        self.wait(
+            lambda: self.js(
+                'return arguments[0].every(name => roskevad.editor.place.files?.has(name))',
+                [Path(path).name for path in paths],
+            ),
+            'the files are read',
+        )
+        self.js('return new Promise(done => setTimeout(done, 100))')
+        self.settle()
 
     # ---- the hand
     def find(self, css):
@@ -231,6 +294,8 @@ class Page:
             if each.text == answer:
                 each.click()
                 break
+        # The page hears of the answer a moment later.
+        self.js('return new Promise(done => setTimeout(done, 50))')
         self.settle()
 
     def type_into(self, css, value):

@@ -1,5 +1,6 @@
 """The server of the page, and requests to it over raw sockets."""
 import contextlib
+import hashlib
 import json
 import socket
 import subprocess
@@ -19,10 +20,11 @@ class Door:
         self.program = subprocess.Popen(
             [TOP / 'tile_page', *words], stdout=subprocess.PIPE, stderr=self.faults, text=True
         )
-        self.address = self.program.stdout.readline()
+        self.told = [self.program.stdout.readline() for _ in range(3)]
+        self.address = self.told[1]
         parts = urllib.parse.urlsplit(self.address.strip())
         self.port, self.query = parts.port, parts.query
-        self.lines = f'/lines?{self.query}'
+        self.files = f'/files?{self.query}'
 
     def want(self, what, is_so, seen=''):
         """Sees that something is so; else what was seen is told."""
@@ -50,8 +52,18 @@ class Door:
         except ConnectionError as fault:
             return fault
 
-    def state(self):
-        return json.loads(self.ask('GET', f'/state?{self.query}&first')[2])
+    def file(self, path):
+        """The address of a file."""
+        return f'/files/{path}?{self.query}'
+
+    def listed(self):
+        return json.loads(self.ask('GET', self.files)[2])
+
+    def save(self, path, data, replaced=None):
+        """The status of a save, which replaces a file of these bytes, or none."""
+        sum_ = replaced is not None and hashlib.sha256(replaced).hexdigest()
+        extra = 'if-none-match: *\r\n' if replaced is None else f'if-match: "{sum_}"\r\n'
+        return self.status('PUT', self.file(path), data, extra=extra)
 
     def see_end(self):
         """Sees that the program still runs, and has said nothing on standard error."""
@@ -62,8 +74,9 @@ class Door:
 
     def end(self):
         self.program.terminate()
-        self.program.wait(10)
+        status = self.program.wait(10)
         self.program.stdout.close()
+        return status
 
 
 def read_answer(link, left=b''):
@@ -99,7 +112,7 @@ def opened():
         door = Door('--folder', folder)
         door.silent = [door.connect() for _ in range(20)]
         for link in door.silent[:10]:
-            link.sendall(b'POST /lines HTTP/1.1\r\nhost: 127')
+            link.sendall(b'GET /files HTTP/1.1\r\nhost: 127')
         try:
             yield door, folder
             door.see_end()

@@ -1,4 +1,4 @@
-"""A page to draw on: the editor behind a page of the browser, for this machine alone.
+"""A page to draw on, which is one file, roskevad.html; and a server of it for a folder of this machine.
 
     python3 -m roskevad.page examples/maps/town.tmj
 """

@@ -1,21 +1,25 @@
-"""A page to draw on, served on this machine.
+"""A page to draw on, over a folder of this machine.
 
-    python3 -m roskevad.page [--folder DIR] [--limit N] [--port N] [FILE ..]
+    python3 -m roskevad.page [--folder DIR] [--root DIR] [--limit N] [--port N] [--key-file FILE] [FILE ..]
 """
 import argparse
+import hashlib
+import os
+import re
+import secrets
 import signal
 import sys
-import time
 from pathlib import Path
+from types import FrameType
+from typing import Any, Optional
 
 from .. import __version__
-from ..names import is_document_name, is_file_name
-from .desk import Desk
+from .folder import Folder, is_map
 from .server import Server
-from .state import unsaved_documents
 
-# How many seconds the second Ctrl+C may come behind the first one.
-_ASKED_FOR = 10.0
+# The ports that are taken where none is named: the first one is made from the folder's path, so that the browser, which keeps a page's
+# journal for its address, finds it again.
+_FIRST_PORT, _PORTS, _TRIES = 20_000, 10_000, 20
 
 
 def options() -> argparse.Namespace:
@@ -23,61 +27,95 @@ def options() -> argparse.Namespace:
     parser = argparse.ArgumentParser(
         prog='tile_page', description='Serves a page to draw tile maps on, on this machine alone, and prints its address.')
     parser.add_argument('--folder', type=Path, help='the folder of the maps; without it that of the first FILE, or else this one')
+    parser.add_argument('--root', type=Path, help='a folder above, below which tilesets and images may lie; without it the folder itself')
     parser.add_argument('--limit', type=int, default=0, help='the most steps that a document keeps; 0 is no limit')
-    parser.add_argument('--port', type=int, default=0, help='the port; without it a free one')
+    parser.add_argument('--port', type=int, help='the port; without it one that is made from the path of the folder; 0 is a free one')
+    parser.add_argument('--key-file', type=Path, metavar='FILE', help='keeps the key in this file, so that a restart has the same address')
     parser.add_argument('--version', action='version', version=f'roskevad {__version__}')
     parser.add_argument('files', metavar='FILE', nargs='*', type=Path, help='a map of the folder that is opened')
     chosen = parser.parse_args()
     if not 0 <= chosen.limit <= 1_000_000:
         parser.error(f'a limit is from 0 to 1000000: {chosen.limit}')
-    if not 0 <= chosen.port <= 65535:
+    if chosen.port is not None and not 0 <= chosen.port <= 65535:
         parser.error(f'a port is from 0 to 65535: {chosen.port}')
     if chosen.folder is None:
         chosen.folder = chosen.files[0].parent if chosen.files else Path('.')
-    if not chosen.folder.is_dir():
-        parser.error(f'no such folder: {chosen.folder}')
-    for file in chosen.files:
-        if file.parent.resolve() != chosen.folder.resolve():
-            parser.error(f'{file} is not in the folder {chosen.folder}')
-        if not is_file_name(file.name) or not is_document_name(file.stem):
-            parser.error(f'no line can spell the name {file.name}: letters, digits, _, . and - are allowed')
+    chosen.root = chosen.root or chosen.folder
+    for folder in (chosen.folder, chosen.root):
+        if not folder.is_dir():
+            parser.error(f'no such folder: {folder}')
+    if not chosen.folder.resolve().is_relative_to(chosen.root.resolve()):
+        parser.error(f'the folder {chosen.folder} is not below {chosen.root}')
+    chosen.files = [path_in(parser, chosen.folder, file) for file in chosen.files]
     return chosen
 
 
-def open_files(desk: Desk, files: list[Path]) -> None:
-    """Opens each file under its name without the ending. Ends with status 1 at the first that is refused."""
-    for file in files:
-        reply = (desk.hear(f'open {file.stem} {file.name}'.encode()) or b'').decode()
-        if not reply.startswith('ok '):
-            sys.exit(f'tile_page: {file}: {reply}')
+def path_in(parser: argparse.ArgumentParser, folder: Path, file: Path) -> str:
+    """The path of a FILE from the folder."""
+    place = file.parent.resolve() / file.name
+    if not place.is_relative_to(folder.resolve()):
+        parser.error(f'{file} is not in the folder {folder}')
+    if not is_map(file):
+        parser.error(f'{file} is no map by its name, which ends in .tmj or .json')
+    if not place.is_file():
+        sys.exit(f'tile_page: {file}: no such file')
+    return place.relative_to(folder.resolve()).as_posix()
 
 
-def serve(server: Server) -> None:
-    """Serves until it is ended: by Ctrl+C, and where something is not saved by a second one."""
-    asked = -_ASKED_FOR
-    while True:
+def key_of(file: Optional[Path]) -> str:
+    """The key: a new one, or that of a file, which is made where it is not there."""
+    key = secrets.token_hex(16)
+    if file is None:
+        return key
+    try:
+        with open(os.open(file, os.O_WRONLY | os.O_CREAT | os.O_EXCL, 0o600), 'w') as made:
+            made.write(f'{key}\n')
+        return key
+    except FileExistsError:
+        pass
+    except OSError as fault:
+        sys.exit(f'tile_page: {file}: {fault.strerror}')
+    try:
+        kept = file.read_text('ascii', 'replace').strip()
+    except OSError as fault:
+        sys.exit(f'tile_page: {file}: {fault.strerror}')
+    if not re.fullmatch('[0-9a-f]{32}', kept):
+        sys.exit(f'tile_page: {file}: no key is in it')
+    if file.stat().st_mode & 0o077:
+        sys.exit(f'tile_page: {file}: others may read it; chmod 600 it')
+    return kept
+
+
+def server_of(chosen: argparse.Namespace) -> Server:
+    """The server, at the port that is named, or else at the first free one of those that are tried. Ends with status 1 where none is."""
+    folder = Folder(chosen.folder, chosen.root)
+    first = int.from_bytes(hashlib.sha256(os.fsencode(folder.folder)).digest()[:4], 'big') % _PORTS
+    tried = [_FIRST_PORT + (first + at) % _PORTS for at in range(_TRIES)] + [0] if chosen.port is None else [chosen.port]
+    told: dict[str, Any] = {'files': chosen.files, 'limit': chosen.limit, 'version': __version__}
+    key = key_of(chosen.key_file)
+    for port in tried:
         try:
-            server.serve_forever()
-        except KeyboardInterrupt:
-            unsaved = unsaved_documents(server.desk)
-            if not unsaved or time.monotonic() - asked < _ASKED_FOR:
-                return
-            asked = time.monotonic()
-            print(f"\ntile_page: not saved: {', '.join(unsaved)}. Ctrl+C once more ends it all the same.", file=sys.stderr, flush=True)
+            return Server(folder, port, key, told)
+        except OSError as fault:
+            reason = fault.strerror
+    sys.exit(f'tile_page: port {tried[0]}: {reason}')
+
+
+def _stop(number: int, frame: Optional[FrameType]) -> None:
+    raise KeyboardInterrupt
 
 
 def main() -> None:
-    """Prints the address of the page, and serves it."""
-    chosen = options()
-    desk = Desk(chosen.folder, chosen.limit)
-    open_files(desk, chosen.files)
+    """Prints the address of the page, and serves it until Ctrl+C, SIGTERM or SIGHUP."""
+    server = server_of(options())
+    for number in (signal.SIGTERM, signal.SIGHUP):
+        signal.signal(number, _stop)
     try:
-        server = Server(desk, chosen.port)
-    except OSError as fault:
-        sys.exit(f'tile_page: port {chosen.port}: {fault.strerror}')
-    signal.signal(signal.SIGTERM, lambda *_: sys.exit(0))
-    print(server.address, flush=True)
-    serve(server)
+        print('Open this in a browser of this machine:', server.address,
+              'Ctrl+C ends it. What the page has goes on, and is kept in the browser; saving waits for the next start.', sep='\n', flush=True)
+        server.serve_forever()
+    except KeyboardInterrupt:
+        server.end()
 
 
 if __name__ == '__main__':

@@ -1,59 +1,52 @@
-"""The door: requests of the page, and of nobody else, over HTTP on this machine.
+"""The server of the page: requests of the page, and of nobody else, over HTTP on this machine. There is no editor in it.
 
-It is bound to 127.0.0.1. Its key is new at each start, and stands in the address that it prints. Each request has the key as
-`?key=`. Whoever has the key can read and replace the maps of the folder; the browser's history has it.
+It is bound to 127.0.0.1. Its key is new at each start, but for one of a file, and stands in the address that it prints. Each request
+has the key as `?key=`. Whoever has the key can read and replace the maps of the folder; the browser's history has it.
 
-    GET /               the page; its modules are below /static/
-    POST /lines         session lines, for their replies
-    GET /map            the active map, or null
-    GET /state          the documents with their clean marks, the steps, the clean index, the macros, the selection, and the
-                        lines that were heard; up to 200 steps on either side of the present place, or `steps=N`
-    GET /session        what 'Copy as session' copies
-    GET /tiles/NAME     a tileset, or an image, of the folder
+    GET /               the page, which is one file
+    GET /files          the folder, its place below the root, the maps to open, the undo limit, and the files that may be maps
+    GET /files/PATH     a map, a tileset or an image below the root; `Roskevad-Time` is when it was changed
+    PUT /files/PATH     saves a map of the folder, whole. `If-Match: "HASH"` says which SHA-256 the file has that it replaces,
+                        `If-None-Match: *` that there is none
 
     403   a wrong key, or none; another Host; the Origin of another site
-    404   another path; a file that is no tileset or image of the folder, links followed
+    404   another path; a file that is no map, tileset or image below the root, links followed
     405   another method
-    413   a body above 1 MiB, at once; what still comes is read and dropped for two seconds
+    412   the file is another one than the request says
+    413   a body above 64 MiB, or above 1 MiB where nothing is saved, at once; what still comes is read and dropped for two seconds
+    428   a save that does not say what it replaces
+    431   a head of more than 16 KiB, or of more than 64 fields
 
-A connection that is silent for 20 seconds is closed. Each answer has `Referrer-Policy: no-referrer` and `Cache-Control:
-no-store`. With `stop`, no line is heard behind one that is refused; with `after=N`, none where the count of changes is not N.
-`Roskevad-Heard` says how many were heard, `Roskevad-Change` the count of changes before them and behind them.
-
-One editor stands behind one lock, and the lines of one request are heard together. So a script draws beside the hand:
-
-    curl --data 'stamp 1 0 0 2 5,6' 'http://127.0.0.1:PORT/lines?key=KEY'
+A connection has 20 seconds in all for a request, and for its answer. At most 64 connections wait; one more ends the one that has waited
+longest. Each answer has `Referrer-Policy: no-referrer` and `Cache-Control: no-store`.
 """
 import hmac
 import io
 import json
 import re
-import secrets
 import socket
+import threading
 import time
 import traceback
 from http.server import BaseHTTPRequestHandler, ThreadingHTTPServer
 from pathlib import Path
-from typing import Any, Optional, cast
+from typing import Any, Optional
 from urllib.parse import parse_qs, unquote, urlsplit
 
-from .desk import Desk
-from .state import state_of
+from .folder import KINDS, LONGEST_FILE, Folder, Unlike
 
-#: The longest body that is heard.
+#: The longest body of a request that saves nothing.
 LONGEST_BODY = 1024 * 1024
-# How long a connection may be silent, and how long what comes behind a refusal is read and dropped.
-_SILENCE, _DROPPING = 20.0, 2.0
-_LONGEST_FILE = 64 * 1024 * 1024
+# How many seconds a connection has for a request, and for its answer, and how long what comes behind a refusal is read and dropped.
+_IN_ALL, _DROPPING = 20.0, 2.0
+# How many bytes and fields a head may have, and how many connections wait at most.
+_LONGEST_HEAD, _MOST_FIELDS, _MOST_WAITING = 16 * 1024, 64, 64
 # How many bytes of an answer are written at once.
 _PIECE = 256 * 1024
-_STATIC = Path(__file__).resolve().parent / 'static'
-_STATIC_KINDS = {'.js': 'text/javascript; charset=utf-8', '.css': 'text/css; charset=utf-8'}
-_TILE_KINDS = {
-    '.tsx': 'application/xml', '.tsj': 'application/json', '.json': 'application/json', '.png': 'image/png',
-    '.jpg': 'image/jpeg', '.jpeg': 'image/jpeg', '.gif': 'image/gif', '.bmp': 'image/bmp', '.webp': 'image/webp',
-}
+_PAGE = Path(__file__).resolve().parent / 'roskevad.html'
+_POLICY = "frame-ancestors 'none'; base-uri 'none'; form-action 'none'"
 _TOKEN = re.compile(r"[A-Za-z0-9!#$%&'*+.^_`|~-]+")
+_HASH = re.compile('"([0-9a-f]{64})"')
 
 
 class Refusal(Exception):
@@ -66,16 +59,17 @@ class Refusal(Exception):
 
 
 class Server(ThreadingHTTPServer):
-    """Serves one desk on 127.0.0.1."""
+    """Serves the page and a folder on 127.0.0.1. `told` is what the page is told at its start."""
 
     daemon_threads = True
     block_on_close = False
     request_queue_size = 128
 
-    def __init__(self, desk: Desk, port: int):
+    def __init__(self, folder: Folder, port: int, key: str, told: dict[str, Any]):
         super().__init__(('127.0.0.1', port), Door)
-        self.desk = desk
-        self.key = secrets.token_hex(16)
+        self.folder, self.key, self.told = folder, key, told
+        self._waiting: dict[socket.socket, None] = {}
+        self._waits = threading.Lock()
         port = self.server_address[1]
         self.hosts = {f'127.0.0.1:{port}', f'localhost:{port}'} | ({'127.0.0.1', 'localhost'} if port == 80 else set())
 
@@ -84,25 +78,113 @@ class Server(ThreadingHTTPServer):
         """The address of the page, key and all."""
         return f'http://127.0.0.1:{self.server_address[1]}/?key={self.key}'
 
+    def begin_wait(self, link: socket.socket) -> None:
+        """A connection waits from now on. Where too many do, the one that has waited longest is ended."""
+        with self._waits:
+            self._waiting[link] = None
+            oldest = next(iter(self._waiting)) if len(self._waiting) > _MOST_WAITING else None
+            if oldest is not None:
+                del self._waiting[oldest]
+        if oldest is not None:
+            try:
+                oldest.shutdown(socket.SHUT_RDWR)
+            except OSError:
+                pass  # It has ended already.
+
+    def end_wait(self, link: socket.socket) -> None:
+        """A connection has shown the key, or has ended."""
+        with self._waits:
+            self._waiting.pop(link, None)
+
+    def end(self) -> None:
+        """Ends it once a save that is under way has ended."""
+        self.folder.lock.acquire(timeout=_IN_ALL)
+        self.server_close()
+
+
+class _Timed(io.RawIOBase):
+    """What comes over a connection, until a moment."""
+
+    def __init__(self, link: socket.socket):
+        self._link = link
+        self.end = time.monotonic() + _IN_ALL
+
+    def readable(self) -> bool:
+        return True
+
+    def readinto(self, room: Any) -> int:
+        left = self.end - time.monotonic()
+        if left <= 0:
+            raise socket.timeout
+        self._link.settimeout(left)
+        return self._link.recv_into(room)
+
 
 class Door(BaseHTTPRequestHandler):
     """One connection."""
 
     protocol_version = 'HTTP/1.1'
-    timeout = _SILENCE
     disable_nagle_algorithm = True
     server: Server
 
+    def setup(self) -> None:
+        """Reads from the connection for a time that is bounded as a whole."""
+        super().setup()
+        self._timed = _Timed(self.connection)
+        self._body_file = self.rfile = io.BufferedReader(self._timed)
+        self._is_first = True
+
+    def finish(self) -> None:
+        """The connection ends."""
+        self.server.end_wait(self.connection)
+        super().finish()
+
     # ---- requests
     def handle_one_request(self) -> None:
-        """Reads a request and answers it. A connection that is silent for too long ends."""
+        """Reads a request and answers it. A connection that is too slow ends."""
         self.close_connection = True
+        self.requestline, self.request_version, self.command = '', 'HTTP/1.1', ''
+        self.server.begin_wait(self.connection)
         try:
-            self.raw_requestline = self.rfile.readline(65537)
-            if self.raw_requestline and self.parse_request():
+            if self._read_head():
                 self._answer()
-        except (socket.timeout, ConnectionError):
+        except Refusal as refusal:
+            self._refuse(refusal)
+        except (socket.timeout, OSError):
             self.close_connection = True
+
+    def _read_head(self) -> bool:
+        """Reads the head of a request. Whether there is one that can be read; what is wrong with it is answered else."""
+        if not self._is_first:
+            # Between two requests a connection may be silent for as long as one may take.
+            self._timed.end = time.monotonic() + _IN_ALL
+            if not self._body_file.peek(1):
+                return False
+            self._timed.end = time.monotonic() + _IN_ALL
+        self._is_first = False
+        head = self._lines_of_head()
+        if not head:
+            return False
+        self.raw_requestline = head[0]
+        self.rfile = io.BytesIO(b''.join(head[1:]))
+        try:
+            return self.parse_request()
+        finally:
+            self.rfile = self._body_file
+
+    def _lines_of_head(self) -> list[bytes]:
+        """The lines of a head; none where the connection ends in it. Refuses one that is too long."""
+        lines: list[bytes] = []
+        size = 0
+        while not lines or lines[-1] not in (b'\r\n', b'\n'):
+            line = self._body_file.readline(_LONGEST_HEAD + 1 - size)
+            size += len(line)
+            if size > _LONGEST_HEAD or len(lines) > _MOST_FIELDS + 1:
+                raise Refusal(431, f'a head of more than {_LONGEST_HEAD} bytes, or of more than {_MOST_FIELDS} fields')
+            if not line.endswith(b'\n'):
+                return []
+            lines.append(line)
+        return lines
 
     def handle_expect_100(self) -> bool:
         """Asks for no body yet: whether it is wanted is seen later."""
@@ -110,9 +192,9 @@ class Door(BaseHTTPRequestHandler):
 
     def _answer(self) -> None:
         try:
-            routes, query = self._let_in()
-            body = self._body()
-            routes[self.command](self, query, body)
+            routes, _ = self._let_in()
+            self.server.end_wait(self.connection)
+            routes[self.command](self, self._body())
         except Refusal as refusal:
             self._refuse(refusal)
         except (socket.timeout, ConnectionError):
@@ -132,11 +214,11 @@ class Door(BaseHTTPRequestHandler):
         if any(origin.strip() not in {f'http://{host}' for host in self.server.hosts} for origin in origins):
             raise Refusal(403, 'another site')
         url = urlsplit(self.path)
-        query = parse_qs(url.query, keep_blank_values=True)
+        query = parse_qs(url.query, keep_blank_values=True, max_num_fields=_MOST_FIELDS)
         keys = query.get('key', [])
         if len(keys) != 1 or not hmac.compare_digest(keys[0].encode('utf-8', 'replace'), self.server.key.encode()):
             raise Refusal(403, 'a wrong key, or none')
-        self.name = unquote(url.path.split('/', 2)[2]) if url.path.count('/') > 1 else ''
+        self.name = unquote(url.path.split('/', 2)[2], errors='surrogateescape') if url.path.count('/') > 1 else ''
         routes = _ROUTES.get(url.path) or _ROUTES.get(url.path.split('/')[1] + '/')
         if routes is None:
             raise Refusal(404, 'no such path')
@@ -152,12 +234,13 @@ class Door(BaseHTTPRequestHandler):
         length = lengths.pop().strip()
         if lengths or not re.fullmatch('[0-9]{1,18}', length):
             raise Refusal(400, 'not a length')
-        if int(length) > LONGEST_BODY:
-            raise Refusal(413, f'a body of more than {LONGEST_BODY} bytes')
+        longest = LONGEST_FILE if self.command == 'PUT' else LONGEST_BODY
+        if int(length) > longest:
+            raise Refusal(413, f'a body of more than {longest} bytes')
         if self.headers.get('Expect', '').lower() == '100-continue':
             self.send_response_only(100)
             self.end_headers()
-        body = self.rfile.read(int(length))
+        body = self._body_file.read(int(length))
         if len(body) < int(length):
             raise ConnectionError
         return body
@@ -173,18 +256,20 @@ class Door(BaseHTTPRequestHandler):
             headers['Connection'] = 'close'
         for name, value in headers.items():
             self.send_header(name, value)
+        end = time.monotonic() + _IN_ALL
+        self.connection.settimeout(_IN_ALL)
         self.end_headers()
-        if self.command != 'HEAD':
-            # In pieces: each has the time of a silent connection, so that a long answer may be read slowly.
-            for at in range(0, len(body), _PIECE):
-                self.wfile.write(body[at:at + _PIECE])
+        for at in range(0, len(body) if self.command != 'HEAD' else 0, _PIECE):
+            self.connection.settimeout(max(0.001, end - time.monotonic()))
+            self.wfile.write(body[at:at + _PIECE])
 
     def _refuse(self, refusal: Refusal) -> None:
         """Answers a refusal. What still comes of a body is read and dropped for a short time: were the connection closed at once,
         the system could reset it, and the answer would be lost."""
         headers = getattr(self, 'headers', None)
         has_body = headers is not None and (headers.get('Transfer-Encoding') or headers.get('Content-Length', '0').strip() != '0')
-        self.close_connection = self.close_connection or bool(has_body) or headers is None or self.command == 'HEAD'
+        is_unread = refusal.status not in (404, 412, 428, 500) or self.command != 'PUT'
+        self.close_connection = self.close_connection or (bool(has_body) and is_unread) or headers is None or self.command == 'HEAD'
         self._give(f'{refusal.words}\n'.encode(), 'text/plain; charset=utf-8', refusal.status)
         if self.close_connection:
             self._drop_the_rest()
@@ -192,12 +277,11 @@ class Door(BaseHTTPRequestHandler):
     def _drop_the_rest(self) -> None:
         try:
             self.connection.shutdown(socket.SHUT_WR)
-            self.connection.settimeout(_DROPPING)
-            end = time.monotonic() + _DROPPING
-            while time.monotonic() < end and cast(io.BufferedIOBase, self.rfile).read1(65536):
+            self._timed.end = time.monotonic() + _DROPPING
+            while self._body_file.read1(65536):
                 pass
         except OSError:
-            pass  # The other side has gone already.
+            pass  # The other side has gone already, or the time is over.
 
     def send_error(self, code: int, message: Optional[str] = None, explain: Optional[str] = None) -> None:
         """What the standard module calls for a request that it cannot read."""
@@ -208,70 +292,47 @@ class Door(BaseHTTPRequestHandler):
         """Nothing is logged: standard error is for faults."""
 
     # ---- routes
-    def _give_page(self, query: dict[str, list[str]], body: bytes) -> None:
-        """The page, in which each module has its address with the key."""
-        nonce = secrets.token_hex(8)
-        key = f'?key={self.server.key}'
-        modules = {f'/static/{path.name}': f'/static/{path.name}{key}' for path in sorted(_STATIC.glob('*.js'))}
-        page = (_STATIC / 'index.html').read_text(encoding='utf-8')
-        page = page.replace('{key}', key).replace('{nonce}', nonce).replace('{imports}', json.dumps({'imports': modules}))
-        policy = (f"default-src 'none'; script-src 'self' 'nonce-{nonce}'; style-src 'self'; img-src 'self' data: blob:; connect-src 'self'; "
-                  "base-uri 'none'; form-action 'none'; frame-ancestors 'none'")
-        self._give(page.encode(), 'text/html; charset=utf-8', Content_Security_Policy=policy)
+    def _give_page(self, body: bytes) -> None:
+        self._give(_PAGE.read_bytes(), 'text/html; charset=utf-8', Content_Security_Policy=_POLICY)
 
-    def _hear_lines(self, query: dict[str, list[str]], body: bytes) -> None:
-        after = query.get('after', [''])[0]
-        wanted = int(after) if re.fullmatch('[0-9]{1,15}', after) else None
-        replies, heard, before, behind = self.server.desk.hear_all(body, wanted, 'stop' in query)
-        text = b''.join(reply + b'\n' for reply in replies)
-        self._give(text, 'text/plain; charset=utf-8', Roskevad_Heard=str(heard), Roskevad_Change=f'{before} {behind}')
+    def _give_files(self, body: bytes) -> None:
+        folder = self.server.folder
+        told = {**self.server.told, 'folder': str(folder.folder), 'prefix': folder.prefix, 'maps': folder.maps()}
+        self._give(json.dumps(told, separators=(',', ':')).encode(), 'application/json')
 
-    def _give_map(self, query: dict[str, list[str]], body: bytes) -> None:
-        desk = self.server.desk
-        with desk.lock:
-            reply, change = desk.editor.step_bytes(b'show') or b'', desk.change
-        text = reply[len(b'map '):] if reply.startswith(b'map ') else b'null'
-        self._give(text, 'application/json', Roskevad_Change=str(change))
+    def _give_file(self, body: bytes) -> None:
+        found = self.server.folder.read(self.name)
+        if found is None:
+            raise Refusal(404, 'no such map, tileset or image')
+        data, changed = found
+        self._give(data, KINDS[Path(self.name).suffix.lower()], Roskevad_Time=str(changed))
 
-    def _give_state(self, query: dict[str, list[str]], body: bytes) -> None:
-        state = state_of(self.server.desk, query)
-        if 'has' in query:
-            state['has'] = {name: self._tile_file(name) is not None for name in query['has']}
-        self._give(json.dumps(state, separators=(',', ':')).encode(), 'application/json')
-
-    def _give_session(self, query: dict[str, list[str]], body: bytes) -> None:
-        self._give(self.server.desk.session(), 'text/plain; charset=utf-8')
-
-    def _give_static(self, query: dict[str, list[str]], body: bytes) -> None:
-        names = {path.name for path in _STATIC.iterdir() if path.suffix in _STATIC_KINDS}
-        if self.name not in names:
-            raise Refusal(404, 'no such path')
-        path = _STATIC / self.name
-        self._give(path.read_bytes(), _STATIC_KINDS[path.suffix])
-
-    def _give_tiles(self, query: dict[str, list[str]], body: bytes) -> None:
-        path = self._tile_file(self.name)
-        if path is None:
-            raise Refusal(404, 'no such tileset or image in the folder')
-        self._give(path.read_bytes(), _TILE_KINDS[path.suffix.lower()])
-
-    def _tile_file(self, name: str) -> Optional[Path]:
-        """The file of a tileset or of an image, where there is one of that name that lies in the folder, links followed."""
-        folder = self.server.desk.folder
+    def _take_file(self, body: bytes) -> None:
+        place = self.server.folder.place(self.name)
+        if place is None:
+            raise Refusal(404, 'no map of the folder has that name')
         try:
-            path = (folder / name).resolve()
-            is_there = path.is_relative_to(folder) and path.is_file() and path.stat().st_size <= _LONGEST_FILE
-        except (OSError, ValueError):
-            return None
-        return path if is_there and path.suffix.lower() in _TILE_KINDS else None
+            changed = self.server.folder.save(place, body, self._wanted())
+        except Unlike:
+            raise Refusal(412, 'the file is another one') from None
+        except OSError as fault:
+            raise Refusal(500, f'it cannot be written: {fault.strerror or fault}') from None
+        self._give(b'', 'text/plain; charset=utf-8', Roskevad_Time=str(changed))
+
+    def _wanted(self) -> Optional[str]:
+        """The hash of the file that a save replaces; `None` where it replaces none."""
+        match: list[str] = self.headers.get_all('If-Match', [])
+        none: list[str] = self.headers.get_all('If-None-Match', [])
+        found = _HASH.fullmatch(match[0]) if len(match) == 1 else None
+        if found is not None and not none:
+            return found[1]
+        if match or none != ['*']:
+            raise Refusal(428, 'a save says which file it replaces: If-Match with its SHA-256, or If-None-Match: *')
+        return None
 
 
 _ROUTES: dict[str, dict[str, Any]] = {
     '/': {'GET': Door._give_page},
-    '/lines': {'POST': Door._hear_lines},
-    '/map': {'GET': Door._give_map},
-    '/state': {'GET': Door._give_state},
-    '/session': {'GET': Door._give_session},
-    'static/': {'GET': Door._give_static},
-    'tiles/': {'GET': Door._give_tiles},
+    '/files': {'GET': Door._give_files},
+    'files/': {'GET': Door._give_file, 'PUT': Door._take_file},
 }

@@ -46,7 +46,7 @@ export class Bench extends EventTarget {
   // ---- what is chosen
   // Keeps to a layer and an object that are there.
   settle() {
-    if (this.map && !this.layer) this.layerId = (this.map.layers.find(layer => layer.cells) ?? this.map.layers[0])?.id ?? null;
+    if (this.map && !this.layer) this.layerId = (this.map.layers.find(layer => layer.isTiles) ?? this.map.layers[0])?.id ?? null;
     if (this.objectId !== null && !this.map?.object(this.objectId)) this.objectId = null;
     this.marks.chosen = this.objectId;
     this.tell("chosen");
@@ -77,12 +77,13 @@ export class Bench extends EventTarget {
   // Takes the cells of a rectangle of the layer as the stamp, within the selection where `isSelected`.
   takeCells(x, y, width, height, isSelected = false) {
     const { map, layer } = this;
-    if (!layer?.cells) return this.say("Choose a tile layer to take tiles from.");
-    const values = [];
-    for (let at = 0; at < width * height; at++) {
-      const [column, row] = [x + at % width, y + Math.floor(at / width)];
-      const isTaken = isSelected ? map.isReached(column, row) : map.isInside(column, row);
-      values.push(isTaken ? layer.cells[row * map.width + column] : 0);
+    if (!layer?.isTiles) return this.say("Choose a tile layer to take tiles from.");
+    const values = new Array(width * height).fill(0);
+    const [left, top, wide, high] = map.cut(x, y, width, height);
+    const cells = wide && high ? map.cells(layer.id, left, top, wide, high) : [];
+    for (let at = 0; at < cells.length; at++) {
+      const [column, row] = [left + at % wide, top + Math.floor(at / wide)];
+      if (!isSelected || map.isReached(column, row)) values[(row - y) * width + column - x] = cells[at];
     }
     if (values.some(value => value)) this.takeStamp({ width, height, values });
     else this.say("These cells are empty.");
@@ -97,26 +98,19 @@ export class Bench extends EventTarget {
   }
 
   // ---- lines
-  // Sends lines, and says what was refused.
+  // Does lines, and says what was refused.
   async act(lines, options = {}) {
-    if (this.editor.isGone) {
-      this.say("The server has ended: nothing was sent.");
-      return { replies: [], isHeard: false };
-    }
-    const done = await this.editor.send(lines, options);
-    this.sayRefusal(done);
-    return done;
+    return this.sayRefusal(await this.editor.send(lines, options));
   }
 
   sayRefusal(done) {
-    if (done.refusal) {
+    if (done.barred) {
+      this.say(done.barred);
+    } else if (done.refusal) {
       const [, code, words] = /^no (\d+) (.*)$/.exec(done.refusal);
-      this.say(`Refused: ${words} (${code}). ${HINTS[code >= 60 && code <= 69 ? 60 : code] ?? ""}`);
-    } else if (done.fault && !this.editor.isGone) {
-      this.say(`Not heard: ${done.fault.message}.`);
-    } else if (done.isLate) {
-      this.say("Another page has changed something first. Look, and do it again.");
+      this.say(`Refused: ${words} (${code}). ${done.why ?? HINTS[code >= 60 && code <= 69 ? 60 : code] ?? ""}`);
     }
+    return done;
   }
 
   moveHand(x, y) {

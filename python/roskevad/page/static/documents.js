@@ -1,7 +1,6 @@
-// The open documents as tabs, and what is done with whole maps: new, open, save, close, resize.
+// The open documents as tabs, and what is done with whole maps: new, open, save, close, resize, reload.
 import { ask, button, byId, element } from "./dom.js";
-
-const nameOf = file => file.replace(/\.[^.]*$/, "");
+import { endNotice, hasNotice, notice } from "./notices.js";
 
 export class Documents {
   constructor(bench) {
@@ -9,28 +8,40 @@ export class Documents {
     this.editor = bench.editor;
     byId("file-actions").append(
       button("New", "A new map", () => this.make(), { id: "new" }),
-      button("Open", "Open a map of the folder (Ctrl+O)", () => this.open(), { id: "open" }),
+      button("Open", "Open a map (Ctrl+O)", () => this.open(), { id: "open" }),
       button("Save", "Save the map into its file (Ctrl+S)", () => this.save(), { id: "save" }),
+      element("span", { id: "save-hint" }),
       button("Save as", "Save the map into another file (Ctrl+Shift+S)", () => this.saveAs(), { id: "save-as" }),
       button("Resize", "Another size of the map", () => this.resize(), { id: "resize" }),
     );
+    this.editor.mayReplace = (path, isOwn) => this.mayReplace(path, isOwn);
+    // The hash of each file that was kept as it is in the page though it is another one outside.
+    this.kept = new Map();
+    const look = () => document.hidden || this.lookOutside();
+    addEventListener("focus", look);
+    document.addEventListener("visibilitychange", look);
   }
 
   show() {
-    const { documents, active, isClean } = this.editor.state;
+    const { documents, active, isClean, file } = this.editor.state;
     byId("tabs").replaceChildren(...documents.map(each => this.tab(each)));
     document.title = active ? `${isClean ? "" : "• "}${active} – Roskevad` : "Roskevad";
     byId("empty").hidden = Boolean(active);
+    byId("save").title = `Save the map into ${file ? `its file, ${file}` : "a file"} (Ctrl+S)`;
+    byId("save-hint").textContent = this.editor.place.isDownload ? "is a download" : "";
+    byId("save-hint").title = "The browser does not tell whether a download is kept. So a map stays in the journal of this page until it is closed.";
+    byId("folder").textContent = this.editor.place.title;
   }
 
-  tab({ name, isActive, isClean }) {
+  tab({ name, isActive, isClean, path }) {
     const mark = element("span", { className: "mark", textContent: isClean ? "" : "•", title: isClean ? "saved" : "not saved" });
     const close = button("×", `Close ${name}`, event => {
       event.stopPropagation();
       this.close(name);
     }, { className: "close" });
     const onclick = () => isActive || this.bench.act([`use ${name}`]);
-    const tab = element("div", { className: "tab", data: { document: name }, onclick }, mark, element("span", { textContent: name }), close);
+    const shown = { className: "tab", title: path ?? "in no file yet", data: { document: name }, onclick };
+    const tab = element("div", shown, mark, element("span", { textContent: name }), close);
     tab.classList.toggle("on", isActive);
     tab.classList.toggle("unsaved", !isClean);
     return tab;
@@ -48,36 +59,111 @@ export class Documents {
     if (told) this.bench.act([`new ${told.name} ${told.width} ${told.height} ${told.side} ${told.tall} ${told.source}`]);
   }
 
+  // ---- opening
   async open() {
-    const told = await ask("Open a map of the folder", [{ name: "file", label: "File", choices: await this.editor.files() }]);
-    if (told) this.bench.act([`open ${nameOf(told.file)} ${told.file}`]);
+    const maps = await this.editor.place.maps().catch(fault => this.bench.say(fault.message) ?? []);
+    const told = await ask("Open a map", [{ name: "file", label: "File", choices: maps.map(each => each.path) }]);
+    if (told) await this.openPath(told.file);
   }
 
+  // Opens a file, or shows the document that has it already.
+  async openPath(path) {
+    const open = this.editor.documents().find(each => each.path === path);
+    if (open) return this.bench.act([`use ${open.name}`]);
+    return this.bench.sayRefusal(await this.editor.openPath(path));
+  }
+
+  // ---- saving
   save() {
-    const { file, active } = this.editor.state;
-    if (file || !active) return this.bench.act([`save ${file ?? "map.tmj"}`]);
-    return this.saveAs();
+    const { file, active, isClean } = this.editor.standing();
+    if (!active) return this.bench.act(["save map.tmj"]);
+    if (!file) return this.saveAs();
+    if (!isClean) return this.saveTo(file);
+    this.bench.say(`${file} is saved already.`);
+    return { isHeard: true };
+  }
+
+  async saveTo(path) {
+    return this.bench.act([`save ${await this.editor.wordOf(path)}`]);
   }
 
   async saveAs() {
     const { file, active } = this.editor.state;
-    const told = await ask("Save the map", [{ name: "file", label: "File", value: file ?? `${active}.tmj` }]);
-    return told ? this.bench.act([`save ${told.file}`]) : { isHeard: false };
+    const told = await ask("Save the map", [{ name: "file", label: "File", value: file ?? `${active ?? "map"}.tmj` }]);
+    return told?.file ? this.saveTo(told.file) : { isHeard: false };
   }
 
+  // Whether a file may be replaced that is another one than the document has.
+  async mayReplace(path, isOwn) {
+    const words = isOwn ? `${path} has changed since it was opened or saved.` : `${path} is there already.`;
+    const told = await ask(words, [], isOwn ? ["Replace it", "Reload", "Save as"] : ["Replace it"]);
+    // Each of the two begins once this save has ended.
+    if (told?.answer === "Reload") setTimeout(() => this.reload(path));
+    if (told?.answer === "Save as") setTimeout(() => this.saveAs());
+    return told?.answer === "Replace it";
+  }
+
+  // ---- files that change outside
+  async lookOutside() {
+    if (this.isLooking) return;
+    this.isLooking = true;
+    for (const [name, file] of this.editor.notes.files) {
+      const isChanged = !this.editor.notes.isWriting(name) && (await this.editor.isChanged(file).catch(() => false));
+      if (isChanged && this.editor.notes.files.get(name) === file) this.sayChanged(name, file);
+      else endNotice(`file ${name}`);
+    }
+    this.isLooking = false;
+  }
+
+  sayChanged(name, file) {
+    if (hasNotice(`file ${name}`) || this.kept.get(name) === file.mark) return;
+    notice(`file ${name}`, `${file.path} has changed outside of this page.`, [
+      ["Reload", () => this.reload(file.path), "Show what the file has; the steps of the document end"],
+      ["Save as", async () => {
+        await this.bench.act([`use ${name}`]);
+        return (await this.saveAs()).isHeard;
+      }, "Save what the page has into another file"],
+      ["Not now", () => this.kept.set(name, file.mark)],
+    ]);
+  }
+
+  // Opens a file anew, in the place of the document that has it.
+  async reload(path) {
+    const open = this.editor.documents().find(each => each.path === path);
+    if (!open) return true;
+    if (!open.isClean) {
+      const told = await ask(`${open.name} has changes that are not saved.`, [], ["Discard and reload"]);
+      if (!told) return false;
+    }
+    try {
+      await this.editor.place.read(path);
+    } catch (fault) {
+      this.bench.say(`${path}: ${fault.message}.`);
+      return false;
+    }
+    const { word } = this.editor.notes.files.get(open.name);
+    await this.bench.act([`discard ${open.name}`, `open ${open.name} ${word}`]);
+    return true;
+  }
+
+  // ---- closing
   // Closes a document; where it is not saved, asks first.
   async close(name) {
-    const { documents, active } = this.editor.state;
-    if (documents.find(each => each.name === name)?.isClean) {
-      await this.bench.act([`close ${name}`]);
-      return;
-    }
+    const documents = this.editor.documents();
+    if (documents.find(each => each.name === name)?.isClean) return this.closed(name);
     const told = await ask(`${name} has changes that are not saved.`, [], ["Save and close", "Discard"]);
-    if (told?.answer === "Discard") await this.bench.act([`discard ${name}`]);
-    if (told?.answer !== "Save and close") return;
-    if (name !== active && !(await this.bench.act([`use ${name}`])).isHeard) return;
-    await this.editor.look(true);
-    if ((await this.save()).isHeard) await this.bench.act([`close ${name}`]);
+    if (told?.answer === "Discard") return this.closed(name, "discard");
+    if (told?.answer !== "Save and close") return null;
+    if (name !== this.editor.notes.active && !(await this.bench.act([`use ${name}`])).isHeard) return null;
+    const path = this.editor.notes.file?.path;
+    const saved = await (path ? this.saveTo(path) : this.saveAs());
+    return saved.isHeard ? this.closed(name) : null;
+  }
+
+  async closed(name, word = "close") {
+    const done = await this.bench.act([`${word} ${name}`]);
+    if (done.isHeard) endNotice(`file ${name}`);
+    return done;
   }
 
   async resize() {
@@ -92,3 +178,4 @@ export class Documents {
     if (told) this.bench.act([`resize ${told.width} ${told.height} ${told.right} ${told.down}`]);
   }
 }
+

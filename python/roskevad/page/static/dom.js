@@ -39,20 +39,28 @@ function fieldOf(field) {
   return element("label", {}, element("span", { textContent: field.label }), input, list);
 }
 
-// Asks for fields, and gives what was typed by their names, with the answer that was clicked; null where nothing was wanted.
-export function ask(title, fields, answers = ["OK"]) {
-  const form = element("form", { method: "dialog" }, element("h2", { textContent: title }), ...fields.map(fieldOf));
-  const buttons = answers.map(answer => element("button", { type: "submit", value: answer, textContent: answer }));
-  const row = element("div", { className: "answers" }, ...buttons, button("Cancel", "Esc", () => dialog.close("")));
-  form.append(row);
-  const dialog = element("dialog", {}, form);
+// Shows a dialog, and gives what its buttons return; "" where nothing was wanted.
+export function shown(dialog) {
   document.body.append(dialog);
   dialog.showModal();
   return new Promise(resolve => {
     dialog.onclose = () => {
-      const typed = Object.fromEntries(new FormData(form));
       dialog.remove();
-      resolve(dialog.returnValue ? { ...typed, answer: dialog.returnValue } : null);
+      // Chromium gives the focus back to a field, but no keys, until it has it anew.
+      const field = document.activeElement;
+      field?.blur();
+      field?.focus();
+      resolve(dialog.returnValue);
     };
   });
+}
+
+// Asks for fields, and gives what was typed by their names, with the answer that was clicked; null where nothing was wanted.
+export async function ask(title, fields, answers = ["OK"]) {
+  const form = element("form", { method: "dialog" }, element("h2", { textContent: title }), ...fields.map(fieldOf));
+  const buttons = answers.map(answer => element("button", { type: "submit", value: answer, textContent: answer }));
+  const dialog = element("dialog", {}, form);
+  form.append(element("div", { className: "answers" }, ...buttons, button("Cancel", "Esc", () => dialog.close(""))));
+  const answer = await shown(dialog);
+  return answer ? { ...Object.fromEntries(new FormData(form)), answer } : null;
 }

@@ -50,8 +50,7 @@ export class LayerPanel {
     const told = await ask(`A new ${kind} layer`, [{ name: "name", label: "Name", value: kind === "tile" ? "Tiles" : "Objects" }]);
     if (!told) return;
     const done = await this.bench.act([`layer add ${kind} ${told.name}`]);
-    if (!done.isHeard || !(await this.bench.editor.current())) return;
-    this.bench.chooseLayer(this.bench.map.data.nextlayerid - 1);
+    if (done.isHeard) this.bench.chooseLayer(this.bench.map.data.nextlayerid - 1);
   }
 
   async rename() {

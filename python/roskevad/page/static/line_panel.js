@@ -51,7 +51,7 @@ export class LinePanel {
 
   async enter() {
     const line = this.box.value;
-    if (!line || this.editor.isGone) return;
+    if (!line) return;
     this.history = [...this.history.filter(each => each !== line), line];
     this.at = this.history.length;
     this.box.value = "";
@@ -71,7 +71,7 @@ export class LinePanel {
     const at = words.length - 1;
     if (at === 0) return Object.keys(forms ?? {});
     if (DOCUMENT_WORDS[words[0]] === at) return state.documents.map(each => each.name);
-    if (FILE_WORDS[words[0]] === at) return this.editor.files();
+    if (FILE_WORDS[words[0]] === at) return this.editor.fileWords();
     const inForms = (forms?.[words[0]] ?? []).map(form => form.split(" ")[at] ?? "");
     if (inForms.includes("LAYER")) return (map?.layers ?? []).map(layer => String(layer.id));
     return inForms.flatMap(word => word.split("|")).filter(word => /^[a-z]/.test(word));
@@ -100,7 +100,7 @@ export class LinePanel {
 
   // Puts the session of the active document on the clipboard.
   async copy() {
-    const session = await this.editor.session();
+    const session = this.editor.copied();
     try {
       await navigator.clipboard.writeText(session);
       this.bench.say(`${session.split("\n").length - 1} lines are on the clipboard.`);

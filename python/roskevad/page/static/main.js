@@ -1,93 +1,155 @@
 // Puts the page together: the editor, the drawing of its map, the tools, and the panels.
+import { Module } from "../../../../js/roskevad.js";
 import { Bench } from "./bench.js";
 import { Documents } from "./documents.js";
-import { button, byId } from "./dom.js";
+import { byId } from "./dom.js";
 import { Editor } from "./editor.js";
+import { recordSum } from "./journal.js";
 import { LayerPanel } from "./layer_panel.js";
 import { LinePanel } from "./line_panel.js";
 import { MapView } from "./map_view.js";
 import { Marks } from "./marks.js";
+import { endNotice, notice } from "./notices.js";
 import { Palette } from "./palette.js";
+import { PlacePanel } from "./place_panel.js";
+import { ServedFiles } from "./places.js";
+import { Player } from "./player.js";
 import { PropertyPanel } from "./property_panel.js";
+import { Recovery } from "./recovery.js";
 import { StepPanel } from "./step_panel.js";
 import { Tilesets } from "./tilesets.js";
 import { Toolbar } from "./toolbar.js";
 import { Tools } from "./tools.js";
 
-const editor = new Editor();
-const tilesets = new Tilesets(editor);
-const view = new MapView(byId("view"), editor, tilesets);
-const marks = new Marks(view, editor, tilesets);
-const bench = new Bench(editor, view, marks, tilesets);
-const tools = new Tools(bench);
-const documents = new Documents(bench);
-const toolbar = new Toolbar(bench, tools, documents);
-const palette = new Palette(bench, tilesets);
-const layers = new LayerPanel(bench);
-const properties = new PropertyPanel(bench);
-const steps = new StepPanel(bench);
-new LinePanel(bench);
-
-let shownDocument = null;
-
-// Another map: its tilesets may be others, and where its document is another one it is shown whole.
-async function showMap() {
-  bench.settle();
-  view.redraw();
-  if (await tilesets.take(editor.map)) {
-    palette.show();
-    view.redraw();
-    if (bench.map && !tilesets.of(bench.fillValue)) bench.takeStamp({ width: 1, height: 1, values: [tilesets.all[0]?.first ?? 1] });
-  }
-}
-
-function showState() {
-  if (bench.isHeld && editor.state.active === shownDocument) return;
-  const { active, index, count, isClean, depth } = editor.state;
-  if (active !== shownDocument) {
-    shownDocument = active;
-    view.fit();
-  }
-  documents.show();
-  steps.show();
-  toolbar.show();
-  marks.redraw();
-  const standing = `${index}/${count} ${isClean ? "saved" : "not saved"}${depth ? `, ${depth} open` : ""}`;
-  byId("standing").textContent = active ? standing : "";
-  showChosen();
-}
-
-function showChosen() {
-  layers.show();
-  properties.show();
-}
-
-function showHand() {
-  const { cell } = bench.place ?? {};
-  const layer = bench.layer;
-  const value = cell && layer?.cells && bench.map.isInside(...cell) ? layer.cells[cell[1] * bench.map.width + cell[0]] : null;
-  byId("place").textContent = cell && bench.map ? `${cell.join(", ")}${value === null ? "" : ` tile ${value}`}` : "";
-}
-
-editor.addEventListener("map", () => showMap());
-editor.addEventListener("state", showState);
-bench.addEventListener("free", showState);
-editor.addEventListener("gone", event => {
-  document.body.classList.add("gone");
-  const again = button("Try again", "Ask whether the server is there again", () => editor.tryAgain(), { id: "try-again" });
-  byId("gone").replaceChildren(event.detail, " ", again);
-});
-editor.addEventListener("back", () => document.body.classList.remove("gone"));
-bench.addEventListener("chosen", showChosen);
-bench.addEventListener("hand", showHand);
-view.onMove = () => {
-  byId("scale").textContent = `${Math.round(view.scale * 100)} %`;
-  marks.redraw();
+// What the page needs of the browser.
+const NEEDED = {
+  "an address that is safe: of a disk, by https, or of this machine": () => isSecureContext,
+  WebAssembly: () => globalThis.WebAssembly?.Module,
+  "locks (Web Locks)": () => navigator.locks,
 };
 
-tools.choose("brush");
-await editor.start();
-byId("folder").textContent = editor.folder ?? "";
-// For the console, and for scripts that try the page.
-globalThis.roskevad = { editor, bench, view, tools, tilesets };
-document.body.dataset.isReady = "yes";
+function bytesOf(coded) {
+  const text = atob(coded);
+  const bytes = new Uint8Array(text.length);
+  for (let at = 0; at < text.length; at++) bytes[at] = text.charCodeAt(at);
+  return bytes;
+}
+
+// The parts of the page, and what each shows when something has changed.
+class Page {
+  constructor(editor) {
+    this.editor = editor;
+    this.tilesets = new Tilesets(editor);
+    this.view = new MapView(byId("view"), editor, this.tilesets);
+    this.marks = new Marks(this.view, editor, this.tilesets);
+    const bench = this.bench = new Bench(editor, this.view, this.marks, this.tilesets);
+    this.tools = new Tools(bench);
+    this.documents = new Documents(bench);
+    this.toolbar = new Toolbar(bench, this.tools, this.documents);
+    this.palette = new Palette(bench, this.tilesets);
+    this.layers = new LayerPanel(bench);
+    this.properties = new PropertyPanel(bench);
+    this.steps = new StepPanel(bench);
+    this.panel = new PlacePanel(bench, this.documents, this.tilesets);
+    this.recovery = new Recovery(bench, this.panel);
+    this.lines = new LinePanel(bench);
+    this.player = new Player(bench);
+    this.shownDocument = null;
+    this.listen();
+    this.tools.choose("brush");
+  }
+
+  listen() {
+    const { bench, editor, marks, panel, view } = this;
+    panel.onTilesets = () => this.showTilesets().catch(fault => console.warn(fault));
+    editor.addEventListener("map", () => this.showMap());
+    editor.addEventListener("cells", ({ detail }) => view.refresh(detail));
+    editor.addEventListener("selection", () => marks.redraw());
+    editor.addEventListener("state", () => this.showState());
+    bench.addEventListener("free", () => this.showState());
+    bench.addEventListener("chosen", () => this.showChosen());
+    bench.addEventListener("hand", () => this.showHand());
+    view.onMove = () => {
+      byId("scale").textContent = `${Math.round(view.scale * 100)} %`;
+      marks.redraw();
+    };
+  }
+
+  // Another map: its tilesets may be others, and where its document is another one it is shown whole.
+  async showMap() {
+    const { active } = this.editor.notes;
+    this.bench.settle();
+    if (active !== this.shownDocument) this.view.fit();
+    this.shownDocument = active;
+    this.view.takeMap();
+    this.marks.redraw();
+    await this.showTilesets();
+  }
+
+  async showTilesets() {
+    const { bench, tilesets } = this;
+    if (!(await tilesets.take(this.editor.map))) return;
+    this.palette.show();
+    this.view.redraw();
+    this.panel.showMissing();
+    if (bench.map && !tilesets.of(bench.fillValue)) bench.takeStamp({ width: 1, height: 1, values: [tilesets.all[0]?.first ?? 1] });
+  }
+
+  showState() {
+    if (this.bench.isHeld) return;
+    const { active, index, count, isClean, isWriting, depth } = this.editor.state;
+    this.documents.show();
+    this.steps.show();
+    this.toolbar.show();
+    const standing = `${index}/${count} ${isWriting ? "is being saved" : isClean ? "saved" : "not saved"}${depth ? `, ${depth} open` : ""}`;
+    byId("standing").textContent = active ? standing : "";
+    this.showChosen();
+  }
+
+  showChosen() {
+    this.layers.show();
+    this.properties.show();
+  }
+
+  showHand() {
+    const { layer, map, place } = this.bench;
+    const cell = place?.cell;
+    const value = cell && layer?.isTiles && map.isInside(...cell) ? map.value(layer.id, ...cell) : null;
+    byId("place").textContent = cell && map ? `${cell.join(", ")}${value === null ? "" : ` tile ${value}`}` : "";
+  }
+}
+
+// What the server tells, where the page came from `tile_page`; null where it is gone already.
+async function servedBy(key) {
+  const place = new ServedFiles(key);
+  place.addEventListener("gone", ({ detail }) => {
+    const words = `${detail} Saving has to wait; all else goes on. If it starts at the same port with another key, open its new address in this tab.`;
+    notice("server", words, [["Try again", () => place.told().then(() => true, () => false)]]);
+  });
+  place.addEventListener("back", () => endNotice("server"));
+  return { place, told: await place.told().catch(() => ({ files: [], limit: 0 })) };
+}
+
+async function start() {
+  const missing = Object.keys(NEEDED).filter(name => !NEEDED[name]());
+  if (missing.length) return notice("needed", `This page cannot work here. It needs ${missing.join(", ")}.`);
+  const key = new URLSearchParams(location.search).get("key");
+  const [module, served] = await Promise.all([Module.load(bytesOf(byId("module").textContent)), key === null ? null : servedBy(key)]);
+  const editor = new Editor(module, served?.told.limit ?? 0);
+  if (served) editor.place = served.place;
+  const page = new Page(editor);
+  await editor.journal.start();
+  page.panel.start();
+  page.toolbar.show();
+  const isRestored = await page.recovery.start();
+  if (!isRestored && served) for (const path of served.told.files) await page.documents.openPath(path);
+  editor.tellSoon();
+  await editor.telling;
+  // For the console, and for scripts that try the page.
+  page.sumOf = recordSum;
+  globalThis.roskevad = page;
+  document.body.dataset.isReady = "yes";
+  return page;
+}
+
+await start();

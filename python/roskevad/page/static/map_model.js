@@ -1,15 +1,6 @@
-// The map as the page knows it: what `show` gave, and the strokes of this page behind it.
+// The map as the page knows it: its outline, and its cells where they are asked for.
 
 export const TILE = 0x0fffffff;
-
-// The cells of a tile layer, whose data is a list of numbers, or bytes in base64.
-function cellsOf(layer) {
-  if (Array.isArray(layer.data)) return Uint32Array.from(layer.data);
-  const text = atob(layer.data);
-  const bytes = new Uint8Array(text.length);
-  for (let at = 0; at < text.length; at++) bytes[at] = text.charCodeAt(at);
-  return new Uint32Array(bytes.buffer);
-}
 
 // All layers in the order in which they are drawn, each with the group that it stands in, how deep, and whether it is seen.
 function flattened(layers, group, depth, isSeen, found) {
@@ -18,7 +9,7 @@ function flattened(layers, group, depth, isSeen, found) {
     layer.offsetX = (group?.offsetX ?? 0) + (data.offsetx ?? 0);
     layer.offsetY = (group?.offsetY ?? 0) + (data.offsety ?? 0);
     layer.opacity = (group?.opacity ?? 1) * (data.opacity ?? 1);
-    if (data.type === "tilelayer") layer.cells = cellsOf(data);
+    layer.isTiles = data.type === "tilelayer";
     found.push(layer);
     if (data.type === "group") flattened(data.layers, layer, depth + 1, layer.isSeen, found);
   });
@@ -26,13 +17,16 @@ function flattened(layers, group, depth, isSeen, found) {
 }
 
 export class MapModel {
-  constructor(data) {
+  // `data` is the outline, and `cells(layer, x, y, width, height)` gives the cells of a rectangle.
+  constructor(data, cells) {
     this.data = data;
+    this.cells = cells;
     this.width = data.width;
     this.height = data.height;
     this.tileWidth = data.tilewidth;
     this.tileHeight = data.tileheight;
     this.layers = flattened(data.layers, null, 0, true, []);
+    this.runs = [];
     this.selected = null;
   }
 
@@ -64,28 +58,30 @@ export class MapModel {
     return this.isInside(x, y) && (!this.selected || this.selected[y * this.width + x] === 1);
   }
 
+  // The value of a cell of a tile layer.
+  value(layer, x, y) {
+    return this.cells(layer, x, y, 1, 1)[0];
+  }
+
+  // A rectangle within the map: [x, y, width, height], with no width or no height where it is all outside.
+  cut(x, y, width, height) {
+    const [left, top] = [Math.max(0, x), Math.max(0, y)];
+    return [left, top, Math.max(0, Math.min(this.width, x + width) - left), Math.max(0, Math.min(this.height, y + height) - top)];
+  }
+
   // The cells that a block changes: [place, value before, value after]. A block is what a line `stamp` or `erase` says: its values
   // row by row, where 0 leaves the cell; without values the cells are emptied.
   changes(block) {
-    const cells = this.layer(block.layer)?.cells;
     const found = [];
-    if (!cells) return found;
-    for (let at = 0; at < block.width * block.height; at++) {
-      const x = block.x + at % block.width;
-      const y = block.y + Math.floor(at / block.width);
-      const value = block.values ? block.values[at] : 0;
-      if ((block.values && value === 0) || !this.isReached(x, y)) continue;
-      const place = y * this.width + x;
-      if (cells[place] !== value) found.push([place, cells[place], value]);
+    const [left, top, width, height] = this.cut(block.x, block.y, block.width, block.height);
+    if (!this.layer(block.layer)?.isTiles || !width || !height) return found;
+    const cells = this.cells(block.layer, left, top, width, height);
+    for (let at = 0; at < cells.length; at++) {
+      const [x, y] = [left + at % width, top + Math.floor(at / width)];
+      const value = block.values ? block.values[(y - block.y) * block.width + x - block.x] : 0;
+      if ((block.values && value === 0) || cells[at] === value || !this.isReached(x, y)) continue;
+      found.push([y * this.width + x, cells[at], value]);
     }
-    return found;
-  }
-
-  // Does what a block says, and gives the cells that it has changed.
-  apply(block) {
-    const found = this.changes(block);
-    const cells = this.layer(block.layer)?.cells;
-    for (const [place, , after] of found) cells[place] = after;
     return found;
   }
 }

@@ -1,5 +1,6 @@
 // Draws the map: only what is seen, and behind a stroke only what it has changed. Lengths are pixels of the screen.
 import { TILE } from "./map_model.js";
+import { SeenCells } from "./seen_cells.js";
 import { colourOf } from "./tilesets.js";
 
 const SCALES = [1 / 16, 1 / 12, 1 / 8, 1 / 6, 1 / 4, 1 / 3, 1 / 2, 2 / 3, 1, 1.5, 2, 3, 4, 6, 8, 12, 16];
@@ -7,6 +8,8 @@ const SCALES = [1 / 16, 1 / 12, 1 / 8, 1 / 6, 1 / 4, 1 / 3, 1 / 2, 2 / 3, 1, 1.5
 const SMALLEST_TILE = 6;
 const SMALLEST_NUMBER = 15;
 const MOST_MEASURES = 1000;
+// A colour with at least this alpha hides what is below it, where the map is seen from afar.
+const HIDES = 250;
 const GROUND = "#5b6068";
 const BEHIND = "#26282c";
 
@@ -61,6 +64,7 @@ export class MapView {
     this.changed = null;
     this.isWhole = true;
     this.moved = [0, 0];
+    this.seen = new SeenCells();
     this.measures = [];
     // Called behind each drawing that the view has moved for.
     this.onMove = () => {};
@@ -144,13 +148,34 @@ export class MapView {
     this.askFrame();
   }
 
-  // Draws cells anew: places in the rows of the map.
+  // Draws the cells that a stroke has changed: places in the rows of the map.
   redrawCells(edits) {
     const width = this.map.width;
-    for (const { changed } of edits) {
-      for (const [place] of changed) this.widen(place % width, Math.floor(place / width));
+    for (const { block, changed } of edits) {
+      for (const [place, , value] of changed) {
+        const [x, y] = [place % width, Math.floor(place / width)];
+        this.seen.put(block.layer, x, y, value);
+        this.widen(x, y);
+      }
     }
     this.askFrame();
+  }
+
+  // Draws those of the cells that are seen which are others by now; with a part, in which alone any may be: { layer, box }.
+  refresh(part = null) {
+    if (this.isWhole) this.seen.forget();
+    const box = this.map ? this.seen.refresh(part) : null;
+    if (box) {
+      this.widen(box[0], box[1]);
+      this.widen(box[2], box[3]);
+    }
+    this.askFrame();
+  }
+
+  // Shows the map that the editor has.
+  takeMap() {
+    this.seen.takeMap(this.map);
+    this.redraw();
   }
 
   widen(x, y) {
@@ -183,6 +208,7 @@ export class MapView {
     this.isWhole = false;
     this.changed = null;
     this.moved = [0, 0];
+    if (this.map) this.seen.takeBox(this.boxSeen());
     if (isWhole || !this.map) this.drawBox(0, 0, this.canvas.width, this.canvas.height);
     else if (isMoved) this.drawMoved(...moved);
     if (changed && this.map && !isWhole) this.drawRegion(...this.region(changed));
@@ -210,6 +236,27 @@ export class MapView {
     this.drawRegion(Math.max(0, column(left) - 1), Math.max(0, row(top) - 1), Math.min(width, right), Math.min(height, bottom));
   }
 
+  // The cells that may be seen, with those whose tiles reach into view.
+  boxSeen() {
+    const { width, height, tileWidth, tileHeight } = this.map;
+    const { right, up, aside } = this.reach();
+    const first = (origin, side) => Math.floor(-origin / this.scale / side) - 1;
+    const last = (origin, side, length) => Math.floor((length - origin) / this.scale / side) + 2;
+    const within = (cell, most) => Math.max(0, Math.min(most, cell));
+    return [
+      within(first(this.originX, tileWidth) - right - aside, width),
+      within(first(this.originY, tileHeight) - aside, height),
+      within(last(this.originX, tileWidth, this.canvas.width) + aside, width),
+      within(last(this.originY, tileHeight, this.canvas.height) + up + aside, height),
+    ];
+  }
+
+  // A part of the map within the cells that may be seen.
+  within([x0, y0, x1, y1]) {
+    const [left, top, right, bottom] = this.seen.box;
+    return [Math.max(x0, left), Math.max(y0, top), Math.min(x1, right), Math.min(y1, bottom)];
+  }
+
   // How many cells a tile reaches over its own, to the right and up, and how many layers are moved aside.
   reach() {
     const { tileWidth, tileHeight, layers } = this.map;
@@ -227,7 +274,8 @@ export class MapView {
     return [left, top, Math.min(width, x1 + 1 + right + aside), Math.min(height, y1 + 1 + aside)];
   }
 
-  drawRegion(x0, y0, x1, y1) {
+  drawRegion(...region) {
+    const [x0, y0, x1, y1] = this.within(region);
     if (x1 <= x0 || y1 <= y0) return;
     const pen = this.pen;
     pen.save();
@@ -243,28 +291,64 @@ export class MapView {
 
   drawNear(x0, y0, x1, y1) {
     const { right, up, aside } = this.reach();
-    const { width, height } = this.map;
-    const cells = [Math.max(0, x0 - right - aside), Math.max(0, y0 - aside), Math.min(width, x1 + aside), Math.min(height, y1 + up + aside)];
+    const cells = this.within([x0 - right - aside, y0 - aside, x1 + aside, y1 + up + aside]);
+    const layers = this.map.layers.filter(layer => layer.isSeen && layer.isTiles);
+    const hiding = this.hidingLayers(layers, cells);
     this.pen.imageSmoothingEnabled = this.scale < 1;
-    for (const layer of this.map.layers) {
-      if (!layer.isSeen) continue;
-      this.pen.globalAlpha = layer.opacity;
-      if (layer.cells) this.drawCells(layer, ...cells);
+    for (let at = hiding.lowest; at < layers.length; at++) {
+      this.pen.globalAlpha = layers[at].opacity;
+      this.drawCells(layers[at], at, hiding.tops, ...cells);
     }
     this.pen.globalAlpha = 1;
   }
 
-  drawCells(layer, x0, y0, x1, y1) {
+  // For each cell of a part the highest of these layers whose tile hides all below it, by its place among them; 0 where none does. And
+  // the lowest layer that is seen somewhere.
+  hidingLayers(layers, [x0, y0, x1, y1]) {
+    const tops = new Uint16Array(Math.max(0, x1 - x0) * Math.max(0, y1 - y0));
+    let left = tops.length;
+    let lowest = layers.length;
+    while (lowest > 0 && left > 0) {
+      lowest--;
+      if (isPlain(layers[lowest])) left -= this.hide(layers[lowest], lowest, tops, x0, y0, x1, y1);
+    }
+    return { tops, lowest: this.reach().right || this.reach().up || this.reach().aside ? 0 : lowest };
+  }
+
+  // Notes where a layer hides what is below it, and gives in how many cells it is the first to do so.
+  hide(layer, at, tops, x0, y0, x1, y1) {
+    const [cells, [left, top, right]] = [this.seen.cellsOf(layer.id), this.seen.box];
+    const { tileWidth, tileHeight } = this.map;
+    let found = 0;
+    for (let y = y0, spot = 0; y < y1; y++) {
+      for (let place = (y - top) * (right - left) + x0 - left, end = place + x1 - x0; place < end; place++, spot++) {
+        if (tops[spot] || cells[place] === 0 || !this.tilesets.hides(cells[place], tileWidth, tileHeight)) continue;
+        tops[spot] = at;
+        found++;
+      }
+    }
+    return found;
+  }
+
+  drawCells(layer, at, tops, x0, y0, x1, y1) {
     const [asideX, asideY] = [Math.round(layer.offsetX * this.scale), Math.round(layer.offsetY * this.scale)];
+    const [cells, [left, first, right]] = [this.seen.cellsOf(layer.id), this.seen.box];
+    const mayHide = isPlain(layer);
     for (let y = y0; y < y1; y++) {
       const [top, bottom] = [this.edgeY(y) + asideY, this.edgeY(y + 1) + asideY];
       for (let x = x0; x < x1; x++) {
-        const value = layer.cells[y * this.map.width + x];
-        if (value === 0) continue;
-        const left = this.edgeX(x) + asideX;
-        this.drawCell(value, left, top, this.edgeX(x + 1) + asideX - left, bottom - top);
+        const value = cells[(y - first) * (right - left) + x - left];
+        if (value === 0 || (mayHide && tops[(y - y0) * (x1 - x0) + x - x0] > at && !this.isLarge(value))) continue;
+        const edge = this.edgeX(x) + asideX;
+        this.drawCell(value, edge, top, this.edgeX(x + 1) + asideX - edge, bottom - top);
       }
     }
+  }
+
+  // Whether a tile reaches out of its cell.
+  isLarge(value) {
+    const tileset = this.tilesets.of(value);
+    return Boolean(tileset?.image) && (tileset.tileWidth !== this.map.tileWidth || tileset.tileHeight !== this.map.tileHeight);
   }
 
   // A tile stands on the lower left corner of its cell; one of another size reaches up and to the right.
@@ -284,9 +368,9 @@ export class MapView {
     const [width, height] = [x1 - x0, y1 - y0];
     const image = new ImageData(width, height);
     const pixels = new Uint32Array(image.data.buffer);
-    for (const layer of this.map.layers) {
-      if (layer.isSeen && layer.cells) this.addMeans(layer, pixels, x0, y0, x1, y1);
-    }
+    const layers = this.map.layers.filter(layer => layer.isSeen && layer.isTiles);
+    const { tops, lowest } = this.topLayers(layers, x0, y0, x1, y1);
+    for (let at = lowest; at < layers.length; at++) this.addMeans(layers[at], at, tops, pixels, x0, y0, x1, y1);
     const small = new OffscreenCanvas(width, height);
     small.getContext("2d").putImageData(image, 0, 0);
     this.pen.imageSmoothingEnabled = this.map.tileWidth * this.scale < 1;
@@ -294,19 +378,44 @@ export class MapView {
     this.pen.drawImage(small, left, top, this.edgeX(x1) - left, this.edgeY(y1) - top);
   }
 
-  addMeans(layer, pixels, x0, y0, x1, y1) {
-    let at = 0;
-    for (let y = y0; y < y1; y++) {
-      for (let place = y * this.map.width + x0, end = place + x1 - x0; place < end; place++, at++) {
-        const value = layer.cells[place];
-        if (value === 0) continue;
+  // For each cell the highest of these layers whose colour hides all below it, by its place among them; and the lowest that is seen.
+  topLayers(layers, x0, y0, x1, y1) {
+    const tops = new Uint16Array((x1 - x0) * (y1 - y0));
+    let left = tops.length;
+    let lowest = layers.length;
+    while (lowest > 0 && left > 0) left -= this.topCells(layers[--lowest], lowest, tops, x0, y0, x1, y1);
+    return { tops, lowest };
+  }
+
+  topCells(layer, at, tops, x0, y0, x1, y1) {
+    const [cells, [left, top, right]] = [this.seen.cellsOf(layer.id), this.seen.box];
+    let found = 0;
+    for (let y = y0, spot = 0; y < y1; y++) {
+      for (let place = (y - top) * (right - left) + x0 - left, end = place + x1 - x0; place < end; place++, spot++) {
+        if (tops[spot] || cells[place] === 0 || (this.tilesets.mean(cells[place]) >>> 24) * layer.opacity < HIDES) continue;
+        tops[spot] = at;
+        found++;
+      }
+    }
+    return found;
+  }
+
+  addMeans(layer, at, tops, pixels, x0, y0, x1, y1) {
+    const [cells, [left, top, right]] = [this.seen.cellsOf(layer.id), this.seen.box];
+    for (let y = y0, spot = 0; y < y1; y++) {
+      for (let place = (y - top) * (right - left) + x0 - left, end = place + x1 - x0; place < end; place++, spot++) {
+        const value = cells[place];
+        if (value === 0 || tops[spot] > at) continue;
         const colour = this.tilesets.mean(value);
         const alpha = (colour >>> 24) * layer.opacity;
-        pixels[at] = alpha >= 250 || pixels[at] === 0 ? colour : mixed(pixels[at], colour, alpha / 255);
+        pixels[spot] = alpha >= HIDES || pixels[spot] === 0 ? colour : mixed(pixels[spot], colour, alpha / 255);
       }
     }
   }
 }
+
+// Whether a layer stands where the map does, and what it has hides what is below.
+const isPlain = layer => layer.opacity === 1 && layer.offsetX === 0 && layer.offsetY === 0;
 
 // A pixel with another one over it.
 function mixed(under, over, share) {

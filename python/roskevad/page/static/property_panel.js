@@ -54,7 +54,8 @@ export class PropertyPanel {
     return ["x", "y", "width", "height"].map(name => {
       const input = element("input", { type: "number", defaultValue: String(data[name] ?? 0), data: { key: ` ${name}`, owner: word } });
       input.onchange = () => {
-        const of = part => (part === name ? input.value : data[part] ?? 0);
+        // A line takes whole numbers. A fraction comes back where its whole part is left as it is.
+        const of = part => (part === name ? input.value : Math.floor(data[part] ?? 0));
         const isPlace = name === "x" || name === "y";
         this.bench.act([isPlace ? `object move ${id} ${of("x")} ${of("y")}` : `object resize ${id} ${of("width")} ${of("height")}`]);
       };

@@ -41,7 +41,7 @@ export class StepPanel {
   more(text) {
     return element("li", {}, button(text, "Show more steps", () => {
       this.editor.steps += MORE;
-      this.editor.look(true);
+      this.editor.tellSoon();
     }));
   }
 }

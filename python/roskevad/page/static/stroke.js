@@ -17,11 +17,9 @@ function partsOf(block) {
 }
 
 export class Stroke {
-  // `blockAt(x, y)` is the block that the hand leaves at a cell.
-  constructor(map, blockAt) {
-    this.map = map;
-    this.blockAt = blockAt;
-    this.last = null;
+  // `blockAt(x, y)` is the block that the hand leaves at a cell. `hear(line)` does a line, and tells whether it was accepted.
+  constructor(map, blockAt, hear) {
+    Object.assign(this, { blockAt, hear, last: null, isOver: false });
     this.begin(map);
   }
 
@@ -42,7 +40,7 @@ export class Stroke {
     return cells;
   }
 
-  // The blocks of the way to a cell that change something, each with its line and the cells it has changed. The map has them then.
+  // Draws the way to a cell, and gives the blocks that have changed something, each with the cells that it has changed.
   moveTo(x, y) {
     const blocks = this.cellsTo(x, y).flatMap(([column, row]) => partsOf(this.blockAt(column, row)));
     const edits = blocks.map(block => this.edit(block)).filter(edit => edit);
@@ -53,11 +51,14 @@ export class Stroke {
   // A line follows only where this stroke has a step: behind a block that changed a cell. Where later blocks have given back all
   // that it changed, that step is gone, and a line that follows would join the stroke before it.
   edit(block) {
-    if (!this.map.changes(block).length) return null;
-    const line = lineOf(block, this.unlike > 0);
-    const changed = this.map.apply(block);
+    const changed = this.isOver ? [] : this.map.changes(block);
+    if (!changed.length) return null;
+    if (!this.hear(lineOf(block, this.unlike > 0))) {
+      this.isOver = true;
+      return null;
+    }
     for (const [place, before, after] of changed) this.keep(place, before, after);
-    return { block, line, changed };
+    return { block, changed };
   }
 
   keep(place, before, after) {

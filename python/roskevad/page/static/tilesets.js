@@ -1,17 +1,7 @@
-// The tilesets of a map with their images, where those lie in the folder: a tileset is a `.tsx` or `.tsj` file with one image, or stands
-// in the map itself.
-import { tileAddress } from "./editor.js";
+// The tilesets of a map with their images, where those can be had: a tileset is a `.tsx` or `.tsj` file with one image, or stands in the
+// map itself.
 import { TILE } from "./map_model.js";
-
-function inFolderOf(source, image) {
-  const parts = [...source.split("/").slice(0, -1), ...image.split("/")];
-  const path = [];
-  for (const part of parts) {
-    if (part === "..") path.pop();
-    else if (part !== "." && part !== "") path.push(part);
-  }
-  return path.join("/");
-}
+import { folderOf } from "./names.js";
 
 function numbersOf(node, names) {
   return Object.fromEntries(names.map(name => [name, Number(node.getAttribute(name) ?? 0)]));
@@ -24,25 +14,37 @@ function readXml(text) {
   return { ...numbers, name: root.getAttribute("name"), image: image?.getAttribute("source") };
 }
 
-async function imageAt(name) {
+// The kinds that an image must have told, since a browser does not look for them.
+const KINDS = { svg: "image/svg+xml" };
+const decoder = new TextDecoder();
+
+async function imageOf(path, bytes) {
   const image = new Image();
-  image.src = tileAddress(name);
-  await image.decode();
+  const type = KINDS[path.slice(path.lastIndexOf(".") + 1).toLowerCase()] ?? "";
+  image.src = URL.createObjectURL(new Blob([bytes], { type }));
+  try {
+    await image.decode();
+  } finally {
+    URL.revokeObjectURL(image.src);
+  }
   return image;
 }
 
-// The mean colour of each tile, for maps that are seen from afar: [red, green, blue, alpha] one behind the other.
-function meanColours(tileset) {
+// The mean colour of each tile, for maps that are seen from afar: [red, green, blue, alpha] one behind the other; and which tiles hide
+// all that is below them.
+function looksOf(tileset) {
   const sheet = new OffscreenCanvas(tileset.image.width, tileset.image.height);
   const pen = sheet.getContext("2d", { willReadFrequently: true });
   pen.drawImage(tileset.image, 0, 0);
   const means = new Uint8ClampedArray(tileset.count * 4);
+  const hides = new Uint8Array(tileset.count);
   for (let tile = 0; tile < tileset.count; tile++) {
     const [x, y] = tileset.placeOf(tile);
     const pixels = pen.getImageData(x, y, tileset.tileWidth, tileset.tileHeight).data;
     means.set(meanOf(pixels), tile * 4);
+    hides[tile] = pixels.every((part, at) => at % 4 < 3 || part === 255) ? 1 : 0;
   }
-  return means;
+  return { means, hides };
 }
 
 function meanOf(pixels) {
@@ -83,7 +85,7 @@ class Tileset {
     this.count = Math.min(told.tilecount || 256, last - first + 1);
     if (image) {
       this.columns = told.columns || Math.floor((image.width - this.margin + this.spacing) / (this.tileWidth + this.spacing));
-      this.means = meanColours(this);
+      Object.assign(this, looksOf(this));
     }
   }
 
@@ -95,46 +97,73 @@ class Tileset {
   }
 }
 
+// Tiles below this one have their colours in a table.
+const TABLE = 65_536;
+
 // The tilesets of one map. The same ones are not asked for again.
 export class Tilesets {
   constructor(editor) {
     this.editor = editor;
     this.all = [];
-    this.colours = new Map();
+    this.forgetLooks();
+    this.said = "[]";
+    // The paths of the files that cannot be had.
+    this.missing = [];
+  }
+
+  // Asks for the files anew with the next map: others can be had by now.
+  forget() {
     this.said = "[]";
   }
 
   // Takes the tilesets of a map, and says whether they are others than before.
   async take(map) {
     const wanted = map ? map.data.tilesets : [];
-    const said = JSON.stringify([wanted, map?.tileWidth, map?.tileHeight]);
+    const folder = folderOf(this.editor.notes.file?.path ?? "");
+    const said = JSON.stringify([wanted, map?.tileWidth, map?.tileHeight, folder]);
     if (said === this.said) return false;
     this.said = said;
+    this.folder = folder;
+    this.missing = [];
     const sorted = [...wanted].sort((one, other) => one.firstgid - other.firstgid);
     const all = await Promise.all(sorted.map((data, at) => this.read(data, sorted[at + 1]?.firstgid ?? TILE + 1, map)));
     if (said !== this.said) return false;
     this.all = all;
-    this.colours = new Map();
+    this.forgetLooks();
     return true;
+  }
+
+  forgetLooks() {
+    this.colours = new Map();
+    this.table = new Uint32Array(TABLE);
+    this.isKnown = new Uint8Array(TABLE);
   }
 
   async read(data, next, map) {
     let told = data;
     let image = null;
     try {
-      told = data.source ? await this.readFile(data.source) : data;
-      const name = told.image && inFolderOf(data.source ?? "", told.image);
-      if (name && (await this.editor.has([name]))[name]) image = await imageAt(name);
+      told = data.source ? await this.readFile(this.folder + data.source) : data;
+      const path = told.image && this.folder + folderOf(data.source ?? "") + told.image;
+      const bytes = path && (await this.bytesOf(path));
+      if (bytes) image = await imageOf(path, bytes);
     } catch (fault) {
       console.warn(`tileset ${data.source ?? data.name}: ${fault.message}`);
     }
     return new Tileset(data.firstgid, next - 1, { ...told, source: data.source }, image, map);
   }
 
-  async readFile(source) {
-    if (!(await this.editor.has([source]))[source]) return {};
-    const text = await (await fetch(tileAddress(source))).text();
-    return source.endsWith(".tsx") ? readXml(text) : JSON.parse(text);
+  async readFile(path) {
+    const bytes = await this.bytesOf(path);
+    if (!bytes) return {};
+    const text = decoder.decode(bytes);
+    return path.endsWith(".tsx") ? readXml(text) : JSON.parse(text);
+  }
+
+  async bytesOf(path) {
+    const bytes = await this.editor.place.bytes(path).catch(() => null);
+    if (!bytes) this.missing.push(path);
+    return bytes;
   }
 
   // The tileset that has a value, or null.
@@ -148,17 +177,32 @@ export class Tilesets {
     return found;
   }
 
+  // Whether a tile hides all that is below it in a cell of this size.
+  hides(value, width, height) {
+    const tileset = this.of(value);
+    if (tileset?.tileWidth !== width || tileset.tileHeight !== height || (value & 0x20000000 && width !== height)) return false;
+    const tile = (value & TILE) - tileset.first;
+    return !tileset.image || tile >= tileset.count || tileset.hides[tile] === 1;
+  }
+
   // The colour of a value from afar, as a pixel of 32 bits: alpha, blue, green, red.
   mean(value) {
     const tile = value & TILE;
-    let colour = this.colours.get(tile);
-    if (colour === undefined) {
-      const tileset = this.of(tile);
-      const at = (tile - (tileset?.first ?? 0)) * 4;
-      const [red, green, blue, alpha] = tileset?.means && at < tileset.means.length ? tileset.means.slice(at, at + 4) : meanOfColour(tile);
-      colour = (alpha << 24 | blue << 16 | green << 8 | red) >>> 0;
-      this.colours.set(tile, colour);
+    if (tile < TABLE) {
+      if (!this.isKnown[tile]) {
+        this.table[tile] = this.reckonedMean(tile);
+        this.isKnown[tile] = 1;
+      }
+      return this.table[tile];
     }
-    return colour;
+    if (!this.colours.has(tile)) this.colours.set(tile, this.reckonedMean(tile));
+    return this.colours.get(tile);
+  }
+
+  reckonedMean(tile) {
+    const tileset = this.of(tile);
+    const at = (tile - (tileset?.first ?? 0)) * 4;
+    const [red, green, blue, alpha] = tileset?.means && at < tileset.means.length ? tileset.means.slice(at, at + 4) : meanOfColour(tile);
+    return (alpha << 24 | blue << 16 | green << 8 | red) >>> 0;
   }
 }

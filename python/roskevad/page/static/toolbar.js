@@ -62,13 +62,10 @@ export class Toolbar {
     byId("brush-size").value = String(this.bench.brushSize);
   }
 
-  // Sends an undo or a redo, and has the browser measure how long it takes until it is seen.
+  // Does an undo or a redo, and has the browser measure how long it takes until it is seen.
   async turn(line, event) {
-    const { view } = this.bench;
-    const seen = () => view.measure(line, event.timeStamp);
-    this.editor.addEventListener("map", seen, { once: true });
     const done = await this.bench.act([line]);
-    if (!done.isHeard) this.editor.removeEventListener("map", seen);
+    if (done.isHeard) this.bench.view.measure(line, event.timeStamp);
   }
 
   turnGrid() {
@@ -79,7 +76,7 @@ export class Toolbar {
 
   turnMacro() {
     const name = byId("macro-name");
-    this.bench.act([this.editor.state.depth ? "end" : `begin ${name.value}`]);
+    this.bench.act([this.editor.stand().depth ? "end" : `begin ${name.value}`]);
     name.blur();
   }
 

@@ -16,16 +16,14 @@ function cellsBetween([x0, y0], [x1, y1]) {
   return [Math.min(x0, x1), Math.min(y0, y1), Math.abs(x1 - x0) + 1, Math.abs(y1 - y0) + 1];
 }
 
-// The brush and the eraser. A stroke is drawn on the map that the editor has: where that is still to come, the hand's way waits for it.
+// The brush and the eraser.
 class StrokeTool {
   constructor(bench, name) {
     this.bench = bench;
     this.name = name;
-    // The strokes whose way is not drawn to its end: { way, document, stroke, isUp, isOver }.
-    this.works = new Set();
-    bench.editor.addEventListener("map", () => this.works.forEach(work => work.stroke?.begin(bench.map)));
-    bench.editor.addEventListener("state", () => this.goOn());
-    bench.editor.addEventListener("gone", () => this.works.clear());
+    this.stroke = null;
+    // Behind a line that is not of the stroke, what comes of the stroke is a step of its own.
+    bench.editor.addEventListener("done", ({ detail }) => this.stroke && detail !== this.stroke && this.stroke.begin(bench.map));
   }
 
   // The block that the hand leaves at a cell.
@@ -46,47 +44,36 @@ class StrokeTool {
 
   async down(place, event) {
     const { bench } = this;
-    if (!bench.layer.cells) {
+    if (!bench.layer.isTiles) {
       // The editor says in its own words why this layer takes no stroke.
       await bench.act([lineOf(this.blockAt(...place.cell), false)]);
       return;
     }
-    this.work = { way: [[place.cell, event.timeStamp]], document: bench.editor.state.active, stroke: null, isUp: false, isOver: false };
-    this.works.add(this.work);
-    this.goOn();
+    this.document = bench.editor.notes.active;
+    this.stroke = new Stroke(bench.map, (x, y) => this.blockAt(x, y), line => this.hear(line));
+    this.draw(place, event);
   }
 
   move(place, event) {
-    if (!this.work) return;
-    this.work.way.push([place.cell, event.timeStamp]);
-    this.goOn();
+    if (this.stroke) this.draw(place, event);
   }
 
   up() {
-    if (this.work) this.work.isUp = true;
-    this.work = null;
-    this.goOn();
+    this.stroke = null;
   }
 
-  goOn() {
-    for (const work of this.works) {
-      if (work.isOver || work.document !== this.bench.editor.state.active) this.works.delete(work);
-      else if (this.bench.editor.isCurrent) this.draw(work);
-    }
+  // Does a line of the stroke. Behind one that is refused the stroke is over.
+  hear(line) {
+    return this.bench.sayRefusal(this.bench.editor.doLines([line], { stroke: this.stroke })).isHeard;
   }
 
-  // Draws the way that the hand has gone, and sends its lines. Behind a line that is refused the stroke is over.
-  draw(work) {
-    const { bench } = this;
-    const stroke = work.stroke ??= new Stroke(bench.map, (x, y) => this.blockAt(x, y));
-    for (const [cell, time] of work.way.splice(0)) {
-      const edits = stroke.moveTo(...cell);
-      if (!edits.length) continue;
-      bench.view.redrawCells(edits);
-      bench.view.measure("stroke", time);
-      bench.act(edits.map(edit => edit.line), { stroke }).then(done => (work.isOver ||= Boolean(done.refusal ?? done.fault)));
-    }
-    if (work.isUp) this.works.delete(work);
+  draw(place, event) {
+    const { editor, view } = this.bench;
+    if (editor.notes.active !== this.document) return;
+    const edits = this.stroke.moveTo(...place.cell);
+    if (!edits.length) return;
+    view.redrawCells(edits);
+    view.measure("stroke", event.timeStamp);
   }
 }
 
@@ -152,10 +139,15 @@ class ObjectTool {
   // Where the object goes: with Ctrl on the grid.
   goal(place, event) {
     const { map } = this.bench;
-    const onGrid = (length, side) => (event.ctrlKey || event.metaKey ? Math.round(length / side) * side : Math.round(length));
-    const x = this.drag.x + place.pixelX - this.drag.from.pixelX;
-    const y = this.drag.y + place.pixelY - this.drag.from.pixelY;
-    return { id: this.drag.id, x: onGrid(x, map.tileWidth), y: onGrid(y, map.tileHeight) };
+    const isOnGrid = event.ctrlKey || event.metaKey;
+    // Where the hand has not moved it one way, it keeps the whole part that it has there, and so its fraction.
+    const moved = (from, by, side) => {
+      if (isOnGrid) return Math.round((from + by) / side) * side;
+      return by === 0 ? Math.floor(from) : Math.round(from + by);
+    };
+    const x = moved(this.drag.x, place.pixelX - this.drag.from.pixelX, map.tileWidth);
+    const y = moved(this.drag.y, place.pixelY - this.drag.from.pixelY, map.tileHeight);
+    return { id: this.drag.id, x, y };
   }
 
   move(place, event) {
@@ -166,13 +158,12 @@ class ObjectTool {
 
   async up(place, event) {
     if (!this.drag) return;
-    const { marks, editor } = this.bench;
+    const { marks } = this.bench;
     const goal = this.goal(place, event);
-    const isMoved = goal.x !== this.drag.x || goal.y !== this.drag.y;
+    const isMoved = goal.x !== Math.floor(this.drag.x) || goal.y !== Math.floor(this.drag.y);
     this.drag = null;
     if (isMoved && marks.dragged) {
       await this.bench.act([`object move ${goal.id} ${goal.x} ${goal.y}`]);
-      await editor.current();
     }
     marks.dragged = null;
     marks.redraw();
@@ -260,7 +251,7 @@ export class Tools {
   }
 
   isReady() {
-    if (this.bench.editor.isGone) this.bench.say("The server has ended: nothing was sent.");
+    if (this.bench.editor.barred) this.bench.say(this.bench.editor.barred);
     else if (!this.bench.map) this.bench.say("Open a map first.");
     else if (!this.bench.layer) this.bench.say("Add a layer first.");
     else return true;

@@ -1,0 +1,126 @@
+"""The files that the page works on: maps of a folder, and tilesets and images below a root."""
+import hashlib
+import os
+import stat
+import threading
+from pathlib import Path
+from typing import Any, Iterator, Optional
+
+from ..saving import Saving
+
+#: The longest file that is given or taken.
+LONGEST_FILE = 64 * 1024 * 1024
+#: What the files are that are given, by the ends of their names; those of maps are also taken.
+KINDS = {
+    '.tmj': 'application/json', '.json': 'application/json', '.tsx': 'application/xml', '.tsj': 'application/json', '.png': 'image/png',
+    '.jpg': 'image/jpeg', '.jpeg': 'image/jpeg', '.gif': 'image/gif', '.bmp': 'image/bmp', '.webp': 'image/webp',
+}
+MAPS = ('.tmj', '.json')
+# How many maps are listed at most, how many names are looked at for them, and how deep folders are looked into.
+_MOST_MAPS, _MOST_NAMES, _DEEPEST = 2000, 50_000, 8
+
+
+class Unlike(Exception):
+    """The file under a name is not what a save may replace."""
+
+
+def is_map(path: Path) -> bool:
+    """Whether a name is one of a map."""
+    return path.suffix.lower() in MAPS
+
+
+def time_of(told: os.stat_result) -> int:
+    """When a file was changed, in microseconds: a number that JavaScript has exactly."""
+    return told.st_mtime_ns // 1000
+
+
+class Folder:
+    """A folder of maps below a root. Paths are told from the folder in `maps`, and from the root elsewhere; links are followed, and
+    what they lead to lies below the root. `lock` is held while a file is looked at and replaced."""
+
+    def __init__(self, folder: Path, root: Path):
+        self.folder, self.root = folder.resolve(), root.resolve()
+        self.lock = threading.Lock()
+
+    @property
+    def prefix(self) -> str:
+        """The path of the folder from the root, with a slash; nothing where it is the root."""
+        return '' if self.folder == self.root else f'{self.folder.relative_to(self.root).as_posix()}/'
+
+    def maps(self) -> list[dict[str, Any]]:
+        """The files of the folder that may be maps, with their sizes and times."""
+        found: list[dict[str, Any]] = []
+        for path in self._names():
+            if is_map(path) and len(found) < _MOST_MAPS:
+                told = self._told(path)
+                if told is not None:
+                    found.append({'path': path.relative_to(self.folder).as_posix(), 'size': told.st_size, 'time': time_of(told)})
+        return found
+
+    def _names(self) -> Iterator[Path]:
+        """The files of the folder and of those in it, but for hidden ones and names that nobody can read; links to folders are not
+        followed."""
+        seen = 0
+        for top, folders, names in os.walk(self.folder):
+            depth = len(Path(top).relative_to(self.folder).parts)
+            folders[:] = sorted(name for name in folders if not name.startswith('.')) if depth < _DEEPEST else []
+            seen += len(names)
+            if seen > _MOST_NAMES:
+                return
+            yield from (Path(top) / name for name in sorted(names) if name.isprintable() and not name.startswith('.'))
+
+    def _told(self, path: Path) -> Optional[os.stat_result]:
+        """What the system tells of a regular file that lies below the root, links followed; `None` where there is no such file."""
+        try:
+            real = path.resolve(strict=True)
+            told = real.stat()
+        except (OSError, ValueError, RuntimeError):
+            return None
+        return told if real.is_relative_to(self.root) and stat.S_ISREG(told.st_mode) else None
+
+    def read(self, name: str) -> Optional[tuple[bytes, int]]:
+        """The bytes of a map, a tileset or an image, and its time; `None` where there is no such file, or it is too long."""
+        path = self.root / name
+        told = None if path.suffix.lower() not in KINDS else self._told(path)
+        if told is None or told.st_size > LONGEST_FILE:
+            return None
+        try:
+            data = path.read_bytes()
+        except OSError:
+            return None
+        return (data, time_of(told)) if len(data) <= LONGEST_FILE else None
+
+    def place(self, name: str) -> Optional[Path]:
+        """Where a map is saved: in the folder, or below it, in a folder that is there. `None` where it must not be."""
+        path = self.root / name
+        try:
+            parent = path.parent.resolve(strict=True)
+        except (OSError, ValueError, RuntimeError):
+            return None
+        is_name = is_map(path) and not path.name.startswith('.') and path.name.isprintable()
+        return parent / path.name if is_name and parent.is_relative_to(self.folder) and parent.is_dir() else None
+
+    def save(self, path: Path, data: bytes, wanted: Optional[str]) -> int:
+        """Writes a file whole, and gives its time. Raises Unlike where the file that is there has another hash than is wanted, or where
+        none is wanted and something is there; OSError where it cannot be written."""
+        with self.lock:
+            self._see(path, wanted)
+            saving = Saving(path, data, lambda: None, True)
+            try:
+                saving.write()
+            except OSError as fault:
+                saving.fault = fault
+            finally:
+                saving.settle()
+            if saving.fault is not None:
+                raise saving.fault
+            return time_of(path.stat())
+
+    def _see(self, path: Path, wanted: Optional[str]) -> None:
+        if wanted is None:
+            if os.path.lexists(path):
+                raise Unlike
+            return
+        told = self._told(path)
+        if told is None or told.st_size > LONGEST_FILE or hashlib.sha256(path.read_bytes()).hexdigest() != wanted:
+            raise Unlike

@@ -1,0 +1,100 @@
+// Where the files come from: a folder of this machine, files that are chosen or dropped, or the folder that a server gives.
+import { button, byId, element } from "./dom.js";
+import { endNotice, notice } from "./notices.js";
+import { ChosenFiles, FolderFiles, chosen, isMapName } from "./places.js";
+
+export class PlacePanel {
+  constructor(bench, documents, tilesets) {
+    Object.assign(this, { bench, documents, tilesets, editor: bench.editor });
+    // Called where the tilesets may be others.
+    this.onTilesets = () => {};
+  }
+
+  // Shows the buttons that choose files, where no server gives them.
+  start() {
+    if (this.editor.place.kind === "served") return;
+    const input = element("input", { type: "file", multiple: true, hidden: true, id: "files", onchange: async () => {
+      await this.takeChosen([...input.files]);
+      input.value = "";
+    } });
+    const title = "Choose maps, tilesets and images; or drop them here. A save is a download then";
+    const more = [button("Open files", title, () => input.click(), { id: "open-files" }), input];
+    if (globalThis.showDirectoryPicker) {
+      const said = "Choose the folder of the maps and of their tilesets; a save goes there";
+      more.unshift(button("Open folder", said, () => this.chooseFolder(), { id: "open-folder" }));
+    }
+    byId("file-actions").append(...more);
+    addEventListener("dragover", event => event.preventDefault());
+    addEventListener("drop", event => this.drop(event));
+  }
+
+  async chooseFolder() {
+    let folder;
+    try {
+      folder = await globalThis.showDirectoryPicker({ mode: "readwrite" });
+    } catch (fault) {
+      if (fault.name !== "AbortError") this.bench.say(fault.message);
+      return;
+    }
+    await this.takeFolder(folder);
+  }
+
+  async takeFolder(folder) {
+    this.take(new FolderFiles(folder));
+    this.editor.journal.keepSource();
+    if (!this.editor.notes.sessions.size) await this.documents.open();
+  }
+
+  // Files of the user's choice: those that are maps are opened.
+  takeChosen(files) {
+    return this.editor.during(this.takeAll(files));
+  }
+
+  async takeAll(files) {
+    let taken;
+    try {
+      taken = await chosen(files);
+    } catch (fault) {
+      this.bench.say(`Not read: ${fault.message}`);
+      return;
+    }
+    const place = this.editor.place.kind === "chosen" ? this.editor.place : new ChosenFiles();
+    place.take(taken);
+    this.take(place);
+    this.editor.journal.keepSource(taken);
+    for (const { path, bytes } of taken) if (isMap(path, bytes)) await this.documents.openPath(path);
+  }
+
+  take(place) {
+    this.editor.place = place;
+    this.tilesets.forget();
+    endNotice("tilesets");
+    this.onTilesets();
+    this.editor.tellSoon();
+  }
+
+  async drop(event) {
+    event.preventDefault();
+    const items = [...event.dataTransfer.items].filter(item => item.kind === "file");
+    const files = [...event.dataTransfer.files];
+    const handles = await Promise.all(items.map(item => item.getAsFileSystemHandle?.() ?? null));
+    const folder = handles.find(handle => handle?.kind === "directory");
+    if (folder) await this.takeFolder(folder);
+    else if (files.length) await this.takeChosen(files);
+  }
+
+  // Says which files of tilesets cannot be had, and what to do.
+  showMissing() {
+    const { missing } = this.tilesets;
+    if (!missing.length) return endNotice("tilesets");
+    const [first, ...others] = missing;
+    const more = others.length ? ` and ${others.length} more` : "";
+    const words = `Not found: ${first}${more}. ${this.editor.place.advice(first)} Its tiles are drawn as numbers.`;
+    return notice("tilesets", words, [["OK", () => {}]], "mild");
+  }
+}
+
+// Whether a chosen file is opened: a map, and no tileset in JSON.
+function isMap(path, bytes) {
+  return isMapName(path) && (!/\.json$/i.test(path) || new TextDecoder().decode(bytes).includes('"layers"'));
+}
