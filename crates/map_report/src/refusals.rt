@@ -76,7 +76,9 @@ fn write_aside<W: Write>(alloc: Global, text: &[u8], output: &mut W) -> io::Resu
 fn write_with_all_maps<W: Write>(alloc: Global, bytes: &[u8], output: &mut W) -> io::Result<()> {
     match set_aside(alloc, bytes) {
         Ok(Some(text)) if text.len() > LONGEST => {
-            output.write_all(b"\n  with --all-maps: set aside, it would be longer than 67,108,864 bytes")
+            output.write_all(
+                b"\n  with --all-maps: set aside, it would be longer than 67,108,864 bytes",
+            )
         }
         Ok(Some(text)) => write_aside(alloc, &text, output),
         Ok(None) | Err(Fault::Memory) => Ok(()),
