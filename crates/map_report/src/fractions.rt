@@ -124,12 +124,8 @@ fn find_in_value<F: Fractions>(
             take_fraction(root, owner, place, fractions)?;
             Ok(1)
         }
-        Value::Array(items) => {
-            find_in_items(items, root, part.entry(), owner, place, fractions)
-        }
-        Value::Object(members) => {
-            find_in_members(members, root, part, owner, place, fractions)
-        }
+        Value::Array(items) => { find_in_items(items, root, part.entry(), owner, place, fractions) }
+        Value::Object(members) => { find_in_members(members, root, part, owner, place, fractions) }
     }
 }
 

@@ -22,11 +22,7 @@ fn put_truth(out: &mut Writer, name: &str, truth: bool) -> Result<(), AllocError
     out.boolean(truth)
 }
 
-fn put_number_or_null(
-    out: &mut Writer,
-    name: &str,
-    number: Option<u32>,
-) -> Result<(), AllocError> {
+fn put_number_or_null(out: &mut Writer, name: &str, number: Option<u32>) -> Result<(), AllocError> {
     out.key(name)?;
     match number {
         Some(number) => out.u64(u64::from(number)),
@@ -142,11 +138,7 @@ fn put_objects(out: &mut Writer, layers: &Chain<Layer>, room: usize) -> Result<(
     Ok(())
 }
 
-fn put_objects_of(
-    out: &mut Writer,
-    layer: u32,
-    objects: &Chain<Object>,
-) -> Result<(), AllocError> {
+fn put_objects_of(out: &mut Writer, layer: u32, objects: &Chain<Object>) -> Result<(), AllocError> {
     for object in objects.iter() {
         put_object(out, layer, object)?;
     }

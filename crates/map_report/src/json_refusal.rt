@@ -15,6 +15,7 @@ const NO_MEMORY: &str = "90 no memory";
 
 // Those of a file that is not there, and of one that can't be read.
 const NO_SUCH_FILE: &str = "50 no such file";
+
 const STORE_FAILED: &str = "51 store failed";
 
 // Puts the code and the words of a refusal, which are told together.
