@@ -2,7 +2,7 @@
 use Rattle.std.proofs.Common.{IfSome, take_all, length-drop, ◌≡◌, ℕ, zero, suc, ◌+◌, ◌-◌, ◌*◌, ◌^◌, ◌<◌, ◌≤◌, ◌⊎◌, inl, inr, Bool, true, false, cond, ◌||◌, ◌==◌, nat_lt, List, [], ◌∷◌, ◌++◌, length, take, drop, get_or, Option, Some, None, option_and_then, refl, sym, ap, ap₂, ◌∙◌, subst, arith, append-nil, take-append-drop, length-take, append_assoc, drop-drop, get_or-drop, zero-lt-suc}
 use native.Mathlib.Nat.{pow-le-pow_right}
 use Rattle.std.specs.Fmt.{sign_text}
-use Rattle.std.proofs.lemmas.Bool.{true≢false, false≢true, eqb-true, ne_eqb, leb-true, and_parts, and_from, lt-ltb, le-leb}
+use Rattle.std.proofs.lemmas.Bool.{cases_eq, true≢false, false≢true, eqb-true, ne_eqb, leb-true, and_parts, and_from, lt-ltb, le-leb}
 use Rattle.std.proofs.lemmas.List.{drop_more, drop_all}
 use Rattle.std.proofs.lemmas.Int.Digits.{digits_value-lt}
 use Rattle.std.proofs.lemmas.Fmt.{decimal_digit}
@@ -21,7 +21,7 @@ use Rattle.serde_json.specs.Data.{Num, unsigned}
 use Rattle.serde_json.specs.Find.{is_float}
 use Rattle.serde_json.specs.Read.{is_integer, number_from, number_of}
 use Rattle.serde_json.proofs.Numbers.{number_of-decimal}
-use Rattle.tiled_maps.specs.Lexemes.{IsWhole, BeginFalse, AreFalse, IsPlainText, First, ArePlain, BeginsLiteral, Ends, Leads}
+use Rattle.tiled_maps.specs.Lexemes.{IsWhole, BeginFalse, AreFalse, IsPlainText, First, ArePlain, BeginsLiteral, Ends, Leads, EndsWell}
 
 -- ---- operators and spaces
 mark : (b : Bool) (l m : Lexeme) (ls : List Lexeme) → ArePlain (l ∷ ls) → ArePlain (m ∷ ls) → ArePlain (cond b l m ∷ ls)
@@ -324,3 +324,52 @@ head_first (x ∷ xs) h = refl
 
 pub head_at : (text : List ℕ) (from x : ℕ) → x ≡ head (drop from text) → 48 < x → get_or text from 0 ≡ x
 head_at text from x e h = sym (first_at text from) ∙ head_first (drop from text) (subst (λ y. 48 < y) e h) ∙ sym e
+
+-- ---- before the last byte, which is a brace or a line feed
+pub more_follows : (text : List ℕ) (k : ℕ) → EndsWell text → k < length text → (get_or text k 0 ≡ 125 → ⊥) → (get_or text k 0 ≡ 10 → ⊥) → k + 1 < length text
+more_follows text k well h brace feed = go (cases_eq (k + 1) (length text))
+  where
+    at_end : k + 1 ≡ length text → EndsWell text → k + 1 < length text
+    at_end e (inl is) = let last : length text - 1 ≡ k = omega arith in absurd (brace (ap (λ i. get_or text i 0) (sym last) ∙ is))
+    at_end e (inr is) = let last : length text - 1 ≡ k = omega arith in absurd (feed (ap (λ i. get_or text i 0) (sym last) ∙ is))
+
+    go : (k + 1 ≡ length text) ⊎ (k + 1 ≡ length text → ⊥) → k + 1 < length text
+    go (inl e) = at_end e well
+    go (inr ne) = omega arith
+
+pub digit_follows : (text : List ℕ) (k : ℕ) → EndsWell text → k < length text → is_ascii_digit (get_or text k 0) ≡ true → k + 1 < length text
+digit_follows text k well h digit =
+    let low : 48 ≤ get_or text k 0 = (digit_range (get_or text k 0) digit).0 in
+    let high : get_or text k 0 ≤ 57 = (digit_range (get_or text k 0) digit).1 in
+    more_follows text k well h (λ e. omega arith) (λ e. omega arith)
+
+first_of_run : (t : List ℕ) → 0 < prefix_len is_ascii_digit t → is_ascii_digit (get_or t 0 0) ≡ true
+first_of_run [] h = absurd (omega arith)
+first_of_run (x ∷ xs) h = of (is_ascii_digit x) refl
+  where
+    of : (b : Bool) → is_ascii_digit x ≡ b → is_ascii_digit x ≡ true
+    of true e = e
+    of false e = let none : prefix_len is_ascii_digit (x ∷ xs) ≡ 0 = ap (λ b. cond b (1 + prefix_len is_ascii_digit xs) 0) e in absurd (omega arith)
+
+pub run_begins : (text : List ℕ) (at : ℕ) → 0 < prefix_len is_ascii_digit (drop at text) → (48 ≤ get_or text at 0) × (get_or text at 0 ≤ 57)
+run_begins text at h = digit_range (get_or text at 0) (subst (λ x. is_ascii_digit x ≡ true) (first_at text at) (first_of_run (drop at text) h))
+
+-- a cell: a number from `at` up to the comma at `end`
+pub cell_plain : (text : List ℕ) (at end : ℕ) → at < length text → end < length text → end ≡ at + prefix_len is_ascii_digit (drop at text) → at < end → end - at ≤ 18
+    → (get_or text at 0 ≡ 48 → end - at ≤ 1) → get_or text end 0 ≡ 44 → ArePlain (lex between (drop (end + 1) text)) → ArePlain (lex between (drop at text))
+cell_plain text at end h inside is some few zeros behind rest =
+    let ends = comma_ends text end inside behind in
+    let digit = run_begins text at (omega arith) in
+    let low : 48 ≤ get_or text at 0 = digit.0 in
+    of (cases_eq (get_or text at 0) 48) ends.ended (ends.plain rest) digit.1 low
+  where
+    of : (get_or text at 0 ≡ 48) ⊎ (get_or text at 0 ≡ 48 → ⊥) → ends_word (drop end text) ≡ true → ArePlain (lex between (drop end text)) → get_or text at 0 ≤ 57
+        → 48 ≤ get_or text at 0 → ArePlain (lex between (drop at text))
+    of (inl e) ended there high low =
+        let one : end - at ≤ 1 = zeros e in
+        let next : end ≡ at + 1 = omega arith in
+        zero_plain text at h e (subst (λ k. ends_word (drop k text) ≡ true) next ended) (subst (λ k. ArePlain (lex between (drop k text))) next there)
+    of (inr ne) ended there high low = whole_plain text at end is few (omega arith) high ended there
+
+pub space_plain : (text : List ℕ) (at : ℕ) → at < length text → get_or text at 0 ≡ 32 → ArePlain (lex between (drop (at + 1) text)) → ArePlain (lex between (drop at text))
+space_plain text at h is rest = delimiter_plain text at h (ap (λ x. is_operator x || is_space x) is) rest

@@ -1,5 +1,5 @@
 -- Lexemes from which JSON is read that needs nothing set aside. Only the crate's private clauses cite it.
-use Rattle.std.specs.Prelude.{◌≡◌, ◌⊎◌, ℕ, ◌+◌, ◌<◌, ◌≤◌, true, false, List, [], ◌∷◌, length, drop, codes, Option, Some, None}
+use Rattle.std.specs.Prelude.{◌≡◌, ◌⊎◌, ℕ, ◌+◌, ◌-◌, ◌<◌, ◌≤◌, true, false, List, [], ◌∷◌, length, drop, get_or, codes, Option, Some, None}
 use Rattle.json.specs.Token.{Token, begin_object, end_object, begin_array, end_array, key, string, number, boolean, null, bad}
 use Rattle.json.specs.Text.{content, plain}
 use Rattle.json.specs.Word.{ends_word}
@@ -86,6 +86,10 @@ pub record LeavesEscaped (text : List ℕ) (escape end : ℕ) : Type 0 where
 -- the first byte of `true`, `false` or `null`
 abbrev pub BeginsLiteral : ℕ → Type 0
 BeginsLiteral x = ((x ≡ 116) ⊎ (x ≡ 102)) ⊎ (x ≡ 110)
+
+-- the last byte is a brace or a line feed
+abbrev pub EndsWell : List ℕ → Type 0
+EndsWell text = (get_or text (length text - 1) 0 ≡ 125) ⊎ (get_or text (length text - 1) 0 ≡ 10)
 
 -- the look passes from one place to another: if nothing from there on needs to be set aside, neither does the text in between
 abbrev pub Leads : List ℕ → ℕ → ℕ → Type 0

@@ -6,7 +6,7 @@ ghost use Rattle.json.specs.Text.{content, plain};
 ghost use Rattle.json.specs.Word.{is_operator, is_space, head};
 ghost use Rattle.json.specs.Lex.{lex, between, in_word};
 ghost use Rattle.tiled_maps.specs.Look.{TextNeedsNothing};
-ghost use Rattle.tiled_maps.specs.Lexemes.{IsPlainText, AreFalse, BeginsLiteral, BeginsOther, LeavesText, LeavesEscaped, Ends, Leads};
+ghost use Rattle.tiled_maps.specs.Lexemes.{IsPlainText, AreFalse, BeginsLiteral, BeginsOther, ArePlain, EndsWell, LeavesText, LeavesEscaped, Ends, Leads};
 
 use crate::fraction::RESERVED_NAME;
 use memchr::memchr2;
@@ -37,14 +37,26 @@ fn byte_at(text: &[u8], at: usize) -> u8
     if at < text.len() { text[at] } else { b' ' }
 }
 
+// Whether the last byte is a brace or a line feed, so that something follows each other byte.
+fn ends_well(text: &[u8]) -> bool
+    ensures { result ≡ true → EndsWell text.now }
+{
+    match text.last() {
+        Some(byte) => *byte == b'}' || *byte == b'\n',
+        None => false,
+    }
+}
+
+// Digits end before the last byte, since that is none.
 #[inline(always)]
 fn digits_end(text: &[u8], from: usize) -> usize
-    requires { from ≤ length text.now }
+    requires within { from < length text.now }
+    requires last { EndsWell text.now }
     ensures value { result ≡ from + prefix_len is_ascii_digit (drop from text.now) }
-    ensures bound { result ≤ length text.now }
+    ensures bound { result < length text.now }
 {
     let mut at = from;
-    while at < text.len() && text[at].is_ascii_digit() {
+    while text[at].is_ascii_digit() {
         at += 1;
     }
     at
@@ -63,15 +75,11 @@ fn letters_end(text: &[u8], from: usize) -> usize
     at
 }
 
-// Where the look goes on after a word that ends there. The comma after it is passed at once.
-#[inline(always)]
+// Where the look goes on after a word that ends there.
 fn after_word(text: &[u8], end: usize) -> Option<usize>
     requires { end ≤ length text.now }
     ensures { IfSome result (Ends text.now end) }
 {
-    if end < text.len() && text[end] == b',' {
-        return Some(end + 1);
-    }
     if is_delimiter(byte_at(text, end)) {
         Some(end)
     } else {
@@ -80,9 +88,9 @@ fn after_word(text: &[u8], end: usize) -> Option<usize>
 }
 
 // A number that begins with this digit, if it is whole and surely fits 64 bits.
-#[inline(always)]
 fn whole_end(text: &[u8], at: usize) -> Option<usize>
     requires within { at < length text.now }
+    requires last { EndsWell text.now }
     requires digit { (48 < slice_index text.now at) × (slice_index text.now at ≤ 57) }
     ensures { IfSome result (Leads text.now at) }
 {
@@ -94,15 +102,14 @@ fn whole_end(text: &[u8], at: usize) -> Option<usize>
 }
 
 // A number that begins with this minus. No 0 may follow: `-0` is a float.
-#[inline(always)]
 fn negative_end(text: &[u8], at: usize) -> Option<usize>
     requires within { at < length text.now }
+    requires last { EndsWell text.now }
     requires minus { slice_index text.now at ≡ 45 }
     ensures { IfSome result (Leads text.now at) }
 {
     let from = at + 1;
-    let first = byte_at(text, from);
-    if first < b'1' || first > b'9' {
+    if from >= text.len() || text[from] < b'1' || text[from] > b'9' {
         return None;
     }
     let end = digits_end(text, from);
@@ -113,7 +120,6 @@ fn negative_end(text: &[u8], at: usize) -> Option<usize>
 }
 
 // `true`, `false`, `null` or a fault.
-#[inline(always)]
 fn literal_end(text: &[u8], at: usize) -> Option<usize>
     requires within { at < length text.now }
     requires letter { BeginsLiteral (slice_index text.now at) }
@@ -214,9 +220,34 @@ fn text_end(text: &[u8], at: usize) -> Option<usize>
     }
 }
 
+// Passes numbers that have a comma behind them, and perhaps one space, as cells are.
 #[inline(always)]
+fn cells_end(text: &[u8], from: usize) -> usize
+    requires within { from < length text.now }
+    requires last { EndsWell text.now }
+    ensures bounds { (from ≤ result) × (result < length text.now) }
+    ensures plain { ArePlain (lex between (drop result text.now)) → ArePlain (lex between (drop from text.now)) }
+{
+    let mut at = from;
+    loop {
+        let end = digits_end(text, at);
+        let len = end - at;
+        if len == 0 || len > MAX_DIGITS || text[end] != b',' {
+            return at;
+        }
+        if text[at] == b'0' && len > 1 {
+            return at;
+        }
+        at = end + 1;
+        if text[at] == b' ' {
+            at += 1;
+        }
+    }
+}
+
 fn lexeme_end(text: &[u8], at: usize) -> Option<usize>
-    requires { at < length text.now }
+    requires within { at < length text.now }
+    requires last { EndsWell text.now }
     ensures { IfSome result (Leads text.now at) }
 {
     match text[at] {
@@ -239,14 +270,17 @@ fn lexeme_end(text: &[u8], at: usize) -> Option<usize>
 /// name, and is no infinite map. It is one pass over the bytes.
 ///
 /// `false` says nothing of the text. It comes for a number that is no whole number of at most 18 digits, the version too, for an
-/// escaped letter in a text, for the reserved name, for a text `infinite` that is not followed by `false`, and for some texts that
-/// are not JSON.
+/// escaped letter in a text, for the reserved name, for a text `infinite` that is not followed by `false`, for a text that does not
+/// end with a brace or a line feed, and for some that are not JSON.
 pub fn needs_nothing(text: &[u8]) -> bool
     ensures { result ≡ true → TextNeedsNothing text.now }
 {
+    if !ends_well(text) {
+        return false;
+    }
     let mut at = 0;
     while at < text.len() {
-        match lexeme_end(text, at) {
+        match lexeme_end(text, cells_end(text, at)) {
             Some(end) => at = end,
             None => return false,
         }

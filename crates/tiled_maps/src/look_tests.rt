@@ -1,19 +1,18 @@
 // What no clause says: that the look answers `true` at all, and for which texts.
 use crate::look::needs_nothing;
 
-const NEEDS_NOTHING: [&str; 9] = [
+const NEEDS_NOTHING: [&str; 8] = [
     "{ \"height\":2,\n \"infinite\":false,\n \"layers\":[\n  {\"data\":[0, 1, 2147483649, 3221225479], \"opacity\":1, \"visible\":true}],\n \"version\":\"1.8\"\n}",
     "{\"infinite\": false, \"class\": null, \"x\": -3, \"id\": 123456789012345678}",
     "{\"data\":\"AQAAAP\\/\\/AAA=\", \"image\":\"..\\/tiles.png\"}",
     "{\"name\":\"\\u00dcber \\\"Q\\\" \\\\ \\/\", \"value\":\"a\\nb\"}",
     "{\"name\":\"\\ud83d\\ude00 \\u0041\"}",
     "{\"roskevads\":[], \"a roskevad\":{}, \"infinitely\":1}",
-    "[]",
-    " 0 ",
-    "",
+    "{}\n",
+    "{\"a\":[0,10, 200,3 ,\n4]}",
 ];
 
-const PERHAPS: [&str; 21] = [
+const PERHAPS: [&str; 24] = [
     "{\"x\":1.5}",
     "{\"version\":1.10}",
     "{\"x\":2e3}",
@@ -35,6 +34,9 @@ const PERHAPS: [&str; 21] = [
     "{\"name\":\"a",
     "tru\"",
     "+1",
+    "{\"x\":01}",
+    "{\"x\":[01,2]}",
+    "",
 ];
 
 #[test]

@@ -1,0 +1,10 @@
+use Rattle.std.proofs.Common.{◌-◌, ◌<◌, ◌≤◌, length, drop}
+use Rattle.json.specs.Lex.{lex, between}
+use Rattle.tiled_maps.specs.Lexemes.{ArePlain}
+use Rattle.tiled_maps.proofs.look.cells_end.Given as goal
+
+abbrev pub invariant-loop-from : goal.invariant-loop-from
+invariant-loop-from l = (l.from ≤ l.at) × (l.at < length l.text) × (ArePlain (lex between (drop l.at l.text)) → ArePlain (lex between (drop l.from l.text)))
+
+abbrev pub decreases-loop-from : goal.decreases-loop-from
+decreases-loop-from l = length l.text - l.at
