@@ -8,7 +8,7 @@ import tempfile
 import time
 from pathlib import Path
 
-WAIT = 120
+WAIT = 300
 SETTINGS = {
     'browser.shell.checkDefaultBrowser': False,
     'datareporting.policy.dataSubmissionEnabled': False,
