@@ -15,6 +15,8 @@ class Selection:
     """The cells that were selected when it was asked for: `(x, y) in selection`, their number by `len`, and each cell (x, y) in
     row order. `runs` has them as runs of cells of a row."""
 
+    __slots__ = 'runs',
+
     def __init__(self, runs: 'tuple[Run, ...]'):
         self.runs = runs
 
