@@ -75,8 +75,10 @@ def object_of_refusal(lines, tree):
     first, *rows = lines.split('\n')
     wanted = refused(first, tree)
     if rows:
-        *fractions, _, then = (row[2:] for row in rows)
-        wanted['places'] = [place_of(text, tree) for text in fractions]
+        *fractions, then = (row[2:] for row in rows)
+        if fractions:
+            # The last of these rows counts the others.
+            wanted['places'] = [place_of(text, tree) for text in fractions[:-1]]
         wanted['allmaps'] = with_all_maps(then, tree)
     return wanted
 

@@ -346,7 +346,7 @@ def faults_of_member(owner, member, must_be_there, wrong):
     then = OPENS if wrong is PLACING else with_all_maps(63, place, 'an object')
     for code, values in wrong.items():
         for value in values:
-            yield fault(code, place, {place: value}, then)
+            yield fault(code, place, {place: value}, then if code == 61 else None)
 
 
 def faults_of_members():

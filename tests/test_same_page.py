@@ -45,7 +45,7 @@ def test_what_cannot_be_built():
             return 'it was built'
 
     cases = [
-        Case('all names', {'main.js': 'import * as all from "./a.js";\n'}, 'import * as all'),
+        Case('all names', {'main.js': 'export * from "./a.js";\n'}, 'export *'),
         Case('a default', {'main.js': 'export default 5;\n'}, 'export default'),
         Case('another place', {'main.js': 'import { a } from "a";\n'}, 'import { a }'),
         Case(

@@ -7,14 +7,16 @@ import shutil
 import tempfile
 from pathlib import Path
 
+from lib.any_maps import saved_as
+from lib.asides import put_back, set_aside
 from lib.cases import passed
 from lib.edits import find_layer
 from lib.maps import cells_of, property_of, text_of, thing, things, written
 from lib.pages import Clone, Page
 from lib.places import BIN, EXAMPLES, EXAMPLE_MAPS, TOP, files_in
 
-# The maps that can't be read, as the page has it.
-REFUSED = {'infinite.tmj', 'opacity_half.tmj', 'zlib.tmj'}
+# The maps that are infinite, have a fraction, or are packed.
+ALL_MAPS = {'infinite.tmj', 'opacity_half.tmj', 'zlib.tmj'}
 # What a command ends with whose last line alone is on the page.
 LAST_LINE = ' | tail -n 1'
 LAVA, WATER = 13, 8
@@ -85,9 +87,8 @@ def with_lava():
     return tree
 
 
-def with_spawn_point(data):
-    """A map of a file with a layer for the spawn point, in no group, and the spawn point in it."""
-    tree = json.loads(written(data))
+def with_spawn_point(tree):
+    """A map with a layer for the spawn point, in no group, and the spawn point in it."""
     layer = things(tree['nextlayerid'], name='Spawn points')
     tree['layers'].append(layer)
     tree['nextlayerid'] += 1
@@ -160,27 +161,38 @@ def test_lava():
     check_session('lava', 'lava.tmj', with_lava())
 
 
+def see_all_maps(page, folder):
+    """Sees that each map of these kinds has a spawn point, and else is what it was. Gives the files."""
+    files = {name: (folder / name).read_bytes() for name in ALL_MAPS}
+    for name, data in files.items():
+        source = json.loads((EXAMPLE_MAPS / name).read_bytes())
+        wanted = put_back(with_spawn_point(set_aside(source)))
+        assert saved_as(json.loads(data)) == saved_as(wanted), f'{page.name}: {name}: another map'
+    return files
+
+
 def test_spawn_points():
     """The page has the last of the lines that are printed. Without `tail` all of them are compared,
     and the status."""
     page = Page(TOP / 'docs' / 'tutorials' / 'spawn_points.md')
     refused, accepted = page.consoles()
-    maps = {
-        name: data
+    changed = {
+        name: text_of(with_spawn_point(json.loads(written(data))))
         for name, data in files_in(EXAMPLE_MAPS).items()
-        if name.endswith('.tmj') and name not in REFUSED
+        if name.endswith('.tmj') and name not in ALL_MAPS
     }
-    changed = {name: text_of(with_spawn_point(data)) for name, data in maps.items()}
+    with Clone() as clone:
+        see_console(page, clone, refused)
+        see_files(page, clone.maps / 'spawn', {'cut.tmj': (clone.maps / 'spawn' / 'cut.tmj').read_bytes()})
+        see_console(page, clone, accepted)
+        changed.update(see_all_maps(page, clone.maps / 'spawn'))
+        see_files(page, clone.maps / 'spawn', changed)
+    command, _ = accepted[-1]
+    assert command.endswith(LAST_LINE), f'{page.name}: {command}'
     told = [f'saved {name} {len(data)}' for name, data in sorted(changed.items())]
-    command, printed = accepted[-1]
-    assert (
-        command.endswith(LAST_LINE) and printed == told[-1]
-    ), f'{page.name}: {command}: the page has {printed!r}'
     whole = (command.removesuffix(LAST_LINE) + '; echo "status $?"', '\n'.join([*told, 'status 0']))
-    for last in accepted[-1], whole:
-        with Clone() as clone:
-            see_console(page, clone, refused)
-            see_files(page, clone.maps / 'spawn', {})
-            see_console(page, clone, [*accepted[:-1], last])
-            see_files(page, clone.maps / 'spawn', changed, REFUSED)
+    with Clone() as clone:
+        see_console(page, clone, refused)
+        see_console(page, clone, [*accepted[:-1], whole])
+        see_files(page, clone.maps / 'spawn', changed)
     passed(len(changed))

@@ -263,6 +263,8 @@ def main(words):
     parser.add_argument('--step', help=argparse.SUPPRESS)
     parser.add_argument('--outcome', help=argparse.SUPPRESS)
     said = parser.parse_args(words)
+    # A shell has what it runs in the background ignore it, and what the tests start would too.
+    signal.signal(signal.SIGINT, signal.default_int_handler)
     if said.step:
         run_step(said.step, said.outcome)
         return 0

@@ -11,7 +11,7 @@ const [WIDTH, HEIGHT] = [6, 5];
 const CELLS = Uint32Array.from({ length: WIDTH * HEIGHT }, (_, at) => 1 + (at % 9));
 
 function base64(bytes) {
-  return btoa(String.fromCharCode(...bytes));
+  return btoa(Array.from(bytes, (byte) => String.fromCharCode(byte)).join(""));
 }
 
 function bytesOf(text) {

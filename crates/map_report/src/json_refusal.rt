@@ -2,13 +2,13 @@
 use crate::fractions::{Fractions, Owner, find_fractions, write_owner};
 use crate::json_fault::{LineColumn, place_of_fault};
 use crate::place::Place;
-use crate::refusals::words_of;
+use crate::refusals::{TOO_LONG, words_of};
 use json::Writer;
 use map_json::{MapFault, MapRefusal, read_map_along};
 use serde_json::{Error, Value};
 use std::alloc::{AllocError, Global};
 use std::io::{self, ErrorKind};
-use tiled_maps::{Fault, set_aside};
+use tiled_maps::{Fault, LONGEST, set_aside};
 
 // The code and the words of a refusal for want of memory.
 const NO_MEMORY: &str = "90 no memory";
@@ -164,7 +164,14 @@ fn put_opens(out: &mut Writer, opens: bool) -> Result<(), AllocError> {
     out.boolean(opens)
 }
 
-// Puts what the editor answers with `--all-maps` to a map whose fractions are set aside.
+// Puts that the editor does not open a map, since it can't be set aside.
+fn put_not_set_aside(out: &mut Writer, why: &str) -> Result<(), AllocError> {
+    put_opens(out, false)?;
+    out.key("refused")?;
+    put_placeless(out, STORE_FAILED, Some(why))
+}
+
+// Puts what the editor answers with `--all-maps` to a map that is set aside.
 fn put_aside(alloc: Global, text: &[u8], out: &mut Writer) -> io::Result<()> {
     let mut place = Place::new(alloc);
     match read_map_along(alloc, text, &mut place) {
@@ -181,20 +188,17 @@ fn put_aside(alloc: Global, text: &[u8], out: &mut Writer) -> io::Result<()> {
     Ok(())
 }
 
-// Puts what the editor answers with `--all-maps` to a map with fractions.
+// Puts what the editor answers with `--all-maps` to a map with fractions, or to an infinite one.
 fn put_with_all_maps(alloc: Global, bytes: &[u8], out: &mut Writer) -> io::Result<()> {
     let text = set_aside(alloc, bytes);
     out.key("allmaps")?;
     out.begin_object()?;
     match text {
+        Ok(Some(text)) if text.len() > LONGEST => put_not_set_aside(out, TOO_LONG)?,
         Ok(Some(text)) => put_aside(alloc, &text, out)?,
         Ok(None) => put_opens(out, true)?,
         Err(Fault::Memory) => return Err(AllocError.into()),
-        Err(fault) => {
-            put_opens(out, false)?;
-            out.key("refused")?;
-            put_placeless(out, STORE_FAILED, Some(fault.words()))?;
-        }
+        Err(fault) => put_not_set_aside(out, fault.words())?,
     }
     out.end_object()?;
     Ok(())
@@ -217,8 +221,9 @@ pub fn put_refusal(
     };
     out.begin_object()?;
     put_refused(alloc, bytes, refusal, place, out)?;
-    if refusal == MapRefusal::Fraction {
-        put_with_all_maps(alloc, bytes, out)?;
+    match refusal {
+        MapRefusal::Fraction | MapRefusal::Infinite => put_with_all_maps(alloc, bytes, out)?,
+        _ => {}
     }
     out.end_object()?;
     Ok(())

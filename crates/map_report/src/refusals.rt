@@ -8,6 +8,9 @@ use std::alloc::Global;
 use std::io::{self, Write};
 use tiled_maps::{Fault, LONGEST, set_aside};
 
+/// Why a map can't be set aside, if its text would be longer than `LONGEST`.
+pub const TOO_LONG: &str = "set aside, it would be longer than 67,108,864 bytes";
+
 /// The code of a refusal, and its words behind it.
 pub fn words_of(refusal: MapRefusal) -> &'static str {
     match refusal {
@@ -76,9 +79,7 @@ fn write_aside<W: Write>(alloc: Global, text: &[u8], output: &mut W) -> io::Resu
 fn write_with_all_maps<W: Write>(alloc: Global, bytes: &[u8], output: &mut W) -> io::Result<()> {
     match set_aside(alloc, bytes) {
         Ok(Some(text)) if text.len() > LONGEST => {
-            output.write_all(
-                b"\n  with --all-maps: set aside, it would be longer than 67,108,864 bytes",
-            )
+            write!(output, "\n  with --all-maps: {TOO_LONG}")
         }
         Ok(Some(text)) => write_aside(alloc, &text, output),
         Ok(None) | Err(Fault::Memory) => Ok(()),

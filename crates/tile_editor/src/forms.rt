@@ -1,12 +1,14 @@
 // The forms of session lines, and the word at which a refused line leaves them.
 use crate::options::shown_forms;
+use crate::word_kinds::{
+    is_block, is_coordinate, is_key, is_name, is_number, is_number_within, is_owner, is_text,
+    is_type, is_value,
+};
 use map_model::limits::MAX_SIDE;
-use session::{LineFault, parse_line};
+use session::LineFault;
+use session::limits::{MAX_DOCUMENT_NAME, MAX_FILE_NAME};
 use std::alloc::{AllocError, Global};
 use std::fmt::Write;
-
-/// The types of properties.
-const TYPES: [&str; 6] = ["string", "int", "bool", "color", "file", "object"];
 
 /// A word of a form, and what stands before it.
 #[derive(Clone, Copy)]
@@ -46,28 +48,26 @@ impl<'a> Expected<'a> {
         }
     }
 
-    // Whether a word of a line can stand for it: whether a line that needs no more is read with that word.
-    fn fits(self, alloc: Global, word: &str) -> Result<bool, AllocError> {
-        let before = self.before;
-        let line = match self.word {
-            "DOC" => format!(in alloc; "close {word}")?,
-            "FILE" => format!(in alloc; "save {word}")?,
-            "X" | "Y" => format!(in alloc; "tile 1 {word} 0")?,
-            "TEXT" | "ACTION" | "NAME" | "SOURCE" => format!(in alloc; "layer rename 1 {word}")?,
-            "TILES" => format!(in alloc; "stamp 1 0 0 {before} {word}")?,
-            "OWNER" => format!(in alloc; "prop remove {word} a")?,
-            "KEY" => format!(in alloc; "prop remove map {word}")?,
-            "TYPE" => return Ok(TYPES.contains(&word)),
-            "VALUE" => format!(in alloc; "prop set map a {before} {word}")?,
+    // Whether a word of a line can stand for it.
+    fn fits(self, word: &str) -> bool {
+        match self.word {
+            "DOC" => is_name(word, MAX_DOCUMENT_NAME),
+            "FILE" => is_name(word, MAX_FILE_NAME),
+            "X" | "Y" => is_coordinate(word),
+            "TEXT" | "ACTION" | "NAME" | "SOURCE" => is_text(word),
+            "TILES" => is_block(self.before, word),
+            "OWNER" => is_owner(word),
+            "KEY" => is_key(word),
+            "TYPE" => is_type(word),
+            "VALUE" => is_value(self.before, word),
             number if number.starts_with(|letter: char| letter.is_ascii_uppercase()) => {
-                if self.is_stamp_width() && !is_side(word) {
-                    return Ok(false);
+                if self.is_stamp_width() {
+                    return is_number_within(word, MAX_SIDE);
                 }
-                format!(in alloc; "goto {word}")?
+                is_number(word)
             }
-            own => return Ok(own == word),
-        };
-        Ok(parse_line(line.as_bytes()).is_ok())
+            own => own == word,
+        }
     }
 }
 
@@ -82,16 +82,8 @@ fn cut_at_bars(line: &str) -> (&str, Option<&str>) {
     }
 }
 
-// Whether a word is a number that a block can have as its width.
-fn is_side(word: &str) -> bool {
-    match word.parse::<u32>() {
-        Ok(side) => 1 <= side && side <= MAX_SIDE,
-        Err(_) => false,
-    }
-}
-
 // How many words of a line can stand where a form has them, from the first on.
-fn fitting(alloc: Global, form: &str, line: &str) -> Result<usize, AllocError> {
+fn fitting(form: &str, line: &str) -> usize {
     let mut count = 0usize;
     let mut before = "";
     let mut rest = Some(line);
@@ -101,14 +93,14 @@ fn fitting(alloc: Global, form: &str, line: &str) -> Result<usize, AllocError> {
         };
         let expected = Expected { form, word, before };
         let (found, behind) = expected.cut(text);
-        if !expected.fits(alloc, found)? {
+        if !expected.fits(found) {
             break;
         }
         count = count.saturating_add(1);
         before = found;
         rest = behind;
     }
-    Ok(count)
+    count
 }
 
 // The forms of the line's command which fit most words of a line, each on a line of its own, and how many words those are.
@@ -119,7 +111,7 @@ fn nearest(alloc: Global, line: &str) -> Result<(usize, String), AllocError> {
         let Some(form) = shown.strip_prefix("  ") else {
             continue;
         };
-        let count = fitting(alloc, form, line)?;
+        let count = fitting(form, line);
         if count > most {
             most = count;
             forms.clear();

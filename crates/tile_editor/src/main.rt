@@ -4,6 +4,7 @@
 mod forms;
 mod options;
 mod reports;
+mod word_kinds;
 
 use crate::options::parse_options;
 use crate::reports::{ErrorLines, FolderFaults, look_at_folder};
