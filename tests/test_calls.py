@@ -23,8 +23,6 @@ PACKAGES = ('nodejs', 'node-typescript')
 PYTHON, JAVASCRIPT = 0, 1
 # The calls of Python that stand for those of the table.
 SPECIAL = {'get': '__getitem__', 'has': '__contains__', 'size': '__len__', 'delete': '__delitem__', 'create': '__init__'}
-# What each has from its making on.
-OWN = {('Layer', 'id'), ('MapObject', 'id'), ('Tileset', 'first_id'), ('Selection', 'runs')}
 
 
 def reference():
@@ -80,8 +78,6 @@ def fault_of_python(case):
     """How a call of the Python package is another one than that of the table, or None."""
     kind, call = case.given
     member = member_of(kind, call)
-    if (kind, call.name) in OWN:
-        return None
     if member is None:
         return 'the package has no such call'
     if call.takes is None:

@@ -119,9 +119,9 @@ def test_names_that_are_not_there():
     with Editor() as editor:
         town = editor.open(TOWN)
         rows = [
-            (town, 'tilewidth'), (town.layers, 'first'), (town.layers['Ground'], 'opacity'), (town.objects, 'a'),
+            (town, 'tilewidth'), (town.layers, 'first'), (town.layers['Ground'], 'opacity'), (town.layers['Ground'], 'id'), (town.objects, 'a'),
             (town.objects['Inn'], 'point'), (town.objects['Inn'], 'type'), (town.properties, 'author'), (town.tilesets, 'a'),
-            (town.tilesets[1], 'columns'), (town.selection, 'size'),
+            (town.tilesets[1], 'columns'), (town.tilesets[1], 'first_id'), (town.selection, 'size'), (town.selection, 'runs'),
         ]
         cases = [Case(f'{type(thing).__name__}.{name}', (thing, name), None) for thing, name in rows]
         check_each(cases, lambda case: None if raised(AttributeError, setattr, *case.given, True) else 'nothing is raised')

@@ -17,11 +17,16 @@ class Tileset:
     """A tileset of a document, by its first id. It stays the same however the map changes; a call raises Refused, 36, where the
     map has no tileset of that first id."""
 
-    __slots__ = '_document', 'first_id'
+    __slots__ = '_document', '_first_id'
 
     def __init__(self, document: 'Document', first_id: int):
         self._document = document
-        self.first_id = first_id
+        self._first_id = first_id
+
+    @property
+    def first_id(self) -> int:
+        """Its first id."""
+        return self._first_id
 
     def _members(self) -> Members:
         return self._document._look(self._find)

@@ -22,12 +22,12 @@ class _View:
     """What a document has under an id: it is looked up at each call."""
 
     # So that a name that it has not is never set silently.
-    __slots__ = '_document', 'id'
+    __slots__ = '_document', '_id'
     _code, _words = 30, 'no such layer'
 
     def __init__(self, document: 'Document', id: int):
         self._document = document
-        self.id = id
+        self._id = id
 
     def _find(self, seen: Seen) -> Members:
         raise NotImplementedError
@@ -40,6 +40,11 @@ class _View:
 
     def _look(self, answer: Callable[[Members], _Answer]) -> _Answer:
         return self._document._look(lambda seen: answer(self._has(seen)))
+
+    @property
+    def id(self) -> int:
+        """Its id."""
+        return self._id
 
     @property
     def document(self) -> 'Document':
