@@ -19,7 +19,9 @@ NAME = 'spawn'
 
 def add_spawn_point(document: Document) -> None:
     """Adds the spawn point, in the middle of a map and in a layer of its own, as one step."""
-    x, y = document.width * document.tile_width // 2, document.height * document.tile_height // 2
+    # On an isometric map Tiled counts the pixels of objects in tile heights on both axes.
+    across = document.tile_height if document.orientation == 'isometric' else document.tile_width
+    x, y = document.width * across // 2, document.height * document.tile_height // 2
     with document.macro('Spawn point', action='add a spawn point'):
         layer = document.layers.add('object', LAYER)
         spawn = document.layers[layer].objects.add(NAME, x, y)

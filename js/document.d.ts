@@ -78,6 +78,8 @@ export class Document {
   readonly tileWidth: number;
   /** The height of a cell in pixels. */
   readonly tileHeight: number;
+  /** How the cells lie: orthogonal, isometric, staggered or hexagonal. */
+  readonly orientation: string;
   /**
    * The column and the row at which its corner lies in the infinite map that it was; else `[0,
    * 0]`.
@@ -92,8 +94,8 @@ export class Document {
   /** The tilesets. */
   readonly tilesets: Tilesets;
   /**
-   * Writes rows of values from a cell on; a value 0 leaves its cell as it is. Throws TypeError,
-   * RangeError, Refused (30, 31, 33).
+   * Writes rows of values from a cell on; a value 0 leaves its cell as it is, and what lies past
+   * the map's edge is cut off. Throws TypeError, RangeError, Refused (30, 31, 33).
    */
   stamp(layer: LayerLike, x: number, y: number, rows: Rows, options?: { merge?: boolean }): void;
   /** Empties a rectangle of cells. Throws TypeError, RangeError, Refused (30, 31). */
@@ -123,7 +125,10 @@ export class Document {
   selectNone(): void;
   /** How it stands: index, count, clean, depth. */
   readonly status: Status;
-  /** All steps, each with its text, its action text, and whether it is a macro. */
+  /**
+   * All steps, those from `status.index` on undone: each with its text, its action text, and
+   * whether it is a macro.
+   */
   readonly steps: readonly Step[];
   /** What `undo` would undo; empty for nothing. */
   readonly undoText: string;
@@ -148,8 +153,8 @@ export class Document {
    */
   limit(count: number): void;
   /**
-   * Makes one step of the edits in it; where they fail, it is undone. Throws TypeError,
-   * RangeError, Refused (24).
+   * Makes one step of the edits in it, also of none; where they fail, it is undone. Throws
+   * TypeError, RangeError, Refused (24).
    */
   macro<Given>(
     text: string, work: (document: Document) => Given, options?: { action?: string | null },
@@ -177,8 +182,13 @@ export class Layers {
   private constructor();
   /** The layer with an id, or the first of a name. Throws RangeError. */
   get(key: number | string): Layer;
-  /** Whether there is one with an id, or of a name. */
+  /** Whether there is one with an id, or of a name, of any kind. */
   has(key: number | string): boolean;
+  /**
+   * The first of a name that is of a kind: tile, object, group or image; null where there is none.
+   * Throws RangeError.
+   */
+  find(name: string, kind: string): Layer | null;
   /** How many there are, a group as one. */
   readonly size: number;
   /** Each layer in drawing order, a group before those in it. */
@@ -251,8 +261,8 @@ export class Objects {
   /** How many there are. */
   readonly size: number;
   /**
-   * Adds an object to an object layer, last, in pixels. Throws TypeError, RangeError, Refused (31,
-   * 39).
+   * Adds a rectangle to an object layer, last, in whole pixels; no line adds a point. Throws
+   * TypeError, RangeError, Refused (31, 39).
    */
   add(name: string, x: number, y: number, width?: number, height?: number): number;
   [Symbol.iterator](): IterableIterator<MapObject>;
@@ -271,15 +281,17 @@ export class MapObject {
   readonly layer: Layer;
   /** Its name. */
   readonly name: string;
-  /** Its class, as Tiled calls it. */
+  /** Its class, as Tiled calls it; no line changes it. */
   readonly type: string;
+  /** Whether it is a point of Tiled; no line changes it. */
+  readonly isPoint: boolean;
   /** Its column in pixels. */
   readonly x: number;
   /** Its row in pixels. */
   readonly y: number;
-  /** Its width in pixels, 0 for a point. */
+  /** Its width in pixels; 0 of a point, and of a rectangle of no size. */
   readonly width: number;
-  /** Its height in pixels, 0 for a point. */
+  /** Its height in pixels; 0 of a point, and of a rectangle of no size. */
   readonly height: number;
   /** Whether it is shown. */
   readonly visible: boolean;
@@ -289,9 +301,9 @@ export class MapObject {
   readonly properties: Properties;
   /** All that the map says of it: a copy. */
   readonly members: Members;
-  /** Moves it to a place. Throws TypeError, RangeError. */
+  /** Moves it to a place, in whole pixels. Throws TypeError, RangeError. */
   move(x: number, y: number, options?: { merge?: boolean }): void;
-  /** Gives it a size. Throws TypeError, RangeError, Refused (39). */
+  /** Gives it a size, in whole pixels. Throws TypeError, RangeError, Refused (39). */
   resize(width: number, height: number): void;
   /** Removes it. */
   remove(): void;
@@ -339,6 +351,8 @@ export class Tilesets {
   get(key: number | string): Tileset;
   /** Whether there is such a one. */
   has(key: number | string): boolean;
+  /** The first in order; null where there is none. */
+  readonly first: Tileset | null;
   /** How many there are. */
   readonly size: number;
   /**
@@ -360,7 +374,10 @@ export class Tileset {
   readonly source: string | null;
   /** Its name, where the map has it in itself. No file of a tileset is read. */
   readonly name: string | null;
-  /** The value of a cell with a tile of this ID in Tiled. Throws TypeError, RangeError. */
+  /**
+   * The value of a cell with a tile of this ID in Tiled. Whether the tileset has that tile is not
+   * looked at. Throws TypeError, RangeError.
+   */
   value(
     localId: number, options?: { flippedHorizontally?: boolean; flippedVertically?: boolean; flippedDiagonally?: boolean; turned?: boolean },
   ): number;

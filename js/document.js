@@ -29,6 +29,8 @@ export class Document {
     this._name = name;
     this._isClosed = false;
     this._stroke = null;
+    // So that a name that it has not is never set silently.
+    Object.preventExtensions(this);
   }
 
   // ---- what each call does
@@ -120,6 +122,10 @@ export class Document {
 
   get tileHeight() {
     return this._look((seen) => seen.outline.tileheight);
+  }
+
+  get orientation() {
+    return this._look((seen) => seen.outline.orientation);
   }
 
   get origin() {
@@ -372,7 +378,7 @@ export class Document {
 
   async saveBytes() {
     this._enter();
-    return this._editor.saveMap();
+    return this._editor._saved("saveBytes()");
   }
 
   close() {

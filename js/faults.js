@@ -7,7 +7,7 @@ import { formsOf } from "./forms.js";
  * `code` is the number of the refusal, `words` what it says, and `line` the line. Where the line is of
  * no command, or is not as its command has it, `forms` are the forms to write it in. Where it was one of
  * many lines, `place` is its place among them, from 0, and `replies` are those to the lines before it,
- * which are done. `line` of a call is the call, as `openMap("town")`, and it has no forms; where the map
+ * which are done. `line` of a call is the call, as `open(data, "town")`, and it has no forms; where the map
  * could not be set aside or unpacked, `why` has the reason in words.
  */
 export class Refused extends Error {

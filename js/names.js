@@ -6,8 +6,8 @@ const LONGEST = 64;
  * point. Each character that no line can spell becomes `_`; points and hyphens at the front are left out,
  * and so is what follows 64 characters. It is `map` where nothing is left.
  */
-export function documentName(file) {
-  const name = file.split("/").pop();
+export function documentName(path) {
+  const name = path.split("/").pop();
   const point = name.lastIndexOf(".");
   const stem = point > 0 && point < name.length - 1 ? name.slice(0, point) : name;
   const spelled = stem.replace(/[^A-Za-z0-9_.-]/gu, "_").replace(/^[.-]+/, "");

@@ -16,6 +16,7 @@ export class Properties {
     this._document = document;
     this._owner = owner;
     this._members = members;
+    Object.freeze(this);
   }
 
   get _all() {

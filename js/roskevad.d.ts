@@ -27,7 +27,7 @@ export class Refused extends Error {
   readonly code: number;
   /** What the refusal says. */
   readonly words: string;
-  /** The line, or the call, as `openMap("town")`. */
+  /** The line, or the call, as `open(data, "town")`. */
   readonly line: string;
   /** Where the line is of no command, or is not as its command has it: the forms to write it in. */
   readonly forms: readonly string[];
@@ -35,7 +35,7 @@ export class Refused extends Error {
   readonly place: number | null;
   /** The replies to the lines before it, which are done. */
   readonly replies: readonly string[];
-  /** Of `openMap`: why the map is not set aside or not unpacked, in words; else null. */
+  /** Of `open`: why the map is not set aside or not unpacked, in words; else null. */
   readonly why: string | null;
 }
 
@@ -44,7 +44,7 @@ export class Refused extends Error {
  * point. Each character that no line can spell becomes `_`; points and hyphens at the front are left out,
  * and so is what follows 64 characters. It is `map` where nothing is left.
  */
-export function documentName(file: string): string;
+export function documentName(path: string): string;
 
 /** The editor, or the document, was closed. */
 export class Closed extends Error {}

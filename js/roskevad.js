@@ -242,7 +242,10 @@ export class Editor {
    * Refused; its `why` says why a map is not set aside or unpacked.
    */
   async openMap(name, data) {
-    const call = `openMap(${JSON.stringify(name)})`;
+    return this._opened(name, data, `openMap(${JSON.stringify(name)})`);
+  }
+
+  async _opened(name, data, call) {
     this._open();
     const given = bytesOf(data);
     const { bytes, why } = await withCode(call, unpacked(given));
@@ -257,7 +260,10 @@ export class Editor {
    * Where the promise is broken, no index is clean. Throws Refused.
    */
   async saveMap() {
-    const call = "saveMap()";
+    return this._saved("saveMap()");
+  }
+
+  async _saved(call) {
     const shown = this._say("show", call).slice(MAP.length);
     const bytes = this._hasSetAside ? this._made("put_back", shown, call) : shown;
     this._say("clean", call);
@@ -451,14 +457,17 @@ export class Editor {
   }
 
   /** Opens the map of the bytes of a file, or of a text; without a name as `map`, `map2` or so. */
-  async open(data, name = this._freeName()) {
-    this._opening.add(words.document(name));
+  async open(data, name) {
+    // A refusal tells the call of the caller, and no name that the caller has not given.
+    const call = name === undefined ? "open(data)" : `open(data, ${JSON.stringify(name)})`;
+    const opened = name === undefined ? this._freeName() : words.document(name);
+    this._opening.add(opened);
     try {
-      await this.openMap(name, data);
+      await this._opened(opened, data, call);
     } finally {
-      this._opening.delete(name);
+      this._opening.delete(opened);
     }
-    return this._handle(name);
+    return this._handle(opened);
   }
 
   _freeName() {

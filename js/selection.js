@@ -9,6 +9,7 @@ export class Selection {
     this.runs = Object.freeze(
       runs.map(([row, column, length]) => Object.freeze({ row, column, length })),
     );
+    Object.freeze(this);
   }
 
   /** The number of cells. */

@@ -20,6 +20,7 @@ export class Tileset {
   constructor(document, firstId) {
     this._document = document;
     this.firstId = firstId;
+    Object.freeze(this);
   }
 
   get _members() {
@@ -81,6 +82,7 @@ export function tileOf(document, seen, value) {
 export class Tilesets {
   constructor(document) {
     this._document = document;
+    Object.freeze(this);
   }
 
   *[Symbol.iterator]() {
@@ -92,6 +94,12 @@ export class Tilesets {
   /** The number of tilesets. */
   get size() {
     return this._document._look((seen) => seen.tilesets.size);
+  }
+
+  /** The first one in order; null where the map has none. */
+  get first() {
+    const [first = null] = this;
+    return first;
   }
 
   _found(key) {

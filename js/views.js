@@ -15,6 +15,8 @@ class View {
   constructor(document, id) {
     this._document = document;
     this.id = id;
+    // So that a name that it has not is never set silently.
+    Object.freeze(this);
   }
 
   /** The document that it belongs to. */
@@ -64,6 +66,10 @@ export class MapObject extends View {
 
   get type() {
     return this._members.type ?? "";
+  }
+
+  get isPoint() {
+    return this._members.point === true;
   }
 
   get x() {
@@ -117,6 +123,20 @@ export class MapObject extends View {
   }
 }
 
+// What is set of an object by a call, or by nothing: why, for whoever sets it as a value.
+const NOT_SET = {
+  name: "no line changes it", type: "no line changes it", isPoint: "no line changes it",
+  visible: "no line changes it", x: "move(x, y) does", y: "move(x, y) does",
+  width: "resize(width, height) does", height: "resize(width, height) does",
+};
+for (const [name, why] of Object.entries(NOT_SET)) {
+  const set = () => {
+    throw new TypeError(`${name} of an object is not set as a value: ${why}`);
+  };
+  const { get } = Object.getOwnPropertyDescriptor(MapObject.prototype, name);
+  Object.defineProperty(MapObject.prototype, name, { get, set });
+}
+
 /** The part with an id, or the first of a name; null where there is none. */
 function foundIn(parts, key) {
   const found = parts.find((each) => (typeof key === "number" ? each.id : each.name) === key);
@@ -132,6 +152,7 @@ export class Objects {
   constructor(document, layer = null) {
     this._document = document;
     this._layer = layer;
+    Object.freeze(this);
   }
 
   get _all() {
@@ -253,6 +274,7 @@ export class Layers {
   constructor(document, group = null) {
     this._document = document;
     this._group = group;
+    Object.freeze(this);
   }
 
   get _below() {
@@ -290,6 +312,12 @@ export class Layers {
 
   has(key) {
     return foundIn([...drawn(this._below)], key) !== null;
+  }
+
+  find(name, kind) {
+    const said = words.oneOf(kind, Object.values(KINDS), "the kind of a layer");
+    const found = [...drawn(this._below)].find((each) => each.name === name && KINDS[each.type] === said);
+    return found === undefined ? null : new Layer(this._document, found.id);
   }
 
   add(kind, name) {

@@ -173,6 +173,12 @@ SCENARIOS = [
                [[4, 'tile', 'Top', False], [1, 'tile', 'Tile Layer 1', True], [2, 'object', 'Things', True]]),
               ('[4 in document.layers, "Walls" in document.layers, len(document.layers)]',
                '[document.layers.has(4), document.layers.has("Walls"), document.layers.size]', [True, False, 3])]),
+    Scenario('layers of a name and a kind', 'document.layers.add("object", "Walls")', 'document.layers.add("object", "Walls")',
+             ['layer add object Walls'],
+             [('[getattr(document.layers.find("Walls", kind), "id", None) for kind in ("tile", "object", "group")]',
+               '["tile", "object", "group"].map((kind) => document.layers.find("Walls", kind)?.id ?? null)', [3, 4, None]),
+              ('document.layers.find("Roof", "tile")', 'document.layers.find("Roof", "tile")', None),
+              ('document.orientation', 'document.orientation', 'orthogonal')]),
     Scenario('objects', 'id = document.layers["Things"].objects.add("key", 32, -8, 16, 16)\nkey = document.objects[id]\nkey.move(33, 0)\n'
              'key.move(34, 0, merge=True)\nkey.resize(8, 9)\ndocument.objects["door"].remove()',
              'const id = document.layers.get("Things").objects.add("key", 32, -8, 16, 16); const key = document.objects.get(id); key.move(33, 0);'
@@ -199,7 +205,11 @@ SCENARIOS = [
               ('[[each.first_id, each.source, each.name] for each in document.tilesets]',
                '[...document.tilesets].map((each) => [each.firstId, each.source, each.name])', [[1, 'town.tsj', None], [33, 'walls.tsj', None]])]),
     Scenario('an unused tileset is removed', 'document.tilesets.add(33, "walls.tsj")\ndocument.tilesets["walls.tsj"].remove()',
-             'document.tilesets.add(33, "walls.tsj"); document.tilesets.get("walls.tsj").remove()', ['tileset add 33 walls.tsj', 'tileset remove 33']),
+             'document.tilesets.add(33, "walls.tsj"); document.tilesets.get("walls.tsj").remove()', ['tileset add 33 walls.tsj', 'tileset remove 33'],
+             [('document.tilesets.first.first_id', 'document.tilesets.first.firstId', 1)]),
+    Scenario('no tileset', 'document.erase(1, 0, 0, 1, 1)\ndocument.tilesets.first.remove()',
+             'document.erase(1, 0, 0, 1, 1); document.tilesets.first.remove()', ['erase 1 0 0 1 1', 'tileset remove 1'],
+             [('document.tilesets.first', 'document.tilesets.first', None)]),
     # ---- documents
     Scenario('a document that is not active', 'other = editor.new("b", 2, 2, 8, 8, "b.tsj")\ndocument.stamp(1, 0, 0, [[5]])',
              'editor.new("b", 2, 2, 8, 8, "b.tsj"); document.stamp(1, 0, 0, [[5]])', ['new b 2 2 8 8 b.tsj', 'use town', 'stamp 1 0 0 1 5'],

@@ -23,8 +23,6 @@ PACKAGES = ('nodejs', 'node-typescript')
 PYTHON, JAVASCRIPT = 0, 1
 # The calls of Python that stand for those of the table.
 SPECIAL = {'get': '__getitem__', 'has': '__contains__', 'size': '__len__', 'delete': '__delitem__', 'create': '__init__'}
-# What each has from its making on.
-OWN = {('Layer', 'id'), ('MapObject', 'id'), ('Tileset', 'first_id'), ('Selection', 'runs')}
 
 
 def reference():
@@ -80,8 +78,6 @@ def fault_of_python(case):
     """How a call of the Python package is another one than that of the table, or None."""
     kind, call = case.given
     member = member_of(kind, call)
-    if (kind, call.name) in OWN:
-        return None
     if member is None:
         return 'the package has no such call'
     if call.takes is None:
@@ -120,6 +116,18 @@ def test_nothing_else_in_python():
     check_each([Case(kind.name, kind.name, None) for kind in calls.KINDS], fault_of)
 
 
+def test_functions():
+    """What is imported beside the classes: in Python by its arguments, in JavaScript by its declaration."""
+
+    def fault_of(case):
+        came = list(inspect.signature(getattr(roskevad, case.given.name)).parameters)
+        declared = (TOP / 'js' / 'roskevad.d.ts').read_text()
+        line = f'export function {REFERENCE.camel(case.given.name)}({case.given.takes}: string): string;'
+        return unlike(case.wanted, came) or (None if line in declared else f'no {line} in js/roskevad.d.ts')
+
+    check_each([Case(call.name, call, [call.takes]) for call in calls.FUNCTIONS], fault_of)
+
+
 def test_records_of_python():
     def fault_of(case):
         return unlike(case.wanted, list(inspect.signature(getattr(roskevad, case.given)).parameters))
@@ -149,7 +157,7 @@ def fault_of_javascript(members, kind, call):
     if call.takes is None:
         return None if 'isSet' in came and came['isSet'] >= call.is_set else 'it is no such value'
     plain, options = ([REFERENCE.camel(each) for each, _ in part] for part in REFERENCE.arguments(call))
-    if call.written[JAVASCRIPT] == 'await editor.open(data, name)':
+    if call.written[JAVASCRIPT] == 'await editor.open(data, name?)':
         plain = ['data', 'name']
     if name == 'value' and kind == 'Tileset':
         plain, options = [*plain, 'flips'], []

@@ -93,6 +93,40 @@ def test_bytes():
         see((documents[1], editor.step('show')[len('map '):].encode()), (editor.active, data))
 
 
+def test_calls_that_refusals_name():
+    """They are the caller's own, without a name that the caller has not given."""
+    with tempfile.TemporaryDirectory() as folder, Editor(folder=folder) as editor:
+        document = made(editor)
+        document.stamp(1, 0, 0, [[5]])
+        (Path(folder) / 'b.tmj').write_text('{}')
+        editor.step('begin A')
+        rows = [
+            ((editor.open, b'{'), 60, 'open(bytes)'),
+            ((editor.open, b'{', 'b'), 60, "open(bytes, 'b')"),
+            ((editor.open, 'b.tmj'), 69, "open('b.tmj')"),
+            ((editor.open, Path('b.tmj'), 'c'), 69, "open('b.tmj', 'c')"),
+            ((editor.open, folder), 51, f'open({folder!r})'),
+            ((document.save, 'a.tmj'), 20, "save('a.tmj')"),
+            ((document.save_bytes,), 20, 'save_bytes()'),
+        ]
+        for call, code, line in rows:
+            refusal = raised(Refused, *call)
+            see((code, line), (refusal.code, refusal.line))
+
+
+def test_names_that_are_not_there():
+    """What has no such name, or is only read, is never set silently."""
+    with Editor() as editor:
+        town = editor.open(TOWN)
+        rows = [
+            (town, 'tilewidth'), (town.layers, 'first'), (town.layers['Ground'], 'opacity'), (town.layers['Ground'], 'id'), (town.objects, 'a'),
+            (town.objects['Inn'], 'point'), (town.objects['Inn'], 'type'), (town.properties, 'author'), (town.tilesets, 'a'),
+            (town.tilesets[1], 'columns'), (town.tilesets[1], 'first_id'), (town.selection, 'size'), (town.selection, 'runs'),
+        ]
+        cases = [Case(f'{type(thing).__name__}.{name}', (thing, name), None) for thing, name in rows]
+        check_each(cases, lambda case: None if raised(AttributeError, setattr, *case.given, True) else 'nothing is raised')
+
+
 def test_properties_of_other_types():
     """A class and a float are read; what is read of a class is a copy."""
     with Editor() as editor:
@@ -109,6 +143,20 @@ def test_properties_of_other_types():
         for key, value in (('c', {'a': 2}), ('f', 2.5), ('f', 2)):
             raised(ValueError, document.properties.__setitem__, key, value)
         see(editor.map()['properties'], properties)
+
+
+def test_points():
+    """An object is one where its file says so, whatever its size."""
+    with Editor() as editor:
+        things = editor.open(TOWN).layers['Things'].objects
+        for name in ('spawn', 'rectangle'):
+            things.add(name, 8, 8)
+        tree = editor.map()
+        layer = next(layer for layer in tree['layers'] if layer['name'] == 'Things')
+        layer['objects'][-2].update(point=True, type='Spawn')
+        again = editor.open(json.dumps(tree).encode())
+        told = [(each.is_point, each.type, each.width, each.height) for each in (again.objects['spawn'], again.objects['rectangle'])]
+        see([(True, 'Spawn', 0, 0), (False, '', 0, 0)], told)
 
 
 def test_with_a_document():

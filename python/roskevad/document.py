@@ -75,6 +75,9 @@ class Document:
     line, as docs/refusals.md has it; words that no line can say raise ValueError or TypeError, and nothing is done.
     """
 
+    # So that a name that it has not is never set silently.
+    __slots__ = '_editor', '_name', '_is_closed', '_stroke', '_path'
+
     def __init__(self, editor: 'Editor', name: str):
         """Editors make it: `new`, `open` and `documents` give it."""
         self._editor = editor
@@ -195,6 +198,11 @@ class Document:
     def tile_height(self) -> int:
         """The height of a cell in pixels."""
         return self._look(lambda seen: int(seen.outline['tileheight']))
+
+    @property
+    def orientation(self) -> str:
+        """How the cells lie, in the words of Tiled's files: orthogonal, isometric, staggered or hexagonal."""
+        return self._look(lambda seen: str(seen.outline['orientation']))
 
     @property
     def origin(self) -> tuple[int, int]:
@@ -482,8 +490,7 @@ class Document:
 
     def save_bytes(self) -> bytes:
         """The map as the bytes of a file; it counts as saved then. Raises Refused: 20 while a macro is open."""
-        save = cast(Callable[..., bytes], inspect.unwrap(self._editor.save_map))
-        return self._do(lambda: save(self._editor, all_maps=True))
+        return self._do(lambda: self._editor._saved_bytes('save_bytes()', all_maps=True))
 
     def close(self) -> None:
         """Closes it. Raises Refused: 13 where it has unsaved changes."""

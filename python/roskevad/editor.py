@@ -351,9 +351,12 @@ class Editor:
     def save_map(self, *, all_maps: bool = False) -> bytes:
         """The active document's map as the bytes of a file; its index is the clean one then. With `all_maps` what was set aside
         is put back, as `save_file` does. Raises Refused."""
-        data = self._shown('save_map()')
-        whole = self._whole(data, 'save_map()') if all_maps else data
-        self._said('clean', 'save_map()')
+        return self._saved_bytes('save_map()', all_maps)
+
+    def _saved_bytes(self, call: str, all_maps: bool) -> bytes:
+        data = self._shown(call)
+        whole = self._whole(data, call) if all_maps else data
+        self._said('clean', call)
         return whole
 
     def _shown(self, call: str) -> bytes:
@@ -593,17 +596,19 @@ class Editor:
         name, 50 where there is no such file, 51 where it cannot be read, 60 to 69 where it is no map that can be opened."""
         if name is not None:
             words.document(name)
-        if not isinstance(source, (str, os.PathLike)):
-            opened = name or self._in_turn(self._free_name)
-            self.open_map(opened, source, all_maps=True)
-            _LOG.info('%s: opened from bytes', opened)
-            return self._in_turn(lambda: self._handle(opened))
-        opened, path = name or document_name(source), Path(source)
+        path = Path(source) if isinstance(source, (str, os.PathLike)) else None
+        opened = name or (self._in_turn(self._free_name) if path is None else document_name(path))
+        told = 'bytes' if path is None else repr(os.fspath(path))
         try:
-            self.open_file(path, opened)
+            if path is None:
+                self.open_map(opened, cast('ReadableBuffer', source), all_maps=True)
+            else:
+                self.open_file(path, opened)
         except Refused as refusal:
-            raise refusal._of(f'open({os.fspath(path)!r})') from refusal.__cause__
-        _LOG.info('%s: opened from %s', opened, path)
+            # The call of the caller, and not a name that the caller has not given.
+            call = f'open({told})' if name is None else f'open({told}, {name!r})'
+            raise refusal._of(call) from refusal.__cause__
+        _LOG.info('%s: opened from %s', opened, 'bytes' if path is None else path)
         return self._in_turn(lambda: self._handle(opened, path))
 
     @property

@@ -14,6 +14,8 @@ class Properties(MutableMapping[str, Any]):
     that is there; the first value of a name sets a string, an int, a bool or, for a MapObject, an object. `set` names another
     type."""
 
+    __slots__ = '_document', '_owner', '_members'
+
     def __init__(self, document: 'Document', owner: str, members: Callable[[Seen], Members]):
         self._document = document
         self._owner = owner

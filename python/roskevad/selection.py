@@ -15,8 +15,15 @@ class Selection:
     """The cells that were selected when it was asked for: `(x, y) in selection`, their number by `len`, and each cell (x, y) in
     row order. `runs` has them as runs of cells of a row."""
 
+    __slots__ = '_runs',
+
     def __init__(self, runs: 'tuple[Run, ...]'):
-        self.runs = runs
+        self._runs = runs
+
+    @property
+    def runs(self) -> 'tuple[Run, ...]':
+        """The cells as runs of a row."""
+        return self._runs
 
     def __contains__(self, cell: object) -> bool:
         """Whether the cell (x, y) is selected. Raises TypeError where it is no pair."""

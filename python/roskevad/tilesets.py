@@ -17,9 +17,16 @@ class Tileset:
     """A tileset of a document, by its first id. It stays the same however the map changes; a call raises Refused, 36, where the
     map has no tileset of that first id."""
 
+    __slots__ = '_document', '_first_id'
+
     def __init__(self, document: 'Document', first_id: int):
         self._document = document
-        self.first_id = first_id
+        self._first_id = first_id
+
+    @property
+    def first_id(self) -> int:
+        """Its first id."""
+        return self._first_id
 
     def _members(self) -> Members:
         return self._document._look(self._find)
@@ -96,6 +103,8 @@ class Tilesets:
     """The tilesets of a document, in order: `[int]` is the one with that first id, `[str]` the first with that source, or with
     that name where the map has it in itself; else KeyError."""
 
+    __slots__ = '_document',
+
     def __init__(self, document: 'Document'):
         self._document = document
 
@@ -105,6 +114,11 @@ class Tilesets:
 
     def __len__(self) -> int:
         return self._document._look(lambda seen: len(seen.tilesets))
+
+    @property
+    def first(self) -> Optional[Tileset]:
+        """The first one in order; None where the map has none."""
+        return next(iter(self), None)
 
     def _found(self, key: object) -> Optional[int]:
         def find(seen: Seen) -> Optional[int]:

@@ -21,11 +21,13 @@ ADDED = ('tile', 'object')
 class _View:
     """What a document has under an id: it is looked up at each call."""
 
+    # So that a name that it has not is never set silently.
+    __slots__ = '_document', '_id'
     _code, _words = 30, 'no such layer'
 
     def __init__(self, document: 'Document', id: int):
         self._document = document
-        self.id = id
+        self._id = id
 
     def _find(self, seen: Seen) -> Members:
         raise NotImplementedError
@@ -38,6 +40,11 @@ class _View:
 
     def _look(self, answer: Callable[[Members], _Answer]) -> _Answer:
         return self._document._look(lambda seen: answer(self._has(seen)))
+
+    @property
+    def id(self) -> int:
+        """Its id."""
+        return self._id
 
     @property
     def document(self) -> 'Document':
@@ -61,6 +68,7 @@ class MapObject(_View):
     """An object of a document, by its id. It stays the same however the map changes; where it was removed, a call raises Refused,
     34. Places and sizes are in pixels."""
 
+    __slots__ = '_object_id',
     _code, _words = 34, 'no such object'
 
     def __init__(self, document: 'Document', id: int):
@@ -86,6 +94,11 @@ class MapObject(_View):
         return self._look(lambda members: str(members.get('type', '')))
 
     @property
+    def is_point(self) -> bool:
+        """Whether it is a point of Tiled; no line changes it. An object without a size need not be one. Raises Refused."""
+        return self._look(lambda members: members.get('point') is True)
+
+    @property
     def x(self) -> float:
         """Its column in pixels, whole or with a fraction. Raises Refused."""
         return self._number('x')
@@ -97,12 +110,12 @@ class MapObject(_View):
 
     @property
     def width(self) -> float:
-        """Its width in pixels, 0 for a point. Raises Refused."""
+        """Its width in pixels. Raises Refused."""
         return self._number('width')
 
     @property
     def height(self) -> float:
-        """Its height in pixels, 0 for a point. Raises Refused."""
+        """Its height in pixels. Raises Refused."""
         return self._number('height')
 
     def _number(self, name: str) -> float:
@@ -150,6 +163,8 @@ class MapObject(_View):
 class Objects:
     """The objects of a layer, or of a whole document: in drawing order. `[int]` is the one with that id, `[str]` the first of
     that name; else KeyError."""
+
+    __slots__ = '_document', '_layer'
 
     def __init__(self, document: 'Document', layer: Optional[int] = None):
         self._document = document
@@ -202,6 +217,8 @@ def _found_in(parts: dict[int, Members], key: object) -> Optional[int]:
 class Layer(_View):
     """A layer of a document, by its id. It stays the same however the map changes; where it was removed, a call raises Refused,
     30."""
+
+    __slots__ = ()
 
     def _find(self, seen: Seen) -> Members:
         return seen.layers[self.id]
@@ -278,6 +295,8 @@ class Layers:
     """The layers of a document that are in no group, or those in a group: in drawing order. `[int]` is the layer with that id,
     `[str]` the first of that name, in groups too; else KeyError. `walk` gives all, with those in groups."""
 
+    __slots__ = '_document', '_group'
+
     def __init__(self, document: 'Document', group: Optional[int] = None):
         self._document = document
         self._group = group
@@ -313,8 +332,20 @@ class Layers:
         return Layer(self._document, id)
 
     def __contains__(self, key: object) -> bool:
-        """Whether there is a layer with an id, or of a name, in groups too."""
+        """Whether there is a layer with an id, or of a name and of any kind, in groups too."""
         return self._found(key.id if isinstance(key, Layer) and key.document is self._document else key) is not None
+
+    def find(self, name: str, kind: str) -> Optional[Layer]:
+        """The first layer of a name that is of a kind: tile, object, group or image; in groups too. None where there is none. Raises
+        ValueError for another kind."""
+        said = words.one_of(kind, tuple(KINDS.values()), 'the kind of a layer')
+
+        def find(seen: Seen) -> Optional[int]:
+            found = (id for id, each in self._all(seen).items() if (each['name'], KINDS[each['type']]) == (name, said))
+            return next(found, None)
+
+        id = self._document._look(find)
+        return None if id is None else Layer(self._document, id)
 
     def add(self, kind: str, name: str) -> int:
         """Adds a layer, tile or object, in no group, last, which is drawn over the others, and gives its id. Raises TypeError;

@@ -67,4 +67,62 @@ async function propertiesOfOtherTypes() {
   editor.close();
 }
 
-export const DOCUMENT_CHECKS = [drawnDocuments, savedDocuments, propertiesOfOtherTypes];
+// An object is a point where its file says so, whatever its size.
+async function points() {
+  const editor = await Editor.create();
+  const made = editor.new("made", 4, 3, 16, 16, "town.tsj");
+  const { objects } = made.layers.get(made.layers.add("object", "Things"));
+  objects.add("spawn", 8, 8);
+  objects.add("rectangle", 8, 8);
+  const tree = made.map();
+  Object.assign(tree.layers[1].objects[0], { point: true, type: "Spawn" });
+  const again = await editor.open(JSON.stringify(tree));
+  same([...again.objects].map((each) => [each.isPoint, each.type, each.width]), [[true, "Spawn", 0], [false, "", 0]]);
+  editor.close();
+}
+
+// They are the caller's own, without a name that the caller has not given.
+async function callsThatRefusalsName() {
+  const editor = await Editor.create();
+  const made = editor.new("made", 4, 3, 16, 16, "town.tsj");
+  editor.step("begin A");
+  const calls = [
+    [() => editor.open("{"), 60, "open(data)"],
+    [() => editor.open("{}", "b"), 69, 'open(data, "b")'],
+    [() => editor.openMap("b", "{}"), 69, 'openMap("b")'],
+    [() => made.saveBytes(), 20, "saveBytes()"],
+  ];
+  for (const [call, code, line] of calls) {
+    const refusal = await call().catch((fault) => fault);
+    same([refusal instanceof Refused, refusal.code, refusal.line], [true, code, line]);
+  }
+  editor.close();
+}
+
+// What has no such name, or is only read, is never set silently.
+async function namesThatAreNotThere() {
+  const editor = await Editor.create();
+  const town = editor.new("town", 4, 3, 16, 16, "town.tsj");
+  const things = town.layers.get(town.layers.add("object", "Things")).objects;
+  const key = town.objects.get(things.add("key", 16, 8));
+  const rows = [
+    [town, "tilewidth"], [town.layers, "a"], [town.layers.get(1), "opacity"], [town.layers.get(1), "id"], [town.objects, "a"],
+    [key, "point"], [key, "type"], [key, "isPoint"], [key, "x"], [town.properties, "author"], [town.tilesets, "a"],
+    [town.tilesets.get(1), "firstId"], [town.selection, "a"],
+  ];
+  for (const [thing, name] of rows) {
+    thrown(TypeError, () => {
+      thing[name] = true;
+    });
+  }
+  const { message } = thrown(TypeError, () => {
+    key.type = "Door";
+  });
+  same(message, "type of an object is not set as a value: no line changes it");
+  editor.close();
+}
+
+export const DOCUMENT_CHECKS = [
+  drawnDocuments, savedDocuments, propertiesOfOtherTypes, points, callsThatRefusalsName,
+  namesThatAreNotThere,
+];

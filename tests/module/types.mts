@@ -51,7 +51,9 @@ async function used(bytes: Uint8Array): Promise<void> {
     void (x + y);
   }
   const written: Uint8Array = await town.saveBytes();
-  void [given, later, tile, run.length, status.depth, written];
+  const walls: Layer | null = town.layers.find("Walls", "tile");
+  const isPoint: boolean = town.objects.get(1).isPoint;
+  void [given, later, tile, run.length, status.depth, written, walls, isPoint, town.tilesets.first?.firstId];
   // @ts-expect-error: a mode is one of four
   town.select(0, 0, 1, 1, { mode: "cut" });
   // @ts-expect-error: an index is only read
