@@ -1,4 +1,5 @@
 // Maps whose layers are compressed: unpacked before the library reads them, and packed again behind it.
+import { joined } from "./bytes.js";
 import { Edit, NOTE, edited, mapAndLayers } from "./layers.js";
 
 const NOTE_TAKEN = `a layer has a member of the reserved name "${NOTE}"`;
@@ -201,17 +202,7 @@ async function through(stream, bytes, most) {
       return null;
     }
   }
-  return joined(parts, size);
-}
-
-function joined(parts, size) {
-  const all = new Uint8Array(size);
-  let at = 0;
-  for (const part of parts) {
-    all.set(part, at);
-    at += part.length;
-  }
-  return all;
+  return joined(parts);
 }
 
 function base64Size(size) {

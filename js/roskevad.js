@@ -3,6 +3,7 @@
 //   const editor = await Editor.create({ limit: 0 });
 //   editor.step("new town 4 3 16 16 town.tsj");
 import { originOf, restored } from "./aside.js";
+import { joined } from "./bytes.js";
 import { Document } from "./document.js";
 import { Closed, NoMemory, Refused } from "./faults.js";
 import { BAD_NAME, DONE, Module, NONE, bytesOf, textOf } from "./module.js";
@@ -613,16 +614,6 @@ function idOf(parts, name) {
     }
   }
   throw new RangeError(`nothing has the name ${name}`);
-}
-
-function joined(parts) {
-  const all = new Uint8Array(parts.reduce((size, part) => size + part.length, 0));
-  let at = 0;
-  for (const part of parts) {
-    all.set(part, at);
-    at += part.length;
-  }
-  return all;
 }
 
 /** Whether a value is a number from 0 that a call can be given. */

@@ -21,7 +21,7 @@ import subprocess
 
 from lib.cases import CORES, Case, check_each, fail_with, passed, skip, unlike
 from lib.forms import HELP, spread
-from lib.pages import Clone, pages
+from lib.pages import Clone, Page, pages
 from lib.places import BIN, EXAMPLES, TOP
 from lib.refusals import OF_MAPS, ROWS
 from lib.runner import all_steps
@@ -47,6 +47,11 @@ def is_there(path):
 
 def fault_of_links(page):
     missing = [f'{path}: not there' for path in page.links() if not is_there(path)]
+    missing += [
+        f'{path}: no heading {heading}'
+        for path, heading in page.places()
+        if path.exists() and heading not in Page(path).headings()
+    ]
     if page.path.parent.parent == TOP / 'crates':
         missing += [
             f'{name}: in no crate'

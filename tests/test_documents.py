@@ -11,7 +11,7 @@ import tempfile
 import threading
 from pathlib import Path
 
-from lib.cases import Case, check_each, unlike
+from lib.cases import Case, check_each, raised, unlike
 from lib.places import EXAMPLE_MAPS, TOP
 
 sys.path.insert(0, str(TOP / 'python'))
@@ -33,14 +33,6 @@ class Named:
 def see(wanted, came):
     fault = unlike(wanted, came)
     assert not fault, fault
-
-
-def raised(kind, call, *words):
-    try:
-        call(*words)
-    except kind as fault:
-        return fault
-    raise AssertionError(f'{call} has not raised {kind}')
 
 
 def made(editor):

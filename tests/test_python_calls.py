@@ -11,7 +11,7 @@ import sys
 import threading
 import timeit
 
-from lib.cases import Case, check_each, passed, unlike
+from lib.cases import Case, check_each, passed, raised, unlike
 from lib.places import EXAMPLE_MAPS, TOP
 
 sys.path.insert(0, str(TOP / 'python'))
@@ -40,14 +40,6 @@ def fault_of_program(code, seconds=20):
 def see(code):
     fault = fault_of_program(code)
     assert not fault, fault
-
-
-def raised(kind, call, *words):
-    try:
-        call(*words)
-    except kind as fault:
-        return fault
-    raise AssertionError(f'{call} has not raised {kind}')
 
 
 # ---- refusals

@@ -126,3 +126,12 @@ def fail_with(faults):
     more = [f'and {len(faults) - MOST_FAULTS} more'] if len(faults) > MOST_FAULTS else []
     if faults:
         raise AssertionError('\n'.join([f'{len(faults)} at fault:', *faults[:MOST_FAULTS], *more]))
+
+
+def raised(kind, call, *words):
+    """The exception of a kind that a call raises."""
+    try:
+        call(*words)
+    except kind as fault:
+        return fault
+    raise AssertionError(f'{call} has not raised {kind}')

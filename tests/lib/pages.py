@@ -78,6 +78,21 @@ class Page:
             if '/out/' not in name and 'NAME' not in name:
                 yield TOP / name
 
+    def places(self):
+        """The pages that links lead into, each with the name of a heading there."""
+        for link in LINK.findall(self.text):
+            file, mark, heading = link.partition('#')
+            if mark and '://' not in link and (not file or file.endswith('.md')):
+                yield self.path.parent / file if file else self.path, heading
+
+    def headings(self):
+        """The names by which links find the headings: in small letters, without signs, a hyphen for each
+        space."""
+        text = re.sub(r'^```.*?^```$', '', self.text, flags=re.MULTILINE | re.DOTALL)
+        for heading in re.findall(r'^#+ (.*)$', text, re.MULTILINE):
+            plain = re.sub(r'\[([^\]]*)\]\([^)]*\)', r'\1', heading)
+            yield re.sub(r'[^\w\- ]', '', plain.lower()).replace(' ', '-')
+
     def files_of_crate(self):
         """The files of its crate that the page names."""
         return OF_CRATE.findall(self.text)
