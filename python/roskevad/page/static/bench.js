@@ -1,7 +1,6 @@
 // What the hand works with: the editor, the drawn map, the layer, the stamp, the object that was chosen, and words for refusals.
-import { byId } from "./dom.js";
+import { Bubble } from "./bubble.js";
 
-const SHOWN_FOR = 5000;
 // What a refusal means for the hand, where its words alone do not tell.
 const HINTS = {
   10: "Open a map first.",
@@ -25,6 +24,7 @@ export class Bench extends EventTarget {
     this.stamp = { width: 1, height: 1, values: [1] };
     // Whether a button is down on the map: the panels wait until it is up.
     this.isHeld = false;
+    this.bubble = new Bubble(() => view.drawnBox());
     this.handX = this.handY = 100;
     addEventListener("pointermove", event => this.moveHand(event.clientX, event.clientY), true);
     addEventListener("pointerdown", event => this.moveHand(event.clientX, event.clientY), true);
@@ -74,8 +74,14 @@ export class Bench extends EventTarget {
     this.tell("stamp");
   }
 
-  // Takes the cells of a rectangle of the layer as the stamp, within the selection where `isSelected`.
-  takeCells(x, y, width, height, isSelected = false) {
+  // Takes the cells of a rectangle of the layer as the stamp.
+  takeCells(x, y, width, height) {
+    const stamp = this.stampOf(x, y, width, height);
+    if (stamp) this.takeStamp(stamp);
+  }
+
+  // The stamp of a rectangle of the layer, within the selection where `isSelected`; null where there is nothing to take, which is said.
+  stampOf(x, y, width, height, isSelected = false) {
     const { map, layer } = this;
     if (!layer?.isTiles) return this.say("Choose a tile layer to take tiles from.");
     const values = new Array(width * height).fill(0);
@@ -85,16 +91,22 @@ export class Bench extends EventTarget {
       const [column, row] = [left + at % wide, top + Math.floor(at / wide)];
       if (!isSelected || map.isReached(column, row)) values[(row - y) * width + column - x] = cells[at];
     }
-    if (values.some(value => value)) this.takeStamp({ width, height, values });
-    else this.say("These cells are empty.");
+    return values.some(value => value) ? { width, height, values } : this.say("These cells are empty.");
   }
 
-  takeSelected() {
+  // The rectangle of the selection: [x, y, width, height]; null where no cell is selected.
+  get selectedBox() {
     const runs = this.map?.runs ?? [];
-    if (!runs.length) return this.say("Select cells first, with the tool Select.");
-    const [left, top] = [Math.min(...runs.map(run => run[1])), runs[0][0]];
-    const [right, bottom] = [Math.max(...runs.map(run => run[1] + run[2])), runs[runs.length - 1][0] + 1];
-    this.takeCells(left, top, right - left, bottom - top, true);
+    if (!runs.length) return null;
+    let [left, right] = [Infinity, 0];
+    for (const [, column, count] of runs) [left, right] = [Math.min(left, column), Math.max(right, column + count)];
+    return [left, runs[0][0], right - left, runs[runs.length - 1][0] + 1 - runs[0][0]];
+  }
+
+  // The stamp of the selected cells; null where there are none, which is said.
+  selectedStamp() {
+    const box = this.selectedBox;
+    return box ? this.stampOf(...box, true) : this.say("Select cells first, with the tool Select.");
   }
 
   // ---- lines
@@ -109,6 +121,8 @@ export class Bench extends EventTarget {
     } else if (done.refusal) {
       const [, code, words] = /^no (\d+) (.*)$/.exec(done.refusal);
       this.say(`Refused: ${words} (${code}). ${done.why ?? HINTS[code >= 60 && code <= 69 ? 60 : code] ?? ""}`);
+    } else {
+      this.bubble.hide();
     }
     return done;
   }
@@ -125,12 +139,7 @@ export class Bench extends EventTarget {
 
   // Says something where the hand is.
   say(words) {
-    const bubble = byId("bubble");
-    bubble.textContent = words.trim();
-    bubble.hidden = false;
-    bubble.style.left = `${Math.min(this.handX + 14, innerWidth - bubble.offsetWidth - 8)}px`;
-    bubble.style.top = `${Math.max(4, Math.min(this.handY + 14, innerHeight - bubble.offsetHeight - 8))}px`;
-    clearTimeout(this.bubbleTimer);
-    this.bubbleTimer = setTimeout(() => (bubble.hidden = true), SHOWN_FOR);
+    this.bubble.show(words, this.handX, this.handY);
+    return null;
   }
 }

@@ -79,7 +79,7 @@ export class Palette {
     const side = Math.floor(canvas.width / Math.max(width, height));
     pen.clearRect(0, 0, canvas.width, canvas.height);
     pen.imageSmoothingEnabled = false;
-    values.forEach((value, at) => value && drawTile(pen, this.tilesets, value, at % width * side, Math.floor(at / width) * side, side, side));
+    if (side > 0) values.forEach((value, at) => value && drawTile(pen, this.tilesets, value, at % width * side, Math.floor(at / width) * side, side, side));
     byId("stamp-size").textContent = `${width} × ${height}`;
   }
 
