@@ -1,5 +1,6 @@
 // What the hand works with: the editor, the drawn map, the layer, the stamp, the object that was chosen, and words for refusals.
 import { Bubble } from "./bubble.js";
+import { LayerBars } from "./layer_bars.js";
 
 // What a refusal means for the hand, where its words alone do not tell.
 const HINTS = {
@@ -25,6 +26,7 @@ export class Bench extends EventTarget {
     // Whether a button is down on the map: the panels wait until it is up.
     this.isHeld = false;
     this.bubble = new Bubble(() => view.drawnBox());
+    this.bars = new LayerBars(this);
     this.handX = this.handY = 100;
     addEventListener("pointermove", event => this.moveHand(event.clientX, event.clientY), true);
     addEventListener("pointerdown", event => this.moveHand(event.clientX, event.clientY), true);
@@ -62,6 +64,11 @@ export class Bench extends EventTarget {
     if (id !== null) this.layerId = this.map.object(id).layer.id;
     this.settle();
     this.marks.redraw();
+  }
+
+  // Whether the layer in hand takes no stroke, since it is hidden or locked. Then it says so.
+  barredLayer() {
+    return this.bars.bars();
   }
 
   // The value of a fill: the first tile of the stamp. (Its first cell may be one that leaves the map as it is.)

@@ -20,7 +20,7 @@ export class Clips {
 
   cut() {
     const { bench } = this;
-    if (!this.take()) return;
+    if (bench.barredLayer() || !this.take()) return;
     const [x, y, width, height] = bench.selectedBox;
     bench.act([`erase ${bench.layerId} ${x} ${y} ${width} ${height}`]);
   }
@@ -36,7 +36,7 @@ export class Clips {
   // Empties the cells that are selected.
   remove() {
     const { bench } = this;
-    if (bench.map?.selected) bench.act([`erase ${bench.layerId} 0 0 ${bench.map.width} ${bench.map.height}`]);
+    if (bench.map?.selected && !bench.barredLayer()) bench.act([`erase ${bench.layerId} 0 0 ${bench.map.width} ${bench.map.height}`]);
   }
 
   duplicate() {

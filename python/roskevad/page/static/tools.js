@@ -4,8 +4,9 @@ import { ObjectTool, insertObject } from "./object_tools.js";
 import { StrokeTool } from "./stroke_tool.js";
 
 const COLOURS = { brush: "#7fd67f", eraser: "#ff8f8f", fill: "#7fd67f", rectangle: "#7fd67f", select: "#8cc8ff", insert: "#ffd34d", capture: "#d8b4ff" };
-// The tools with which the right button takes tiles.
-const TAKING = ["brush", "fill", "rectangle"];
+// The tools that draw on the layer in hand, and those with which the right button takes tiles.
+const PAINTING = new Set(["brush", "eraser", "fill", "rectangle"]);
+const TAKING = new Set(["brush", "fill", "rectangle"]);
 // How far the wheel turns for a step, and how far that is where the browser counts lines: in pixels.
 const WHEEL_STEP = 60;
 const LINE = 40;
@@ -111,7 +112,7 @@ export class Tools {
   // The tool of a press: the middle button or the space bar moves the view, the right button takes tiles.
   toolOf(event) {
     if (event.button === 1 || this.isSpace) return "pan";
-    if (event.button === 2) return TAKING.includes(this.name) ? "capture" : null;
+    if (event.button === 2) return TAKING.has(this.name) ? "capture" : null;
     return event.button === 0 ? this.name : null;
   }
 
@@ -120,6 +121,7 @@ export class Tools {
     getSelection().removeAllRanges();
     const name = this.toolOf(event);
     if (!name || this.held || (name !== "pan" && !this.isReady())) return;
+    if (PAINTING.has(name) && this.bench.layer.isTiles && this.bench.barredLayer()) return;
     event.preventDefault();
     this.bench.view.box.setPointerCapture(event.pointerId);
     this.held = name;
