@@ -1,19 +1,7 @@
-// What the hand works with: the editor, the drawn map, the layer, the stamp, the object that was chosen, and words for refusals.
+// What the hand works with: the editor, the drawn map, the layer, the stamp, the object that was chosen, and words at the hand.
 import { Bubble } from "./bubble.js";
 import { LayerBars } from "./layer_bars.js";
-
-// What a refusal means for the hand, where its words alone do not tell.
-const HINTS = {
-  10: "Open a map first.",
-  13: "Save it, or discard it.",
-  20: "End the macro first.",
-  30: "Choose a layer that is there.",
-  31: "Choose a tile layer to draw on, and an object layer for objects.",
-  32: "Click within the map.",
-  33: "No tileset of this map has that tile.",
-  51: "The file cannot be read or written.",
-  60: "docs/map-files.md says what to change in a map.",
-};
+import { saidOf } from "./refusals.js";
 
 export class Bench extends EventTarget {
   constructor(editor, view, marks, tilesets) {
@@ -123,14 +111,8 @@ export class Bench extends EventTarget {
   }
 
   sayRefusal(done) {
-    if (done.barred) {
-      this.say(done.barred);
-    } else if (done.refusal) {
-      const [, code, words] = /^no (\d+) (.*)$/.exec(done.refusal);
-      this.say(`Refused: ${words} (${code}). ${done.why ?? HINTS[code >= 60 && code <= 69 ? 60 : code] ?? ""}`);
-    } else {
-      this.bubble.hide();
-    }
+    if (done.barred || done.refusal) this.say(saidOf(done));
+    else this.bubble.hide();
     return done;
   }
 

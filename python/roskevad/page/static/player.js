@@ -1,6 +1,7 @@
 // Plays a session: lines from the clipboard or from a file.
 import { button, byId, element, shown } from "./dom.js";
 import { isEdit, isQuiet } from "./line_kinds.js";
+import { saidOf } from "./refusals.js";
 
 const MACRO = "Session";
 // How many characters of a refused line are said.
@@ -46,7 +47,7 @@ export class Player {
       return;
     }
     const line = `Line ${at + 1} of ${lines.length}, '${lines[at].slice(0, LONGEST_LINE)}'`;
-    this.bench.say(`${line}: ${done.refusal?.slice(3) ?? done.barred}.${isMacro ? " Nothing is changed." : ""} ${done.why ?? ""}`);
+    this.bench.say(`${line}: ${saidOf(done)}${isMacro ? "\nNothing is changed." : ""}`);
   }
 
   asMacro(lines) {
