@@ -75,18 +75,17 @@ export class Bench extends EventTarget {
     if (stamp) this.takeStamp(stamp);
   }
 
-  // The stamp of a rectangle of the layer, within the selection where `isSelected`; null where there is nothing to take, which is said.
+  // The stamp of a rectangle of the layer, within the map, and within the selection where `isSelected`; null where there is nothing to
+  // take, which is said.
   stampOf(x, y, width, height, isSelected = false) {
     const { map, layer } = this;
     if (!layer?.isTiles) return this.say("Choose a tile layer to take tiles from.");
-    const values = new Array(width * height).fill(0);
     const [left, top, wide, high] = map.cut(x, y, width, height);
-    const cells = wide && high ? map.cells(layer.id, left, top, wide, high) : [];
-    for (let at = 0; at < cells.length; at++) {
-      const [column, row] = [left + at % wide, top + Math.floor(at / wide)];
-      if (!isSelected || map.isReached(column, row)) values[(row - y) * width + column - x] = cells[at];
+    const values = wide && high ? Array.from(map.cells(layer.id, left, top, wide, high)) : [];
+    for (let at = 0; isSelected && at < values.length; at++) {
+      if (!map.isReached(left + at % wide, top + Math.floor(at / wide))) values[at] = 0;
     }
-    return values.some(value => value) ? { width, height, values } : this.say("These cells are empty.");
+    return values.some(value => value) ? { width: wide, height: high, values } : this.say("These cells are empty.");
   }
 
   // The rectangle of the selection: [x, y, width, height]; null where no cell is selected.

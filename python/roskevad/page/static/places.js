@@ -92,7 +92,7 @@ export class ChosenFiles {
   async write(path, bytes) {
     download(lastOf(path), bytes);
     const time = Date.now();
-    this.files.set(path, { bytes: bytes.slice(), time, file: null });
+    this.files.set(path, { bytes: bytes.slice(), time, file: null, isSaved: true });
     return markOf(bytes, time);
   }
 

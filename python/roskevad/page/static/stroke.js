@@ -3,26 +3,11 @@ import { lineOf } from "./map_model.js";
 
 // How many values a line may have, each of up to ten digits and its comma: a line has at most 65,535 bytes.
 const MOST_VALUES = 5500;
-// The widest rows that a line may have.
-const WIDEST = 4096;
 
-// Blocks of a large one's columns, none wider than a line may have.
-function columnsOf(block) {
-  const parts = [];
-  for (let left = 0; left < block.width; left += WIDEST) {
-    const width = Math.min(WIDEST, block.width - left);
-    const rows = Array.from({ length: block.height }, (_, row) => block.values.slice(row * block.width + left, row * block.width + left + width));
-    parts.push({ ...block, x: block.x + left, width, values: rows.flat() });
-  }
-  return parts;
-}
-
-// A block in parts, each of some of its rows, that a line has room for.
+// A block in parts, each of some of its rows, that a line has room for. (No map is wider than a row of a line may be.)
 export function partsOf(block) {
-  if (!block.values) return [block];
-  if (block.width > WIDEST) return columnsOf(block).flatMap(partsOf);
   const rows = Math.max(1, Math.floor(MOST_VALUES / block.width));
-  if (block.height <= rows) return [block];
+  if (!block.values || block.height <= rows) return [block];
   const parts = [];
   for (let row = 0; row < block.height; row += rows) {
     const values = block.values.slice(row * block.width, (row + rows) * block.width);
