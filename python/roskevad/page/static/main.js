@@ -16,7 +16,9 @@ import { ServedFiles } from "./places.js";
 import { Player } from "./player.js";
 import { PropertyPanel } from "./property_panel.js";
 import { Recovery } from "./recovery.js";
+import { StatusBar } from "./status_bar.js";
 import { StepPanel } from "./step_panel.js";
+import { TilesetPanel } from "./tileset_panel.js";
 import { Tilesets } from "./tilesets.js";
 import { Toolbar } from "./toolbar.js";
 import { Tools } from "./tools.js";
@@ -40,6 +42,8 @@ class Page {
     this.documents = new Documents(bench);
     this.toolbar = new Toolbar(bench, this.tools, this.documents);
     this.palette = new Palette(bench, this.tilesets);
+    this.tilesetPanel = new TilesetPanel(bench, this.tilesets, this.palette);
+    this.status = new StatusBar(bench, this.tilesets);
     this.layers = new LayerPanel(bench);
     this.properties = new PropertyPanel(bench);
     this.steps = new StepPanel(bench);
@@ -61,7 +65,7 @@ class Page {
     editor.addEventListener("state", () => this.showState());
     bench.addEventListener("free", () => this.showState());
     bench.addEventListener("chosen", () => this.showChosen());
-    bench.addEventListener("hand", () => this.showHand());
+    this.tilesets.onLooks = () => view.redraw();
     view.onMove = () => {
       byId("scale").textContent = `${Math.round(view.scale * 100)} %`;
       marks.redraw();
@@ -82,7 +86,7 @@ class Page {
   async showTilesets() {
     const { bench, tilesets } = this;
     if (!(await tilesets.take(this.editor.map))) return;
-    this.palette.show();
+    this.tilesetPanel.show();
     this.view.redraw();
     this.panel.showMissing();
     if (bench.map && !tilesets.of(bench.fillValue)) bench.takeStamp({ width: 1, height: 1, values: [tilesets.all[0]?.first ?? 1] });
@@ -90,25 +94,16 @@ class Page {
 
   showState() {
     if (this.bench.isHeld) return;
-    const { active, index, count, isClean, isWriting, depth } = this.editor.state;
     this.documents.show();
     this.steps.show();
     this.toolbar.show();
-    const standing = `${index}/${count} ${isWriting ? "is being saved" : isClean ? "saved" : "not saved"}${depth ? `, ${depth} open` : ""}`;
-    byId("standing").textContent = active ? standing : "";
+    this.status.showState(this.editor.state);
     this.showChosen();
   }
 
   showChosen() {
     this.layers.show();
     this.properties.show();
-  }
-
-  showHand() {
-    const { layer, map, place } = this.bench;
-    const cell = place?.cell;
-    const value = cell && layer?.isTiles && map.isInside(...cell) ? map.value(layer.id, ...cell) : null;
-    byId("place").textContent = cell && map ? `${cell.join(", ")}${value === null ? "" : ` tile ${value}`}` : "";
   }
 }
 
