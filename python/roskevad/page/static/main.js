@@ -5,12 +5,14 @@ import { byId } from "./dom.js";
 import { Editor } from "./editor.js";
 import { recordSum } from "./journal.js";
 import { LayerPanel } from "./layer_panel.js";
+import { Layouts } from "./layouts.js";
 import { LinePanel } from "./line_panel.js";
 import { MapView } from "./map_view.js";
 import { Marks } from "./marks.js";
 import { endNotice, notice } from "./notices.js";
 import { loadModule } from "./own_module.js";
 import { Palette } from "./palette.js";
+import { Panels } from "./panels.js";
 import { PlacePanel } from "./place_panel.js";
 import { ServedFiles } from "./places.js";
 import { Player } from "./player.js";
@@ -34,6 +36,7 @@ const NEEDED = {
 class Page {
   constructor(editor) {
     this.editor = editor;
+    this.panels = new Panels(() => this.bench.tell("layout"));
     this.tilesets = new Tilesets(editor);
     this.view = new MapView(byId("view"), editor, this.tilesets);
     this.marks = new Marks(this.view, editor, this.tilesets);
@@ -51,6 +54,7 @@ class Page {
     this.recovery = new Recovery(bench, this.panel);
     this.lines = new LinePanel(bench);
     this.player = new Player(bench);
+    this.layouts = new Layouts(this);
     this.shownDocument = null;
     this.listen();
     this.tools.choose("brush");
@@ -69,18 +73,22 @@ class Page {
     view.onMove = () => {
       byId("scale").textContent = `${Math.round(view.scale * 100)} %`;
       marks.redraw();
+      this.layouts.keep();
     };
   }
 
-  // Another map: its tilesets may be others, and where its document is another one it is shown whole.
+  // Another map: its tilesets may be others. Where its document is another one it is shown as it was left, and whole at first.
   async showMap() {
     const { active } = this.editor.notes;
-    this.bench.settle();
-    if (active !== this.shownDocument) this.view.fit();
+    const isOther = active !== this.shownDocument;
     this.shownDocument = active;
+    const kept = isOther ? this.layouts.enter(active) : null;
+    this.bench.settle();
+    if (isOther && !kept) this.view.fit();
     this.view.takeMap();
     this.marks.redraw();
     await this.showTilesets();
+    if (kept && this.shownDocument === active) this.layouts.enterTiles(kept);
   }
 
   async showTilesets() {
