@@ -2,13 +2,21 @@
 
 export const TILE = 0x0fffffff;
 
+// How far a layer may be moved aside, in pixels.
+const FARTHEST = 1_000_000;
+
+// A member that the editor keeps as it stands in the file, as a number within bounds; `usual` where it is none.
+function numberOf(value, usual, least, most) {
+  return Number.isFinite(value) ? Math.max(least, Math.min(most, value)) : usual;
+}
+
 // All layers in the order in which they are drawn, each with the group that it stands in, how deep, and whether it is seen.
 function flattened(layers, group, depth, isSeen, found) {
   layers.forEach((data, place) => {
     const layer = { data, group, depth, place, siblings: layers.length, id: data.id, type: data.type, isSeen: isSeen && data.visible !== false };
-    layer.offsetX = (group?.offsetX ?? 0) + (data.offsetx ?? 0);
-    layer.offsetY = (group?.offsetY ?? 0) + (data.offsety ?? 0);
-    layer.opacity = (group?.opacity ?? 1) * (data.opacity ?? 1);
+    layer.offsetX = (group?.offsetX ?? 0) + numberOf(data.offsetx, 0, -FARTHEST, FARTHEST);
+    layer.offsetY = (group?.offsetY ?? 0) + numberOf(data.offsety, 0, -FARTHEST, FARTHEST);
+    layer.opacity = (group?.opacity ?? 1) * numberOf(data.opacity, 1, 0, 1);
     layer.isTiles = data.type === "tilelayer";
     found.push(layer);
     if (data.type === "group") flattened(data.layers, layer, depth + 1, layer.isSeen, found);

@@ -70,6 +70,8 @@ export class MapView {
     this.moved = [0, 0];
     this.seen = new SeenCells();
     this.measures = [];
+    // When the page began to work on the hand's last event.
+    this.work = 0;
     // Called behind each drawing that the view has moved for.
     this.onMove = () => {};
     this.resize();

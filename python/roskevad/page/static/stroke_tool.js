@@ -81,6 +81,7 @@ export class StrokeTool {
     this.isBarred = false;
     view.redrawCells(edits);
     view.measure("stroke", event.timeStamp);
+    view.measure("stroke work", view.work);
   }
 
   // Says why nothing is drawn, as long as that is so from the beginning of the stroke on.

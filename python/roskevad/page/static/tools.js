@@ -74,6 +74,8 @@ export class Tools {
     this.held = null;
     this.isSpace = false;
     this.turned = 0;
+    // The time of the last move of a drag that came before a frame of the screen.
+    this.drawnUpTo = -Infinity;
     this.listen(bench.view.box);
   }
 
@@ -91,6 +93,8 @@ export class Tools {
   listen(box) {
     box.onpointerdown = event => this.down(event);
     box.onpointermove = event => this.move(event);
+    // Comes at once, where the browser has it; `pointermove` waits for a frame of the screen.
+    box.addEventListener("pointerrawupdate", event => this.raw(event));
     box.onpointerup = event => this.up(event);
     box.onpointercancel = event => this.up(event);
     box.onpointerleave = () => this.showHand(null);
@@ -126,6 +130,8 @@ export class Tools {
     this.bench.view.box.setPointerCapture(event.pointerId);
     this.held = name;
     this.bench.isHeld = true;
+    this.drawnUpTo = -Infinity;
+    this.bench.view.work = performance.now();
     this.from = this.bench.view.placeOf(event);
     if (name !== "pan") this.all[name].down(this.from, event);
     this.bench.view.drawNow();
@@ -141,7 +147,7 @@ export class Tools {
 
   move(event) {
     if (this.held === "pan") this.pan(event);
-    else if (this.held) this.drag(event.getCoalescedEvents?.() ?? [], event);
+    else if (this.held) this.drag(event);
     if (this.held !== "pan") this.showHand(this.bench.view.placeOf(event), event);
   }
 
@@ -153,10 +159,19 @@ export class Tools {
     this.from = { x: this.from.x + x, y: this.from.y + y };
   }
 
-  drag(parts, event) {
+  // A move of the hand with all that came with it, but what was drawn already.
+  drag(event) {
     const { view } = this.bench;
-    for (const part of [...parts, event]) this.all[this.held].move(view.placeOf(part), part);
+    const parts = [...(event.getCoalescedEvents?.() ?? []), event].filter(part => part.timeStamp > this.drawnUpTo);
+    view.work = performance.now();
+    for (const part of parts) this.all[this.held].move(view.placeOf(part), part);
     view.drawNow();
+  }
+
+  raw(event) {
+    if (!this.held || this.held === "pan") return;
+    this.drag(event);
+    this.drawnUpTo = event.timeStamp;
   }
 
   up(event) {
