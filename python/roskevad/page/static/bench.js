@@ -1,5 +1,5 @@
 // What the hand works with: the editor, the drawn map, the layer, the stamp, the object that was chosen, and words at the hand.
-import { byId } from "./dom.js";
+import { byId, isField } from "./dom.js";
 import { saidOf } from "./refusals.js";
 
 const SHOWN_FOR = 5000;
@@ -43,12 +43,14 @@ export class Bench extends EventTarget {
   chooseLayer(id) {
     this.layerId = id;
     this.settle();
+    this.tell("layer chosen");
   }
 
   chooseObject(id) {
     this.objectId = id;
     if (id !== null) this.layerId = this.map.object(id).layer.id;
     this.settle();
+    this.tell("object chosen");
     this.marks.redraw();
   }
 
@@ -91,6 +93,13 @@ export class Bench extends EventTarget {
     return this.sayRefusal(await this.editor.send(lines, options));
   }
 
+  // Does lines for a dialog: gives null, or where one was refused what the dialog says, and the field that a code is about.
+  async attempt(lines, fields = {}) {
+    const done = await this.editor.send(lines);
+    if (done.isHeard) return null;
+    return { words: saidOf(done), field: fields[/^no (\d+)/.exec(done.refusal ?? "")?.[1]] };
+  }
+
   sayRefusal(done) {
     if (done.barred || done.refusal) this.say(saidOf(done));
     return done;
@@ -101,7 +110,7 @@ export class Bench extends EventTarget {
   }
 
   moveToField() {
-    if (!(document.activeElement instanceof HTMLInputElement)) return;
+    if (!isField(document.activeElement)) return;
     const frame = document.activeElement.getBoundingClientRect();
     this.moveHand(frame.left, frame.top - 44);
   }

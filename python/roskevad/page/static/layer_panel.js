@@ -1,7 +1,8 @@
 // The layers as a tree: the one that is drawn last stands on top, and a group above the layers in it.
 import { ask, button, byId, element } from "./dom.js";
+import { KINDS } from "./kinds.js";
 
-const KINDS = { tilelayer: "tiles", objectgroup: "objects", imagelayer: "image", group: "group" };
+const LAYER_KINDS = { tilelayer: "tiles", objectgroup: "objects", imagelayer: "image", group: "group" };
 
 export class LayerPanel {
   constructor(bench) {
@@ -38,7 +39,7 @@ export class LayerPanel {
       this.bench.act([`layer show ${layer.id} ${isShown ? "no" : "yes"}`]);
     }, { className: "eye" });
     const name = element("span", { className: "name", textContent: layer.data.name || "(no name)" });
-    const kind = element("span", { className: "kind", textContent: KINDS[layer.type] ?? layer.type });
+    const kind = element("span", { className: "kind", textContent: LAYER_KINDS[layer.type] ?? layer.type });
     const row = element("li", { data: { layer: layer.id }, onclick: () => this.bench.chooseLayer(layer.id) }, eye, name, kind);
     row.style.paddingLeft = `${6 + layer.depth * 16}px`;
     row.classList.toggle("now", layer.id === this.bench.layerId);
@@ -47,17 +48,16 @@ export class LayerPanel {
   }
 
   async add(kind) {
-    const told = await ask(`A new ${kind} layer`, [{ name: "name", label: "Name", value: kind === "tile" ? "Tiles" : "Objects" }]);
-    if (!told) return;
-    const done = await this.bench.act([`layer add ${kind} ${told.name}`]);
-    if (done.isHeard) this.bench.chooseLayer(this.bench.map.data.nextlayerid - 1);
+    const field = { name: "name", label: "Name", value: kind === "tile" ? "Tiles" : "Objects", kind: KINDS.text };
+    const told = await ask(`A new ${kind} layer`, [field], ["OK"], ({ name }) => this.bench.attempt([`layer add ${kind} ${name}`]));
+    if (told) this.bench.chooseLayer(this.bench.map.data.nextlayerid - 1);
   }
 
   async rename() {
     const layer = this.bench.layer;
     if (!layer) return;
-    const told = await ask("Rename a layer", [{ name: "name", label: "Name", value: layer.data.name }]);
-    if (told) this.bench.act([`layer rename ${layer.id} ${told.name}`]);
+    const field = { name: "name", label: "Name", value: layer.data.name, kind: KINDS.text };
+    await ask("Rename a layer", [field], ["OK"], ({ name }) => this.bench.attempt([`layer rename ${layer.id} ${name}`]));
   }
 
   remove() {
