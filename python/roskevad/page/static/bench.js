@@ -1,8 +1,10 @@
 // What the hand works with: the editor, the drawn map, the layer, the stamp, the object that was chosen, and words at the hand.
 import { byId, isField } from "./dom.js";
+import { LayerBars } from "./layer_bars.js";
 import { saidOf } from "./refusals.js";
 
 const SHOWN_FOR = 5000;
+
 export class Bench extends EventTarget {
   constructor(editor, view, marks, tilesets) {
     super();
@@ -13,6 +15,7 @@ export class Bench extends EventTarget {
     this.stamp = { width: 1, height: 1, values: [1] };
     // Whether a button is down on the map: the panels wait until it is up.
     this.isHeld = false;
+    this.bars = new LayerBars(this);
     this.handX = this.handY = 100;
     addEventListener("pointermove", event => this.moveHand(event.clientX, event.clientY), true);
     addEventListener("pointerdown", event => this.moveHand(event.clientX, event.clientY), true);
@@ -52,6 +55,11 @@ export class Bench extends EventTarget {
     this.settle();
     this.tell("object chosen");
     this.marks.redraw();
+  }
+
+  // Whether the layer in hand takes no stroke, since it is hidden or locked. Then it says so.
+  barredLayer() {
+    return this.bars.bars();
   }
 
   // The value of a fill: the first tile of the stamp. (Its first cell may be one that leaves the map as it is.)

@@ -1,7 +1,12 @@
 // The open documents as tabs, and what is done with whole maps: new, open, save, close, resize, reload.
 import { ask, button, byId, element } from "./dom.js";
 import { KINDS } from "./kinds.js";
+import { MapList } from "./map_list.js";
+import { lastOf } from "./names.js";
 import { endNotice, hasNotice, notice } from "./notices.js";
+
+// What a document is called for the user: the name of its file, or its own name where it has none.
+const titleOf = ({ name, path }) => (path ? lastOf(path) : name);
 
 export class Documents {
   constructor(bench) {
@@ -26,7 +31,7 @@ export class Documents {
   show() {
     const { documents, active, isClean, file } = this.editor.state;
     byId("tabs").replaceChildren(...documents.map(each => this.tab(each)));
-    document.title = active ? `${isClean ? "" : "• "}${active} – Roskevad` : "Roskevad";
+    document.title = active ? `${isClean ? "" : "• "}${titleOf({ name: active, path: file })} – Roskevad` : "Roskevad";
     byId("empty").hidden = Boolean(active);
     byId("save").title = `Save the map into ${file ? `its file, ${file}` : "a file"} (Ctrl+S)`;
     byId("save-hint").textContent = this.editor.place.isDownload ? "is a download" : "";
@@ -36,13 +41,14 @@ export class Documents {
 
   tab({ name, isActive, isClean, path }) {
     const mark = element("span", { className: "mark", textContent: isClean ? "" : "•", title: isClean ? "saved" : "not saved" });
-    const close = button("×", `Close ${name}`, event => {
+    const close = button("×", `Close ${titleOf({ name, path })}`, event => {
       event.stopPropagation();
       this.close(name);
     }, { className: "close" });
     const onclick = () => isActive || this.bench.act([`use ${name}`]);
-    const shown = { className: "tab", title: path ?? "in no file yet", data: { document: name }, onclick };
-    const tab = element("div", shown, mark, element("span", { textContent: name }), close);
+    const title = `${path ?? "in no file yet"} (in lines: ${name})`;
+    const shown = { className: "tab", title, data: { document: name }, onclick };
+    const tab = element("div", shown, mark, element("span", { textContent: titleOf({ name, path }) }), close);
     tab.classList.toggle("on", isActive);
     tab.classList.toggle("unsaved", !isClean);
     return tab;
@@ -61,9 +67,11 @@ export class Documents {
 
   // ---- opening
   async open() {
-    const maps = await this.editor.place.maps().catch(fault => this.bench.say(fault.message) ?? []);
-    const told = await ask("Open a map", [{ name: "file", label: "File", choices: maps.map(each => each.path) }]);
-    if (told) await this.openPath(told.file);
+    const { place } = this.editor;
+    const maps = await place.maps().catch(fault => this.bench.say(fault.message) ?? []);
+    const open = new Set(this.editor.documents().map(each => each.path));
+    const path = await new MapList(place, maps, open).ask();
+    if (path) await this.openPath(path);
   }
 
   // Opens a file, or shows the document that has it already.
@@ -132,7 +140,7 @@ export class Documents {
     const open = this.editor.documents().find(each => each.path === path);
     if (!open) return true;
     if (!open.isClean) {
-      const told = await ask(`${open.name} has changes that are not saved.`, [], ["Discard and reload"]);
+      const told = await ask(`${titleOf(open)} has changes that are not saved.`, [], ["Discard and reload"]);
       if (!told) return false;
     }
     try {
@@ -149,9 +157,9 @@ export class Documents {
   // ---- closing
   // Closes a document; where it is not saved, asks first.
   async close(name) {
-    const documents = this.editor.documents();
-    if (documents.find(each => each.name === name)?.isClean) return this.closed(name);
-    const told = await ask(`${name} has changes that are not saved.`, [], ["Save and close", "Discard"]);
+    const found = this.editor.documents().find(each => each.name === name);
+    if (found?.isClean) return this.closed(name);
+    const told = await ask(`${titleOf(found)} has changes that are not saved.`, [], ["Save and close", "Discard"]);
     if (told?.answer === "Discard") return this.closed(name, "discard");
     if (told?.answer !== "Save and close") return null;
     if (name !== this.editor.notes.active && !(await this.bench.act([`use ${name}`])).isHeard) return null;
@@ -160,8 +168,12 @@ export class Documents {
     return saved.isHeard ? this.closed(name) : null;
   }
 
+  // Where it was the active one, its neighbour is active then: the one to the right, or else to the left.
   async closed(name, word = "close") {
-    const done = await this.bench.act([`${word} ${name}`]);
+    const documents = this.editor.documents();
+    const at = documents.findIndex(each => each.name === name);
+    const neighbour = documents[at]?.isActive ? documents[at + 1] ?? documents[at - 1] : null;
+    const done = await this.bench.act([`${word} ${name}`, ...(neighbour ? [`use ${neighbour.name}`] : [])]);
     if (done.isHeard) endNotice(`file ${name}`);
     return done;
   }

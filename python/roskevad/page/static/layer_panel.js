@@ -1,50 +1,102 @@
 // The layers as a tree: the one that is drawn last stands on top, and a group above the layers in it.
 import { ask, button, byId, element } from "./dom.js";
 import { KINDS } from "./kinds.js";
+import { isLocked } from "./layer_bars.js";
+import { LayerDrag } from "./layer_drag.js";
+import { putRows } from "./rows.js";
 
 const LAYER_KINDS = { tilelayer: "tiles", objectgroup: "objects", imagelayer: "image", group: "group" };
 
 export class LayerPanel {
   constructor(bench) {
     this.bench = bench;
-    byId("layers").ondblclick = () => this.rename();
+    this.list = byId("layers");
+    // The rows by the ids of their layers, and the ids of the groups whose layers are not listed.
+    this.rows = new Map();
+    this.folded = new Set();
+    this.list.onclick = event => this.click(event);
+    this.list.ondblclick = event => this.rowOf(event) && !event.target.closest("button") && this.rename();
+    this.drag = new LayerDrag(this);
     byId("layer-actions").append(
       button("+ Tiles", "Add a tile layer", () => this.add("tile"), { id: "add-tile-layer" }),
       button("+ Objects", "Add an object layer", () => this.add("object"), { id: "add-object-layer" }),
       button("Up", "Draw this layer later", () => this.move(1), { id: "layer-up" }),
       button("Down", "Draw this layer earlier", () => this.move(-1), { id: "layer-down" }),
-      button("Rename", "Rename this layer", () => this.rename(), { id: "rename-layer" }),
+      button("Rename", "Rename this layer: a double click", () => this.rename(), { id: "rename-layer" }),
       button("Remove", "Remove this layer, with all that is in it", () => this.remove(), { id: "remove-layer" }),
     );
   }
 
+  // ---- what is shown
+  // Rows stay where they are: a double click is two clicks at one row.
   show() {
     const layers = this.bench.map?.layers ?? [];
-    byId("layers").replaceChildren(...this.rows(layers, null));
+    if (this.shown !== this.bench.layerId) this.unfoldChosen();
+    this.listed = this.inOrder(layers, null);
+    putRows(this.list, this.listed.map(layer => this.row(layer)));
+    for (const id of this.rows.keys()) if (!layers.some(layer => layer.id === id)) this.rows.delete(id);
     // Once all that stands around the list has its size.
-    if (this.shown !== this.bench.layerId) requestAnimationFrame(() => byId("layers").querySelector(".now")?.scrollIntoView({ block: "nearest" }));
+    if (this.shown !== this.bench.layerId) requestAnimationFrame(() => this.list.querySelector(".now")?.scrollIntoView({ block: "nearest" }));
     this.shown = this.bench.layerId;
   }
 
-  // The rows of the layers of one group.
-  rows(layers, group) {
+  // The layers of one group as they are listed, with those in them.
+  inOrder(layers, group) {
     const inside = layers.filter(layer => layer.group === group).reverse();
-    return inside.flatMap(layer => [this.row(layer), ...this.rows(layers, layer.type === "group" ? layer : undefined)]);
+    return inside.flatMap(layer => [layer, ...(layer.type === "group" && !this.folded.has(layer.id) ? this.inOrder(layers, layer) : [])]);
+  }
+
+  unfoldChosen() {
+    for (let group = this.bench.layer?.group; group; group = group.group) this.folded.delete(group.id);
   }
 
   row(layer) {
-    const isShown = layer.data.visible !== false;
-    const eye = button(isShown ? "●" : "○", isShown ? "Hide this layer" : "Show this layer", event => {
-      event.stopPropagation();
-      this.bench.act([`layer show ${layer.id} ${isShown ? "no" : "yes"}`]);
-    }, { className: "eye" });
-    const name = element("span", { className: "name", textContent: layer.data.name || "(no name)" });
-    const kind = element("span", { className: "kind", textContent: LAYER_KINDS[layer.type] ?? layer.type });
-    const row = element("li", { data: { layer: layer.id }, onclick: () => this.bench.chooseLayer(layer.id) }, eye, name, kind);
-    row.style.paddingLeft = `${6 + layer.depth * 16}px`;
+    if (!this.rows.has(layer.id)) this.rows.set(layer.id, this.newRow(layer.id));
+    const row = this.rows.get(layer.id);
+    const [fold, eye, lock, name, kind] = row.children;
+    const [isShown, isFolded] = [layer.data.visible !== false, this.folded.has(layer.id)];
+    fold.textContent = layer.type !== "group" ? "" : isFolded ? "▸" : "▾";
+    fold.title = layer.type !== "group" ? "" : isFolded ? "Show the layers in it" : "Fold this group";
+    eye.textContent = isShown ? "●" : "○";
+    eye.title = isShown ? "Hide this layer" : "Show this layer";
+    lock.hidden = !isLocked(layer);
+    name.textContent = layer.data.name || "(no name)";
+    name.title = layer.data.name;
+    kind.textContent = LAYER_KINDS[layer.type] ?? layer.type;
+    row.style.paddingLeft = `${2 + layer.depth * 14}px`;
     row.classList.toggle("now", layer.id === this.bench.layerId);
     row.classList.toggle("hidden", !layer.isSeen);
     return row;
+  }
+
+  newRow(id) {
+    return element("li", { data: { layer: id } },
+      button("", "", null, { className: "fold" }),
+      button("", "", null, { className: "eye" }),
+      element("span", { className: "lock", textContent: "🔒", title: "Locked in Tiled; no line unlocks it" }),
+      element("span", { className: "name" }),
+      element("span", { className: "kind" }));
+  }
+
+  // ---- the hand
+  // The row of an event.
+  rowOf(event) {
+    return event.target.closest("#layers li");
+  }
+
+  click(event) {
+    const row = this.rowOf(event);
+    const layer = row && this.bench.map?.layer(Number(row.dataset.layer));
+    if (!layer) return;
+    if (event.target.className === "eye") this.bench.act([`layer show ${layer.id} ${layer.data.visible !== false ? "no" : "yes"}`]);
+    else if (event.target.className === "fold" && layer.type === "group") this.fold(layer.id);
+    else this.bench.chooseLayer(layer.id);
+  }
+
+  fold(id) {
+    if (!this.folded.delete(id)) this.folded.add(id);
+    this.show();
+    this.bench.tell("layout");
   }
 
   async add(kind) {

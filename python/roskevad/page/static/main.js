@@ -1,5 +1,4 @@
 // Puts the page together: the editor, the drawing of its map, the tools, and the panels.
-import { Module } from "../../../../js/roskevad.js";
 import { Bench } from "./bench.js";
 import { Documents } from "./documents.js";
 import { byId } from "./dom.js";
@@ -10,6 +9,7 @@ import { LinePanel } from "./line_panel.js";
 import { MapView } from "./map_view.js";
 import { Marks } from "./marks.js";
 import { endNotice, notice } from "./notices.js";
+import { loadModule } from "./own_module.js";
 import { Palette } from "./palette.js";
 import { PlacePanel } from "./place_panel.js";
 import { ServedFiles } from "./places.js";
@@ -27,13 +27,6 @@ const NEEDED = {
   WebAssembly: () => globalThis.WebAssembly?.Module,
   "locks (Web Locks)": () => navigator.locks,
 };
-
-function bytesOf(coded) {
-  const text = atob(coded);
-  const bytes = new Uint8Array(text.length);
-  for (let at = 0; at < text.length; at++) bytes[at] = text.charCodeAt(at);
-  return bytes;
-}
 
 // The parts of the page, and what each shows when something has changed.
 class Page {
@@ -134,7 +127,7 @@ async function start() {
   const missing = Object.keys(NEEDED).filter(name => !NEEDED[name]());
   if (missing.length) return notice("needed", `This page cannot work here. It needs ${missing.join(", ")}.`);
   const key = new URLSearchParams(location.search).get("key");
-  const [module, served] = await Promise.all([Module.load(bytesOf(byId("module").textContent)), key === null ? null : servedBy(key)]);
+  const [module, served] = await Promise.all([loadModule(), key === null ? null : servedBy(key)]);
   const editor = new Editor(module, served?.told.limit ?? 0);
   if (served) editor.place = served.place;
   const page = new Page(editor);

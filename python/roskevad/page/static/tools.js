@@ -5,6 +5,8 @@ import { Stroke } from "./stroke.js";
 
 const COLOURS = { brush: "#7fd67f", eraser: "#ff8f8f", fill: "#7fd67f", select: "#8cc8ff", insert: "#ffd34d", capture: "#d8b4ff" };
 
+// The tools that draw on the layer in hand.
+const PAINTING = new Set(["brush", "eraser", "fill"]);
 // The largest stamp whose tiles are shown under the hand.
 const MOST_SHOWN = 4096;
 // How far the wheel turns for a step, and how far that is where the browser counts lines: in pixels.
@@ -183,6 +185,7 @@ export class Tools {
     document.activeElement?.blur();
     const name = this.toolOf(event);
     if (!name || this.held || (name !== "pan" && !this.isReady())) return;
+    if (PAINTING.has(name) && this.bench.layer.isTiles && this.bench.barredLayer()) return;
     event.preventDefault();
     this.bench.view.box.setPointerCapture(event.pointerId);
     this.held = name;
