@@ -1,6 +1,6 @@
 // What the hand works with: the editor, the drawn map, the layer, the stamp, the object that was chosen, and words at the hand.
 import { byId, isField } from "./dom.js";
-import { LayerBars } from "./layer_bars.js";
+import { LayerBars, whyBarred } from "./layer_bars.js";
 import { saidOf } from "./refusals.js";
 
 const SHOWN_FOR = 5000;
@@ -57,6 +57,18 @@ export class Bench extends EventTarget {
     this.marks.redraw();
   }
 
+  // The object that is chosen, with its layer; null where there is none.
+  get chosenObject() {
+    return (this.objectId !== null && this.map?.object(this.objectId)) || null;
+  }
+
+  // Whether the objects of a layer take no edit, since it is hidden or locked. It is said what was not done.
+  barsObjects(layer, done) {
+    const why = whyBarred(layer);
+    if (why) this.say(`${why} Nothing was ${done}.`);
+    return why !== "";
+  }
+
   // Whether the layer in hand takes no stroke, since it is hidden or locked. Then it says so.
   barredLayer() {
     return this.bars.bars();
@@ -99,6 +111,15 @@ export class Bench extends EventTarget {
   // Does lines, and says what was refused.
   async act(lines, options = {}) {
     return this.sayRefusal(await this.editor.send(lines, options));
+  }
+
+  // Does edits as one step, and none of them where one is refused. A macro that is open has them as a part.
+  doAsOne(text, lines) {
+    const { editor } = this;
+    if (editor.stand().depth) return this.sayRefusal(editor.doLines(lines));
+    const done = editor.doLines([`begin ${text}`, ...lines, "end"]);
+    if (!done.isHeard && done.replies.length > 1) editor.doLines(["end", "undo"]);
+    return this.sayRefusal(done);
   }
 
   // Does lines for a dialog: gives null, or where one was refused what the dialog says, and the field that a code is about.

@@ -11,6 +11,8 @@ import { Marks } from "./marks.js";
 import { endNotice, notice } from "./notices.js";
 import { loadModule } from "./own_module.js";
 import { Palette } from "./palette.js";
+import { bindFieldKeys } from "./field_keys.js";
+import { ObjectList } from "./object_list.js";
 import { PlacePanel } from "./place_panel.js";
 import { ServedFiles } from "./places.js";
 import { Player } from "./player.js";
@@ -42,6 +44,7 @@ class Page {
     this.palette = new Palette(bench, this.tilesets);
     this.layers = new LayerPanel(bench);
     this.properties = new PropertyPanel(bench);
+    this.objects = new ObjectList(bench, this.tools);
     this.steps = new StepPanel(bench);
     this.panel = new PlacePanel(bench, this.documents, this.tilesets);
     this.recovery = new Recovery(bench, this.panel);
@@ -49,6 +52,7 @@ class Page {
     this.player = new Player(bench);
     this.shownDocument = null;
     this.listen();
+    bindFieldKeys(bench);
     this.tools.choose("brush");
   }
 

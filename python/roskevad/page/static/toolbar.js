@@ -50,6 +50,9 @@ export class Toolbar {
     for (const [name] of TOOLS) byId(`tool-${name}`).classList.toggle("on", name === this.tools.name);
     byId("undo").disabled = state.index === 0 || state.depth > 0;
     byId("redo").disabled = state.index === state.count || state.depth > 0;
+    const why = state.depth > 0 ? "End the macro first: what is in it is one step. " : "";
+    byId("undo").title = `${why}Ctrl+Z`;
+    byId("redo").title = `${why}Ctrl+Shift+Z, Ctrl+Y`;
     byId("macro").textContent = state.depth ? `End macro${state.depth > 1 ? ` (${state.depth})` : ""}` : "Begin macro";
     byId("macro").classList.toggle("on", state.depth > 0);
     byId("macro-name").hidden = state.depth > 0;
@@ -90,11 +93,19 @@ export class Toolbar {
     this.tools.showHand(this.bench.place);
   }
 
-  // Deletes the object that is chosen, or empties the cells that are selected.
+  // Empties the cells that are selected.
   remove() {
     const { bench } = this;
-    if (bench.objectId !== null) bench.act([`object remove ${bench.objectId}`]);
-    else if (bench.map?.selected) bench.act([`erase ${bench.layerId} 0 0 ${bench.map.width} ${bench.map.height}`]);
+    if (bench.map?.selected) bench.act([`erase ${bench.layerId} 0 0 ${bench.map.width} ${bench.map.height}`]);
+  }
+
+  // What the tool in hand does with a key, or else what is done with cells.
+  either(name, other = () => {}) {
+    return () => this.tools.now[name]?.() === true || other();
+  }
+
+  nudge(x, y) {
+    return event => this.tools.now.nudge?.(x, y, event.shiftKey);
   }
 
   // What each key does, as a word: `Ctrl+Shift+z`.
@@ -108,7 +119,11 @@ export class Toolbar {
       "Ctrl+s": () => this.documents.save(), "Ctrl+Shift+s": () => this.documents.saveAs(), "Ctrl+o": () => this.documents.open(),
       "Ctrl+a": () => bench.map && bench.act([`select replace 0 0 ${bench.map.width} ${bench.map.height}`]),
       "Ctrl+Shift+a": () => bench.act(["select none"]), escape: () => bench.chooseObject(null),
-      "Ctrl+c": () => this.take(), "Ctrl+v": choose("brush"), "Ctrl+g": () => this.turnGrid(), delete: () => this.remove(),
+      "Ctrl+c": this.either("copy", () => this.take()), "Ctrl+x": this.either("cut"), "Ctrl+v": this.either("paste", choose("brush")),
+      "Ctrl+d": this.either("duplicate"), delete: this.either("remove", () => this.remove()), "Ctrl+g": () => this.turnGrid(),
+      ...Object.fromEntries(["", "Shift+"].flatMap(held => Object.entries({
+        arrowleft: this.nudge(-1, 0), arrowright: this.nudge(1, 0), arrowup: this.nudge(0, -1), arrowdown: this.nudge(0, 1),
+      }).map(([key, call]) => [held + key, call]))),
       "+": () => bench.view.zoom(1), "-": () => bench.view.zoom(-1),
     };
   }

@@ -147,6 +147,10 @@ export class Tools {
     this.listen(bench.view.box);
   }
 
+  get now() {
+    return this.all[this.name];
+  }
+
   choose(name) {
     this.name = name;
     this.bench.view.box.dataset.tool = name;
