@@ -30,7 +30,6 @@ export class ObjectList {
     this.side = side;
     byId("left").dataset.side = side;
     for (const each of ["tiles", "objects"]) byId(`show-${each}`).classList.toggle("on", each === side);
-    this.bench.marks.redraw();
     this.show();
   }
 

@@ -16,6 +16,7 @@ export class ObjectTool {
     // A run of arrow keys is one step, up to the next line that is not of it.
     this.run = null;
     bench.editor.addEventListener("done", () => this.isNudging || (this.run = null));
+    bench.addEventListener("tool", () => bench.marks.redraw());
   }
 
   // ---- the hand

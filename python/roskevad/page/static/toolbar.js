@@ -96,7 +96,7 @@ export class Toolbar {
   // Empties the cells that are selected.
   remove() {
     const { bench } = this;
-    if (bench.map?.selected) bench.act([`erase ${bench.layerId} 0 0 ${bench.map.width} ${bench.map.height}`]);
+    if (bench.map?.selected && !bench.barredLayer()) bench.act([`erase ${bench.layerId} 0 0 ${bench.map.width} ${bench.map.height}`]);
   }
 
   // What the tool in hand does with a key, or else what is done with cells.
