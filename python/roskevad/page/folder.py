@@ -16,8 +16,9 @@ KINDS = {
     '.jpg': 'image/jpeg', '.jpeg': 'image/jpeg', '.gif': 'image/gif', '.bmp': 'image/bmp', '.webp': 'image/webp',
 }
 MAPS = ('.tmj', '.json')
-# How many maps are listed at most, how many names are looked at for them, and how deep folders are looked into.
-_MOST_MAPS, _MOST_NAMES, _DEEPEST = 2000, 50_000, 8
+TILESETS = ('.tsx', '.tsj')
+# How many files are listed at most, how many names are looked at for them, and how deep folders are looked into.
+_MOST_FILES, _MOST_NAMES, _DEEPEST = 2000, 50_000, 8
 
 
 class Unlike(Exception):
@@ -49,20 +50,29 @@ class Folder:
 
     def maps(self) -> list[dict[str, Any]]:
         """The files of the folder that may be maps, with their sizes and times."""
+        return self._files(self.folder, MAPS)
+
+    def tilesets(self) -> list[dict[str, Any]]:
+        """The files of tilesets below the root, with their sizes and times."""
+        return self._files(self.root, TILESETS)
+
+    def _files(self, top: Path, suffixes: tuple[str, ...]) -> list[dict[str, Any]]:
+        """The files below a folder with one of these ends, with their paths from the folder of the maps."""
         found: list[dict[str, Any]] = []
-        for path in self._names():
-            if is_map(path) and len(found) < _MOST_MAPS:
+        for path in self._names(top):
+            if path.suffix.lower() in suffixes and len(found) < _MOST_FILES:
                 told = self._told(path)
                 if told is not None:
-                    found.append({'path': path.relative_to(self.folder).as_posix(), 'size': told.st_size, 'time': time_of(told)})
+                    name = Path(os.path.relpath(path, self.folder)).as_posix()
+                    found.append({'path': name, 'size': told.st_size, 'time': time_of(told)})
         return found
 
-    def _names(self) -> Iterator[Path]:
-        """The files of the folder and of those in it, but for hidden ones and names that nobody can read; links to folders are not
+    def _names(self, folder: Path) -> Iterator[Path]:
+        """The files of a folder and of those in it, but for hidden ones and names that nobody can read; links to folders are not
         followed."""
         seen = 0
-        for top, folders, names in os.walk(self.folder):
-            depth = len(Path(top).relative_to(self.folder).parts)
+        for top, folders, names in os.walk(folder):
+            depth = len(Path(top).relative_to(folder).parts)
             folders[:] = sorted(name for name in folders if not name.startswith('.')) if depth < _DEEPEST else []
             seen += len(names)
             if seen > _MOST_NAMES:

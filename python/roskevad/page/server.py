@@ -5,6 +5,7 @@ has the key as `?key=`. Whoever has the key can read and replace the maps of the
 
     GET /               the page, which is one file
     GET /files          the folder, its place below the root, the maps to open, the undo limit, and the files that may be maps
+    GET /tilesets       the files of tilesets below the root
     GET /files/PATH     a map, a tileset or an image below the root; `Roskevad-Time` is when it was changed
     PUT /files/PATH     saves a map of the folder, whole. `If-Match: "HASH"` says which SHA-256 the file has that it replaces,
                         `If-None-Match: *` that there is none
@@ -300,6 +301,9 @@ class Door(BaseHTTPRequestHandler):
         told = {**self.server.told, 'folder': str(folder.folder), 'prefix': folder.prefix, 'maps': folder.maps()}
         self._give(json.dumps(told, separators=(',', ':')).encode(), 'application/json')
 
+    def _give_tilesets(self, body: bytes) -> None:
+        self._give(json.dumps(self.server.folder.tilesets(), separators=(',', ':')).encode(), 'application/json')
+
     def _give_file(self, body: bytes) -> None:
         found = self.server.folder.read(self.name)
         if found is None:
@@ -334,5 +338,6 @@ class Door(BaseHTTPRequestHandler):
 _ROUTES: dict[str, dict[str, Any]] = {
     '/': {'GET': Door._give_page},
     '/files': {'GET': Door._give_files},
+    '/tilesets': {'GET': Door._give_tilesets},
     'files/': {'GET': Door._give_file, 'PUT': Door._take_file},
 }

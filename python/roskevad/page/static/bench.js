@@ -1,9 +1,8 @@
 // What the hand works with: the editor, the drawn map, the layer, the stamp, the object that was chosen, and words at the hand.
-import { byId, isField } from "./dom.js";
+import { Bubble } from "./bubble.js";
+import { isField } from "./dom.js";
 import { LayerBars, whyBarred } from "./layer_bars.js";
 import { saidOf } from "./refusals.js";
-
-const SHOWN_FOR = 5000;
 
 export class Bench extends EventTarget {
   constructor(editor, view, marks, tilesets) {
@@ -15,6 +14,7 @@ export class Bench extends EventTarget {
     this.stamp = { width: 1, height: 1, values: [1] };
     // Whether a button is down on the map: the panels wait until it is up.
     this.isHeld = false;
+    this.bubble = new Bubble(() => view.drawnBox());
     this.bars = new LayerBars(this);
     this.handX = this.handY = 100;
     addEventListener("pointermove", event => this.moveHand(event.clientX, event.clientY), true);
@@ -84,27 +84,38 @@ export class Bench extends EventTarget {
     this.tell("stamp");
   }
 
-  // Takes the cells of a rectangle of the layer as the stamp, within the selection where `isSelected`.
-  takeCells(x, y, width, height, isSelected = false) {
-    const { map, layer } = this;
-    if (!layer?.isTiles) return this.say("Choose a tile layer to take tiles from.");
-    const values = new Array(width * height).fill(0);
-    const [left, top, wide, high] = map.cut(x, y, width, height);
-    const cells = wide && high ? map.cells(layer.id, left, top, wide, high) : [];
-    for (let at = 0; at < cells.length; at++) {
-      const [column, row] = [left + at % wide, top + Math.floor(at / wide)];
-      if (!isSelected || map.isReached(column, row)) values[(row - y) * width + column - x] = cells[at];
-    }
-    if (values.some(value => value)) this.takeStamp({ width, height, values });
-    else this.say("These cells are empty.");
+  // Takes the cells of a rectangle of the layer as the stamp.
+  takeCells(x, y, width, height) {
+    const stamp = this.stampOf(x, y, width, height);
+    if (stamp) this.takeStamp(stamp);
   }
 
-  takeSelected() {
+  // The stamp of a rectangle of the layer, within the map, and within the selection where `isSelected`; null where there is nothing to
+  // take, which is said.
+  stampOf(x, y, width, height, isSelected = false) {
+    const { map, layer } = this;
+    if (!layer?.isTiles) return this.say("Choose a tile layer to take tiles from.");
+    const [left, top, wide, high] = map.cut(x, y, width, height);
+    const values = wide && high ? Array.from(map.cells(layer.id, left, top, wide, high)) : [];
+    for (let at = 0; isSelected && at < values.length; at++) {
+      if (!map.isReached(left + at % wide, top + Math.floor(at / wide))) values[at] = 0;
+    }
+    return values.some(value => value) ? { width: wide, height: high, values } : this.say("These cells are empty.");
+  }
+
+  // The rectangle of the selection: [x, y, width, height]; null where no cell is selected.
+  get selectedBox() {
     const runs = this.map?.runs ?? [];
-    if (!runs.length) return this.say("Select cells first, with the tool Select.");
-    const [left, top] = [Math.min(...runs.map(run => run[1])), runs[0][0]];
-    const [right, bottom] = [Math.max(...runs.map(run => run[1] + run[2])), runs[runs.length - 1][0] + 1];
-    this.takeCells(left, top, right - left, bottom - top, true);
+    if (!runs.length) return null;
+    let [left, right] = [Infinity, 0];
+    for (const [, column, count] of runs) [left, right] = [Math.min(left, column), Math.max(right, column + count)];
+    return [left, runs[0][0], right - left, runs[runs.length - 1][0] + 1 - runs[0][0]];
+  }
+
+  // The stamp of the selected cells; null where there are none, which is said.
+  selectedStamp() {
+    const box = this.selectedBox;
+    return box ? this.stampOf(...box, true) : this.say("Select cells first, with the tool Select.");
   }
 
   // ---- lines
@@ -131,6 +142,7 @@ export class Bench extends EventTarget {
 
   sayRefusal(done) {
     if (done.barred || done.refusal) this.say(saidOf(done));
+    else this.bubble.hide();
     return done;
   }
 
@@ -146,12 +158,7 @@ export class Bench extends EventTarget {
 
   // Says something where the hand is.
   say(words) {
-    const bubble = byId("bubble");
-    bubble.textContent = words.trim();
-    bubble.hidden = false;
-    bubble.style.left = `${Math.min(this.handX + 14, innerWidth - bubble.offsetWidth - 8)}px`;
-    bubble.style.top = `${Math.max(4, Math.min(this.handY + 14, innerHeight - bubble.offsetHeight - 8))}px`;
-    clearTimeout(this.bubbleTimer);
-    this.bubbleTimer = setTimeout(() => (bubble.hidden = true), SHOWN_FOR);
+    this.bubble.show(words, this.handX, this.handY);
+    return null;
   }
 }

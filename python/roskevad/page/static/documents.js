@@ -1,7 +1,8 @@
 // The open documents as tabs, and what is done with whole maps: new, open, save, close, resize, reload.
 import { ask, button, byId, element } from "./dom.js";
 import { KINDS } from "./kinds.js";
-import { MapList } from "./map_list.js";
+import { FileList } from "./file_list.js";
+import { MapProbe } from "./map_probe.js";
 import { lastOf } from "./names.js";
 import { endNotice, hasNotice, notice } from "./notices.js";
 
@@ -69,8 +70,9 @@ export class Documents {
   async open() {
     const { place } = this.editor;
     const maps = await place.maps().catch(fault => this.bench.say(fault.message) ?? []);
-    const open = new Set(this.editor.documents().map(each => each.path));
-    const path = await new MapList(place, maps, open).ask();
+    const known = new Map(this.editor.documents().map(each => [each.path, "open"]));
+    const probe = new MapProbe(place);
+    const path = await new FileList("Open a map", maps, { known, look: path => probe.look(path), none: "There is no map here." }).ask();
     if (path) await this.openPath(path);
   }
 

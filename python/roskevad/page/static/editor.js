@@ -370,7 +370,8 @@ export class Editor extends EventTarget {
   }
 
   step(at) {
-    return { text: replyOf(this.session, `text ${at}`).slice("text ".length), isMacro: this.session.isMacro(at) !== false };
+    const subject = this.notes.subjects.get(this.notes.active)?.of(at) ?? null;
+    return { text: replyOf(this.session, `text ${at}`).slice("text ".length), isMacro: this.session.isMacro(at) !== false, subject };
   }
 
   // The open documents in their order. No line tells how one stands that is not active, so each is made the active one for a moment.

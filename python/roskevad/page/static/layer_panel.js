@@ -20,8 +20,8 @@ export class LayerPanel {
     byId("layer-actions").append(
       button("+ Tiles", "Add a tile layer", () => this.add("tile"), { id: "add-tile-layer" }),
       button("+ Objects", "Add an object layer", () => this.add("object"), { id: "add-object-layer" }),
-      button("Up", "Draw this layer later", () => this.move(1), { id: "layer-up" }),
-      button("Down", "Draw this layer earlier", () => this.move(-1), { id: "layer-down" }),
+      button("↑", "Up: draw this layer later", () => this.move(1), { id: "layer-up" }),
+      button("↓", "Down: draw this layer earlier", () => this.move(-1), { id: "layer-down" }),
       button("Rename", "Rename this layer: a double click", () => this.rename(), { id: "rename-layer" }),
       button("Remove", "Remove this layer, with all that is in it", () => this.remove(), { id: "remove-layer" }),
     );

@@ -3,22 +3,26 @@ import { Bench } from "./bench.js";
 import { Documents } from "./documents.js";
 import { byId } from "./dom.js";
 import { Editor } from "./editor.js";
+import { bindFieldKeys } from "./field_keys.js";
 import { recordSum } from "./journal.js";
 import { LayerPanel } from "./layer_panel.js";
+import { Layouts } from "./layouts.js";
 import { LinePanel } from "./line_panel.js";
 import { MapView } from "./map_view.js";
 import { Marks } from "./marks.js";
 import { endNotice, notice } from "./notices.js";
+import { ObjectList } from "./object_list.js";
 import { loadModule } from "./own_module.js";
 import { Palette } from "./palette.js";
-import { bindFieldKeys } from "./field_keys.js";
-import { ObjectList } from "./object_list.js";
+import { Panels } from "./panels.js";
 import { PlacePanel } from "./place_panel.js";
 import { ServedFiles } from "./places.js";
 import { Player } from "./player.js";
 import { PropertyPanel } from "./property_panel.js";
 import { Recovery } from "./recovery.js";
+import { StatusBar } from "./status_bar.js";
 import { StepPanel } from "./step_panel.js";
+import { TilesetPanel } from "./tileset_panel.js";
 import { Tilesets } from "./tilesets.js";
 import { Toolbar } from "./toolbar.js";
 import { Tools } from "./tools.js";
@@ -34,6 +38,7 @@ const NEEDED = {
 class Page {
   constructor(editor) {
     this.editor = editor;
+    this.panels = new Panels(() => this.bench.tell("layout"));
     this.tilesets = new Tilesets(editor);
     this.view = new MapView(byId("view"), editor, this.tilesets);
     this.marks = new Marks(this.view, editor, this.tilesets);
@@ -42,6 +47,8 @@ class Page {
     this.documents = new Documents(bench);
     this.toolbar = new Toolbar(bench, this.tools, this.documents);
     this.palette = new Palette(bench, this.tilesets);
+    this.tilesetPanel = new TilesetPanel(bench, this.tilesets, this.palette);
+    this.status = new StatusBar(bench, this.tilesets);
     this.layers = new LayerPanel(bench);
     this.properties = new PropertyPanel(bench);
     this.objects = new ObjectList(bench, this.tools);
@@ -50,6 +57,7 @@ class Page {
     this.recovery = new Recovery(bench, this.panel);
     this.lines = new LinePanel(bench);
     this.player = new Player(bench);
+    this.layouts = new Layouts(this);
     this.shownDocument = null;
     this.listen();
     bindFieldKeys(bench);
@@ -65,28 +73,32 @@ class Page {
     editor.addEventListener("state", () => this.showState());
     bench.addEventListener("free", () => this.showState());
     bench.addEventListener("chosen", () => this.showChosen());
-    bench.addEventListener("hand", () => this.showHand());
+    this.tilesets.onLooks = () => view.redraw();
     view.onMove = () => {
       byId("scale").textContent = `${Math.round(view.scale * 100)} %`;
       marks.redraw();
+      this.layouts.keep();
     };
   }
 
-  // Another map: its tilesets may be others, and where its document is another one it is shown whole.
+  // Another map: its tilesets may be others. Where its document is another one it is shown as it was left, and whole at first.
   async showMap() {
     const { active } = this.editor.notes;
-    this.bench.settle();
-    if (active !== this.shownDocument) this.view.fit();
+    const isOther = active !== this.shownDocument;
     this.shownDocument = active;
+    const kept = isOther ? this.layouts.enter(active) : null;
+    this.bench.settle();
+    if (isOther && !kept) this.view.fit();
     this.view.takeMap();
     this.marks.redraw();
     await this.showTilesets();
+    if (kept && this.shownDocument === active) this.layouts.enterTiles(kept);
   }
 
   async showTilesets() {
     const { bench, tilesets } = this;
     if (!(await tilesets.take(this.editor.map))) return;
-    this.palette.show();
+    this.tilesetPanel.show();
     this.view.redraw();
     this.panel.showMissing();
     if (bench.map && !tilesets.of(bench.fillValue)) bench.takeStamp({ width: 1, height: 1, values: [tilesets.all[0]?.first ?? 1] });
@@ -94,25 +106,16 @@ class Page {
 
   showState() {
     if (this.bench.isHeld) return;
-    const { active, index, count, isClean, isWriting, depth } = this.editor.state;
     this.documents.show();
     this.steps.show();
     this.toolbar.show();
-    const standing = `${index}/${count} ${isWriting ? "is being saved" : isClean ? "saved" : "not saved"}${depth ? `, ${depth} open` : ""}`;
-    byId("standing").textContent = active ? standing : "";
+    this.status.showState(this.editor.state);
     this.showChosen();
   }
 
   showChosen() {
     this.layers.show();
     this.properties.show();
-  }
-
-  showHand() {
-    const { layer, map, place } = this.bench;
-    const cell = place?.cell;
-    const value = cell && layer?.isTiles && map.isInside(...cell) ? map.value(layer.id, ...cell) : null;
-    byId("place").textContent = cell && map ? `${cell.join(", ")}${value === null ? "" : ` tile ${value}`}` : "";
   }
 }
 

@@ -2,13 +2,21 @@
 
 export const TILE = 0x0fffffff;
 
+// How far a layer may be moved aside, in pixels.
+const FARTHEST = 1_000_000;
+
+// A member that the editor keeps as it stands in the file, as a number within bounds; `usual` where it is none.
+function numberOf(value, usual, least, most) {
+  return Number.isFinite(value) ? Math.max(least, Math.min(most, value)) : usual;
+}
+
 // All layers in the order in which they are drawn, each with the group that it stands in, how deep, and whether it is seen.
 function flattened(layers, group, depth, isSeen, found) {
   layers.forEach((data, place) => {
     const layer = { data, group, depth, place, siblings: layers.length, id: data.id, type: data.type, isSeen: isSeen && data.visible !== false };
-    layer.offsetX = (group?.offsetX ?? 0) + (data.offsetx ?? 0);
-    layer.offsetY = (group?.offsetY ?? 0) + (data.offsety ?? 0);
-    layer.opacity = (group?.opacity ?? 1) * (data.opacity ?? 1);
+    layer.offsetX = (group?.offsetX ?? 0) + numberOf(data.offsetx, 0, -FARTHEST, FARTHEST);
+    layer.offsetY = (group?.offsetY ?? 0) + numberOf(data.offsety, 0, -FARTHEST, FARTHEST);
+    layer.opacity = (group?.opacity ?? 1) * numberOf(data.opacity, 1, 0, 1);
     layer.isTiles = data.type === "tilelayer";
     found.push(layer);
     if (data.type === "group") flattened(data.layers, layer, depth + 1, layer.isSeen, found);
@@ -69,10 +77,10 @@ export class MapModel {
     return [left, top, Math.max(0, Math.min(this.width, x + width) - left), Math.max(0, Math.min(this.height, y + height) - top)];
   }
 
-  // The cells that a block changes: [place, value before, value after]. A block is what a line `stamp` or `erase` says: its values
-  // row by row, where 0 leaves the cell; without values the cells are emptied.
+  // The cells that a block changes: their places in the rows of the map, and the values before and behind it. A block is what a line
+  // `stamp` or `erase` says: its values row by row, where 0 leaves the cell; without values the cells are emptied.
   changes(block) {
-    const found = [];
+    const found = { places: [], before: [], after: [] };
     const [left, top, width, height] = this.cut(block.x, block.y, block.width, block.height);
     if (!this.layer(block.layer)?.isTiles || !width || !height) return found;
     const cells = this.cells(block.layer, left, top, width, height);
@@ -80,9 +88,25 @@ export class MapModel {
       const [x, y] = [left + at % width, top + Math.floor(at / width)];
       const value = block.values ? block.values[(y - block.y) * block.width + x - block.x] : 0;
       if ((block.values && value === 0) || cells[at] === value || !this.isReached(x, y)) continue;
-      found.push([y * this.width + x, cells[at], value]);
+      found.places.push(y * this.width + x);
+      found.before.push(cells[at]);
+      found.after.push(value);
     }
     return found;
+  }
+
+  // Why a block changes no cell, whatever they have: it lies outside of the map, or the selection has none of its cells. "" where it may.
+  barOf(block) {
+    const [left, top, width, height] = this.cut(block.x, block.y, block.width, block.height);
+    if (!width || !height) return "outside";
+    if (!this.selected) return "";
+    for (let y = top; y < top + height; y++) {
+      for (let x = left; x < left + width; x++) {
+        const isLeft = block.values && block.values[(y - block.y) * block.width + x - block.x] === 0;
+        if (!isLeft && this.selected[y * this.width + x]) return "";
+      }
+    }
+    return "selection";
   }
 }
 

@@ -8,6 +8,8 @@ const SCALES = [1 / 16, 1 / 12, 1 / 8, 1 / 6, 1 / 4, 1 / 3, 1 / 2, 2 / 3, 1, 1.5
 const SMALLEST_TILE = 6;
 const SMALLEST_NUMBER = 15;
 const MOST_MEASURES = 1000;
+// How many cells are drawn at the hand's event itself.
+const MOST_AT_ONCE = 2500;
 // A colour with at least this alpha hides what is below it, where the map is seen from afar.
 const HIDES = 250;
 const GROUND = "#5b6068";
@@ -62,10 +64,14 @@ export class MapView {
     this.scale = 2;
     this.originX = this.originY = 16;
     this.changed = null;
+    // What was drawn last of a stroke: the cells from x0, y0 to x1, y1.
+    this.drawn = null;
     this.isWhole = true;
     this.moved = [0, 0];
     this.seen = new SeenCells();
     this.measures = [];
+    // When the page began to work on the hand's last event.
+    this.work = 0;
     // Called behind each drawing that the view has moved for.
     this.onMove = () => {};
     this.resize();
@@ -152,9 +158,9 @@ export class MapView {
   redrawCells(edits) {
     const width = this.map.width;
     for (const { block, changed } of edits) {
-      for (const [place, , value] of changed) {
-        const [x, y] = [place % width, Math.floor(place / width)];
-        this.seen.put(block.layer, x, y, value);
+      for (let at = 0; at < changed.places.length; at++) {
+        const [x, y] = [changed.places[at] % width, Math.floor(changed.places[at] / width)];
+        this.seen.put(block.layer, x, y, changed.after[at]);
         this.widen(x, y);
       }
     }
@@ -174,8 +180,18 @@ export class MapView {
 
   // Shows the map that the editor has.
   takeMap() {
+    this.drawn = null;
     this.seen.takeMap(this.map);
     this.redraw();
+  }
+
+  // The box of the window in which a stroke has drawn last, or null.
+  drawnBox() {
+    if (!this.drawn || !this.map) return null;
+    const [x0, y0, x1, y1] = this.drawn;
+    const frame = this.box.getBoundingClientRect();
+    const [left, top, right, bottom] = [this.edgeX(x0), this.edgeY(y0), this.edgeX(x1 + 1), this.edgeY(y1 + 1)].map(edge => edge / this.ratio);
+    return { left: frame.left + left, top: frame.top + top, right: frame.left + right, bottom: frame.top + bottom };
   }
 
   widen(x, y) {
@@ -202,6 +218,16 @@ export class MapView {
     });
   }
 
+  // Draws what a stroke has changed at once, where there is nothing else to draw, and few cells: else the next frame of the screen does.
+  drawNow() {
+    if (!this.changed || this.isWhole || this.moved[0] || this.moved[1]) return;
+    const [x0, y0, x1, y1] = this.changed;
+    if ((x1 - x0 + 1) * (y1 - y0 + 1) > MOST_AT_ONCE) return;
+    cancelAnimationFrame(this.frame);
+    this.frame = null;
+    this.draw();
+  }
+
   draw() {
     const { isWhole, changed, moved } = this;
     const isMoved = moved[0] !== 0 || moved[1] !== 0;
@@ -212,6 +238,7 @@ export class MapView {
     if (isWhole || !this.map) this.drawBox(0, 0, this.canvas.width, this.canvas.height);
     else if (isMoved) this.drawMoved(...moved);
     if (changed && this.map && !isWhole) this.drawRegion(...this.region(changed));
+    if (changed) this.drawn = changed;
     this.endMeasures();
     if (isWhole || isMoved) this.onMove();
   }

@@ -21,7 +21,7 @@ export class Marks {
     this.chosen = null;
     // Where an object is drawn while it is dragged, and how large: { id, x, y, width, height }.
     this.dragged = null;
-    // What the hand is about to do: { cells: [x, y, width, height], values, kind }.
+    // What the hand is about to do: { cells: [x, y, width, height], values, line, colour }; a line goes from a cell to a cell.
     this.hand = null;
   }
 
@@ -250,7 +250,7 @@ export class Marks {
     const pen = this.handPen;
     pen.clearRect(0, 0, this.canvas.width, this.canvas.height);
     if (!this.map || !this.hand) return;
-    const { cells: [x, y, width, height], values, colour } = this.hand;
+    const { cells: [x, y, width, height], values, line, colour } = this.hand;
     const view = this.view;
     pen.globalAlpha = 0.75;
     pen.imageSmoothingEnabled = view.scale < 1;
@@ -265,5 +265,15 @@ export class Marks {
     pen.strokeStyle = colour;
     pen.lineWidth = 2;
     pen.strokeRect(view.edgeX(x), view.edgeY(y), view.edgeX(x + width) - view.edgeX(x), view.edgeY(y + height) - view.edgeY(y));
+    if (line) this.drawLine(...line);
+  }
+
+  // The line that Shift would draw.
+  drawLine(from, to) {
+    const { handPen: pen, view } = this;
+    const middle = (edge, at) => (edge.call(view, at) + edge.call(view, at + 1)) / 2;
+    pen.beginPath();
+    for (const [x, y] of [from, to]) pen.lineTo(middle(view.edgeX, x), middle(view.edgeY, y));
+    pen.stroke();
   }
 }

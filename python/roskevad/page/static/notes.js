@@ -1,6 +1,7 @@
 // What no line tells of a session: which document is active, which lines each one has, and which file.
 import { isAboutDocuments, wordOf } from "./line_kinds.js";
 import { PaintedSteps } from "./painted_steps.js";
+import { StepSubjects } from "./step_subjects.js";
 
 export class Notes {
   // `limit` is the undo limit of new documents.
@@ -8,6 +9,8 @@ export class Notes {
     this.limit = limit;
     // Where the steps of each document have painted.
     this.painted = new Map();
+    // What the steps of each document are about.
+    this.subjects = new Map();
     this.active = null;
     // The accepted lines of each document, from its `new` or `open` on, without those that only look.
     this.sessions = new Map();
@@ -31,6 +34,7 @@ export class Notes {
     if (isAboutDocuments(line)) this.noteDocument(word, name, line);
     else if (this.active !== null) this.sessions.get(this.active).push(line);
     this.paintedNow?.note(line, reply);
+    this.subjects.get(this.active)?.note(line, reply);
     if (file) this.files.set(name, { path: file.path, word: source, mark: { hash: file.hash, size: file.size, time: file.time } });
   }
 
@@ -38,8 +42,9 @@ export class Notes {
     if (word === "new" || word === "open") {
       this.sessions.set(name, [line]);
       this.painted.set(name, new PaintedSteps(this.limit > 0));
+      this.subjects.set(name, new StepSubjects(this.limit > 0));
     } else if (word !== "use") {
-      for (const kept of [this.sessions, this.painted, this.files, this.writing]) kept.delete(name);
+      for (const kept of [this.sessions, this.painted, this.subjects, this.files, this.writing]) kept.delete(name);
       if (name !== this.active) return;
       name = "-";
     }

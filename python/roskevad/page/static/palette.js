@@ -1,9 +1,13 @@
-// The palette: the tiles of a tileset, to click at one or to drag over several; and the stamp that the brush has.
-import { byId, element } from "./dom.js";
+// The palette: the tiles of a tileset, to click at one or to drag over several; and the stamp that the brush has. Only what is seen of it
+// is drawn.
+import { byId } from "./dom.js";
 import { TILE } from "./map_model.js";
 import { drawTile } from "./map_view.js";
+import { wordsOf } from "./tile_words.js";
 
-const SIDE = 32;
+// How wide a tile may be, in pixels of the page; and how many stand in a row where no image tells.
+const SIDES = [16, 24, 32, 48, 64, 96, 128];
+const USUAL = 2;
 const WIDEST = 8;
 
 export class Palette {
@@ -11,31 +15,22 @@ export class Palette {
     this.bench = bench;
     this.tilesets = tilesets;
     this.first = null;
+    this.side = SIDES[USUAL];
     this.canvas = byId("palette");
     this.pen = this.canvas.getContext("2d");
+    this.box = byId("palette-box");
     this.canvas.onpointerdown = event => this.down(event);
-    this.canvas.onpointermove = event => this.from && this.drag(event);
+    this.canvas.onpointermove = event => this.move(event);
     this.canvas.onpointerup = event => this.up(event);
-    byId("tilesets").onchange = event => {
-      this.first = Number(event.target.value);
-      this.draw();
-      event.target.blur();
-    };
-    bench.addEventListener("stamp", () => this.draw());
+    this.canvas.onpointerleave = () => this.tell(null);
+    this.box.onscroll = () => this.askFrame();
+    this.box.addEventListener("wheel", event => this.wheel(event), { passive: false });
+    new ResizeObserver(() => this.askFrame()).observe(this.box);
+    bench.addEventListener("stamp", () => this.takeStamp());
   }
 
   get tileset() {
     return this.tilesets.all.find(set => set.first === this.first) ?? this.tilesets.all[0];
-  }
-
-  // Shows the tilesets of another map.
-  show() {
-    const sets = this.tilesets.all;
-    const nameOf = set => `${set.name}${set.image ? "" : " (no image in the folder)"}`;
-    byId("tilesets").replaceChildren(...sets.map(set => element("option", { value: set.first, textContent: nameOf(set) })));
-    if (sets.length && !sets.some(set => set.first === this.first)) this.first = sets[0].first;
-    byId("tilesets").value = String(this.first);
-    this.draw();
   }
 
   // The columns of the image, or eight.
@@ -43,32 +38,101 @@ export class Palette {
     return this.tileset.image ? this.tileset.columns : WIDEST;
   }
 
+  get rows() {
+    return Math.ceil(this.tileset.count / this.columns);
+  }
+
+  // Shows a tileset of the map, by its first id.
+  choose(first) {
+    this.first = first;
+    this.box.scrollTo(0, 0);
+    this.draw();
+    this.bench.tell("layout");
+  }
+
+  // ---- its scale
+  zoom(steps) {
+    const at = Math.max(0, Math.min(SIDES.length - 1, SIDES.indexOf(this.side) + steps));
+    this.zoomTo(SIDES[at]);
+  }
+
+  // What is in the middle stays there.
+  zoomTo(side) {
+    if (!SIDES.includes(side) || side === this.side) return;
+    const { box } = this;
+    const [x, y] = [box.scrollLeft + box.clientWidth / 2, box.scrollTop + box.clientHeight / 2].map(at => at / this.side * side);
+    this.side = side;
+    this.draw();
+    box.scrollTo(x - box.clientWidth / 2, y - box.clientHeight / 2);
+    this.bench.tell("layout");
+  }
+
+  wheel(event) {
+    if (!event.ctrlKey && !event.metaKey) return;
+    event.preventDefault();
+    this.zoom(event.deltaY < 0 ? 1 : -1);
+  }
+
+  // ---- drawing
+  askFrame() {
+    this.frame ??= requestAnimationFrame(() => {
+      this.frame = null;
+      this.draw();
+    });
+  }
+
   draw() {
     const set = this.tileset;
-    this.canvas.hidden = !set;
-    if (!set) return;
-    this.canvas.width = this.columns * SIDE + 1;
-    this.canvas.height = Math.ceil(set.count / this.columns) * SIDE + 1;
-    this.pen.imageSmoothingEnabled = false;
-    for (let tile = 0; tile < set.count; tile++) this.drawTile(set, tile);
+    const size = byId("palette-size");
+    size.hidden = !set;
     this.drawStamp();
+    if (!set) return;
+    const [width, height] = [this.columns * this.side + 1, this.rows * this.side + 1];
+    size.style.width = `${width}px`;
+    size.style.height = `${height}px`;
+    this.sizeCanvas(Math.min(width, this.box.clientWidth), Math.min(height, this.box.clientHeight));
+    const [left, top] = this.corner();
+    const ratio = devicePixelRatio;
+    this.pen.setTransform(ratio, 0, 0, ratio, -left * ratio, -top * ratio);
+    this.pen.clearRect(left, top, this.box.clientWidth, this.box.clientHeight);
+    this.pen.imageSmoothingEnabled = this.side < set.tileWidth;
+    const [x0, y0] = [Math.floor(left / this.side), Math.floor(top / this.side)];
+    const [x1, y1] = [Math.ceil((left + this.box.clientWidth) / this.side), Math.ceil((top + this.box.clientHeight) / this.side)];
+    for (let at = x0 + y0 * this.columns, y = y0; y < Math.min(y1, this.rows); y++, at = x0 + y * this.columns) {
+      for (let x = x0; x < Math.min(x1, this.columns); x++, at++) if (at < set.count) this.drawTile(set, at, x * this.side, y * this.side);
+    }
     this.drawFrame();
   }
 
-  drawTile(set, tile) {
-    const scale = Math.min((SIDE - 1) / set.tileWidth, (SIDE - 1) / set.tileHeight);
-    const [x, y] = [tile % this.columns * SIDE, Math.floor(tile / this.columns) * SIDE];
+  // A canvas is as large as what is seen, in pixels of the screen.
+  sizeCanvas(width, height) {
+    const [wide, high] = [width, height].map(length => Math.max(1, Math.round(length * devicePixelRatio)));
+    if (this.canvas.width !== wide) this.canvas.width = wide;
+    if (this.canvas.height !== high) this.canvas.height = high;
+    this.canvas.style.width = `${width}px`;
+    this.canvas.style.height = `${height}px`;
+  }
+
+  // Where the upper left corner of the canvas is among the tiles.
+  corner() {
+    const [inside, all] = [this.canvas.getBoundingClientRect(), byId("palette-size").getBoundingClientRect()];
+    return [inside.left - all.left, inside.top - all.top];
+  }
+
+  drawTile(set, tile, x, y) {
+    const scale = Math.min((this.side - 1) / set.tileWidth, (this.side - 1) / set.tileHeight);
     drawTile(this.pen, this.tilesets, set.first + tile, x + 1, y + 1, set.tileWidth * scale, set.tileHeight * scale);
   }
 
   // A frame around the tiles of the stamp, where they stand in this tileset.
   drawFrame() {
+    const { side, columns, tileset } = this;
     this.pen.strokeStyle = "#ffd34d";
     this.pen.lineWidth = 2;
     for (const value of new Set(this.bench.stamp.values.map(each => each & TILE))) {
-      const tile = value - this.tileset.first;
-      if (tile < 0 || tile >= this.tileset.count || value === 0) continue;
-      this.pen.strokeRect(tile % this.columns * SIDE + 1, Math.floor(tile / this.columns) * SIDE + 1, SIDE - 1, SIDE - 1);
+      const tile = value - tileset.first;
+      if (tile < 0 || tile >= tileset.count || value === 0) continue;
+      this.pen.strokeRect(tile % columns * side + 1, Math.floor(tile / columns) * side + 1, side - 1, side - 1);
     }
   }
 
@@ -79,21 +143,46 @@ export class Palette {
     const side = Math.floor(canvas.width / Math.max(width, height));
     pen.clearRect(0, 0, canvas.width, canvas.height);
     pen.imageSmoothingEnabled = false;
-    values.forEach((value, at) => value && drawTile(pen, this.tilesets, value, at % width * side, Math.floor(at / width) * side, side, side));
-    byId("stamp-size").textContent = `${width} × ${height}`;
+    if (side > 0) values.forEach((value, at) => value && drawTile(pen, this.tilesets, value, at % width * side, Math.floor(at / width) * side, side, side));
+    byId("stamp-size").textContent = values.length === 1 ? wordsOf(values[0], this.tilesets) : `${width} × ${height}`;
   }
 
+  // ---- the stamp
+  // Shows where the first tile of a stamp stands that was taken elsewhere.
+  takeStamp() {
+    const value = this.bench.stamp.values.find(each => each !== 0) ?? 0;
+    const tileset = this.tilesets.of(value);
+    if (!this.from && tileset && value) this.reveal(tileset, (value & TILE) - tileset.first);
+    this.draw();
+  }
+
+  reveal(tileset, tile) {
+    if (tileset !== this.tileset) this.first = tileset.first;
+    byId("tilesets").value = String(this.first);
+    this.draw();
+    const { box, side } = this;
+    const within = (from, length, at) => Math.max(at + side + 1 - length, Math.min(from, at));
+    box.scrollTo(within(box.scrollLeft, box.clientWidth, tile % this.columns * side), within(box.scrollTop, box.clientHeight, Math.floor(tile / this.columns) * side));
+  }
+
+  // ---- the hand
   placeOf(event) {
-    const frame = this.canvas.getBoundingClientRect();
-    const rows = Math.ceil(this.tileset.count / this.columns);
-    const within = (length, most) => Math.max(0, Math.min(most - 1, Math.floor(length / SIDE)));
-    return [within(event.clientX - frame.left, this.columns), within(event.clientY - frame.top, rows)];
+    const frame = byId("palette-size").getBoundingClientRect();
+    const within = (length, most) => Math.max(0, Math.min(most - 1, Math.floor(length / this.side)));
+    return [within(event.clientX - frame.left, this.columns), within(event.clientY - frame.top, this.rows)];
   }
 
   down(event) {
+    if (event.button !== 0 || !this.tileset) return;
     this.canvas.setPointerCapture(event.pointerId);
     this.from = this.placeOf(event);
     this.drag(event);
+  }
+
+  move(event) {
+    if (!this.tileset) return;
+    if (this.from) this.drag(event);
+    this.tell(this.placeOf(event));
   }
 
   drag(event) {
@@ -110,5 +199,11 @@ export class Palette {
   up(event) {
     if (this.from) this.drag(event);
     this.from = null;
+  }
+
+  // Tells which tile is under the hand, by its id.
+  tell(place) {
+    const tile = place && place[0] + place[1] * this.columns;
+    byId("tile-told").textContent = place && tile < this.tileset.count ? `tile ${tile}` : "";
   }
 }

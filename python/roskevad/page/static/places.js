@@ -4,7 +4,7 @@
 //
 //   kind, title       which one it is, and what stands beside the tabs
 //   isDownload        whether a save is a download, which nobody sees end
-//   maps()            the files that may be maps: [{ path, size, time }]
+//   maps(), tilesets()  the files that may be maps, and the files of tilesets: [{ path, size, time }]
 //   look(path)        the size and the time of a file; null where there is none, or where that cannot be told
 //   read(path)        the bytes of a file and its mark: { bytes, mark }; null where there is none
 //   bytes(path)       the bytes of a tileset or of an image; null where there is none
@@ -17,6 +17,7 @@ import { joined, lastOf } from "./names.js";
 export const LONGEST_FILE = 64 * 1024 * 1024;
 
 export const isMapName = name => /\.(tmj|json)$/i.test(name);
+const isTilesetName = name => /\.(tsx|tsj)$/i.test(name);
 
 // The file is not what it must be: it was changed by another program, or a file has come.
 export class Changed extends Error {}
@@ -64,7 +65,15 @@ export class ChosenFiles {
   }
 
   async maps() {
-    return [...this.files].filter(([path]) => isMapName(path)).map(([path, { bytes, time }]) => ({ path, size: bytes.length, time })).sort(byPath);
+    return this.named(isMapName);
+  }
+
+  async tilesets() {
+    return this.named(isTilesetName);
+  }
+
+  named(isWanted) {
+    return [...this.files].filter(([path]) => isWanted(path)).map(([path, { bytes, time }]) => ({ path, size: bytes.length, time })).sort(byPath);
   }
 
   // A browser that still has the file tells whether it is another one by now.
@@ -92,7 +101,7 @@ export class ChosenFiles {
   async write(path, bytes) {
     download(lastOf(path), bytes);
     const time = Date.now();
-    this.files.set(path, { bytes: bytes.slice(), time, file: null });
+    this.files.set(path, { bytes: bytes.slice(), time, file: null, isSaved: true });
     return markOf(bytes, time);
   }
 
@@ -141,17 +150,25 @@ export class FolderFiles {
     }
   }
 
-  async maps() {
+  maps() {
+    return this.named(isMapName);
+  }
+
+  tilesets() {
+    return this.named(isTilesetName);
+  }
+
+  async named(isWanted) {
     const found = [];
-    await this.walk(this.folder, "", 0, found);
+    await this.walk(this.folder, "", 0, found, isWanted);
     return found.sort(byPath);
   }
 
-  async walk(folder, path, depth, found) {
+  async walk(folder, path, depth, found, isWanted) {
     for await (const [name, handle] of folder.entries()) {
-      if (name.startsWith(".") || found.length >= MOST_MAPS) continue;
-      if (handle.kind === "directory" && depth < DEEPEST) await this.walk(handle, `${path}${name}/`, depth + 1, found);
-      else if (handle.kind === "file" && isMapName(name)) {
+      if (name.startsWith(".") || found.length >= MOST_FILES) continue;
+      if (handle.kind === "directory" && depth < DEEPEST) await this.walk(handle, `${path}${name}/`, depth + 1, found, isWanted);
+      else if (handle.kind === "file" && isWanted(name)) {
         const file = await handle.getFile();
         found.push({ path: path + name, size: file.size, time: file.lastModified });
       }
@@ -171,7 +188,8 @@ export class FolderFiles {
   }
 
   async bytes(path) {
-    return (await this.read(path))?.bytes ?? null;
+    const file = await (await this.handle(path))?.getFile();
+    return file ? bytesOf(file) : null;
   }
 
   // The browser writes a file beside it, and puts that in its place as it is closed.
@@ -200,8 +218,8 @@ export class FolderFiles {
   }
 }
 
-// How many maps a folder lists at most, and how deep its folders are looked into.
-const MOST_MAPS = 2000;
+// How many files a folder lists at most, and how deep its folders are looked into.
+const MOST_FILES = 2000;
 const DEEPEST = 8;
 
 // The folder of `tile_page`. The server has no editor: it gives files, and takes those that are saved.
@@ -266,6 +284,10 @@ export class ServedFiles extends EventTarget {
     return (await this.told()).maps.sort(byPath);
   }
 
+  async tilesets() {
+    return (await (await this.ask(this.address("/tilesets"))).json()).sort(byPath);
+  }
+
   async look(path) {
     const { maps } = await this.told();
     return maps.find(each => each.path === path) ?? this.lookAt(path);
@@ -277,17 +299,25 @@ export class ServedFiles extends EventTarget {
     return found ? found.mark : { size: -1, time: -1 };
   }
 
-  async read(path) {
+  // The answer of the server that has a file; null where there is none.
+  async answerWith(path) {
     const address = this.addressOf(path);
     const answer = address && (await this.ask(address));
     if (!answer || answer.status === 404) return null;
     if (!answer.ok) throw new Failed(`the server answers ${answer.status}`);
+    return answer;
+  }
+
+  async read(path) {
+    const answer = await this.answerWith(path);
+    if (!answer) return null;
     const bytes = new Uint8Array(await answer.arrayBuffer());
     return { bytes, mark: await markOf(bytes, Number(answer.headers.get("Roskevad-Time"))) };
   }
 
   async bytes(path) {
-    return (await this.read(path))?.bytes ?? null;
+    const answer = await this.answerWith(path);
+    return answer && new Uint8Array(await answer.arrayBuffer());
   }
 
   async write(path, bytes, mark) {

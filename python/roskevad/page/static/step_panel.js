@@ -1,4 +1,5 @@
-// The steps of the active document: those that were made, the present place, the clean mark, and those that were undone.
+// The steps of the active document: those that were made, each with what it is about, the present place, the clean mark, and those that
+// were undone.
 import { button, byId, element } from "./dom.js";
 
 const MORE = 1000;
@@ -7,6 +8,8 @@ export class StepPanel {
   constructor(bench) {
     this.bench = bench;
     this.editor = bench.editor;
+    // The names that layers and objects have, or had before they were removed, by their documents.
+    this.names = new Map();
   }
 
   show() {
@@ -16,7 +19,8 @@ export class StepPanel {
       list.replaceChildren();
       return;
     }
-    const rows = state.steps.map((step, at) => this.row(state.firstStep + at + 1, step.text, step.isMacro));
+    this.keepNames(state.active);
+    const rows = state.steps.map((step, at) => this.row(state.firstStep + at + 1, this.wordsOf(step), step.isMacro));
     if (state.firstStep === 0) rows.unshift(this.row(0, "(as it began)", false));
     else rows.unshift(this.more(`${state.firstStep} earlier steps ..`));
     const later = state.count - state.firstStep - state.steps.length;
@@ -25,12 +29,32 @@ export class StepPanel {
     list.querySelector(".now")?.scrollIntoView({ block: "nearest" });
   }
 
+  keepNames(document) {
+    const { map } = this.bench;
+    if (!map || this.shown === map) return;
+    this.shown = map;
+    if (!this.names.has(document)) this.names.set(document, { layers: new Map(), objects: new Map() });
+    const { layers, objects } = this.names.get(document);
+    for (const { id, data } of map.layers) {
+      layers.set(id, data.name);
+      for (const object of data.objects ?? []) objects.set(object.id, object.name);
+    }
+  }
+
+  // A step and what it is about: `Stamp · Ground`.
+  wordsOf({ text, subject }) {
+    const { layers, objects } = this.names.get(this.editor.state.active) ?? {};
+    const named = subject && (subject.name ?? (subject.layer ? layers?.get(subject.layer) || `layer ${subject.layer}`
+      : objects?.get(subject.object) || `object ${subject.object}`));
+    return named ? `${text} · ${named}` : text;
+  }
+
   row(place, text, isMacro) {
     const { index, cleanIndex, count, depth } = this.editor.state;
     const isOpen = depth > 0 && place === count;
     const row = element("li", { data: { place }, onclick: () => this.bench.act([`goto ${place}`]) },
       element("span", { className: "number", textContent: place }),
-      element("span", { className: "name", textContent: text }),
+      element("span", { className: "name", textContent: text, title: text }),
       element("span", { className: "kind", textContent: isOpen ? "open macro" : isMacro ? "macro" : "" }),
       element("span", { className: "clean", textContent: place === cleanIndex ? "saved" : "" }));
     row.classList.toggle("now", place === index);

@@ -2,91 +2,49 @@
 // map itself.
 import { TILE } from "./map_model.js";
 import { folderOf } from "./names.js";
+import { TileLooks } from "./tile_looks.js";
+import { Wrong, checked, claimOf, heldBy, imageOf, readTileset } from "./tileset_files.js";
 
-function numbersOf(node, names) {
-  return Object.fromEntries(names.map(name => [name, Number(node.getAttribute(name) ?? 0)]));
-}
+export { colourOf } from "./tile_looks.js";
 
-function readXml(text) {
-  const root = new DOMParser().parseFromString(text, "application/xml").documentElement;
-  const image = [...root.children].find(child => child.tagName === "image");
-  const numbers = numbersOf(root, ["tilewidth", "tileheight", "tilecount", "columns", "spacing", "margin"]);
-  return { ...numbers, name: root.getAttribute("name"), image: image?.getAttribute("source") };
-}
-
-// The kinds that an image must have told, since a browser does not look for them.
-const KINDS = { svg: "image/svg+xml" };
-const decoder = new TextDecoder();
-
-async function imageOf(path, bytes) {
-  const image = new Image();
-  const type = KINDS[path.slice(path.lastIndexOf(".") + 1).toLowerCase()] ?? "";
-  image.src = URL.createObjectURL(new Blob([bytes], { type }));
-  try {
-    await image.decode();
-  } finally {
-    URL.revokeObjectURL(image.src);
-  }
-  return image;
-}
-
-// The mean colour of each tile, for maps that are seen from afar: [red, green, blue, alpha] one behind the other; and which tiles hide
-// all that is below them.
-function looksOf(tileset) {
-  const sheet = new OffscreenCanvas(tileset.image.width, tileset.image.height);
-  const pen = sheet.getContext("2d", { willReadFrequently: true });
-  pen.drawImage(tileset.image, 0, 0);
-  const means = new Uint8ClampedArray(tileset.count * 4);
-  const hides = new Uint8Array(tileset.count);
-  for (let tile = 0; tile < tileset.count; tile++) {
-    const [x, y] = tileset.placeOf(tile);
-    const pixels = pen.getImageData(x, y, tileset.tileWidth, tileset.tileHeight).data;
-    means.set(meanOf(pixels), tile * 4);
-    hides[tile] = pixels.every((part, at) => at % 4 < 3 || part === 255) ? 1 : 0;
-  }
-  return { means, hides };
-}
-
-function meanOf(pixels) {
-  let [red, green, blue, alpha] = [0, 0, 0, 0];
-  for (let at = 0; at < pixels.length; at += 4) {
-    const weight = pixels[at + 3];
-    red += pixels[at] * weight;
-    green += pixels[at + 1] * weight;
-    blue += pixels[at + 2] * weight;
-    alpha += weight;
-  }
-  return alpha ? [red / alpha, green / alpha, blue / alpha, alpha * 4 / pixels.length] : [0, 0, 0, 0];
-}
-
-// A colour for a tile that has no image.
-export function colourOf(value) {
-  const tile = value & TILE;
-  return `hsl(${tile * 137 % 360} ${50 + tile % 4 * 10}% ${38 + tile % 5 * 6}%)`;
-}
-
-function meanOfColour(value) {
-  const pen = new OffscreenCanvas(1, 1).getContext("2d");
-  pen.fillStyle = colourOf(value);
-  pen.fillRect(0, 0, 1, 1);
-  return pen.getImageData(0, 0, 1, 1).data;
-}
+// How many tiles a tileset without an image has, where its file does not tell, and how many of them are shown at most.
+const USUAL = 256;
+const MOST_BARE = 65_536;
 
 class Tileset {
-  constructor(first, last, told, image, map) {
-    this.first = first;
-    this.name = told.name || told.source || "tiles";
-    this.image = image;
+  // `first` and `last` are values of the map, and `told` is what its file tells: checked, or nothing.
+  constructor(first, last, source, told, image, map) {
+    Object.assign(this, { first, source, image, why: "" });
+    this.name = told.name || source || "tiles";
     this.tileWidth = told.tilewidth || map.tileWidth;
     this.tileHeight = told.tileheight || map.tileHeight;
     this.spacing = told.spacing ?? 0;
     this.margin = told.margin ?? 0;
     this.columns = told.columns || 8;
-    this.count = Math.min(told.tilecount || 256, last - first + 1);
-    if (image) {
-      this.columns = told.columns || Math.floor((image.width - this.margin + this.spacing) / (this.tileWidth + this.spacing));
-      Object.assign(this, looksOf(this));
-    }
+    this.told = told;
+    const most = last - first + 1;
+    this.count = Math.min(told.tilecount || told.tiles || USUAL, most, MOST_BARE);
+    if (image) this.takeImage(most, map);
+  }
+
+  // Keeps to the tiles that the image holds.
+  takeImage(most, map) {
+    const { told, image } = this;
+    const held = heldBy(image, { ...this, columns: told.columns });
+    this.why = claimOf(image, { ...this, columns: told.columns }, held, told.tilecount ?? 0);
+    if (held.count > 0) Object.assign(this, { columns: held.columns, count: Math.min(told.tilecount || held.count, held.count, most) });
+    else Object.assign(this, { image: null, columns: 8, count: Math.min(this.count, USUAL), tileWidth: map.tileWidth, tileHeight: map.tileHeight });
+  }
+
+  // How many values it takes of those of the map, as Tiled reckons the first id of the next one; null where that is not known.
+  get span() {
+    const known = this.image ? this.count : this.told.tiles || null;
+    return this.why ? known : Math.max(this.told.tilecount ?? 0, known ?? 0) || null;
+  }
+
+  // Whether the image has a tile.
+  has(tile) {
+    return Boolean(this.image) && tile >= 0 && tile < this.count;
   }
 
   // Where a tile stands in the image, in pixels.
@@ -97,18 +55,18 @@ class Tileset {
   }
 }
 
-// Tiles below this one have their colours in a table.
-const TABLE = 65_536;
-
 // The tilesets of one map. The same ones are not asked for again.
 export class Tilesets {
   constructor(editor) {
     this.editor = editor;
     this.all = [];
+    // Called where a colour is known that was not when the map was drawn.
+    this.onLooks = () => {};
     this.forgetLooks();
     this.said = "[]";
-    // The paths of the files that cannot be had.
+    // The paths of the files that cannot be had, and the tilesets that are wrong: { name, why }.
     this.missing = [];
+    this.wrong = [];
   }
 
   // Asks for the files anew with the next map: others can be had by now.
@@ -124,45 +82,47 @@ export class Tilesets {
     if (said === this.said) return false;
     this.said = said;
     this.folder = folder;
-    this.missing = [];
+    const found = { missing: [], wrong: [] };
     const sorted = [...wanted].sort((one, other) => one.firstgid - other.firstgid);
-    const all = await Promise.all(sorted.map((data, at) => this.read(data, sorted[at + 1]?.firstgid ?? TILE + 1, map)));
+    const all = await Promise.all(sorted.map((data, at) => this.read(data, sorted[at + 1]?.firstgid ?? TILE + 1, map, found)));
     if (said !== this.said) return false;
-    this.all = all;
+    Object.assign(this, found, { all });
     this.forgetLooks();
     return true;
   }
 
   forgetLooks() {
-    this.colours = new Map();
-    this.table = new Uint32Array(TABLE);
-    this.isKnown = new Uint8Array(TABLE);
+    this.looks = new TileLooks(value => this.of(value), () => this.onLooks());
   }
 
-  async read(data, next, map) {
-    let told = data;
+  // Reads a tileset. What is wrong with it is noted, and then its tiles are drawn as numbers.
+  async read(data, next, map, found) {
+    let told = {};
     let image = null;
+    let why = "";
     try {
-      told = data.source ? await this.readFile(this.folder + data.source) : data;
+      told = checked(data.source ? await this.readFile(this.folder + data.source, found) : data);
       const path = told.image && this.folder + folderOf(data.source ?? "") + told.image;
-      const bytes = path && (await this.bytesOf(path));
-      if (bytes) image = await imageOf(path, bytes);
+      const bytes = path && (await this.bytesOf(path, found));
+      if (bytes) image = await imageOf(told.image, bytes);
     } catch (fault) {
-      console.warn(`tileset ${data.source ?? data.name}: ${fault.message}`);
+      if (!(fault instanceof Wrong)) throw fault;
+      why = fault.message;
     }
-    return new Tileset(data.firstgid, next - 1, { ...told, source: data.source }, image, map);
+    const tileset = new Tileset(data.firstgid, next - 1, data.source, why ? { name: told.name } : told, image, map);
+    tileset.why ||= why;
+    if (tileset.why) found.wrong.push({ name: data.source ?? tileset.name, why: tileset.why });
+    return tileset;
   }
 
-  async readFile(path) {
-    const bytes = await this.bytesOf(path);
-    if (!bytes) return {};
-    const text = decoder.decode(bytes);
-    return path.endsWith(".tsx") ? readXml(text) : JSON.parse(text);
+  async readFile(path, found) {
+    const bytes = await this.bytesOf(path, found);
+    return bytes ? readTileset(path, bytes) : {};
   }
 
-  async bytesOf(path) {
+  async bytesOf(path, found) {
     const bytes = await this.editor.place.bytes(path).catch(() => null);
-    if (!bytes) this.missing.push(path);
+    if (!bytes) found.missing.push(path);
     return bytes;
   }
 
@@ -181,28 +141,11 @@ export class Tilesets {
   hides(value, width, height) {
     const tileset = this.of(value);
     if (tileset?.tileWidth !== width || tileset.tileHeight !== height || (value & 0x20000000 && width !== height)) return false;
-    const tile = (value & TILE) - tileset.first;
-    return !tileset.image || tile >= tileset.count || tileset.hides[tile] === 1;
+    return this.looks.hides(value);
   }
 
   // The colour of a value from afar, as a pixel of 32 bits: alpha, blue, green, red.
   mean(value) {
-    const tile = value & TILE;
-    if (tile < TABLE) {
-      if (!this.isKnown[tile]) {
-        this.table[tile] = this.reckonedMean(tile);
-        this.isKnown[tile] = 1;
-      }
-      return this.table[tile];
-    }
-    if (!this.colours.has(tile)) this.colours.set(tile, this.reckonedMean(tile));
-    return this.colours.get(tile);
-  }
-
-  reckonedMean(tile) {
-    const tileset = this.of(tile);
-    const at = (tile - (tileset?.first ?? 0)) * 4;
-    const [red, green, blue, alpha] = tileset?.means && at < tileset.means.length ? tileset.means.slice(at, at + 4) : meanOfColour(tile);
-    return (alpha << 24 | blue << 16 | green << 8 | red) >>> 0;
+    return this.looks.mean(value);
   }
 }

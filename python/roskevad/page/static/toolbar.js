@@ -1,11 +1,13 @@
-// The row of tools, and the keys: Tiled's, where Tiled has one.
-import { button, byId, element, isTyping, onEnter } from "./dom.js";
-import { flippedToSide, flippedUpDown, turnedLeft, turnedRight } from "./stamps.js";
+// The row of tools, and what its buttons do.
+import { Clips, KeptStamps } from "./clips.js";
+import { button, byId, element, onEnter } from "./dom.js";
+import { Keys } from "./keys.js";
 
 const TOOLS = [
-  ["brush", "Brush", "B", "Draw with the stamp; the right button takes tiles from the map"],
-  ["eraser", "Eraser", "E", "Empty cells"],
-  ["fill", "Fill", "F", "Fill joined cells that are alike"],
+  ["brush", "Brush", "B", "Draw with the stamp; the right button takes tiles from the map; Shift draws a line from the last cell"],
+  ["eraser", "Eraser", "E", "Empty cells; Shift draws a line from the last cell"],
+  ["fill", "Fill", "F", "Fill joined cells that are alike with the stamp"],
+  ["rectangle", "Rectangle", "P", "Fill a rectangle with the stamp"],
   ["select", "Select", "R", "Select cells; Shift adds, Ctrl subtracts, both intersect"],
   ["objects", "Objects", "S", "Choose an object, and drag it; Ctrl keeps to the grid"],
   ["insert", "Insert", "I", "Drag over cells for a new object"],
@@ -28,7 +30,8 @@ export class Toolbar {
       button("Fit", "The whole map", () => bench.view.fit(), { id: "fit" }),
       button("Grid", "Ctrl+G", () => this.turnGrid(), { id: "grid", className: "on" }),
     );
-    byId("take").onclick = () => this.take();
+    const clips = new Clips(bench, tools);
+    byId("take").onclick = () => clips.copy();
     byId("macro").onclick = () => this.turnMacro();
     byId("macro-name").onkeydown = onEnter(() => this.turnMacro());
     const sizes = Array.from({ length: LARGEST_BRUSH }, (_, at) => element("option", { value: at + 1, textContent: `${at + 1} × ${at + 1}` }));
@@ -38,11 +41,7 @@ export class Toolbar {
       event.target.blur();
     };
     bench.addEventListener("tool", () => this.show());
-    this.keys = this.keysOf(bench);
-    document.addEventListener("keydown", event => this.key(event));
-    document.addEventListener("keyup", event => {
-      if (event.code === "Space") tools.isSpace = false;
-    });
+    this.keys = new Keys({ bench, tools, toolbar: this, documents, view: bench.view, clips, stamps: new KeptStamps(bench, tools) });
   }
 
   show() {
@@ -83,64 +82,8 @@ export class Toolbar {
     name.blur();
   }
 
-  take() {
-    this.bench.takeSelected();
-    if (this.bench.stamp.values.length) this.tools.choose("brush");
-  }
-
   flip(change) {
     this.bench.takeStamp(change(this.bench.stamp));
     this.tools.showHand(this.bench.place);
-  }
-
-  // Empties the cells that are selected.
-  remove() {
-    const { bench } = this;
-    if (bench.map?.selected && !bench.barredLayer()) bench.act([`erase ${bench.layerId} 0 0 ${bench.map.width} ${bench.map.height}`]);
-  }
-
-  // What the tool in hand does with a key, or else what is done with cells.
-  either(name, other = () => {}) {
-    return () => this.tools.now[name]?.() === true || other();
-  }
-
-  nudge(x, y) {
-    return event => this.tools.now.nudge?.(x, y, event.shiftKey);
-  }
-
-  // What each key does, as a word: `Ctrl+Shift+z`.
-  keysOf(bench) {
-    const choose = name => () => this.tools.choose(name);
-    const redo = event => this.turn("redo", event);
-    return {
-      b: choose("brush"), e: choose("eraser"), f: choose("fill"), r: choose("select"), s: choose("objects"), i: choose("insert"),
-      x: () => this.flip(flippedToSide), y: () => this.flip(flippedUpDown), z: () => this.flip(turnedRight), "Shift+z": () => this.flip(turnedLeft),
-      "Ctrl+z": event => this.turn("undo", event), "Ctrl+Shift+z": redo, "Ctrl+y": redo,
-      "Ctrl+s": () => this.documents.save(), "Ctrl+Shift+s": () => this.documents.saveAs(), "Ctrl+o": () => this.documents.open(),
-      "Ctrl+a": () => bench.map && bench.act([`select replace 0 0 ${bench.map.width} ${bench.map.height}`]),
-      "Ctrl+Shift+a": () => bench.act(["select none"]), escape: () => bench.chooseObject(null),
-      "Ctrl+c": this.either("copy", () => this.take()), "Ctrl+x": this.either("cut"), "Ctrl+v": this.either("paste", choose("brush")),
-      "Ctrl+d": this.either("duplicate"), delete: this.either("remove", () => this.remove()), "Ctrl+g": () => this.turnGrid(),
-      ...Object.fromEntries(["", "Shift+"].flatMap(held => Object.entries({
-        arrowleft: this.nudge(-1, 0), arrowright: this.nudge(1, 0), arrowup: this.nudge(0, -1), arrowdown: this.nudge(0, 1),
-      }).map(([key, call]) => [held + key, call]))),
-      "+": () => bench.view.zoom(1), "-": () => bench.view.zoom(-1),
-    };
-  }
-
-  key(event) {
-    if (document.querySelector("dialog[open]") || isTyping()) return;
-    if (event.code === "Space") {
-      this.tools.isSpace = true;
-      event.preventDefault();
-      return;
-    }
-    const key = event.key.toLowerCase();
-    if (key >= "1" && key <= "9" && key.length === 1 && !event.ctrlKey && !event.altKey) this.setBrush(Number(key));
-    const isSign = key === "+" || key === "-";
-    const word = `${event.ctrlKey || event.metaKey ? "Ctrl+" : ""}${event.shiftKey && !isSign ? "Shift+" : ""}${key}`;
-    if (event.altKey || !Object.hasOwn(this.keys, word)) return;
-    event.preventDefault();
-    this.keys[word](event);
   }
 }

@@ -1,0 +1,105 @@
+// How each map is shown and worked on: its zoom, its place, its layer, the tool, the stamp and the panels. That is kept for as long as this
+// tab lives, also where the page is loaded anew.
+
+const STORED = "roskevad-layouts";
+// The largest stamp that is stored, how many maps are, and how long behind a change that is done.
+const LARGEST_STAMP = 4096;
+const MOST_MAPS = 100;
+const LATER = 300;
+
+const isNumber = Number.isFinite;
+
+function isStamp(stamp) {
+  return Boolean(stamp) && stamp.width > 0 && stamp.values?.length === stamp.width * stamp.height && stamp.values.every(isNumber);
+}
+
+export class Layouts {
+  // `page` has the parts: bench, editor, view, tools, toolbar, palette, layers, properties, panels.
+  constructor(page) {
+    Object.assign(this, { page, editor: page.editor, document: null, timer: null });
+    this.all = this.stored();
+    for (const name of ["chosen", "tool", "stamp", "layout"]) page.bench.addEventListener(name, () => this.keep());
+    this.editor.addEventListener("state", () => this.keep());
+    addEventListener("pagehide", () => {
+      this.keep();
+      this.store();
+    });
+  }
+
+  keyOf(document) {
+    const path = this.editor.notes.files.get(document)?.path;
+    return path === undefined ? `map ${document}` : `file ${path}`;
+  }
+
+  // ---- keeping
+  // Keeps how the map is shown that stands there.
+  keep() {
+    if (this.document === null || this.editor.notes.active !== this.document) return;
+    this.put();
+    clearTimeout(this.timer);
+    this.timer = setTimeout(() => this.store(), LATER);
+  }
+
+  put() {
+    const key = this.keyOf(this.document);
+    this.all.delete(key);
+    this.all.set(key, this.now());
+  }
+
+  now() {
+    const { bench, view, tools, palette, layers, properties, panels } = this.page;
+    return {
+      view: [view.scale, view.originX, view.originY], layer: bench.layerId, tool: tools.name, brush: bench.brushSize, stamp: bench.stamp,
+      tileset: palette.first, side: palette.side, folded: [...layers.folded], owner: properties.kind, panels: panels.state(),
+    };
+  }
+
+  // A map that has no file is kept for as long as it is open.
+  store() {
+    const open = new Set([...this.editor.notes.sessions.keys()].map(document => this.keyOf(document)));
+    for (const key of this.all.keys()) if (key.startsWith("map ") && !open.has(key)) this.all.delete(key);
+    const isSmall = stamp => stamp.values.length <= LARGEST_STAMP;
+    const last = [...this.all].slice(-MOST_MAPS).map(([key, each]) => [key, isSmall(each.stamp) ? each : { ...each, stamp: null }]);
+    try {
+      sessionStorage.setItem(STORED, JSON.stringify(last));
+    } catch (fault) {
+      console.warn(`how maps are shown is not kept: ${fault.message}`);
+    }
+  }
+
+  stored() {
+    try {
+      return new Map(JSON.parse(sessionStorage.getItem(STORED) ?? "[]"));
+    } catch {
+      return new Map();
+    }
+  }
+
+  // ---- showing
+  // Another map is shown from now on. Gives what is kept of it, or null; its tiles are taken later, once its tilesets are there.
+  enter(document) {
+    const { bench, view, tools, toolbar, layers, properties, panels } = this.page;
+    if (this.document !== null) this.put();
+    const kept = document === null ? null : this.all.get(this.keyOf(document)) ?? null;
+    this.document = null;
+    layers.folded = new Set(kept?.folded ?? []);
+    bench.layerId = kept?.layer ?? null;
+    if (kept) {
+      panels.take(kept.panels);
+      if (Object.hasOwn(tools.all, kept.tool)) tools.choose(kept.tool);
+      toolbar.setBrush(kept.brush);
+      properties.choose(kept.owner);
+      if (kept.view.every(isNumber)) [view.scale, view.originX, view.originY] = kept.view;
+    }
+    this.document = document;
+    return kept;
+  }
+
+  // The tileset that the palette shows, and the stamp.
+  enterTiles(kept) {
+    const { bench, palette } = this.page;
+    if (isStamp(kept.stamp)) bench.takeStamp(kept.stamp);
+    palette.zoomTo(kept.side);
+    if (kept.tileset !== null) palette.choose(kept.tileset);
+  }
+}

@@ -1,0 +1,26 @@
+// Tells why a map would be refused, before it is opened: in a module of its own, which goes with the list of maps.
+import { Editor as Session, Refused } from "../../../../js/roskevad.js";
+import { loadModule } from "./own_module.js";
+
+export class MapProbe {
+  constructor(place) {
+    Object.assign(this, { place, module: null });
+  }
+
+  // Words for a file: why it would be refused, and none where it would not.
+  async look(path) {
+    const found = await this.place.read(path);
+    if (!found) return { words: "no such file", isRefused: true };
+    if (!this.module || this.module.isBroken) this.module = await loadModule();
+    const session = new Session(this.module, { limit: 1 });
+    try {
+      await session.openMap("map", found.bytes);
+      return { words: "", isRefused: false };
+    } catch (fault) {
+      if (!(fault instanceof Refused)) throw fault;
+      return { words: `${fault.words} (${fault.code})${fault.why ? `: ${fault.why}` : ""}`, isRefused: true };
+    } finally {
+      if (!this.module.isBroken) session.close();
+    }
+  }
+}

@@ -1,0 +1,28 @@
+// The bar below the map: how the steps stand, and what is under the hand.
+import { byId } from "./dom.js";
+import { wordsOf } from "./tile_words.js";
+
+export class StatusBar {
+  constructor(bench, tilesets) {
+    Object.assign(this, { bench, tilesets });
+    bench.addEventListener("hand", () => this.showHand());
+  }
+
+  showState({ active, index, count, isClean, isWriting, depth }) {
+    const saved = isWriting ? "is being saved" : isClean ? "saved" : "not saved";
+    byId("standing").textContent = active ? `${index}/${count} ${saved}${depth ? `, ${depth} open` : ""}` : "";
+  }
+
+  // The cell, the pixel of the map, the layer and its tile.
+  showHand() {
+    const { layer, map, place } = this.bench;
+    byId("place").textContent = place && map ? this.words(map, layer, place).join(" · ") : "";
+  }
+
+  words(map, layer, { cell, pixelX, pixelY }) {
+    const words = [cell.join(", "), `${Math.floor(pixelX)}, ${Math.floor(pixelY)} px`];
+    if (layer) words.push(layer.data.name || "(no name)");
+    if (layer?.isTiles && map.isInside(...cell)) words.push(wordsOf(map.value(layer.id, ...cell), this.tilesets));
+    return words;
+  }
+}

@@ -1,0 +1,49 @@
+// What each step of a document is about, as far as its line tells: a layer, an object, or something that has a name.
+import { isEdit, wordOf } from "./line_kinds.js";
+
+const STANDING = /^ok (\d+)\/\d+ \w+ (\d+)$/;
+
+// What a line is about: { layer }, { object }, each an id, or { name }; null where it is about nothing of these.
+function subjectOf(line) {
+  const [word, ...words] = line.split(" ");
+  const rest = from => words.slice(from).join(" ");
+  const kind = wordOf(word);
+  if (["stamp", "erase", "fill"].includes(kind)) return { layer: Number(words[0]) };
+  if (kind === "layer" && words[0] !== "add") return { layer: Number(words[1]) };
+  if (kind === "object" && words[0].replace("+", "") !== "add") return { object: Number(words[1]) };
+  if (kind === "layer") return { name: rest(2) };
+  if (kind === "object") return { name: rest(6) };
+  if (kind === "prop") return { name: words[2] };
+  return kind === "tileset" && words[0] === "add" ? { name: rest(2) } : null;
+}
+
+export class StepSubjects {
+  // With an undo limit the steps change their places, and nothing is kept.
+  constructor(hasLimit) {
+    Object.assign(this, { hasLimit, all: [], index: 0, depth: 0 });
+  }
+
+  of(at) {
+    return this.all[at] ?? null;
+  }
+
+  // Keeps what an accepted line was about, by its reply.
+  note(line, reply) {
+    const stands = STANDING.exec(reply);
+    if (!stands) return;
+    const [index, depth, before, wasIn] = [Number(stands[1]), Number(stands[2]), this.index, this.depth];
+    const word = wordOf(line);
+    Object.assign(this, { index, depth });
+    if (word === "limit") this.hasLimit = true;
+    if (this.hasLimit || word === "clear") this.all = [];
+    else if (word === "begin" && wasIn === 0) this.all.length = Math.min(this.all.length, before);
+    else if (word === "end" && depth === 0) this.all[before] = null;
+    else if (isEdit(line) && depth === 0) this.step(line, before, index);
+  }
+
+  // A step was added behind those below the index; or the line was joined to the last one, or has changed nothing; or the last one is gone.
+  step(line, before, index) {
+    this.all.length = Math.min(this.all.length, before, index);
+    if (index > before) this.all[before] = subjectOf(line);
+  }
+}
