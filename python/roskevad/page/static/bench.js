@@ -1,6 +1,7 @@
 // What the hand works with: the editor, the drawn map, the layer, the stamp, the object that was chosen, and words at the hand.
 import { Bubble } from "./bubble.js";
-import { LayerBars } from "./layer_bars.js";
+import { isField } from "./dom.js";
+import { LayerBars, whyBarred } from "./layer_bars.js";
 import { saidOf } from "./refusals.js";
 
 export class Bench extends EventTarget {
@@ -45,13 +46,27 @@ export class Bench extends EventTarget {
   chooseLayer(id) {
     this.layerId = id;
     this.settle();
+    this.tell("layer chosen");
   }
 
   chooseObject(id) {
     this.objectId = id;
     if (id !== null) this.layerId = this.map.object(id).layer.id;
     this.settle();
+    this.tell("object chosen");
     this.marks.redraw();
+  }
+
+  // The object that is chosen, with its layer; null where there is none.
+  get chosenObject() {
+    return (this.objectId !== null && this.map?.object(this.objectId)) || null;
+  }
+
+  // Whether the objects of a layer take no edit, since it is hidden or locked. It is said what was not done.
+  barsObjects(layer, done) {
+    const why = whyBarred(layer);
+    if (why) this.say(`${why} Nothing was ${done}.`);
+    return why !== "";
   }
 
   // Whether the layer in hand takes no stroke, since it is hidden or locked. Then it says so.
@@ -109,6 +124,22 @@ export class Bench extends EventTarget {
     return this.sayRefusal(await this.editor.send(lines, options));
   }
 
+  // Does edits as one step, and none of them where one is refused. A macro that is open has them as a part.
+  doAsOne(text, lines) {
+    const { editor } = this;
+    if (editor.stand().depth) return this.sayRefusal(editor.doLines(lines));
+    const done = editor.doLines([`begin ${text}`, ...lines, "end"]);
+    if (!done.isHeard && done.replies.length > 1) editor.doLines(["end", "undo"]);
+    return this.sayRefusal(done);
+  }
+
+  // Does lines for a dialog: gives null, or where one was refused what the dialog says, and the field that a code is about.
+  async attempt(lines, fields = {}) {
+    const done = await this.editor.send(lines);
+    if (done.isHeard) return null;
+    return { words: saidOf(done), field: fields[/^no (\d+)/.exec(done.refusal ?? "")?.[1]] };
+  }
+
   sayRefusal(done) {
     if (done.barred || done.refusal) this.say(saidOf(done));
     else this.bubble.hide();
@@ -120,7 +151,7 @@ export class Bench extends EventTarget {
   }
 
   moveToField() {
-    if (!(document.activeElement instanceof HTMLInputElement)) return;
+    if (!isField(document.activeElement)) return;
     const frame = document.activeElement.getBoundingClientRect();
     this.moveHand(frame.left, frame.top - 44);
   }

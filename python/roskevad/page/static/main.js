@@ -3,6 +3,7 @@ import { Bench } from "./bench.js";
 import { Documents } from "./documents.js";
 import { byId } from "./dom.js";
 import { Editor } from "./editor.js";
+import { bindFieldKeys } from "./field_keys.js";
 import { recordSum } from "./journal.js";
 import { LayerPanel } from "./layer_panel.js";
 import { Layouts } from "./layouts.js";
@@ -10,6 +11,7 @@ import { LinePanel } from "./line_panel.js";
 import { MapView } from "./map_view.js";
 import { Marks } from "./marks.js";
 import { endNotice, notice } from "./notices.js";
+import { ObjectList } from "./object_list.js";
 import { loadModule } from "./own_module.js";
 import { Palette } from "./palette.js";
 import { Panels } from "./panels.js";
@@ -49,6 +51,7 @@ class Page {
     this.status = new StatusBar(bench, this.tilesets);
     this.layers = new LayerPanel(bench);
     this.properties = new PropertyPanel(bench);
+    this.objects = new ObjectList(bench, this.tools);
     this.steps = new StepPanel(bench);
     this.panel = new PlacePanel(bench, this.documents, this.tilesets);
     this.recovery = new Recovery(bench, this.panel);
@@ -57,6 +60,7 @@ class Page {
     this.layouts = new Layouts(this);
     this.shownDocument = null;
     this.listen();
+    bindFieldKeys(bench);
     this.tools.choose("brush");
   }
 

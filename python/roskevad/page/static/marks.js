@@ -1,9 +1,13 @@
 // Draws over the map: the grid, the selection, the objects, and what the hand is about to do.
+import { isLockedIn } from "./layer_bars.js";
 import { drawTile } from "./map_view.js";
+import { areaOf, handlePlaces, isOn, ownPlace } from "./object_shapes.js";
 
 const SMALLEST_GRID = 6;
 const SMALLEST_OUTLINE = 4;
 const LONGEST_NAME = 300;
+// The side of a handle, in pixels of the page.
+const HANDLE = 8;
 
 export class Marks {
   constructor(view, editor, tilesets) {
@@ -15,7 +19,7 @@ export class Marks {
     this.handPen = view.box.querySelector("#hand").getContext("2d");
     this.hasGrid = true;
     this.chosen = null;
-    // Where an object is drawn while it is dragged: { id, x, y }.
+    // Where an object is drawn while it is dragged, and how large: { id, x, y, width, height }.
     this.dragged = null;
     // What the hand is about to do: { cells: [x, y, width, height], values, line, colour }; a line goes from a cell to a cell.
     this.hand = null;
@@ -119,15 +123,17 @@ export class Marks {
     for (const layer of this.map.layers) {
       if (!layer.isSeen) continue;
       for (const object of layer.data.objects ?? []) {
-        if (this.isInView(object, layer)) this.drawObject(object, layer);
+        if (this.isInView(object, layer)) this.drawObject(this.placed(object), layer);
       }
     }
+    const chosen = this.chosen !== null && this.showsChosen ? this.map.object(this.chosen) : null;
+    if (chosen && this.isShown(chosen)) this.drawHandles(chosen);
   }
 
   // Whether a part of the object or its name may be seen: all of it lies within its greatest length of its place.
   isInView(object, layer) {
     const { view } = this;
-    const place = this.dragged?.id === object.id ? this.dragged : object;
+    const place = this.placed(object);
     const corners = (object.polygon ?? object.polyline ?? []).map(corner => Math.hypot(corner.x, corner.y));
     const reach = Math.max(Math.hypot(object.width ?? 0, object.height ?? 0), ...corners) * view.scale + LONGEST_NAME;
     const x = view.originX + ((place.x ?? 0) + layer.offsetX) * view.scale;
@@ -138,14 +144,12 @@ export class Marks {
   drawObject(object, layer) {
     const { pen, view } = this;
     if (object.visible === false) return;
-    const isDragged = this.dragged?.id === object.id;
-    const shown = isDragged ? { ...object, x: this.dragged.x, y: this.dragged.y } : object;
     const scale = view.scale;
     pen.save();
-    pen.translate(view.originX + ((shown.x ?? 0) + layer.offsetX) * scale, view.originY + ((shown.y ?? 0) + layer.offsetY) * scale);
+    pen.translate(view.originX + ((object.x ?? 0) + layer.offsetX) * scale, view.originY + ((object.y ?? 0) + layer.offsetY) * scale);
     pen.save();
     pen.rotate((object.rotation ?? 0) * Math.PI / 180);
-    const isChosen = this.chosen === object.id;
+    const isChosen = this.chosen === object.id && this.showsChosen;
     pen.globalAlpha = layer.opacity;
     pen.lineWidth = isChosen ? 3 : 1.5;
     pen.strokeStyle = isChosen ? "#ffd34d" : layer.data.color ?? "#e4e7eb";
@@ -190,25 +194,55 @@ export class Marks {
     pen.fillText(object.name, 4, top - 4);
   }
 
-  // The object at a place in pixels of the map: the one drawn last.
-  objectAt(x, y) {
-    const layers = this.map.layers.filter(layer => layer.isSeen && layer.data.objects);
-    for (const layer of layers.reverse()) {
-      for (const object of [...layer.data.objects].reverse()) {
-        if (object.visible !== false && this.isIn(object, layer, x, y)) return { object, layer };
+  // The object at a place in pixels of the map: first of the layer in hand, then the smallest, then the one drawn last. One of a locked
+  // layer is found only where that is in hand.
+  objectAt(x, y, layerId) {
+    const found = [];
+    for (const layer of this.map.layers) {
+      if (!layer.isSeen || (layer.id !== layerId && isLockedIn(layer))) continue;
+      for (const object of layer.data.objects ?? []) {
+        if (this.isUnder(object, layer, x, y)) found.unshift({ object, layer, rank: layer.id === layerId ? 0 : 1, area: areaOf(object) });
       }
     }
-    return null;
+    return found.sort((one, other) => one.rank - other.rank || one.area - other.area)[0] ?? null;
   }
 
-  isIn(object, layer, x, y) {
-    const angle = -(object.rotation ?? 0) * Math.PI / 180;
-    const [fromX, fromY] = [x - layer.offsetX - (object.x ?? 0), y - layer.offsetY - (object.y ?? 0)];
-    const [atX, atY] = [fromX * Math.cos(angle) - fromY * Math.sin(angle), fromX * Math.sin(angle) + fromY * Math.cos(angle)];
-    const corners = object.polygon ?? object.polyline;
-    const box = corners ? frameOf(corners) : [0, object.gid ? -object.height : 0, object.width ?? 0, object.gid ? 0 : object.height ?? 0];
-    const near = Math.max(box[2] - box[0], box[3] - box[1]) === 0 ? 6 / this.view.scale : 1 / this.view.scale;
-    return atX >= box[0] - near && atY >= box[1] - near && atX <= box[2] + near && atY <= box[3] + near;
+  isUnder(object, layer, x, y) {
+    return object.visible !== false && isOn(object, ...ownPlace(object, layer, x, y), this.view.scale / this.view.ratio);
+  }
+
+  // Whether an object is drawn.
+  isShown({ object, layer }) {
+    return layer.isSeen && object.visible !== false;
+  }
+
+  // Whether the tool in hand shows which object is chosen.
+  get showsChosen() {
+    return this.view.box.dataset.tool === "objects";
+  }
+
+  // The handles of the chosen object, in pixels of the screen.
+  drawHandles({ object, layer }) {
+    const { pen, view } = this;
+    const shown = this.placed(object);
+    const side = HANDLE * view.ratio;
+    pen.save();
+    pen.translate(view.originX + ((shown.x ?? 0) + layer.offsetX) * view.scale, view.originY + ((shown.y ?? 0) + layer.offsetY) * view.scale);
+    pen.rotate((object.rotation ?? 0) * Math.PI / 180);
+    pen.lineWidth = view.ratio;
+    pen.strokeStyle = "#000";
+    pen.fillStyle = "#fff";
+    for (const [, x, y] of handlePlaces(shown, view.scale / view.ratio)) {
+      const box = [Math.round(x * view.scale - side / 2), Math.round(y * view.scale - side / 2), side, side];
+      pen.fillRect(...box);
+      pen.strokeRect(...box);
+    }
+    pen.restore();
+  }
+
+  // An object with the place and the size to which it is dragged.
+  placed(object) {
+    return this.dragged?.id === object.id ? { ...object, ...this.dragged } : object;
   }
 
   // ---- the hand
@@ -242,9 +276,4 @@ export class Marks {
     for (const [x, y] of [from, to]) pen.lineTo(middle(view.edgeX, x), middle(view.edgeY, y));
     pen.stroke();
   }
-}
-
-function frameOf(corners) {
-  const [across, down] = [corners.map(corner => corner.x), corners.map(corner => corner.y)];
-  return [Math.min(...across), Math.min(...down), Math.max(...across), Math.max(...down)];
 }

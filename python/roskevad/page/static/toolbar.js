@@ -49,6 +49,9 @@ export class Toolbar {
     for (const [name] of TOOLS) byId(`tool-${name}`).classList.toggle("on", name === this.tools.name);
     byId("undo").disabled = state.index === 0 || state.depth > 0;
     byId("redo").disabled = state.index === state.count || state.depth > 0;
+    const why = state.depth > 0 ? "End the macro first: what is in it is one step. " : "";
+    byId("undo").title = `${why}Ctrl+Z`;
+    byId("redo").title = `${why}Ctrl+Shift+Z, Ctrl+Y`;
     byId("macro").textContent = state.depth ? `End macro${state.depth > 1 ? ` (${state.depth})` : ""}` : "Begin macro";
     byId("macro").classList.toggle("on", state.depth > 0);
     byId("macro-name").hidden = state.depth > 0;
