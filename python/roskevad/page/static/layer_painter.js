@@ -143,9 +143,9 @@ export class LayerPainter {
   }
 
   // A tile stands on the lower left corner of its cell; one of another size reaches up and to the right.
-  paintCell(layer, value, x, y, imageOf) {
+  paintCell(layer, value, x, y, imageOf, pen = this.view.pen) {
     const { view } = this;
-    const { map, pen, scale, tilesets } = view;
+    const { map, scale, tilesets } = view;
     const [asideX, asideY] = [Math.round(layer.offsetX * scale), Math.round(layer.offsetY * scale)];
     const [cornerX, cornerY] = map.projection.corner(x, y);
     const [left, top] = [view.screenX(cornerX) + asideX, view.screenY(cornerY) + asideY];

@@ -1,6 +1,8 @@
 // The images of image layers, asked for when they are first seen.
 import { folderOf } from "./names.js";
 import { imageOf } from "./tileset_files.js";
+import { withoutColour } from "./tileset_looks.js";
+import { partsOfColour } from "./tints.js";
 
 export class MapImages {
   constructor(editor) {
@@ -29,15 +31,16 @@ export class MapImages {
     if (path === null) return null;
     if (!this.all.has(path)) {
       this.all.set(path, null);
-      this.load(path);
+      this.load(path, partsOfColour(layer.data.transparentcolor));
     }
     return this.all.get(path);
   }
 
-  async load(path) {
+  // `clear` is a colour of the image that is clear.
+  async load(path, clear) {
     try {
       const bytes = await this.editor.place.bytes(path);
-      if (bytes) this.all.set(path, await imageOf(path, bytes));
+      if (bytes) this.all.set(path, withoutColour(await imageOf(path, bytes), clear));
       else this.missing.add(path);
     } catch {
       this.missing.add(path);

@@ -9,16 +9,19 @@
 //   cellsIn(box)              the cells that may touch a box: [x0, y0, x1, y1], also outside of the map
 //   walk(cells, box, call)    calls with each of the cells that may touch the box, in the order in which they are drawn
 //   place(x, y)               where a point stands that an object names, and `named` the other way round
+//   matrix                    how the lengths of an object lie in the picture
 
 const boxAround = points => {
   const [across, down] = [points.map(([x]) => x), points.map(([, y]) => y)];
   return [Math.min(...across), Math.min(...down), Math.max(...across), Math.max(...down)];
 };
 
+const PLAIN = [1, 0, 0, 1];
+
 class Orthogonal {
   constructor(map) {
     Object.assign(this, { tileWidth: map.tileWidth, tileHeight: map.tileHeight, order: map.data.renderorder ?? "right-down" });
-    Object.assign(this, { width: map.width * map.tileWidth, height: map.height * map.tileHeight, isPlain: true });
+    Object.assign(this, { width: map.width * map.tileWidth, height: map.height * map.tileHeight, isPlain: true, matrix: PLAIN });
   }
 
   corner(x, y) {
@@ -64,6 +67,7 @@ class Isometric {
     const { width, height, tileWidth, tileHeight } = map;
     Object.assign(this, { tileWidth, tileHeight, from: height * tileWidth / 2, isPlain: false, isIsometric: true });
     Object.assign(this, { width: (width + height) * tileWidth / 2, height: (width + height) * tileHeight / 2 });
+    this.matrix = [tileWidth / 2 / tileHeight, 1 / 2, -tileWidth / 2 / tileHeight, 1 / 2];
   }
 
   // Where a point of the map stands that is named in cells.
@@ -129,7 +133,8 @@ class Staggered {
     const side = data.orientation === "hexagonal" ? data.hexsidelength ?? 0 : 0;
     const byColumns = data.staggeraxis === "x";
     const [sideX, sideY] = byColumns ? [side, 0] : [0, side];
-    Object.assign(this, { tileWidth, tileHeight, sideX, sideY, byColumns, isHexagonal: data.orientation === "hexagonal", isPlain: false });
+    Object.assign(this, { tileWidth, tileHeight, sideX, sideY, byColumns, isHexagonal: data.orientation === "hexagonal" });
+    Object.assign(this, { isPlain: false, matrix: PLAIN });
     this.parity = data.staggerindex === "even" ? 0 : 1;
     // How far the slanted edges reach, and how far a moved row or column is from the one before it.
     Object.assign(this, { slantX: Math.floor((tileWidth - sideX) / 2), slantY: Math.floor((tileHeight - sideY) / 2) });

@@ -10,14 +10,14 @@ const ALIGNED = {
 };
 
 // Paints an object of a layer, where it is a tile or a text.
-export function paintThing({ view, tints }, layer, object) {
+export function paintThing({ view, tints }, layer, object, pen = view.pen) {
   if (object.visible === false || (!object.gid && !object.text)) return;
-  const { map, pen, scale } = view;
+  const { map, scale } = view;
   const [x, y] = map.projection.place(object.x ?? 0, object.y ?? 0);
   pen.save();
   pen.translate(view.originX + (x + layer.offsetX) * scale, view.originY + (y + layer.offsetY) * scale);
   pen.rotate((object.rotation ?? 0) * Math.PI / 180);
-  if (object.gid) paintTile(view, tints, layer, object);
+  if (object.gid) paintTile(view, tints, layer, object, pen);
   else paintText(pen, object, scale);
   pen.restore();
 }
@@ -27,8 +27,8 @@ export function alignedAt(tileset, map) {
   return ALIGNED[tileset?.alignment] ?? (map.projection.isIsometric ? ALIGNED.bottom : ALIGNED.bottomleft);
 }
 
-function paintTile(view, tints, layer, object) {
-  const { map, pen, scale, tilesets } = view;
+function paintTile(view, tints, layer, object, pen) {
+  const { map, scale, tilesets } = view;
   const tileset = tilesets.of(object.gid);
   const [width, height] = [(object.width ?? 0) * scale, (object.height ?? 0) * scale];
   const [left, top] = alignedAt(tileset, map);
