@@ -87,7 +87,7 @@ class Page {
     if (isOther && !kept) this.view.fit();
     this.view.takeMap();
     this.marks.redraw();
-    await this.showTilesets();
+    await this.editor.during(this.showTilesets());
     if (kept && this.shownDocument === active) this.layouts.enterTiles(kept);
   }
 

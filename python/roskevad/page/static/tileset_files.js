@@ -26,6 +26,8 @@ export function readTileset(path, bytes) {
 }
 
 function readXml(text) {
+  // An entity may stand for a text of any length, or for a file; Tiled writes none.
+  if (text.includes("<!ENTITY")) throw new Wrong("its file declares entities, which are not read");
   const root = new DOMParser().parseFromString(text, "application/xml").documentElement;
   if (root.tagName !== "tileset" || root.querySelector("parsererror")) throw new Wrong("its file is no tileset in XML");
   const children = name => [...root.children].filter(child => child.tagName === name);
@@ -92,8 +94,21 @@ export function claimOf({ width, height }, { tileWidth, tileHeight, columns }, h
 }
 
 // ---- the image
+// How wide and high an image is, by its head, in the format that nearly all tilesets have; null in another one.
+function pngSize(bytes) {
+  const view = new DataView(bytes.buffer, bytes.byteOffset, bytes.length);
+  return bytes.length >= 24 && view.getUint32(0) === 0x89504e47 ? [view.getUint32(16), view.getUint32(20)] : null;
+}
+
+function seeSize(width, height) {
+  if (width * height <= MOST_PIXELS) return;
+  throw new Wrong(`its image has ${grouped(width)} × ${grouped(height)} pixels, and at most ${grouped(MOST_PIXELS)} are unpacked`);
+}
+
 // The image of bytes. How many pixels it has is known before they are unpacked. Throws Wrong.
 export async function imageOf(path, bytes) {
+  const told = pngSize(bytes);
+  if (told) seeSize(...told);
   const image = new Image();
   const type = KINDS[path.slice(path.lastIndexOf(".") + 1).toLowerCase()] ?? "";
   const address = URL.createObjectURL(new Blob([bytes], { type }));
@@ -103,10 +118,7 @@ export async function imageOf(path, bytes) {
       image.onerror = () => reject(new Wrong(`its image ${path} is none that the browser can read`));
       image.src = address;
     });
-    const { naturalWidth: width, naturalHeight: height } = image;
-    if (width * height > MOST_PIXELS) {
-      throw new Wrong(`its image has ${grouped(width)} × ${grouped(height)} pixels, and at most ${grouped(MOST_PIXELS)} are unpacked`);
-    }
+    seeSize(image.naturalWidth, image.naturalHeight);
     await image.decode().catch(() => {
       throw new Wrong(`its image ${path} cannot be unpacked`);
     });

@@ -7,6 +7,9 @@ import { endNotice, notice } from "./notices.js";
 import { checked, readTileset } from "./tileset_files.js";
 
 const ABOUT = "wrong tilesets";
+// How many wrong tilesets are named, and how long a name is then.
+const MOST_SAID = 3;
+const LONGEST_NAME = 60;
 
 export class TilesetPanel {
   constructor(bench, tilesets, palette) {
@@ -38,7 +41,8 @@ export class TilesetPanel {
   showWrong() {
     const { wrong } = this.tilesets;
     if (!wrong.length) return endNotice(ABOUT);
-    const words = wrong.map(({ name, why }) => `${name}: ${why}.`).join(" ");
+    const said = wrong.slice(0, MOST_SAID).map(({ name, why }) => `${name.slice(0, LONGEST_NAME)}: ${why}.`).join(" ");
+    const words = wrong.length > MOST_SAID ? `${said} And ${wrong.length - MOST_SAID} more.` : said;
     return notice(ABOUT, `Wrong with a tileset: ${words} Tiles that its image does not hold are drawn as numbers.`, [["OK", () => {}]], "mild");
   }
 
