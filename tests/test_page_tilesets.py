@@ -241,6 +241,8 @@ def test_hostile_files():
         assert f'And {len(wrong) - 3} more' in page.notices()[0]
         images = page.js('return roskevad.tilesets.all.map(set => set.image !== null)')
         assert images[-1] is True
+        page.js('return roskevad.documents.openPath("right.tsx.tmj")')
+        page.settle()
         page.find('#add-tileset').click()
         page.wait(lambda: 'too large' in ' '.join(page.texts('#file-list .told')), 'files are looked into')
         page.fill_in('Cancel')

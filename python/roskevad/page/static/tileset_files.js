@@ -10,6 +10,7 @@ const LONGEST_NAME = 80;
 const NUMBERS = ["tilewidth", "tileheight", "tilecount", "columns", "spacing", "margin"];
 // The kinds that an image must have told, since a browser does not look for them.
 const KINDS = { svg: "image/svg+xml" };
+const NO_XML = "its file is no tileset in XML";
 const decoder = new TextDecoder();
 
 // What is wrong with a tileset, in words.
@@ -28,8 +29,10 @@ export function readTileset(path, bytes) {
 function readXml(text) {
   // An entity may stand for a text of any length, or for a file; Tiled writes none.
   if (text.includes("<!ENTITY")) throw new Wrong("its file declares entities, which are not read");
+  // A file that is cut short; of others the browser tells.
+  if (!/(<\/tileset>|\/>)\s*$/.test(text)) throw new Wrong(NO_XML);
   const root = new DOMParser().parseFromString(text, "application/xml").documentElement;
-  if (root.tagName !== "tileset" || root.querySelector("parsererror")) throw new Wrong("its file is no tileset in XML");
+  if (root.tagName !== "tileset" || root.querySelector("parsererror")) throw new Wrong(NO_XML);
   const children = name => [...root.children].filter(child => child.tagName === name);
   const numbers = NUMBERS.filter(name => root.hasAttribute(name)).map(name => [name, Number(root.getAttribute(name))]);
   const [image] = children("image");

@@ -72,8 +72,8 @@ export class TilesetPanel {
     const has = new Set(map.data.tilesets.map(set => set.source));
     const known = new Map(files.filter(each => has.has(pathFrom(folder, each.path))).map(each => [each.path, "in the map already"]));
     const first = element("input", { name: "first", type: "number", min: 1, value: this.nextFirst() });
-    const unknown = this.tilesets.all.filter(set => set.span === null).map(set => set.name);
-    const doubt = unknown.length ? ` It is not known how many tiles ${unknown.join(", ")} has.` : "";
+    const unknown = this.tilesets.all.filter(set => set.span === null).length;
+    const doubt = unknown ? ` Of ${unknown} of them it is not known how many tiles they have.` : "";
     const label = element("label", {}, element("span", { textContent: `Its first id, behind the tiles of the others.${doubt}` }), first);
     const none = "There is no tileset here: a .tsx or .tsj file, in the folder or among the chosen files.";
     const path = await new FileList("Add a tileset", files, { known, look: path => this.look(path), none, fields: [label] }).ask();
