@@ -81,7 +81,7 @@ def test_drag():
         # Above the upper half of a row is above it; the list begins with the layer that is drawn last.
         hold(page, point_in(page, ground), point_in(page, last, 0.9), point_in(page, last, 0.1))
         left, high, width, _ = row_of(page, last)
-        assert colours_now(page, [(int(left + width / 2), int(high))]) == [DROP]
+        assert colours_now(page, [(int(left + width / 2), int(high) + 1)]) == [DROP]
         assert spelled(page) == []
         let_go(page)
         assert spelled(page) == [f'layer move {ground} {len(top) - 1}']

@@ -71,6 +71,11 @@ def test_save_as():
         assert tabs(page) == ['orchard.tmj', 'town.tmj']
 
 
+def open_list(page):
+    page.find('body').send_keys(Keys.CONTROL, 'o')
+    page.wait(lambda: page.driver.find_elements('css selector', '#choose-file'), 'the list')
+
+
 def told_of(page, path):
     row = page.find(f'#file-list li[data-path="{path}"]')
     return [row.find_element('css selector', f'.{part}').text for part in ('told', 'size')]
@@ -82,11 +87,11 @@ def test_list():
     bench = Bench('town.tmj', served=True)
     with bench as page:
         (bench.folder / 'broken.tmj').write_text('{"height":')
-        (bench.folder / 'odd.tmj').write_text((EXAMPLE_MAPS / 'house.tmj').read_text().replace('"orientation"', '"orientatio"', 1))
+        (bench.folder / 'odd.tmj').write_text((EXAMPLE_MAPS / 'house.tmj').read_text().replace('"tilewidth"', '"tilewide"', 1))
         for at in range(60):
             (bench.folder / f'z{at:02}.tmj').write_text('[]')
         (bench.folder / 'y.tmj').write_bytes((EXAMPLE_MAPS / 'layers.tmj').read_bytes() + b' ' * 1_200_000)
-        page.find('body').send_keys(Keys.CONTROL, 'o')
+        open_list(page)
         page.wait(lambda: 'not JSON (60)' in told_of(page, 'broken.tmj')[0], 'the reason is read')
         page.wait(lambda: '(6' in told_of(page, 'odd.tmj')[0], 'the reason is read')
         assert told_of(page, 'town.tmj') == ['open', f'{round((EXAMPLE_MAPS / "town.tmj").stat().st_size / 1000)} kB']
@@ -102,14 +107,13 @@ def test_list():
         page.find('#choose-file [name=file]').send_keys(Keys.ARROW_DOWN, Keys.ENTER)
         page.settle()
         assert active(page) == 'layers'
-        page.find('body').send_keys(Keys.CONTROL, 'o')
-        page.wait(lambda: page.driver.find_elements('css selector', '#choose-file'), 'the list')
+        open_list(page)
         ActionChains(page.driver).double_click(page.find('#file-list li[data-path="house.tmj"]')).perform()
         page.wait(lambda: active(page) == 'house', 'it is opened')
-        page.find('body').send_keys(Keys.CONTROL, 'o')
+        page.ctrl('o')
         page.fill_in(file='broken.tmj')
         assert 'not JSON' in page.bubble() and active(page) == 'house'
-        page.find('body').send_keys(Keys.CONTROL, 'o')
+        page.ctrl('o')
         page.fill_in('Cancel')
         assert len(tabs(page)) == 3
 
@@ -137,7 +141,7 @@ def work_in_town(page):
     hand = page.point((12, 12))
     page.drag_points([hand, [hand[0] + 30, hand[1] - 25]], button=1)
     page.click('#palette-larger')
-    left, top, _, _ = page.js('const box = document.getElementById("palette-size").getBoundingClientRect(); return [box.left, box.top, 0, 0]')
+    left, top = page.js('const box = document.getElementById("palette-size").getBoundingClientRect(); return [box.left, box.top]')
     page.drag_points([[int(left + 60), int(top + 60)], [int(left + 110), int(top + 60)]])
     page.keys('e')
     page.keys('4')

@@ -51,26 +51,27 @@ export class Palette {
   }
 
   // ---- its scale
-  zoom(steps) {
+  // By steps, where a point of what is seen stays: the upper left corner, or where the hand is.
+  zoom(steps, x = 0, y = 0) {
     const at = Math.max(0, Math.min(SIDES.length - 1, SIDES.indexOf(this.side) + steps));
-    this.zoomTo(SIDES[at]);
+    this.zoomTo(SIDES[at], x, y);
   }
 
-  // What is in the middle stays there.
-  zoomTo(side) {
+  zoomTo(side, x = 0, y = 0) {
     if (!SIDES.includes(side) || side === this.side) return;
     const { box } = this;
-    const [x, y] = [box.scrollLeft + box.clientWidth / 2, box.scrollTop + box.clientHeight / 2].map(at => at / this.side * side);
+    const [left, top] = [(box.scrollLeft + x) / this.side * side - x, (box.scrollTop + y) / this.side * side - y];
     this.side = side;
     this.draw();
-    box.scrollTo(x - box.clientWidth / 2, y - box.clientHeight / 2);
+    box.scrollTo(left, top);
     this.bench.tell("layout");
   }
 
   wheel(event) {
     if (!event.ctrlKey && !event.metaKey) return;
     event.preventDefault();
-    this.zoom(event.deltaY < 0 ? 1 : -1);
+    const frame = this.box.getBoundingClientRect();
+    this.zoom(event.deltaY < 0 ? 1 : -1, event.clientX - frame.left, event.clientY - frame.top);
   }
 
   // ---- drawing
