@@ -15,6 +15,8 @@ export class Palette {
     this.bench = bench;
     this.tilesets = tilesets;
     this.first = null;
+    // The tiles of the stamp, which have a frame.
+    this.framed = new Set();
     this.side = SIDES[USUAL];
     this.canvas = byId("palette");
     this.pen = this.canvas.getContext("2d");
@@ -86,7 +88,6 @@ export class Palette {
     const set = this.tileset;
     const size = byId("palette-size");
     size.hidden = !set;
-    this.drawStamp();
     if (!set) return;
     const [width, height] = [this.columns * this.side + 1, this.rows * this.side + 1];
     size.style.width = `${width}px`;
@@ -130,9 +131,9 @@ export class Palette {
     const { side, columns, tileset } = this;
     this.pen.strokeStyle = "#ffd34d";
     this.pen.lineWidth = 2;
-    for (const value of new Set(this.bench.stamp.values.map(each => each & TILE))) {
+    for (const value of this.framed) {
       const tile = value - tileset.first;
-      if (tile < 0 || tile >= tileset.count || value === 0) continue;
+      if (tile < 0 || tile >= tileset.count) continue;
       this.pen.strokeRect(tile % columns * side + 1, Math.floor(tile / columns) * side + 1, side - 1, side - 1);
     }
   }
@@ -152,9 +153,16 @@ export class Palette {
   // Shows where the first tile of a stamp stands that was taken elsewhere.
   takeStamp() {
     const value = this.bench.stamp.values.find(each => each !== 0) ?? 0;
+    this.framed = new Set(this.bench.stamp.values.filter(each => each !== 0).map(each => each & TILE));
     const tileset = this.tilesets.of(value);
     if (!this.from && tileset && value) this.reveal(tileset, (value & TILE) - tileset.first);
+    this.show();
+  }
+
+  // Draws the tiles and the stamp.
+  show() {
     this.draw();
+    this.drawStamp();
   }
 
   reveal(tileset, tile) {

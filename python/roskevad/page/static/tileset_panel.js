@@ -33,7 +33,7 @@ export class TilesetPanel {
     byId("tilesets").replaceChildren(...sets.map(set => element("option", { value: set.first, textContent: nameOf(set), title: set.source ?? "in the map" })));
     if (sets.length && !sets.some(set => set.first === this.palette.first)) this.palette.first = sets[0].first;
     byId("tilesets").value = String(this.palette.first);
-    this.palette.draw();
+    this.palette.show();
     this.showWrong();
   }
 
