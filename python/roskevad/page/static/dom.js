@@ -81,10 +81,11 @@ function fieldOf(field) {
 
 // A list below a field, whose rows go into it by a click: those that have what is typed.
 function listFor(input, rows) {
-  const box = element("select", { size: 10, className: "rows", tabIndex: -1, onchange: () => {
+  const box = element("select", { size: 10, className: "rows", tabIndex: -1, ondblclick: () => input.form.requestSubmit() });
+  box.onchange = () => {
     input.value = box.value;
     mark(input, "");
-  } });
+  };
   const narrow = () => {
     const typed = input.value.toLowerCase();
     const fitting = rows.filter(row => row.toLowerCase().includes(typed)).slice(0, MOST_ROWS);
