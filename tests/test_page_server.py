@@ -3,6 +3,7 @@ must refuse: addresses, keys, hosts, methods, heads, bodies, files below the roo
 slow connections; its ends; the wheel of the package, which serves the page from elsewhere; and
 command lines."""
 import hashlib
+import json
 import os
 import re
 import signal
