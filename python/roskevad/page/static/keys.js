@@ -58,7 +58,9 @@ function viewRows({ toolbar, tools, view }) {
     [["+", "Ctrl++", "Ctrl+="], "Larger", () => view.zoom(1)],
     [["-", "Ctrl+-"], "Smaller", () => view.zoom(-1)],
     [["Ctrl+0"], "As large as the tiles' images are", () => view.zoomTo(1)],
+    [["Ctrl+/"], "The whole map", () => view.fit()],
     [["Ctrl+g"], "Hides or shows the grid", () => toolbar.turnGrid()],
+    [["m"], "Hides or shows the whole map in small", () => toolbar.turnMiniMap()],
     [Object.keys(ARROWS).flatMap(key => [key, `Shift+${key}`]), "Moves the chosen object or the view", move],
   ];
 }
@@ -76,7 +78,7 @@ function mapRows({ documents }) {
 function wordOf(event) {
   const digit = /^(?:Digit|Numpad)([1-9])$/.exec(event.code)?.[1];
   const key = event.shiftKey && digit ? digit : event.key.toLowerCase();
-  const isSign = ["+", "-", "=", "?"].includes(key);
+  const isSign = ["+", "-", "=", "?", "/"].includes(key);
   return `${event.ctrlKey || event.metaKey ? "Ctrl+" : ""}${event.shiftKey && !isSign ? "Shift+" : ""}${key}`;
 }
 

@@ -1,4 +1,6 @@
 // The map as the page knows it: its outline, and its cells where they are asked for.
+import { projectionOf } from "./projections.js";
+import { bothTints, partsOfColour } from "./tints.js";
 
 export const TILE = 0x0fffffff;
 
@@ -17,6 +19,7 @@ function flattened(layers, group, depth, isSeen, found) {
     layer.offsetX = (group?.offsetX ?? 0) + numberOf(data.offsetx, 0, -FARTHEST, FARTHEST);
     layer.offsetY = (group?.offsetY ?? 0) + numberOf(data.offsety, 0, -FARTHEST, FARTHEST);
     layer.opacity = (group?.opacity ?? 1) * numberOf(data.opacity, 1, 0, 1);
+    layer.tint = bothTints(group?.tint ?? null, partsOfColour(data.tintcolor));
     layer.isTiles = data.type === "tilelayer";
     found.push(layer);
     if (data.type === "group") flattened(data.layers, layer, depth + 1, layer.isSeen, found);
@@ -34,6 +37,8 @@ export class MapModel {
     this.tileWidth = data.tilewidth;
     this.tileHeight = data.tileheight;
     this.layers = flattened(data.layers, null, 0, true, []);
+    this.projection = projectionOf(this);
+    this.isHexagonal = data.orientation === "hexagonal";
     this.runs = [];
     this.selected = null;
   }

@@ -15,8 +15,8 @@ const TOOLS = [
 const LARGEST_BRUSH = 9;
 
 export class Toolbar {
-  constructor(bench, tools, documents) {
-    Object.assign(this, { bench, tools, documents, editor: bench.editor });
+  constructor(bench, tools, documents, miniMap) {
+    Object.assign(this, { bench, tools, documents, miniMap, editor: bench.editor });
     const buttonOf = ([name, text, key, title]) => button(text, `${title} (${key})`, () => tools.choose(name), { id: `tool-${name}` });
     byId("tools").append(...TOOLS.map(buttonOf));
     byId("turns").append(
@@ -24,11 +24,12 @@ export class Toolbar {
       button("Redo", "Ctrl+Shift+Z, Ctrl+Y", event => this.turn("redo", event), { id: "redo" }),
     );
     byId("looks").append(
-      button("−", "Smaller: the wheel", () => bench.view.zoom(-1), { id: "zoom-out" }),
+      button("−", "Smaller (Ctrl+-, or the wheel with Ctrl)", () => bench.view.zoom(-1), { id: "zoom-out" }),
       element("span", { id: "scale" }),
-      button("+", "Larger: the wheel", () => bench.view.zoom(1), { id: "zoom-in" }),
-      button("Fit", "The whole map", () => bench.view.fit(), { id: "fit" }),
-      button("Grid", "Ctrl+G", () => this.turnGrid(), { id: "grid", className: "on" }),
+      button("+", "Larger (Ctrl++, or the wheel with Ctrl)", () => bench.view.zoom(1), { id: "zoom-in" }),
+      button("Fit", "The whole map (Ctrl+/)", () => bench.view.fit(), { id: "fit" }),
+      button("Grid", "Hides or shows the grid (Ctrl+G)", () => this.turnGrid(), { id: "grid", className: "on" }),
+      button("Mini-map", "Hides or shows the whole map in small (M)", () => this.turnMiniMap(), { id: "turn-mini-map", className: "on" }),
     );
     const clips = new Clips(bench, tools);
     byId("take").onclick = () => clips.copy();
@@ -74,6 +75,11 @@ export class Toolbar {
     this.bench.marks.hasGrid = !this.bench.marks.hasGrid;
     this.bench.marks.redraw();
     this.show();
+  }
+
+  turnMiniMap() {
+    this.miniMap.turn();
+    byId("turn-mini-map").classList.toggle("on", this.miniMap.isWanted);
   }
 
   turnMacro() {

@@ -2,14 +2,12 @@
 import { FillTool, fillRectangle } from "./fill_tools.js";
 import { ObjectTool, insertObject } from "./object_tools.js";
 import { StrokeTool } from "./stroke_tool.js";
+import { ViewHand } from "./view_hand.js";
 
 const COLOURS = { brush: "#7fd67f", eraser: "#ff8f8f", fill: "#7fd67f", rectangle: "#7fd67f", select: "#8cc8ff", insert: "#ffd34d", capture: "#d8b4ff" };
 // The tools that draw on the layer in hand, and those with which the right button takes tiles.
 const PAINTING = new Set(["brush", "eraser", "fill", "rectangle"]);
 const TAKING = new Set(["brush", "fill", "rectangle"]);
-// How far the wheel turns for a step, and how far that is where the browser counts lines: in pixels.
-const WHEEL_STEP = 60;
-const LINE = 40;
 
 // The rectangle of cells from one corner to the other.
 function cellsBetween([x0, y0], [x1, y1]) {
@@ -73,9 +71,9 @@ export class Tools {
     this.name = "brush";
     this.held = null;
     this.isSpace = false;
-    this.turned = 0;
     // The time of the last move of a drag that came before a frame of the screen.
     this.drawnUpTo = -Infinity;
+    this.viewHand = new ViewHand(bench.view, () => this.cancel());
     this.listen(bench.view.box);
   }
 
@@ -99,18 +97,7 @@ export class Tools {
     box.onpointercancel = event => this.up(event);
     box.onpointerleave = () => this.showHand(null);
     box.oncontextmenu = event => event.preventDefault();
-    box.addEventListener("wheel", event => this.wheel(event), { passive: false });
     addEventListener("blur", () => (this.isSpace = false));
-  }
-
-  // A step of the wheel is a step of the scale; small turns, as pads give them, come together.
-  wheel(event) {
-    event.preventDefault();
-    this.turned += event.deltaY * (event.deltaMode === WheelEvent.DOM_DELTA_LINE ? LINE : 1);
-    if (Math.abs(this.turned) < WHEEL_STEP) return;
-    const { x, y } = this.bench.view.placeOf(event);
-    this.bench.view.zoom(this.turned < 0 ? 1 : -1, x, y);
-    this.turned = 0;
   }
 
   // The tool of a press: the middle button or the space bar moves the view, the right button takes tiles.
@@ -155,7 +142,7 @@ export class Tools {
     const { view } = this.bench;
     const place = view.placeOf(event);
     const [x, y] = [Math.round(place.x - this.from.x), Math.round(place.y - this.from.y)];
-    view.pan(x, y);
+    view.panBy(x, y);
     this.from = { x: this.from.x + x, y: this.from.y + y };
   }
 
