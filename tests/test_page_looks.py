@@ -60,7 +60,6 @@ def test_tilesets():
         'house.tmj',
         'base64.tmj',
         'groups.tmj',
-        'image_layer.tmj',
         'town.tmj',
     )
     with Bench(*names) as page:

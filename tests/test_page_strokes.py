@@ -137,16 +137,19 @@ def test_fill_and_selection():
 
 
 def test_fill_with_holes():
-    """A stamp whose first cell is empty fills with its first tile, and so does not empty the
-    map."""
+    """A stamp of several cells is repeated over those that are filled. Its empty cells leave them as
+    they are."""
     with Bench(empty=True) as page:
         page.say('new a 8 6 16 16 tiles.tsx')
         page.say('stamp 1 1 0 1 12,4')
         page.keys('f')
         page.drag([(0, 0), (1, 1)], button=2)
         page.drag([(6, 4)])
-        assert spelled(page)[-1] == 'fill 1 6 4 12', spelled(page)
-        assert page.editor.map()['layers'][0]['data'].count(12) == 47
+        assert page.editor.map()['layers'][0]['data'] == [0, 12] * 4 + [0, 4] * 4 + [0, 12] * 4 + [
+            0,
+            4,
+        ] * 4 + [0, 12] * 4 + [0, 4] * 4
+        assert standing(page) == (2, 2)
 
 
 def test_stamp_of_selected():

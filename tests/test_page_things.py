@@ -151,7 +151,10 @@ def test_properties():
         page.type_into('#properties input#new-name', 'x')
         page.find('#new-value').send_keys(Keys.ENTER)
         page.settle()
-        assert 'bad word' in page.bubble() and standing(page) == index
+        assert (
+            page.texts('#properties .new .fault')[-1].startswith('not empty')
+            and standing(page) == index
+        )
 
 
 def test_kinds_of_properties():
@@ -168,7 +171,13 @@ def test_kinds_of_properties():
         for kind, value in values.items():
             page.find('#new-name').send_keys(f'a_{kind}')
             Select(page.find('#new-type')).select_by_visible_text(kind)
-            page.find('#new-value').send_keys(value)
+            if kind == 'bool':
+                page.click('#new-value')
+            elif kind == 'object':
+                page.click('#new-value')
+                Select(page.find('#new-value')).select_by_value(value)
+            else:
+                page.find('#new-value').send_keys(value)
             page.click('#add-property')
         assert spelled(page) == [
             f'prop set map a_{kind} {kind} {value}' for kind, value in values.items()
@@ -182,10 +191,9 @@ def test_kinds_of_properties():
             and told['a_color'] == ('color', '#ff8800')
         )
         page.type_into('#properties input[data-key="a_int"]', 'many')
-        assert (
-            'bad word' in page.bubble()
-            and page.find('#properties input[data-key="a_int"]').get_attribute('value') == '-5'
-        )
+        assert 'a whole number' in page.texts('#properties .fault')
+        page.find('#properties input[data-key="a_int"]').send_keys(Keys.ESCAPE)
+        assert page.find('#properties input[data-key="a_int"]').get_attribute('value') == '-5'
 
 
 def test_resize():

@@ -1,20 +1,8 @@
-// What the hand works with: the editor, the drawn map, the layer, the stamp, the object that was chosen, and words for refusals.
-import { byId } from "./dom.js";
-import { LayerBars } from "./layer_bars.js";
-
-const SHOWN_FOR = 5000;
-// What a refusal means for the hand, where its words alone do not tell.
-const HINTS = {
-  10: "Open a map first.",
-  13: "Save it, or discard it.",
-  20: "End the macro first.",
-  30: "Choose a layer that is there.",
-  31: "Choose a tile layer to draw on, and an object layer for objects.",
-  32: "Click within the map.",
-  33: "No tileset of this map has that tile.",
-  51: "The file cannot be read or written.",
-  60: "docs/map-files.md says what to change in a map.",
-};
+// What the hand works with: the editor, the drawn map, the layer, the stamp, the object that was chosen, and words at the hand.
+import { Bubble } from "./bubble.js";
+import { isField } from "./dom.js";
+import { LayerBars, whyBarred } from "./layer_bars.js";
+import { saidOf } from "./refusals.js";
 
 export class Bench extends EventTarget {
   constructor(editor, view, marks, tilesets) {
@@ -26,6 +14,7 @@ export class Bench extends EventTarget {
     this.stamp = { width: 1, height: 1, values: [1] };
     // Whether a button is down on the map: the panels wait until it is up.
     this.isHeld = false;
+    this.bubble = new Bubble(() => view.drawnBox());
     this.bars = new LayerBars(this);
     this.handX = this.handY = 100;
     addEventListener("pointermove", event => this.moveHand(event.clientX, event.clientY), true);
@@ -49,7 +38,9 @@ export class Bench extends EventTarget {
   // Keeps to a layer and an object that are there.
   settle() {
     if (this.map && !this.layer) this.layerId = (this.map.layers.find(layer => layer.isTiles) ?? this.map.layers[0])?.id ?? null;
-    if (this.objectId !== null && !this.map?.object(this.objectId)) this.objectId = null;
+    const { active } = this.editor.notes;
+    if (active !== this.document || !this.map?.object(this.objectId)) this.objectId = null;
+    this.document = active;
     this.marks.chosen = this.objectId;
     this.tell("chosen");
   }
@@ -57,13 +48,27 @@ export class Bench extends EventTarget {
   chooseLayer(id) {
     this.layerId = id;
     this.settle();
+    this.tell("layer chosen");
   }
 
   chooseObject(id) {
     this.objectId = id;
     if (id !== null) this.layerId = this.map.object(id).layer.id;
     this.settle();
+    this.tell("object chosen");
     this.marks.redraw();
+  }
+
+  // The object that is chosen, with its layer; null where there is none.
+  get chosenObject() {
+    return (this.objectId !== null && this.map?.object(this.objectId)) || null;
+  }
+
+  // Whether the objects of a layer take no edit, since it is hidden or locked. It is said what was not done.
+  barsObjects(layer, done) {
+    const why = whyBarred(layer);
+    if (why) this.say(`${why} Nothing was ${done}.`);
+    return why !== "";
   }
 
   // Whether the layer in hand takes no stroke, since it is hidden or locked. Then it says so.
@@ -81,27 +86,38 @@ export class Bench extends EventTarget {
     this.tell("stamp");
   }
 
-  // Takes the cells of a rectangle of the layer as the stamp, within the selection where `isSelected`.
-  takeCells(x, y, width, height, isSelected = false) {
-    const { map, layer } = this;
-    if (!layer?.isTiles) return this.say("Choose a tile layer to take tiles from.");
-    const values = new Array(width * height).fill(0);
-    const [left, top, wide, high] = map.cut(x, y, width, height);
-    const cells = wide && high ? map.cells(layer.id, left, top, wide, high) : [];
-    for (let at = 0; at < cells.length; at++) {
-      const [column, row] = [left + at % wide, top + Math.floor(at / wide)];
-      if (!isSelected || map.isReached(column, row)) values[(row - y) * width + column - x] = cells[at];
-    }
-    if (values.some(value => value)) this.takeStamp({ width, height, values });
-    else this.say("These cells are empty.");
+  // Takes the cells of a rectangle of the layer as the stamp.
+  takeCells(x, y, width, height) {
+    const stamp = this.stampOf(x, y, width, height);
+    if (stamp) this.takeStamp(stamp);
   }
 
-  takeSelected() {
+  // The stamp of a rectangle of the layer, within the map, and within the selection where `isSelected`; null where there is nothing to
+  // take, which is said.
+  stampOf(x, y, width, height, isSelected = false) {
+    const { map, layer } = this;
+    if (!layer?.isTiles) return this.say("Choose a tile layer to take tiles from.");
+    const [left, top, wide, high] = map.cut(x, y, width, height);
+    const values = wide && high ? Array.from(map.cells(layer.id, left, top, wide, high)) : [];
+    for (let at = 0; isSelected && at < values.length; at++) {
+      if (!map.isReached(left + at % wide, top + Math.floor(at / wide))) values[at] = 0;
+    }
+    return values.some(value => value) ? { width: wide, height: high, values } : this.say("These cells are empty.");
+  }
+
+  // The rectangle of the selection: [x, y, width, height]; null where no cell is selected.
+  get selectedBox() {
     const runs = this.map?.runs ?? [];
-    if (!runs.length) return this.say("Select cells first, with the tool Select.");
-    const [left, top] = [Math.min(...runs.map(run => run[1])), runs[0][0]];
-    const [right, bottom] = [Math.max(...runs.map(run => run[1] + run[2])), runs[runs.length - 1][0] + 1];
-    this.takeCells(left, top, right - left, bottom - top, true);
+    if (!runs.length) return null;
+    let [left, right] = [Infinity, 0];
+    for (const [, column, count] of runs) [left, right] = [Math.min(left, column), Math.max(right, column + count)];
+    return [left, runs[0][0], right - left, runs[runs.length - 1][0] + 1 - runs[0][0]];
+  }
+
+  // The stamp of the selected cells; null where there are none, which is said.
+  selectedStamp() {
+    const box = this.selectedBox;
+    return box ? this.stampOf(...box, true) : this.say("Select cells first, with the tool Select.");
   }
 
   // ---- lines
@@ -110,13 +126,25 @@ export class Bench extends EventTarget {
     return this.sayRefusal(await this.editor.send(lines, options));
   }
 
+  // Does edits as one step, and none of them where one is refused. A macro that is open has them as a part.
+  doAsOne(text, lines) {
+    const { editor } = this;
+    if (editor.stand().depth) return this.sayRefusal(editor.doLines(lines));
+    const done = editor.doLines([`begin ${text}`, ...lines, "end"]);
+    if (!done.isHeard && done.replies.length > 1) editor.doLines(["end", "undo"]);
+    return this.sayRefusal(done);
+  }
+
+  // Does lines for a dialog: gives null, or where one was refused what the dialog says, and the field that a code is about.
+  async attempt(lines, fields = {}) {
+    const done = await this.editor.send(lines);
+    if (done.isHeard) return null;
+    return { words: saidOf(done), field: fields[/^no (\d+)/.exec(done.refusal ?? "")?.[1]] };
+  }
+
   sayRefusal(done) {
-    if (done.barred) {
-      this.say(done.barred);
-    } else if (done.refusal) {
-      const [, code, words] = /^no (\d+) (.*)$/.exec(done.refusal);
-      this.say(`Refused: ${words} (${code}). ${done.why ?? HINTS[code >= 60 && code <= 69 ? 60 : code] ?? ""}`);
-    }
+    if (done.barred || done.refusal) this.say(saidOf(done));
+    else this.bubble.hide();
     return done;
   }
 
@@ -125,19 +153,14 @@ export class Bench extends EventTarget {
   }
 
   moveToField() {
-    if (!(document.activeElement instanceof HTMLInputElement)) return;
+    if (!isField(document.activeElement)) return;
     const frame = document.activeElement.getBoundingClientRect();
     this.moveHand(frame.left, frame.top - 44);
   }
 
   // Says something where the hand is.
   say(words) {
-    const bubble = byId("bubble");
-    bubble.textContent = words.trim();
-    bubble.hidden = false;
-    bubble.style.left = `${Math.min(this.handX + 14, innerWidth - bubble.offsetWidth - 8)}px`;
-    bubble.style.top = `${Math.max(4, Math.min(this.handY + 14, innerHeight - bubble.offsetHeight - 8))}px`;
-    clearTimeout(this.bubbleTimer);
-    this.bubbleTimer = setTimeout(() => (bubble.hidden = true), SHOWN_FOR);
+    this.bubble.show(words, this.handX, this.handY);
+    return null;
   }
 }

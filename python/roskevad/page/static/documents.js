@@ -1,5 +1,6 @@
 // The open documents as tabs, and what is done with whole maps: new, open, save, close, resize, reload.
 import { ask, button, byId, element } from "./dom.js";
+import { KINDS } from "./kinds.js";
 import { FileList } from "./file_list.js";
 import { MapProbe } from "./map_probe.js";
 import { lastOf } from "./names.js";
@@ -55,15 +56,14 @@ export class Documents {
   }
 
   async make() {
-    const told = await ask("A new map", [
-      { name: "name", label: "Name", value: "map" },
-      { name: "width", label: "Columns", type: "number", value: 40, min: 1 },
-      { name: "height", label: "Rows", type: "number", value: 30, min: 1 },
-      { name: "side", label: "Width of a tile in pixels", type: "number", value: 16, min: 1 },
-      { name: "tall", label: "Height of a tile in pixels", type: "number", value: 16, min: 1 },
-      { name: "source", label: "Its tileset", value: this.bench.map?.data.tilesets.find(set => set.source)?.source ?? "tiles.tsx" },
-    ]);
-    if (told) this.bench.act([`new ${told.name} ${told.width} ${told.height} ${told.side} ${told.tall} ${told.source}`]);
+    await ask("A new map", [
+      { name: "name", label: "Name", value: "map", kind: KINDS.document },
+      { name: "width", label: "Columns", value: 40, kind: KINDS.cells },
+      { name: "height", label: "Rows", value: 30, kind: KINDS.cells },
+      { name: "side", label: "Width of a tile in pixels", value: 16, kind: KINDS.side },
+      { name: "tall", label: "Height of a tile in pixels", value: 16, kind: KINDS.side },
+      { name: "source", label: "Its tileset", value: this.bench.map?.data.tilesets.find(set => set.source)?.source ?? "tiles.tsx", kind: KINDS.text },
+    ], ["OK"], made => this.bench.attempt([`new ${made.name} ${made.width} ${made.height} ${made.side} ${made.tall} ${made.source}`], { 11: "name" }));
   }
 
   // ---- opening
@@ -183,13 +183,12 @@ export class Documents {
   async resize() {
     const map = this.bench.map;
     if (!map) return;
-    const told = await ask("Another size of the map", [
-      { name: "width", label: "Columns", type: "number", value: map.width, min: 1 },
-      { name: "height", label: "Rows", type: "number", value: map.height, min: 1 },
-      { name: "right", label: "The old map goes to the right by", type: "number", value: 0 },
-      { name: "down", label: "and down by", type: "number", value: 0 },
-    ]);
-    if (told) this.bench.act([`resize ${told.width} ${told.height} ${told.right} ${told.down}`]);
+    await ask("Another size of the map", [
+      { name: "width", label: "Columns", value: map.width, kind: KINDS.cells },
+      { name: "height", label: "Rows", value: map.height, kind: KINDS.cells },
+      { name: "right", label: "The old map goes to the right by", value: 0, kind: KINDS.coordinate },
+      { name: "down", label: "and down by", value: 0, kind: KINDS.coordinate },
+    ], ["OK"], told => this.bench.attempt([`resize ${told.width} ${told.height} ${told.right} ${told.down}`]));
   }
 }
 

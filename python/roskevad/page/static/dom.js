@@ -2,6 +2,9 @@
 
 export const byId = id => document.getElementById(id);
 
+// The rows that a list in a dialog has at most.
+const MOST_ROWS = 500;
+
 // An element with these properties and children. What begins with `on` is a listener, and `data` are its marks for scripts.
 export function element(tag, properties = {}, ...children) {
   const made = document.createElement(tag);
@@ -24,25 +27,19 @@ export function onEnter(call) {
   };
 }
 
+export const isField = at => [HTMLInputElement, HTMLTextAreaElement, HTMLSelectElement].some(kind => at instanceof kind);
+
 // Whether keys go into a field now.
 export function isTyping() {
   const at = document.activeElement;
-  return [HTMLInputElement, HTMLTextAreaElement, HTMLSelectElement].some(kind => at instanceof kind);
-}
-
-function fieldOf(field) {
-  const choices = field.choices?.map(choice => element("option", { value: choice }));
-  const list = choices && element("datalist", { id: `choices-${field.name}` }, ...choices);
-  const { name, type = "text", value = "", min = "" } = field;
-  const input = element("input", { name, type, value, min, autocomplete: "off" });
-  if (list) input.setAttribute("list", list.id);
-  return element("label", {}, element("span", { textContent: field.label }), input, list);
+  return isField(at);
 }
 
 // Shows a dialog, and gives what its buttons return; "" where nothing was wanted.
 export function shown(dialog) {
   document.body.append(dialog);
   dialog.showModal();
+  dialog.querySelector("input:not([type=file], [type=checkbox])")?.select();
   return new Promise(resolve => {
     dialog.onclose = () => {
       dialog.remove();
@@ -55,12 +52,104 @@ export function shown(dialog) {
   });
 }
 
-// Asks for fields, and gives what was typed by their names, with the answer that was clicked; null where nothing was wanted.
-export async function ask(title, fields, answers = ["OK"]) {
-  const form = element("form", { method: "dialog" }, element("h2", { textContent: title }), ...fields.map(fieldOf));
-  const buttons = answers.map(answer => element("button", { type: "submit", value: answer, textContent: answer }));
-  const dialog = element("dialog", {}, form);
-  form.append(element("div", { className: "answers" }, ...buttons, button("Cancel", "Esc", () => dialog.close(""))));
-  const answer = await shown(dialog);
-  return answer ? { ...Object.fromEntries(new FormData(form)), answer } : null;
+// ---- fields that are refused
+// Marks a field, and says why below it; without words the mark goes.
+export function mark(input, words) {
+  const fault = input.parentElement.querySelector(".fault");
+  input.classList.toggle("wrong", words !== "");
+  input.ariaInvalid = words === "" ? null : "true";
+  input.title = words === "" ? input.dataset.title ?? "" : words;
+  if (fault) fault.textContent = words;
+  else if (words !== "") input.parentElement.append(element("small", { className: "fault", role: "alert", textContent: words }));
+  if (words !== "") input.parentElement.scrollIntoView({ block: "nearest" });
+}
+
+// ---- dialogs with fields
+function fieldOf(field) {
+  const choices = field.choices?.map(choice => element("option", { value: choice }));
+  const list = choices && element("datalist", { id: `choices-${field.name}` }, ...choices);
+  const { name, type = "text", value = "", min = "" } = field;
+  const input = element("input", { name, type, value, min, autocomplete: "off", spellcheck: false });
+  const seen = field.list && listFor(input, field.list);
+  input.oninput = () => {
+    mark(input, "");
+    seen?.narrow();
+  };
+  if (list) input.setAttribute("list", list.id);
+  return element("label", {}, element("span", { textContent: field.label }), element("span", { className: "filled" }, input, seen?.box), list);
+}
+
+// A list below a field, whose rows go into it by a click: those that have what is typed.
+function listFor(input, rows) {
+  const box = element("select", { size: 10, className: "rows", tabIndex: -1, ondblclick: () => input.form.requestSubmit() });
+  box.onchange = () => {
+    input.value = box.value;
+    mark(input, "");
+  };
+  const narrow = () => {
+    const typed = input.value.toLowerCase();
+    const fitting = rows.filter(row => row.toLowerCase().includes(typed)).slice(0, MOST_ROWS);
+    box.replaceChildren(...fitting.map(row => element("option", { value: row, textContent: row })));
+  };
+  narrow();
+  if (!box.options.length) box.replaceChildren(...rows.slice(0, MOST_ROWS).map(row => element("option", { value: row, textContent: row })));
+  box.value = input.value;
+  return { box, narrow };
+}
+
+// A dialog that asks for fields, and stays open while what was typed is refused.
+class Question {
+  constructor(title, fields, answers, take) {
+    Object.assign(this, { fields, take });
+    this.form = element("form", { method: "dialog", noValidate: true }, element("h2", { textContent: title }), ...fields.map(fieldOf));
+    this.dialog = element("dialog", {}, this.form);
+    this.said = element("p", { className: "fault", role: "alert" });
+    const buttons = answers.map(answer => element("button", { type: "submit", value: answer, textContent: answer }));
+    const cancel = button("Cancel", "Esc", () => this.dialog.close(""));
+    this.form.append(this.said, element("div", { className: "answers" }, ...buttons, cancel));
+    this.form.onsubmit = event => {
+      event.preventDefault();
+      this.answer(event.submitter?.value ?? answers[0]);
+    };
+  }
+
+  async ask() {
+    const answer = await shown(this.dialog);
+    return answer ? this.told(answer) : null;
+  }
+
+  // What was typed, as lines spell it.
+  told(answer) {
+    const typed = Object.fromEntries(new FormData(this.form));
+    for (const { name, kind } of this.fields) if (kind) typed[name] = kind.spelled(typed[name]);
+    return { ...typed, answer };
+  }
+
+  async answer(answer) {
+    if (this.isBusy) return;
+    const told = this.told(answer);
+    const wrong = this.fields.find(({ name, kind }) => kind?.fault(told[name]));
+    if (wrong) return this.refuse({ words: wrong.kind.fault(told[wrong.name]), field: wrong.name });
+    this.isBusy = true;
+    const refusal = await this.take(told);
+    this.isBusy = false;
+    return refusal ? this.refuse(refusal) : this.dialog.close(answer);
+  }
+
+  // Says why, and marks the field that it is about: the one that was named, or else the only one.
+  refuse({ words, field = this.fields.length === 1 ? this.fields[0].name : null }) {
+    const input = field && this.form.elements[field];
+    this.said.textContent = input ? "" : words;
+    if (!input) return;
+    mark(input, words);
+    input.focus();
+    input.select();
+  }
+}
+
+// Asks for fields, and gives what was typed by their names, with the answer that was clicked; null where nothing was wanted. A field is
+// { name, label, value, kind }, with one of KINDS, which says what it takes. `take` does what was asked for; where that is refused, it
+// gives { words, field }: the dialog stays open, and marks the field.
+export function ask(title, fields, answers = ["OK"], take = () => null) {
+  return new Question(title, fields, answers, take).ask();
 }

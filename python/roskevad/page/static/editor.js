@@ -8,6 +8,7 @@ import { MapModel } from "./map_model.js";
 import { FileNames, freeName } from "./names.js";
 import { Notes } from "./notes.js";
 import { Changed, ChosenFiles, Failed } from "./places.js";
+import { shortHintOf } from "./refusals.js";
 
 const OPEN = /^open ([A-Za-z0-9_][A-Za-z0-9_.-]{0,63}) ([A-Za-z0-9_][A-Za-z0-9_.-]{0,99})$/;
 const SAVE = /^save ([A-Za-z0-9_][A-Za-z0-9_.-]{0,99})$/;
@@ -54,7 +55,7 @@ export class Otherwise extends Error {}
 //   cells      cells have changed otherwise than by a stroke of the hand; the detail is the part in which alone, or null
 //   selection  the selection has changed
 //   done       lines were done; the detail is the stroke whose edits they are, or null
-//   lines      the lines that were heard, each with its number and its reply
+//   lines      the lines that were heard, each with its number, its reply, and what is at fault in it
 //   state      how the documents and the steps stand, once the journal has it
 //   broken     the engine has ended the editor
 export class Editor extends EventTarget {
@@ -100,19 +101,19 @@ export class Editor extends EventTarget {
   }
 
   // Does lines at once, up to the first that is refused, or all of them. `stroke` is the stroke whose edits they are: it draws itself.
-  // Gives the replies, whether all were heard and accepted, and the first refusal.
+  // Gives the replies, whether all were heard and accepted, and the first refusal with its line.
   doLines(lines, { isFree = false, stroke = null } = {}) {
     const replies = [];
-    let refusal = null;
+    let [refusal, refused] = [null, null];
     for (const line of lines) {
       if (this.isBarred(line)) return { ...UNHEARD, replies, barred: this.barred };
       const reply = this.hear(line, stroke !== null);
       if (reply !== null) replies.push(reply);
-      if (isRefusal(reply)) refusal ??= reply;
+      if (isRefusal(reply) && refusal === null) [refusal, refused] = [reply, line];
       if (refusal && !isFree) break;
     }
     this.settle(stroke);
-    return { replies, isHeard: refusal === null, refusal };
+    return { replies, isHeard: refusal === null, refusal, refused };
   }
 
   // Does lines one behind the other, and waits for the files that they read and write.
@@ -139,7 +140,7 @@ export class Editor extends EventTarget {
       at = Math.max(end, at + 1);
       came.replies.push(...done.replies);
       came.isHeard &&= done.isHeard;
-      for (const word of ["refusal", "barred", "why"]) came[word] ??= done[word];
+      for (const word of ["refusal", "refused", "barred", "why"]) came[word] ??= done[word];
       if (at < lines.length) await pause();
     }
     return came;
@@ -181,7 +182,7 @@ export class Editor extends EventTarget {
   }
 
   list(line, reply) {
-    this.listed.push([++this.heard, cut(line), reply === null ? null : cut(reply)]);
+    this.listed.push([++this.heard, cut(line), reply === null ? null : cut(reply), shortHintOf(reply, line)]);
   }
 
   // Takes what the lines have changed.
@@ -214,7 +215,7 @@ export class Editor extends EventTarget {
   failed(line, reply, why) {
     this.list(line, reply);
     this.settle();
-    return { replies: [reply], isHeard: false, refusal: reply, why };
+    return { replies: [reply], isHeard: false, refusal: reply, refused: line, why };
   }
 
   // Opens what a file has.

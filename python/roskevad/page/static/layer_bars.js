@@ -11,6 +11,9 @@ function withGroups(layer) {
 // `locked` is a member that Tiled writes; the editor keeps it, and no line sets it.
 export const isLocked = layer => layer.data.locked === true;
 
+// Whether a layer or a group that it stands in is locked.
+export const isLockedIn = layer => withGroups(layer).some(isLocked);
+
 // Why a layer is barred, in words; "" where it is not.
 export function whyBarred(layer) {
   const nameOf = each => (each === layer ? each.data.name : `The group ${each.data.name}`);

@@ -1,10 +1,11 @@
 // The layers as a tree: the one that is drawn last stands on top, and a group above the layers in it.
 import { ask, button, byId, element } from "./dom.js";
+import { KINDS } from "./kinds.js";
 import { isLocked } from "./layer_bars.js";
 import { LayerDrag } from "./layer_drag.js";
 import { putRows } from "./rows.js";
 
-const KINDS = { tilelayer: "tiles", objectgroup: "objects", imagelayer: "image", group: "group" };
+const LAYER_KINDS = { tilelayer: "tiles", objectgroup: "objects", imagelayer: "image", group: "group" };
 
 export class LayerPanel {
   constructor(bench) {
@@ -61,7 +62,7 @@ export class LayerPanel {
     lock.hidden = !isLocked(layer);
     name.textContent = layer.data.name || "(no name)";
     name.title = layer.data.name;
-    kind.textContent = KINDS[layer.type] ?? layer.type;
+    kind.textContent = LAYER_KINDS[layer.type] ?? layer.type;
     row.style.paddingLeft = `${2 + layer.depth * 14}px`;
     row.classList.toggle("now", layer.id === this.bench.layerId);
     row.classList.toggle("hidden", !layer.isSeen);
@@ -99,17 +100,16 @@ export class LayerPanel {
   }
 
   async add(kind) {
-    const told = await ask(`A new ${kind} layer`, [{ name: "name", label: "Name", value: kind === "tile" ? "Tiles" : "Objects" }]);
-    if (!told) return;
-    const done = await this.bench.act([`layer add ${kind} ${told.name}`]);
-    if (done.isHeard) this.bench.chooseLayer(this.bench.map.data.nextlayerid - 1);
+    const field = { name: "name", label: "Name", value: kind === "tile" ? "Tiles" : "Objects", kind: KINDS.text };
+    const told = await ask(`A new ${kind} layer`, [field], ["OK"], ({ name }) => this.bench.attempt([`layer add ${kind} ${name}`]));
+    if (told) this.bench.chooseLayer(this.bench.map.data.nextlayerid - 1);
   }
 
   async rename() {
     const layer = this.bench.layer;
     if (!layer) return;
-    const told = await ask("Rename a layer", [{ name: "name", label: "Name", value: layer.data.name }]);
-    if (told) this.bench.act([`layer rename ${layer.id} ${told.name}`]);
+    const field = { name: "name", label: "Name", value: layer.data.name, kind: KINDS.text };
+    await ask("Rename a layer", [field], ["OK"], ({ name }) => this.bench.attempt([`layer rename ${layer.id} ${name}`]));
   }
 
   remove() {

@@ -29,13 +29,14 @@ export class LinePanel {
     if (!lines.length) return;
     const list = byId("lines");
     const isAtEnd = list.scrollTop + list.clientHeight >= list.scrollHeight - 30;
-    list.append(...lines.slice(-SHOWN).map(([, line, reply]) => this.row(line, reply)));
+    list.append(...lines.slice(-SHOWN).map(([, line, reply, why]) => this.row(line, reply, why)));
     while (list.children.length > SHOWN) list.firstChild.remove();
     if (isAtEnd) list.scrollTop = list.scrollHeight;
   }
 
-  row(line, reply) {
-    const row = element("li", {}, element("code", { textContent: line }), element("span", { className: "reply", textContent: reply ?? "" }));
+  row(line, reply, why) {
+    const told = [element("span", { className: "reply", textContent: reply ?? "" }), why ? element("span", { className: "why", textContent: why }) : null];
+    const row = element("li", { title: why ?? "" }, element("code", { textContent: line }), ...told);
     row.classList.toggle("refused", reply?.startsWith("no ") ?? false);
     return row;
   }

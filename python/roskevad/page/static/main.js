@@ -3,13 +3,17 @@ import { Bench } from "./bench.js";
 import { Documents } from "./documents.js";
 import { byId } from "./dom.js";
 import { Editor } from "./editor.js";
+import { bindFieldKeys } from "./field_keys.js";
 import { recordSum } from "./journal.js";
 import { LayerPanel } from "./layer_panel.js";
 import { Layouts } from "./layouts.js";
 import { LinePanel } from "./line_panel.js";
 import { MapView } from "./map_view.js";
 import { Marks } from "./marks.js";
+import { MiniMap } from "./mini_map.js";
+import { notDrawn } from "./not_drawn.js";
 import { endNotice, notice } from "./notices.js";
+import { ObjectList } from "./object_list.js";
 import { loadModule } from "./own_module.js";
 import { Palette } from "./palette.js";
 import { Panels } from "./panels.js";
@@ -18,6 +22,7 @@ import { ServedFiles } from "./places.js";
 import { Player } from "./player.js";
 import { PropertyPanel } from "./property_panel.js";
 import { Recovery } from "./recovery.js";
+import { ScrollBars } from "./scroll_bars.js";
 import { StatusBar } from "./status_bar.js";
 import { StepPanel } from "./step_panel.js";
 import { TilesetPanel } from "./tileset_panel.js";
@@ -40,15 +45,18 @@ class Page {
     this.tilesets = new Tilesets(editor);
     this.view = new MapView(byId("view"), editor, this.tilesets);
     this.marks = new Marks(this.view, editor, this.tilesets);
+    this.scrollBars = new ScrollBars(this.view);
+    this.miniMap = new MiniMap(this.view, editor);
     const bench = this.bench = new Bench(editor, this.view, this.marks, this.tilesets);
     this.tools = new Tools(bench);
     this.documents = new Documents(bench);
-    this.toolbar = new Toolbar(bench, this.tools, this.documents);
+    this.toolbar = new Toolbar(bench, this.tools, this.documents, this.miniMap);
     this.palette = new Palette(bench, this.tilesets);
     this.tilesetPanel = new TilesetPanel(bench, this.tilesets, this.palette);
     this.status = new StatusBar(bench, this.tilesets);
     this.layers = new LayerPanel(bench);
     this.properties = new PropertyPanel(bench);
+    this.objects = new ObjectList(bench, this.tools);
     this.steps = new StepPanel(bench);
     this.panel = new PlacePanel(bench, this.documents, this.tilesets);
     this.recovery = new Recovery(bench, this.panel);
@@ -57,6 +65,7 @@ class Page {
     this.layouts = new Layouts(this);
     this.shownDocument = null;
     this.listen();
+    bindFieldKeys(bench);
     this.tools.choose("brush");
   }
 
@@ -69,10 +78,20 @@ class Page {
     editor.addEventListener("state", () => this.showState());
     bench.addEventListener("free", () => this.showState());
     bench.addEventListener("chosen", () => this.showChosen());
-    this.tilesets.onLooks = () => view.redraw();
+    this.tilesets.onLooks = () => {
+      view.redraw();
+      this.miniMap.change();
+    };
+    view.images.onImage = () => {
+      view.redraw();
+      this.showNotDrawn();
+    };
     view.onMove = () => {
-      byId("scale").textContent = `${Math.round(view.scale * 100)} %`;
+      const percents = view.scale * 100;
+      byId("scale").textContent = `${percents < 10 ? Math.round(percents * 10) / 10 : Math.round(percents)} %`;
       marks.redraw();
+      this.scrollBars.show();
+      this.miniMap.show();
       this.layouts.keep();
     };
   }
@@ -86,6 +105,7 @@ class Page {
     this.bench.settle();
     if (isOther && !kept) this.view.fit();
     this.view.takeMap();
+    this.showNotDrawn();
     this.marks.redraw();
     await this.editor.during(this.showTilesets());
     if (kept && this.shownDocument === active) this.layouts.enterTiles(kept);
@@ -95,9 +115,16 @@ class Page {
     const { bench, tilesets } = this;
     if (!(await tilesets.take(this.editor.map))) return;
     this.tilesetPanel.show();
+    this.view.images.forget();
     this.view.redraw();
+    this.miniMap.change();
+    this.showNotDrawn();
     this.panel.showMissing();
     if (bench.map && !tilesets.of(bench.fillValue)) bench.takeStamp({ width: 1, height: 1, values: [tilesets.all[0]?.first ?? 1] });
+  }
+
+  showNotDrawn() {
+    this.status.showNotDrawn(notDrawn(this.editor.map, this.tilesets, this.view.images));
   }
 
   showState() {

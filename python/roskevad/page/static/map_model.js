@@ -1,4 +1,6 @@
 // The map as the page knows it: its outline, and its cells where they are asked for.
+import { projectionOf } from "./projections.js";
+import { bothTints, partsOfColour } from "./tints.js";
 
 export const TILE = 0x0fffffff;
 
@@ -17,6 +19,7 @@ function flattened(layers, group, depth, isSeen, found) {
     layer.offsetX = (group?.offsetX ?? 0) + numberOf(data.offsetx, 0, -FARTHEST, FARTHEST);
     layer.offsetY = (group?.offsetY ?? 0) + numberOf(data.offsety, 0, -FARTHEST, FARTHEST);
     layer.opacity = (group?.opacity ?? 1) * numberOf(data.opacity, 1, 0, 1);
+    layer.tint = bothTints(group?.tint ?? null, partsOfColour(data.tintcolor));
     layer.isTiles = data.type === "tilelayer";
     found.push(layer);
     if (data.type === "group") flattened(data.layers, layer, depth + 1, layer.isSeen, found);
@@ -34,6 +37,8 @@ export class MapModel {
     this.tileWidth = data.tilewidth;
     this.tileHeight = data.tileheight;
     this.layers = flattened(data.layers, null, 0, true, []);
+    this.projection = projectionOf(this);
+    this.isHexagonal = data.orientation === "hexagonal";
     this.runs = [];
     this.selected = null;
   }
@@ -77,10 +82,10 @@ export class MapModel {
     return [left, top, Math.max(0, Math.min(this.width, x + width) - left), Math.max(0, Math.min(this.height, y + height) - top)];
   }
 
-  // The cells that a block changes: [place, value before, value after]. A block is what a line `stamp` or `erase` says: its values
-  // row by row, where 0 leaves the cell; without values the cells are emptied.
+  // The cells that a block changes: their places in the rows of the map, and the values before and behind it. A block is what a line
+  // `stamp` or `erase` says: its values row by row, where 0 leaves the cell; without values the cells are emptied.
   changes(block) {
-    const found = [];
+    const found = { places: [], before: [], after: [] };
     const [left, top, width, height] = this.cut(block.x, block.y, block.width, block.height);
     if (!this.layer(block.layer)?.isTiles || !width || !height) return found;
     const cells = this.cells(block.layer, left, top, width, height);
@@ -88,9 +93,25 @@ export class MapModel {
       const [x, y] = [left + at % width, top + Math.floor(at / width)];
       const value = block.values ? block.values[(y - block.y) * block.width + x - block.x] : 0;
       if ((block.values && value === 0) || cells[at] === value || !this.isReached(x, y)) continue;
-      found.push([y * this.width + x, cells[at], value]);
+      found.places.push(y * this.width + x);
+      found.before.push(cells[at]);
+      found.after.push(value);
     }
     return found;
+  }
+
+  // Why a block changes no cell, whatever they have: it lies outside of the map, or the selection has none of its cells. "" where it may.
+  barOf(block) {
+    const [left, top, width, height] = this.cut(block.x, block.y, block.width, block.height);
+    if (!width || !height) return "outside";
+    if (!this.selected) return "";
+    for (let y = top; y < top + height; y++) {
+      for (let x = left; x < left + width; x++) {
+        const isLeft = block.values && block.values[(y - block.y) * block.width + x - block.x] === 0;
+        if (!isLeft && this.selected[y * this.width + x]) return "";
+      }
+    }
+    return "selection";
   }
 }
 

@@ -1,56 +1,19 @@
-// Draws the map: only what is seen, and behind a stroke only what it has changed. Lengths are pixels of the screen.
-import { TILE } from "./map_model.js";
+// Shows a part of the map: only what is seen is drawn, and behind a stroke only what it has changed. Lengths are pixels of the screen.
+import { LayerPainter } from "./layer_painter.js";
+import { MapImages } from "./map_images.js";
 import { SeenCells } from "./seen_cells.js";
-import { colourOf } from "./tilesets.js";
 
-const SCALES = [1 / 16, 1 / 12, 1 / 8, 1 / 6, 1 / 4, 1 / 3, 1 / 2, 2 / 3, 1, 1.5, 2, 3, 4, 6, 8, 12, 16];
-// Below this width of a cell its mean colour is drawn, and no image.
-const SMALLEST_TILE = 6;
-const SMALLEST_NUMBER = 15;
+export { drawTile } from "./draw_tile.js";
+
+const SCALES = [1 / 64, 1 / 48, 1 / 32, 1 / 24, 1 / 16, 1 / 12, 1 / 8, 1 / 6, 1 / 4, 1 / 3, 1 / 2, 2 / 3, 1, 1.5, 2, 3, 4, 6, 8, 12, 16];
 const MOST_MEASURES = 1000;
-// A colour with at least this alpha hides what is below it, where the map is seen from afar.
-const HIDES = 250;
-const GROUND = "#5b6068";
-const BEHIND = "#26282c";
-
-// How a tile is flipped and turned: first over its diagonal, then to the other side, then upside down.
-function matrixOf(value) {
-  const [toSide, upDown] = [value & 0x80000000 ? -1 : 1, value & 0x40000000 ? -1 : 1];
-  return value & 0x20000000 ? [0, upDown, toSide, 0] : [toSide, 0, 0, upDown];
-}
-
-// Draws a tile into a box of the screen.
-export function drawTile(pen, tilesets, value, x, y, width, height) {
-  const tileset = tilesets.of(value);
-  const tile = (value & TILE) - (tileset?.first ?? 0);
-  if (!tileset?.image || tile >= tileset.count) {
-    drawNumber(pen, value, tileset ? tile : value & TILE, x, y, width, height);
-    return;
-  }
-  const [fromX, fromY] = tileset.placeOf(tile);
-  if (value <= TILE) {
-    pen.drawImage(tileset.image, fromX, fromY, tileset.tileWidth, tileset.tileHeight, x, y, width, height);
-    return;
-  }
-  const isTurned = value & 0x20000000;
-  const [wide, high] = isTurned ? [height, width] : [width, height];
-  const before = pen.getTransform();
-  pen.translate(x + width / 2, y + height / 2);
-  pen.transform(...matrixOf(value), 0, 0);
-  pen.drawImage(tileset.image, fromX, fromY, tileset.tileWidth, tileset.tileHeight, -wide / 2, -high / 2, wide, high);
-  pen.setTransform(before);
-}
-
-function drawNumber(pen, value, number, x, y, width, height) {
-  pen.fillStyle = colourOf(value);
-  pen.fillRect(x, y, width, height);
-  if (width < SMALLEST_NUMBER) return;
-  pen.fillStyle = "#fffc";
-  pen.font = `${Math.round(Math.min(height * 0.5, width * 0.4))}px sans-serif`;
-  pen.textAlign = "center";
-  pen.textBaseline = "middle";
-  pen.fillText(String(number), x + width / 2, y + height / 2);
-}
+// How many cells are drawn at the hand's event itself.
+const MOST_AT_ONCE = 2500;
+// The space around a map that is fitted into the window, and how much of the map stays in view at least.
+const MARGIN = 12;
+const LEAST_SEEN = 48;
+// The largest scale of a map that is fitted.
+const LARGEST_FIT = 4;
 
 export class MapView {
   constructor(box, editor, tilesets) {
@@ -59,62 +22,104 @@ export class MapView {
     this.tilesets = tilesets;
     this.canvas = box.querySelector("#map");
     this.pen = this.canvas.getContext("2d", { alpha: false });
+    this.images = new MapImages(editor);
+    this.images.onImage = () => this.redraw();
+    this.painter = new LayerPainter(this, this.images);
     this.scale = 2;
     this.originX = this.originY = 16;
     this.changed = null;
+    // What was drawn last of a stroke: the cells from x0, y0 to x1, y1.
+    this.drawn = null;
+    // The object that is not drawn, since it is shown elsewhere while it is dragged.
+    this.hidden = null;
     this.isWhole = true;
     this.moved = [0, 0];
     this.seen = new SeenCells();
     this.measures = [];
+    // When the page began to work on the hand's last event.
+    this.work = 0;
     // Called behind each drawing that the view has moved for.
     this.onMove = () => {};
     this.resize();
-    new ResizeObserver(() => this.resize()).observe(box);
+    this.watch();
   }
 
   get map() {
     return this.editor.map;
   }
 
-  resize() {
-    const ratio = window.devicePixelRatio || 1;
-    this.ratio = ratio;
-    for (const canvas of this.box.querySelectorAll("canvas")) {
-      canvas.width = Math.max(1, Math.round(this.box.clientWidth * ratio));
-      canvas.height = Math.max(1, Math.round(this.box.clientHeight * ratio));
+  // Follows the size of its box, in pixels of the screen where the browser tells them: then each of the canvas is one of the screen.
+  watch() {
+    const watcher = new ResizeObserver(([entry]) => this.resize(entry.devicePixelContentBoxSize?.[0]));
+    try {
+      watcher.observe(this.box, { box: "device-pixel-content-box" });
+    } catch {
+      watcher.observe(this.box);
+    }
+  }
+
+  resize(size = null) {
+    this.ratio = window.devicePixelRatio || 1;
+    const width = Math.max(1, size?.inlineSize ?? Math.round(this.box.clientWidth * this.ratio));
+    const height = Math.max(1, size?.blockSize ?? Math.round(this.box.clientHeight * this.ratio));
+    for (const canvas of this.box.querySelectorAll("#map, #marks, #hand")) {
+      if (canvas.width !== width) canvas.width = width;
+      if (canvas.height !== height) canvas.height = height;
     }
     this.redraw();
   }
 
   // ---- where things are
-  edgeX(x) {
-    return Math.round(this.originX + x * this.map.tileWidth * this.scale);
+  // Where a pixel of the map stands on the screen.
+  screenX(x) {
+    return Math.round(this.originX + x * this.scale);
   }
 
-  edgeY(y) {
-    return Math.round(this.originY + y * this.map.tileHeight * this.scale);
+  screenY(y) {
+    return Math.round(this.originY + y * this.scale);
   }
 
-  // The place of the hand on the screen, on the map in pixels, and its cell.
+  // The corners of a cell on the screen.
+  shapeOf(x, y) {
+    return this.map.projection.shape(x, y).map(([left, top]) => [this.screenX(left), this.screenY(top)]);
+  }
+
+  // A box of the screen on the map: as a layer lies, and with the cells whose tiles reach into it.
+  boxOnMap([left, top, right, bottom], layer = null, isWidened = false) {
+    const reach = isWidened ? this.reach() : { left: 0, right: 0, up: 0, down: 0 };
+    const onMap = (at, origin, aside) => (at - origin) / this.scale - aside;
+    return [
+      onMap(left, this.originX, layer?.offsetX ?? 0) - reach.right, onMap(top, this.originY, layer?.offsetY ?? 0) - reach.down,
+      onMap(right, this.originX, layer?.offsetX ?? 0) + reach.left, onMap(bottom, this.originY, layer?.offsetY ?? 0) + reach.up,
+    ];
+  }
+
+  // The place of the hand on the screen, on the map in pixels as objects count them, and its cell.
   placeOf(event) {
     const frame = this.box.getBoundingClientRect();
     const [x, y] = [(event.clientX - frame.left) * this.ratio, (event.clientY - frame.top) * this.ratio];
-    const [pixelX, pixelY] = [(x - this.originX) / this.scale, (y - this.originY) / this.scale];
-    const cell = this.map ? [Math.floor(pixelX / this.map.tileWidth), Math.floor(pixelY / this.map.tileHeight)] : [0, 0];
-    return { x, y, pixelX, pixelY, cell };
+    const [left, top] = [(x - this.originX) / this.scale, (y - this.originY) / this.scale];
+    const { projection } = this.map ?? {};
+    const [pixelX, pixelY] = projection?.named(left, top) ?? [left, top];
+    return { x, y, pixelX, pixelY, cell: projection?.cellAt(left, top) ?? [0, 0] };
   }
 
-  // The middle of a cell, in pixels of the page, and the side of a cell: for scripts that look at pixels.
+  // The middle of a cell, in pixels of the page: for scripts that look at pixels.
   middleOf(x, y) {
     const frame = this.box.getBoundingClientRect();
-    const middle = (edge, at) => (edge.call(this, at) + edge.call(this, at + 1)) / 2 / this.ratio;
-    return [frame.left + middle(this.edgeX, x), frame.top + middle(this.edgeY, y)];
+    const { projection } = this.map;
+    const [left, top] = projection.corner(x, y);
+    const across = (this.screenX(left) + this.screenX(left + projection.tileWidth)) / 2;
+    const down = (this.screenY(top) + this.screenY(top + projection.tileHeight)) / 2;
+    return [frame.left + across / this.ratio, frame.top + down / this.ratio];
   }
 
   // ---- moving
+  // To the next scale that is larger or smaller, with what is at a place of the screen kept there.
   zoom(steps, x = this.canvas.width / 2, y = this.canvas.height / 2) {
-    const nearest = SCALES.findIndex(scale => scale >= this.scale * 0.999);
-    this.zoomTo(SCALES[Math.min(SCALES.length - 1, Math.max(0, nearest + steps))], x, y);
+    const larger = SCALES.find(scale => scale > this.scale * 1.001) ?? this.scale;
+    const smaller = SCALES.filter(scale => scale < this.scale * 0.999).pop() ?? this.scale;
+    this.zoomTo(steps > 0 ? larger : smaller, x, y);
   }
 
   zoomTo(scale, x = this.canvas.width / 2, y = this.canvas.height / 2) {
@@ -124,21 +129,35 @@ export class MapView {
     this.redraw();
   }
 
-  // By whole pixels, so that what is drawn already may move with it.
+  // By whole pixels, so that what is drawn already may move with it; never so far that nothing of the map is seen.
   pan(x, y) {
+    const [width, height] = this.sizeOnScreen();
+    const kept = (origin, length, by, most) => Math.max(Math.min(origin, LEAST_SEEN - length), Math.min(Math.max(origin, most - LEAST_SEEN), origin + by));
+    const [toX, toY] = [kept(this.originX, width, Math.round(x), this.canvas.width), kept(this.originY, height, Math.round(y), this.canvas.height)];
+    this.panBy(Math.round(toX - this.originX), Math.round(toY - this.originY));
+  }
+
+  panBy(x, y) {
     this.originX += x;
     this.originY += y;
     this.moved = [this.moved[0] + x, this.moved[1] + y];
     this.askFrame();
   }
 
+  // The width and the height of the whole map.
+  sizeOnScreen() {
+    const { width = 0, height = 0 } = this.map?.projection ?? {};
+    return [width * this.scale, height * this.scale];
+  }
+
+  // Shows the whole map, however large it is.
   fit() {
     if (!this.map) return;
-    const [width, height] = [this.map.width * this.map.tileWidth, this.map.height * this.map.tileHeight];
-    const most = Math.min((this.canvas.width - 24) / width, (this.canvas.height - 24) / height, 4);
-    this.scale = SCALES.filter(scale => scale <= most).pop() ?? SCALES[0];
-    this.originX = Math.round(Math.max(12, (this.canvas.width - width * this.scale) / 2));
-    this.originY = Math.round(Math.max(12, (this.canvas.height - height * this.scale) / 2));
+    const { width, height } = this.map.projection;
+    const most = Math.min((this.canvas.width - 2 * MARGIN) / width, (this.canvas.height - 2 * MARGIN) / height, LARGEST_FIT);
+    this.scale = SCALES.filter(scale => scale <= most).pop() ?? Math.max(most, 1e-6);
+    this.originX = Math.round(Math.max(MARGIN, (this.canvas.width - width * this.scale) / 2));
+    this.originY = Math.round(Math.max(MARGIN, (this.canvas.height - height * this.scale) / 2));
     this.redraw();
   }
 
@@ -152,9 +171,9 @@ export class MapView {
   redrawCells(edits) {
     const width = this.map.width;
     for (const { block, changed } of edits) {
-      for (const [place, , value] of changed) {
-        const [x, y] = [place % width, Math.floor(place / width)];
-        this.seen.put(block.layer, x, y, value);
+      for (let at = 0; at < changed.places.length; at++) {
+        const [x, y] = [changed.places[at] % width, Math.floor(changed.places[at] / width)];
+        this.seen.put(block.layer, x, y, changed.after[at]);
         this.widen(x, y);
       }
     }
@@ -174,8 +193,22 @@ export class MapView {
 
   // Shows the map that the editor has.
   takeMap() {
+    this.drawn = null;
     this.seen.takeMap(this.map);
     this.redraw();
+  }
+
+  // The box of the window in which a stroke has drawn last, or null.
+  drawnBox() {
+    if (!this.drawn || !this.map) return null;
+    const [x0, y0, x1, y1] = this.drawn;
+    const frame = this.box.getBoundingClientRect();
+    const [left, top, right, bottom] = this.onScreen(this.map.projection.boxOf([x0, y0, x1 + 1, y1 + 1])).map(edge => edge / this.ratio);
+    return { left: frame.left + left, top: frame.top + top, right: frame.left + right, bottom: frame.top + bottom };
+  }
+
+  onScreen([left, top, right, bottom]) {
+    return [this.screenX(left), this.screenY(top), this.screenX(right), this.screenY(bottom)];
   }
 
   widen(x, y) {
@@ -202,6 +235,16 @@ export class MapView {
     });
   }
 
+  // Draws what a stroke has changed at once, where there is nothing else to draw, and few cells: else the next frame of the screen does.
+  drawNow() {
+    if (!this.changed || this.isWhole || this.moved[0] || this.moved[1]) return;
+    const [x0, y0, x1, y1] = this.changed;
+    if ((x1 - x0 + 1) * (y1 - y0 + 1) > MOST_AT_ONCE) return;
+    cancelAnimationFrame(this.frame);
+    this.frame = null;
+    this.draw();
+  }
+
   draw() {
     const { isWhole, changed, moved } = this;
     const isMoved = moved[0] !== 0 || moved[1] !== 0;
@@ -209,9 +252,10 @@ export class MapView {
     this.changed = null;
     this.moved = [0, 0];
     if (this.map) this.seen.takeBox(this.boxSeen());
-    if (isWhole || !this.map) this.drawBox(0, 0, this.canvas.width, this.canvas.height);
+    if (isWhole || !this.map) this.painter.paint([0, 0, this.canvas.width, this.canvas.height]);
     else if (isMoved) this.drawMoved(...moved);
-    if (changed && this.map && !isWhole) this.drawRegion(...this.region(changed));
+    if (changed && this.map && !isWhole) this.painter.paint(this.boxOfChanged(changed));
+    if (changed) this.drawn = changed;
     this.endMeasures();
     if (isWhole || isMoved) this.onMove();
   }
@@ -220,35 +264,18 @@ export class MapView {
   drawMoved(x, y) {
     const { width, height } = this.canvas;
     this.pen.drawImage(this.canvas, x, y);
-    if (x !== 0) this.drawBox(x > 0 ? 0 : width + x, 0, Math.abs(x), height);
-    if (y !== 0) this.drawBox(0, y > 0 ? 0 : height + y, width, Math.abs(y));
-  }
-
-  // Draws a part of the screen.
-  drawBox(left, top, wide, high) {
-    this.pen.fillStyle = BEHIND;
-    this.pen.fillRect(left, top, wide, high);
-    if (!this.map) return;
-    const { width, height, tileWidth, tileHeight } = this.map;
-    const column = x => Math.floor((x - this.originX) / this.scale / tileWidth);
-    const row = y => Math.floor((y - this.originY) / this.scale / tileHeight);
-    const [right, bottom] = [column(left + wide) + 1, row(top + high) + 1];
-    this.drawRegion(Math.max(0, column(left) - 1), Math.max(0, row(top) - 1), Math.min(width, right), Math.min(height, bottom));
+    if (x !== 0) this.painter.paint([x > 0 ? 0 : Math.max(0, width + x), 0, x > 0 ? Math.min(x, width) : width, height]);
+    if (y !== 0) this.painter.paint([0, y > 0 ? 0 : Math.max(0, height + y), width, y > 0 ? Math.min(y, height) : height]);
   }
 
   // The cells that may be seen, with those whose tiles reach into view.
   boxSeen() {
-    const { width, height, tileWidth, tileHeight } = this.map;
-    const { right, up, aside } = this.reach();
-    const first = (origin, side) => Math.floor(-origin / this.scale / side) - 1;
-    const last = (origin, side, length) => Math.floor((length - origin) / this.scale / side) + 2;
+    const { width, height, projection } = this.map;
+    const { aside } = this.reach();
+    const [left, top, right, bottom] = this.boxOnMap([0, 0, this.canvas.width, this.canvas.height], null, true);
+    const [x0, y0, x1, y1] = projection.cellsIn([left - aside, top - aside, right + aside, bottom + aside]);
     const within = (cell, most) => Math.max(0, Math.min(most, cell));
-    return [
-      within(first(this.originX, tileWidth) - right - aside, width),
-      within(first(this.originY, tileHeight) - aside, height),
-      within(last(this.originX, tileWidth, this.canvas.width) + aside, width),
-      within(last(this.originY, tileHeight, this.canvas.height) + up + aside, height),
-    ];
+    return [within(x0, width), within(y0, height), within(x1, width), within(y1, height)];
   }
 
   // A part of the map within the cells that may be seen.
@@ -257,168 +284,34 @@ export class MapView {
     return [Math.max(x0, left), Math.max(y0, top), Math.min(x1, right), Math.min(y1, bottom)];
   }
 
-  // How many cells a tile reaches over its own, to the right and up, and how many layers are moved aside.
+  // How far tiles reach out of their cells, and layers are moved aside, in pixels of the map.
   reach() {
-    const { tileWidth, tileHeight, layers } = this.map;
-    const right = Math.max(1, ...this.tilesets.all.map(set => Math.ceil(set.tileWidth / tileWidth)));
-    const up = Math.max(1, ...this.tilesets.all.map(set => Math.ceil(set.tileHeight / tileHeight)));
-    const aside = layers.map(layer => Math.max(Math.abs(layer.offsetX) / tileWidth, Math.abs(layer.offsetY) / tileHeight));
-    return { right: right - 1, up: up - 1, aside: Math.ceil(Math.max(0, ...aside)) };
-  }
-
-  // The cells to draw where those from x0, y0 to x1, y1 have changed.
-  region([x0, y0, x1, y1]) {
-    const { right, up, aside } = this.reach();
-    const { width, height } = this.map;
-    const [left, top] = [Math.max(0, x0 - aside), Math.max(0, y0 - up - aside)];
-    return [left, top, Math.min(width, x1 + 1 + right + aside), Math.min(height, y1 + 1 + aside)];
-  }
-
-  drawRegion(...region) {
-    const [x0, y0, x1, y1] = this.within(region);
-    if (x1 <= x0 || y1 <= y0) return;
-    const pen = this.pen;
-    pen.save();
-    pen.beginPath();
-    pen.rect(this.edgeX(x0), this.edgeY(y0), this.edgeX(x1) - this.edgeX(x0), this.edgeY(y1) - this.edgeY(y0));
-    pen.clip();
-    pen.fillStyle = this.map.data.backgroundcolor ?? GROUND;
-    pen.fillRect(this.edgeX(x0), this.edgeY(y0), this.edgeX(x1) - this.edgeX(x0), this.edgeY(y1) - this.edgeY(y0));
-    if (this.map.tileWidth * this.scale < SMALLEST_TILE) this.drawAfar(x0, y0, x1, y1);
-    else this.drawNear(x0, y0, x1, y1);
-    pen.restore();
-  }
-
-  drawNear(x0, y0, x1, y1) {
-    const { right, up, aside } = this.reach();
-    const cells = this.within([x0 - right - aside, y0 - aside, x1 + aside, y1 + up + aside]);
-    const layers = this.map.layers.filter(layer => layer.isSeen && layer.isTiles);
-    const hiding = this.hidingLayers(layers, cells);
-    this.pen.imageSmoothingEnabled = this.scale < 1;
-    for (let at = hiding.lowest; at < layers.length; at++) {
-      this.pen.globalAlpha = layers[at].opacity;
-      this.drawCells(layers[at], at, hiding.tops, ...cells);
+    const { map, tilesets } = this;
+    if (this.reached?.map === map && this.reached.all === tilesets.all) return this.reached;
+    const { tileWidth, tileHeight } = map.projection;
+    const most = { left: 0, right: 0, up: 0, down: 0 };
+    for (const set of tilesets.all.filter(each => each.image)) {
+      // A tile may be turned.
+      const longest = Math.max(set.tileWidth, set.tileHeight);
+      const [wide, high] = set.tileWidth === tileWidth && set.tileHeight === tileHeight ? [tileWidth, tileHeight] : [longest, longest];
+      most.left = Math.max(most.left, -set.offsetX);
+      most.right = Math.max(most.right, wide + set.offsetX - tileWidth);
+      most.up = Math.max(most.up, high - set.offsetY - tileHeight);
+      most.down = Math.max(most.down, set.offsetY);
     }
-    this.pen.globalAlpha = 1;
+    const aside = Math.max(0, ...map.layers.map(layer => Math.max(Math.abs(layer.offsetX), Math.abs(layer.offsetY))));
+    const isAny = aside > 0 || Object.values(most).some(length => length > 0);
+    this.reached = { ...most, aside, isAny, map, all: tilesets.all };
+    return this.reached;
   }
 
-  // For each cell of a part the highest of these layers whose tile hides all below it, by its place among them; 0 where none does. And
-  // the lowest layer that is seen somewhere.
-  hidingLayers(layers, [x0, y0, x1, y1]) {
-    const tops = new Uint16Array(Math.max(0, x1 - x0) * Math.max(0, y1 - y0));
-    let left = tops.length;
-    let lowest = layers.length;
-    while (lowest > 0 && left > 0) {
-      lowest--;
-      if (isPlain(layers[lowest])) left -= this.hide(layers[lowest], lowest, tops, x0, y0, x1, y1);
-    }
-    return { tops, lowest: this.reach().right || this.reach().up || this.reach().aside ? 0 : lowest };
+  // The box of the screen to draw where the cells from x0, y0 to x1, y1 have changed.
+  boxOfChanged([x0, y0, x1, y1]) {
+    const { left, right, up, down, aside, isAny } = this.reach();
+    const box = this.map.projection.boxOf([x0, y0, x1 + 1, y1 + 1]);
+    const wide = [box[0] - left - aside, box[1] - up - aside, box[2] + right + aside, box[3] + down + aside];
+    const more = isAny || !this.map.projection.isPlain || this.map.tileWidth * this.scale < 1 ? 1 : 0;
+    const [toLeft, top, toRight, bottom] = this.onScreen(wide);
+    return [Math.max(0, toLeft - more), Math.max(0, top - more), Math.min(this.canvas.width, toRight + more), Math.min(this.canvas.height, bottom + more)];
   }
-
-  // Notes where a layer hides what is below it, and gives in how many cells it is the first to do so.
-  hide(layer, at, tops, x0, y0, x1, y1) {
-    const [cells, [left, top, right]] = [this.seen.cellsOf(layer.id), this.seen.box];
-    const { tileWidth, tileHeight } = this.map;
-    let found = 0;
-    for (let y = y0, spot = 0; y < y1; y++) {
-      for (let place = (y - top) * (right - left) + x0 - left, end = place + x1 - x0; place < end; place++, spot++) {
-        if (tops[spot] || cells[place] === 0 || !this.tilesets.hides(cells[place], tileWidth, tileHeight)) continue;
-        tops[spot] = at;
-        found++;
-      }
-    }
-    return found;
-  }
-
-  drawCells(layer, at, tops, x0, y0, x1, y1) {
-    const [asideX, asideY] = [Math.round(layer.offsetX * this.scale), Math.round(layer.offsetY * this.scale)];
-    const [cells, [left, first, right]] = [this.seen.cellsOf(layer.id), this.seen.box];
-    const mayHide = isPlain(layer);
-    for (let y = y0; y < y1; y++) {
-      const [top, bottom] = [this.edgeY(y) + asideY, this.edgeY(y + 1) + asideY];
-      for (let x = x0; x < x1; x++) {
-        const value = cells[(y - first) * (right - left) + x - left];
-        if (value === 0 || (mayHide && tops[(y - y0) * (x1 - x0) + x - x0] > at && !this.isLarge(value))) continue;
-        const edge = this.edgeX(x) + asideX;
-        this.drawCell(value, edge, top, this.edgeX(x + 1) + asideX - edge, bottom - top);
-      }
-    }
-  }
-
-  // Whether a tile reaches out of its cell.
-  isLarge(value) {
-    const tileset = this.tilesets.of(value);
-    return Boolean(tileset?.image) && (tileset.tileWidth !== this.map.tileWidth || tileset.tileHeight !== this.map.tileHeight);
-  }
-
-  // A tile stands on the lower left corner of its cell; one of another size reaches up and to the right.
-  drawCell(value, left, top, width, height) {
-    const tileset = this.tilesets.of(value);
-    if (!tileset?.image || (tileset.tileWidth === this.map.tileWidth && tileset.tileHeight === this.map.tileHeight)) {
-      drawTile(this.pen, this.tilesets, value, left, top, width, height);
-      return;
-    }
-    const [wide, high] = [Math.round(tileset.tileWidth * this.scale), Math.round(tileset.tileHeight * this.scale)];
-    const isTurned = value & 0x20000000;
-    drawTile(this.pen, this.tilesets, value, left, top + height - (isTurned ? wide : high), isTurned ? high : wide, isTurned ? wide : high);
-  }
-
-  // One pixel for each cell, drawn larger or smaller.
-  drawAfar(x0, y0, x1, y1) {
-    const [width, height] = [x1 - x0, y1 - y0];
-    const image = new ImageData(width, height);
-    const pixels = new Uint32Array(image.data.buffer);
-    const layers = this.map.layers.filter(layer => layer.isSeen && layer.isTiles);
-    const { tops, lowest } = this.topLayers(layers, x0, y0, x1, y1);
-    for (let at = lowest; at < layers.length; at++) this.addMeans(layers[at], at, tops, pixels, x0, y0, x1, y1);
-    const small = new OffscreenCanvas(width, height);
-    small.getContext("2d").putImageData(image, 0, 0);
-    this.pen.imageSmoothingEnabled = this.map.tileWidth * this.scale < 1;
-    const [left, top] = [this.edgeX(x0), this.edgeY(y0)];
-    this.pen.drawImage(small, left, top, this.edgeX(x1) - left, this.edgeY(y1) - top);
-  }
-
-  // For each cell the highest of these layers whose colour hides all below it, by its place among them; and the lowest that is seen.
-  topLayers(layers, x0, y0, x1, y1) {
-    const tops = new Uint16Array((x1 - x0) * (y1 - y0));
-    let left = tops.length;
-    let lowest = layers.length;
-    while (lowest > 0 && left > 0) left -= this.topCells(layers[--lowest], lowest, tops, x0, y0, x1, y1);
-    return { tops, lowest };
-  }
-
-  topCells(layer, at, tops, x0, y0, x1, y1) {
-    const [cells, [left, top, right]] = [this.seen.cellsOf(layer.id), this.seen.box];
-    let found = 0;
-    for (let y = y0, spot = 0; y < y1; y++) {
-      for (let place = (y - top) * (right - left) + x0 - left, end = place + x1 - x0; place < end; place++, spot++) {
-        if (tops[spot] || cells[place] === 0 || (this.tilesets.mean(cells[place]) >>> 24) * layer.opacity < HIDES) continue;
-        tops[spot] = at;
-        found++;
-      }
-    }
-    return found;
-  }
-
-  addMeans(layer, at, tops, pixels, x0, y0, x1, y1) {
-    const [cells, [left, top, right]] = [this.seen.cellsOf(layer.id), this.seen.box];
-    for (let y = y0, spot = 0; y < y1; y++) {
-      for (let place = (y - top) * (right - left) + x0 - left, end = place + x1 - x0; place < end; place++, spot++) {
-        const value = cells[place];
-        if (value === 0 || tops[spot] > at) continue;
-        const colour = this.tilesets.mean(value);
-        const alpha = (colour >>> 24) * layer.opacity;
-        pixels[spot] = alpha >= HIDES || pixels[spot] === 0 ? colour : mixed(pixels[spot], colour, alpha / 255);
-      }
-    }
-  }
-}
-
-// Whether a layer stands where the map does, and what it has hides what is below.
-const isPlain = layer => layer.opacity === 1 && layer.offsetX === 0 && layer.offsetY === 0;
-
-// A pixel with another one over it.
-function mixed(under, over, share) {
-  const part = shift => Math.round((under >>> shift & 255) * (1 - share) + (over >>> shift & 255) * share) << shift;
-  return (Math.max(under >>> 24, over >>> 24) << 24 | part(16) | part(8) | part(0)) >>> 0;
 }

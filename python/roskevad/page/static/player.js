@@ -1,8 +1,11 @@
 // Plays a session: lines from the clipboard or from a file.
-import { button, byId, element, shown } from "./dom.js";
+import { ask, button, byId, element, shown } from "./dom.js";
 import { isEdit, isQuiet } from "./line_kinds.js";
+import { saidOf } from "./refusals.js";
 
 const MACRO = "Session";
+const SAVE = /^save (\S+)$/;
+const OPEN = /^open \S+ (\S+)$/;
 // How many characters of a refused line are said.
 const LONGEST_LINE = 80;
 
@@ -39,6 +42,7 @@ export class Player {
     const { active } = this.editor.notes;
     const { depth } = this.editor.stand();
     if (!lines.length) return;
+    if (!(await this.mayPlay(lines))) return;
     const isMacro = active !== null && depth === 0 && lines.every(isEdit);
     const { done, at } = await (isMacro ? this.asMacro(lines) : this.oneByOne(lines));
     if (done.isHeard) {
@@ -46,7 +50,23 @@ export class Player {
       return;
     }
     const line = `Line ${at + 1} of ${lines.length}, '${lines[at].slice(0, LONGEST_LINE)}'`;
-    this.bench.say(`${line}: ${done.refusal?.slice(3) ?? done.barred}.${isMacro ? " Nothing is changed." : ""} ${done.why ?? ""}`);
+    this.bench.say(`${line}: ${saidOf(done)}${isMacro ? "\nNothing is changed." : ""}`);
+  }
+
+  // Asks where the lines write files, or open one that is here as it was downloaded last. Gives whether they are played.
+  async mayPlay(lines) {
+    const saved = this.pathsOf(lines, SAVE);
+    const opened = this.pathsOf(lines, OPEN).filter(path => this.editor.place.files?.get(path)?.isSaved);
+    const bytes = path => this.editor.place.files.get(path).bytes.length.toLocaleString("en");
+    const words = opened.map(path => `It opens ${path} as this window has saved it last: ${bytes(path)} bytes, which were a download.`);
+    if (saved.length) words.unshift(`This session saves ${saved.join(", ")}.`);
+    return !words.length || (await ask(`${words.join(" ").replace(/^It/, "This session")} Play it?`, [], ["Play it"])) !== null;
+  }
+
+  // The files that lines name, each once.
+  pathsOf(lines, form) {
+    const words = lines.map(line => form.exec(line)?.[1]).filter(word => word);
+    return [...new Set(words)].map(word => this.editor.names.pathOf(word));
   }
 
   asMacro(lines) {

@@ -1,23 +1,38 @@
 // The properties of the map, of a layer or of an object, in a table; and what else a line can set of an object.
-import { button, byId, element, onEnter } from "./dom.js";
+import { button, byId, element, mark } from "./dom.js";
+import { fieldFor, numberField } from "./fields.js";
+import { KINDS, TYPES } from "./kinds.js";
+import { folderOf } from "./names.js";
+import { saidOf } from "./refusals.js";
+import { whyNotSet } from "./unsaid.js";
 
-const TYPES = ["string", "int", "bool", "color", "file", "object"];
-// The name of a property that a line can spell.
-const SPELLED = /^[^\u0000-\u0020\u007f]+$/;
+const OWNERS = ["map", "layer", "object"];
+// What a field has where a new property is made, and nothing was typed.
+const FIRST = { int: "0", bool: "false", object: "0" };
+const PARTS = [["x", KINDS.coordinate, "x"], ["y", KINDS.coordinate, "y"], ["width", KINDS.size, "w"], ["height", KINDS.size, "h"]];
 
 export class PropertyPanel {
   constructor(bench) {
     this.bench = bench;
     this.kind = "map";
-    for (const kind of ["map", "layer", "object"]) byId(`of-${kind}`).onclick = () => this.choose(kind);
-    this.rows = element("tbody");
+    this.rows = new Map();
+    for (const kind of OWNERS) byId(`of-${kind}`).onclick = () => this.choose(kind);
+    this.body = element("tbody");
+    this.around = {
+      map: () => bench.map,
+      files: () => ({ place: bench.editor.place, folder: folderOf(bench.editor.notes.file?.path ?? "") }),
+    };
     this.last = this.newRow();
-    const columns = Array.from({ length: 4 }, () => element("col"));
-    byId("properties").append(element("colgroup", {}, ...columns), this.rows, element("tfoot", {}, this.last));
+    const columns = Array.from({ length: 3 }, () => element("col"));
+    byId("properties").append(element("colgroup", {}, ...columns), this.body, element("tfoot", {}, this.last));
+    // The panel follows what is chosen.
+    bench.addEventListener("layer chosen", () => this.choose("layer"));
+    bench.addEventListener("object chosen", () => this.choose(bench.objectId !== null ? "object" : this.kind === "object" ? "layer" : this.kind));
   }
 
   choose(kind) {
     this.kind = kind;
+    this.shownDocument = this.bench.editor.notes.active;
     this.show();
   }
 
@@ -32,63 +47,164 @@ export class PropertyPanel {
   }
 
   show() {
+    const { active } = this.bench.editor.notes;
+    if (active !== this.shownDocument) this.kind = "map";
+    this.shownDocument = active;
     const owner = this.owner();
-    for (const kind of ["map", "layer", "object"]) byId(`of-${kind}`).classList.toggle("on", kind === this.kind);
+    for (const kind of OWNERS) byId(`of-${kind}`).classList.toggle("on", kind === this.kind);
     const none = this.kind === "object" ? "No object is chosen: click at one with the tool Objects." : "Nothing is open.";
     byId("owner").textContent = owner?.title ?? none;
+    byId("owner").title = owner && this.kind === "object" ? "No line changes an object's name" : "";
     this.last.hidden = !owner;
-    const field = this.rows.contains(document.activeElement) ? document.activeElement : null;
-    // A field that is typed in is not taken away under the hand.
-    if (field && field.value !== field.defaultValue && field.dataset.owner === owner?.word) return;
-    const named = field?.dataset.key;
-    const properties = (owner?.data.properties ?? []).map(property => this.row(owner, property));
-    this.rows.replaceChildren(...(owner ? this.placeRows(owner) : []), ...properties);
-    if (named) this.rows.querySelector(`input[data-key="${CSS.escape(named)}"]`)?.focus();
+    if (owner?.word !== this.shownOwner) this.unmark();
+    this.shownOwner = owner?.word;
+    this.putRows(owner ? [...this.factRows(owner), ...(owner.data.properties ?? []).map(property => this.row(owner, property))] : []);
   }
 
-  // The place and the size of an object, or the size of the map.
-  placeRows({ word, data }) {
-    if (this.kind === "map") return [rowOf("size", element("td", { textContent: `${data.width} × ${data.height}`, colSpan: 3 }))];
+  // Puts rows into the table. One that stands there already stays as it is, with what is typed in it.
+  putRows(rows) {
+    this.rows = new Map(rows.map(row => [row.key, row]));
+    const wanted = rows.map(row => row.element);
+    for (const old of [...this.body.children]) if (!wanted.includes(old)) old.remove();
+    wanted.forEach((row, at) => this.body.children[at] === row || this.body.insertBefore(row, this.body.children[at] ?? null));
+  }
+
+  // A row that is there with this key, or a new one. `values` go into its fields.
+  kept(key, values, make) {
+    const row = this.rows.get(key) ?? make();
+    row.fields.forEach((field, at) => field.update(values[at]));
+    return { ...row, key };
+  }
+
+  // ---- what is no property
+  // The size of the map; the class, the place and the size of an object.
+  factRows(owner) {
+    const { data } = owner;
+    if (this.kind === "map") return [this.fact("size", `${data.width} × ${data.height}`, "")];
     if (this.kind !== "object") return [];
-    const id = word.split(":")[1];
-    return ["x", "y", "width", "height"].map(name => {
-      const input = element("input", { type: "number", defaultValue: String(data[name] ?? 0), data: { key: ` ${name}`, owner: word } });
-      input.onchange = () => {
-        // A line takes whole numbers. A fraction comes back where its whole part is left as it is.
-        const of = part => (part === name ? input.value : Math.floor(data[part] ?? 0));
-        const isPlace = name === "x" || name === "y";
-        this.bench.act([isPlace ? `object move ${id} ${of("x")} ${of("y")}` : `object resize ${id} ${of("width")} ${of("height")}`]);
-      };
-      return rowOf(name, element("td", { colSpan: 3 }, input));
+    const type = data.type || data.class;
+    return [...(type ? [this.fact("class", type, "No line sets a class.")] : []), this.partRow(owner, PARTS.slice(0, 2), "place"), this.partRow(owner, PARTS.slice(2), "size")];
+  }
+
+  fact(name, text, why) {
+    const cell = element("td", { colSpan: 2 }, element("span", { textContent: text }), element("small", { className: "barred", textContent: why }));
+    return this.kept(` ${name} ${text}`, [], () => ({ element: rowOf(name, "", why, cell), fields: [] }));
+  }
+
+  // Two numbers of an object, beside one another.
+  partRow({ word, data }, parts, name) {
+    const values = parts.map(([part]) => String(data[part] ?? 0));
+    return this.kept(` ${word} ${name}`, values, () => {
+      const fields = parts.map(([part, kind], at) => numberField(kind, values[at], text => this.setPart(part, text)));
+      fields.forEach((field, at) => Object.assign(field.input.dataset, { key: ` ${parts[at][0]}`, owner: word }));
+      const boxes = fields.flatMap((field, at) => [element("span", { className: "part", textContent: parts[at][2] }), field.box]);
+      return { element: rowOf(name, "", "in pixels", element("td", { className: "parts", colSpan: 2 }, ...boxes)), fields };
     });
   }
 
-  row({ word }, { name, type = "string", value }) {
-    const isSpelled = SPELLED.test(name);
-    const isSet = isSpelled && TYPES.includes(type) && typeof value !== "object";
-    const title = isSet ? "" : "No line can set this property.";
-    const input = element("input", { defaultValue: String(value), disabled: !isSet, title, data: { key: name, owner: word } });
-    input.onchange = () => this.bench.act([`prop set ${word} ${name} ${type} ${input.value}`]);
-    const remove = button("×", "Remove this property", () => this.bench.act([`prop remove ${word} ${name}`]), { disabled: !isSpelled });
-    const row = rowOf(name, element("td", { className: "kind", textContent: type }), element("td", {}, input), element("td", {}, remove));
+  // A line takes whole numbers. A fraction comes back where its whole part is left as it is.
+  setPart(part, text) {
+    const { word, data } = this.owner();
+    const id = word.split(":")[1];
+    const of = name => (name === part ? text : Math.floor(data[name] ?? 0));
+    const isPlace = part === "x" || part === "y";
+    return this.send(isPlace ? `object move ${id} ${of("x")} ${of("y")}` : `object resize ${id} ${of("width")} ${of("height")}`);
+  }
+
+  // Does a line for a field: gives null, or why it was refused.
+  async send(line) {
+    return (await this.bench.attempt([line]))?.words ?? null;
+  }
+
+  // ---- properties
+  row(owner, property) {
+    const { name, type = "string", value } = property;
+    const why = whyNotSet(property);
+    const text = shownValue(value);
+    const key = `${owner.word} ${type} ${why} ${why && text} ${name}`;
+    return this.kept(key, [text], () => (why ? this.barredRow(owner, name, type, text, why) : this.setRow(owner, name, type, text)));
+  }
+
+  setRow({ word }, name, type, text) {
+    const field = fieldFor(type, text, value => this.send(`prop set ${word} ${name} ${type} ${value}`), this.around);
+    Object.assign(field.input.dataset, { key: name, owner: word });
+    return { element: this.propertyRow(word, name, type, field.box), fields: [field] };
+  }
+
+  // A property that no line sets: it is shown, with why.
+  barredRow({ word }, name, type, text, why) {
+    const input = element("textarea", { disabled: true, value: text, title: why, rows: Math.min(8, text.split("\n").length), data: { key: name, owner: word } });
+    const box = element("div", { className: "value" }, input, element("small", { className: "barred", textContent: why }));
+    return { element: this.propertyRow(word, name, type, box), fields: [] };
+  }
+
+  propertyRow(word, name, type, box) {
+    const isSpelled = KINDS.key.fault(name) === "";
+    const title = isSpelled ? "Remove this property" : "No line can say this name";
+    const remove = button("×", title, () => this.bench.act([`prop remove ${word} ${name}`]), { disabled: !isSpelled });
+    const row = rowOf(name, type, `${name}: ${type}`, element("td", {}, box), element("td", {}, remove));
     row.dataset.property = name;
     return row;
   }
 
+  // ---- a new property
   newRow() {
-    const name = element("input", { placeholder: "name", id: "new-name" });
-    const type = element("select", { id: "new-type" }, ...TYPES.map(each => element("option", { textContent: each })));
-    const value = element("input", { placeholder: "value", id: "new-value" });
-    const add = async () => {
-      const done = await this.bench.act([`prop set ${this.owner().word} ${name.value} ${type.value} ${value.value}`]);
-      if (done.isHeard) name.value = value.value = "";
-    };
-    value.onkeydown = onEnter(add);
-    const set = button("+", "Set this property", add, { id: "add-property" });
-    return element("tr", {}, ...[name, type, value, set].map(each => element("td", {}, each)));
+    const name = element("input", { placeholder: "name", id: "new-name", autocomplete: "off", oninput: () => mark(name, "") });
+    const type = element("select", { id: "new-type", onchange: () => this.newField() }, ...Object.keys(TYPES).map(each => element("option", { textContent: each })));
+    const box = element("td", { className: "new-value" });
+    Object.assign(this, { name, type, box });
+    const add = button("+", "Set this property", () => this.add(), { id: "add-property" });
+    name.onkeydown = event => this.newKey(event);
+    this.newField();
+    return element("tr", { className: "new" }, element("td", {}, element("div", {}, name), type), box, element("td", {}, add));
+  }
+
+  // The field for a value of the type that is chosen.
+  newField() {
+    const type = this.type.value;
+    const isTyped = type !== "bool" && type !== "object";
+    this.field = fieldFor(type, isTyped ? "" : FIRST[type], () => null, this.around);
+    const { input } = this.field;
+    Object.assign(input, { id: "new-value", placeholder: FIRST[type] ?? "value", onkeydown: event => this.newKey(event), onchange: null });
+    this.box.replaceChildren(this.field.box);
+  }
+
+  newKey(event) {
+    if (event.key === "Enter") {
+      event.preventDefault();
+      this.add();
+    } else if (event.key === "Escape") {
+      this.unmark();
+      event.target.blur();
+    }
+  }
+
+  unmark() {
+    for (const input of [this.name, this.field.input]) mark(input, "");
+  }
+
+  async add() {
+    const { name, type, field } = this;
+    const kind = TYPES[type.value];
+    const value = field.chosen?.() ?? kind.spelled(field.input.value || (FIRST[type.value] ?? ""));
+    const faults = [[name, KINDS.key.fault(name.value)], [field.input, kind.fault(value)]];
+    for (const [input, fault] of faults) mark(input, fault);
+    const wrong = faults.find(([, fault]) => fault);
+    if (wrong) return wrong[0].focus();
+    const done = await this.bench.editor.send([`prop set ${this.owner().word} ${name.value} ${type.value} ${value}`]);
+    if (!done.isHeard) return mark(name, saidOf(done));
+    name.value = "";
+    return this.newField();
   }
 }
 
-function rowOf(name, ...cells) {
-  return element("tr", {}, element("td", { textContent: name }), ...cells);
+// A value as it is seen: of a class its members.
+function shownValue(value) {
+  if (typeof value !== "object" || value === null) return String(value).replace(/\r\n?/g, "\n");
+  return Object.entries(value).map(([name, each]) => `${name}: ${shownValue(each)}`).join("\n");
+}
+
+function rowOf(name, type, title, ...cells) {
+  const kind = type ? element("span", { className: "kind", textContent: ` ${type}` }) : null;
+  return element("tr", {}, element("td", { title }, element("span", { textContent: name }), kind), ...cells);
 }

@@ -13,6 +13,12 @@ export class StatusBar {
     byId("standing").textContent = active ? `${index}/${count} ${saved}${depth ? `, ${depth} open` : ""}` : "";
   }
 
+  // What of the map is not drawn, or otherwise than in Tiled.
+  showNotDrawn(words) {
+    byId("not-drawn").textContent = words.length ? `Not drawn: ${words.join(", ")}` : "";
+    byId("not-drawn").title = byId("not-drawn").textContent;
+  }
+
   // The cell, the pixel of the map, the layer and its tile.
   showHand() {
     const { layer, map, place } = this.bench;

@@ -4,8 +4,8 @@ import { lineOf } from "./map_model.js";
 // How many values a line may have, each of up to ten digits and its comma: a line has at most 65,535 bytes.
 const MOST_VALUES = 5500;
 
-// A block in parts, each of some of its rows, that a line has room for.
-function partsOf(block) {
+// A block in parts, each of some of its rows, that a line has room for. (No map is wider than a row of a line may be.)
+export function partsOf(block) {
   const rows = Math.max(1, Math.floor(MOST_VALUES / block.width));
   if (!block.values || block.height <= rows) return [block];
   const parts = [];
@@ -16,54 +16,69 @@ function partsOf(block) {
   return parts;
 }
 
+// The cells from one to another one, both with them: each joined to the one before it.
+export function cellsOnLine([fromX, fromY], [x, y]) {
+  const count = Math.max(Math.abs(x - fromX), Math.abs(y - fromY), 1);
+  const cells = [];
+  for (let at = 0; at <= count; at++) cells.push([Math.round(fromX + (x - fromX) * at / count), Math.round(fromY + (y - fromY) * at / count)]);
+  return cells;
+}
+
 export class Stroke {
-  // `blockAt(x, y)` is the block that the hand leaves at a cell. `hear(line)` does a line, and tells whether it was accepted.
-  constructor(map, blockAt, hear) {
-    Object.assign(this, { blockAt, hear, last: null, isOver: false });
+  // `blockAt(x, y)` is the block that the hand leaves at a cell. `hear(line)` does a line, and tells whether it was accepted. The stroke
+  // begins with a line from a cell `from`, where there is one.
+  constructor(map, blockAt, hear, from = null) {
+    Object.assign(this, { blockAt, hear, from, last: null, isOver: false });
     this.begin(map);
   }
 
   // The stroke goes on over this map, and has made no step on it.
   begin(map) {
     this.map = map;
-    this.first = new Map();
+    // What each cell had that was changed, and which those are.
+    this.first = new Uint32Array(map ? map.width * map.height : 0);
+    this.isChanged = new Uint8Array(this.first.length);
     this.unlike = 0;
   }
 
   // The cells from the last one to this one, so that a fast hand leaves no gaps.
   cellsTo(x, y) {
-    if (!this.last) return [[x, y]];
-    const [fromX, fromY] = this.last;
-    const count = Math.max(Math.abs(x - fromX), Math.abs(y - fromY));
-    const cells = [];
-    for (let i = 1; i <= count; i++) cells.push([Math.round(fromX + (x - fromX) * i / count), Math.round(fromY + (y - fromY) * i / count)]);
-    return cells;
+    if (this.last) return cellsOnLine(this.last, [x, y]).slice(1);
+    return this.from ? cellsOnLine(this.from, [x, y]) : [[x, y]];
   }
 
   // Draws the way to a cell, and gives the blocks that have changed something, each with the cells that it has changed.
   moveTo(x, y) {
-    const blocks = this.cellsTo(x, y).flatMap(([column, row]) => partsOf(this.blockAt(column, row)));
-    const edits = blocks.map(block => this.edit(block)).filter(edit => edit);
+    const edits = this.cellsTo(x, y).flatMap(([column, row]) => this.put(this.blockAt(column, row)));
     this.last = [x, y];
     return edits;
+  }
+
+  // Draws a block of any size.
+  put(block) {
+    return partsOf(block).map(part => this.edit(part)).filter(edit => edit);
   }
 
   // A line follows only where this stroke has a step: behind a block that changed a cell. Where later blocks have given back all
   // that it changed, that step is gone, and a line that follows would join the stroke before it.
   edit(block) {
-    const changed = this.isOver ? [] : this.map.changes(block);
-    if (!changed.length) return null;
+    const changed = this.isOver ? null : this.map.changes(block);
+    if (!changed?.places.length) return null;
     if (!this.hear(lineOf(block, this.unlike > 0))) {
       this.isOver = true;
       return null;
     }
-    for (const [place, before, after] of changed) this.keep(place, before, after);
+    this.keep(changed);
     return { block, changed };
   }
 
-  keep(place, before, after) {
-    if (!this.first.has(place)) this.first.set(place, before);
-    const original = this.first.get(place);
-    this.unlike += (after !== original) - (before !== original);
+  keep({ places, before, after }) {
+    for (let at = 0; at < places.length; at++) {
+      const place = places[at];
+      if (!this.isChanged[place]) this.first[place] = before[at];
+      this.isChanged[place] = 1;
+      const original = this.first[place];
+      this.unlike += (after[at] !== original) - (before[at] !== original);
+    }
   }
 }

@@ -1,5 +1,7 @@
 // What the files of tilesets tell, `.tsx` or `.tsj`, and their images: read with care, since a file may claim anything.
 
+import { looksInXml, looksOf } from "./tileset_looks.js";
+
 // The longest file of a tileset that is read, and the most pixels of an image that are unpacked.
 const LONGEST = 16 * 1024 * 1024;
 const MOST_PIXELS = 64 * 1024 * 1024;
@@ -37,7 +39,8 @@ function readXml(text) {
   const numbers = NUMBERS.filter(name => root.hasAttribute(name)).map(name => [name, Number(root.getAttribute(name))]);
   const [image] = children("image");
   const tiles = children("tile").map(each => ({ id: Number(each.getAttribute("id")) }));
-  return { ...Object.fromEntries(numbers), name: root.getAttribute("name"), image: image?.getAttribute("source"), tiles };
+  const looks = looksInXml(root, image, children("tile"));
+  return { ...Object.fromEntries(numbers), ...looks, name: root.getAttribute("name"), image: image?.getAttribute("source"), tiles };
 }
 
 function readJson(text) {
@@ -60,7 +63,7 @@ export function checked(told) {
   for (const name of ["tilewidth", "tileheight"]) {
     if (made[name] > LONGEST_SIDE) throw new Wrong(`its ${name} is ${grouped(made[name])} pixels, and tiles up to ${grouped(LONGEST_SIDE)} are drawn`);
   }
-  return made;
+  return { ...made, ...looksOf(told) };
 }
 
 // The first id behind those of the tiles that are told one by one.

@@ -3,6 +3,7 @@
 import { TILE } from "./map_model.js";
 import { folderOf } from "./names.js";
 import { TileLooks } from "./tile_looks.js";
+import { withoutColour } from "./tileset_looks.js";
 import { Wrong, checked, claimOf, heldBy, imageOf, readTileset } from "./tileset_files.js";
 
 export { colourOf } from "./tile_looks.js";
@@ -21,6 +22,8 @@ class Tileset {
     this.spacing = told.spacing ?? 0;
     this.margin = told.margin ?? 0;
     this.columns = told.columns || 8;
+    [this.offsetX, this.offsetY] = told.offset ?? [0, 0];
+    this.alignment = told.alignment ?? "unspecified";
     this.told = told;
     const most = last - first + 1;
     this.count = Math.min(told.tilecount || told.tiles || USUAL, most, MOST_BARE);
@@ -47,8 +50,9 @@ class Tileset {
     return Boolean(this.image) && tile >= 0 && tile < this.count;
   }
 
-  // Where a tile stands in the image, in pixels.
-  placeOf(tile) {
+  // Where a tile stands in the image, in pixels; of an animation its first picture does.
+  placeOf(id) {
+    const tile = this.told.frames?.get(id) ?? id;
     const column = tile % this.columns;
     const row = Math.floor(tile / this.columns);
     return [this.margin + column * (this.tileWidth + this.spacing), this.margin + row * (this.tileHeight + this.spacing)];
@@ -104,7 +108,7 @@ export class Tilesets {
       told = checked(data.source ? await this.readFile(this.folder + data.source, found) : data);
       const path = told.image && this.folder + folderOf(data.source ?? "") + told.image;
       const bytes = path && (await this.bytesOf(path, found));
-      if (bytes) image = await imageOf(told.image, bytes);
+      if (bytes) image = withoutColour(await imageOf(told.image, bytes), told.clear);
     } catch (fault) {
       if (!(fault instanceof Wrong)) throw fault;
       why = fault.message;

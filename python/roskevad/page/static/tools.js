@@ -1,82 +1,17 @@
-// The tools of the hand on the map. Each gives the editor session lines, and nothing else.
-import { ask } from "./dom.js";
-import { lineOf } from "./map_model.js";
-import { Stroke } from "./stroke.js";
+// The tools of the hand on the map, and its events there. Each gives the editor session lines, and nothing else.
+import { FillTool, fillRectangle } from "./fill_tools.js";
+import { ObjectTool, insertObject } from "./object_tools.js";
+import { StrokeTool } from "./stroke_tool.js";
+import { ViewHand } from "./view_hand.js";
 
-const COLOURS = { brush: "#7fd67f", eraser: "#ff8f8f", fill: "#7fd67f", select: "#8cc8ff", insert: "#ffd34d", capture: "#d8b4ff" };
-
-// The tools that draw on the layer in hand.
-const PAINTING = new Set(["brush", "eraser", "fill"]);
-// The largest stamp whose tiles are shown under the hand.
-const MOST_SHOWN = 4096;
-// How far the wheel turns for a step, and how far that is where the browser counts lines: in pixels.
-const WHEEL_STEP = 60;
-const LINE = 40;
+const COLOURS = { brush: "#7fd67f", eraser: "#ff8f8f", fill: "#7fd67f", rectangle: "#7fd67f", select: "#8cc8ff", insert: "#ffd34d", capture: "#d8b4ff" };
+// The tools that draw on the layer in hand, and those with which the right button takes tiles.
+const PAINTING = new Set(["brush", "eraser", "fill", "rectangle"]);
+const TAKING = new Set(["brush", "fill", "rectangle"]);
 
 // The rectangle of cells from one corner to the other.
 function cellsBetween([x0, y0], [x1, y1]) {
   return [Math.min(x0, x1), Math.min(y0, y1), Math.abs(x1 - x0) + 1, Math.abs(y1 - y0) + 1];
-}
-
-// The brush and the eraser.
-class StrokeTool {
-  constructor(bench, name) {
-    this.bench = bench;
-    this.name = name;
-    this.stroke = null;
-    // Behind a line that is not of the stroke, what comes of the stroke is a step of its own.
-    bench.editor.addEventListener("done", ({ detail }) => this.stroke && detail !== this.stroke && this.stroke.begin(bench.map));
-  }
-
-  // The block that the hand leaves at a cell.
-  blockAt(x, y) {
-    const { stamp, brushSize, layerId } = this.bench;
-    const isPattern = this.name === "brush" && stamp.values.length > 1;
-    const [width, height] = isPattern ? [stamp.width, stamp.height] : [brushSize, brushSize];
-    const block = { layer: layerId, x: x - Math.floor(width / 2), y: y - Math.floor(height / 2), width, height };
-    if (this.name === "brush") block.values = isPattern ? stamp.values : new Array(width * height).fill(stamp.values[0]);
-    return block;
-  }
-
-  hover(place) {
-    const block = this.blockAt(...place.cell);
-    const values = block.width * block.height <= MOST_SHOWN ? block.values : null;
-    return { cells: [block.x, block.y, block.width, block.height], values, colour: COLOURS[this.name] };
-  }
-
-  async down(place, event) {
-    const { bench } = this;
-    if (!bench.layer.isTiles) {
-      // The editor says in its own words why this layer takes no stroke.
-      await bench.act([lineOf(this.blockAt(...place.cell), false)]);
-      return;
-    }
-    this.document = bench.editor.notes.active;
-    this.stroke = new Stroke(bench.map, (x, y) => this.blockAt(x, y), line => this.hear(line));
-    this.draw(place, event);
-  }
-
-  move(place, event) {
-    if (this.stroke) this.draw(place, event);
-  }
-
-  up() {
-    this.stroke = null;
-  }
-
-  // Does a line of the stroke. Behind one that is refused the stroke is over.
-  hear(line) {
-    return this.bench.sayRefusal(this.bench.editor.doLines([line], { stroke: this.stroke })).isHeard;
-  }
-
-  draw(place, event) {
-    const { editor, view } = this.bench;
-    if (editor.notes.active !== this.document) return;
-    const edits = this.stroke.moveTo(...place.cell);
-    if (!edits.length) return;
-    view.redrawCells(edits);
-    view.measure("stroke", event.timeStamp);
-  }
 }
 
 // A drag over cells: `done` is called with its rectangle.
@@ -102,83 +37,11 @@ class RectangleTool {
     this.first = null;
     this.done(cells, this.keys);
   }
-}
 
-class FillTool {
-  constructor(bench) {
-    this.bench = bench;
+  // Ends the drag, which then does nothing.
+  cancel() {
+    this.first = null;
   }
-
-  hover(place) {
-    return { cells: [...place.cell, 1, 1], values: [this.bench.fillValue], colour: COLOURS.fill };
-  }
-
-  down(place) {
-    this.bench.act([`fill ${this.bench.layerId} ${place.cell.join(" ")} ${this.bench.fillValue}`]);
-  }
-
-  move() {}
-
-  up() {}
-}
-
-// Chooses an object, and drags it: the page draws it on its way, and one line is sent at the end.
-class ObjectTool {
-  constructor(bench) {
-    this.bench = bench;
-  }
-
-  hover() {
-    return null;
-  }
-
-  down(place) {
-    const found = this.bench.map && this.bench.marks.objectAt(place.pixelX, place.pixelY);
-    this.bench.chooseObject(found?.object.id ?? null);
-    this.drag = found && { id: found.object.id, x: found.object.x ?? 0, y: found.object.y ?? 0, from: place };
-  }
-
-  // Where the object goes: with Ctrl on the grid.
-  goal(place, event) {
-    const { map } = this.bench;
-    const isOnGrid = event.ctrlKey || event.metaKey;
-    // Where the hand has not moved it one way, it keeps the whole part that it has there, and so its fraction.
-    const moved = (from, by, side) => {
-      if (isOnGrid) return Math.round((from + by) / side) * side;
-      return by === 0 ? Math.floor(from) : Math.round(from + by);
-    };
-    const x = moved(this.drag.x, place.pixelX - this.drag.from.pixelX, map.tileWidth);
-    const y = moved(this.drag.y, place.pixelY - this.drag.from.pixelY, map.tileHeight);
-    return { id: this.drag.id, x, y };
-  }
-
-  move(place, event) {
-    if (!this.drag) return;
-    this.bench.marks.dragged = this.goal(place, event);
-    this.bench.marks.redraw();
-  }
-
-  async up(place, event) {
-    if (!this.drag) return;
-    const { marks } = this.bench;
-    const goal = this.goal(place, event);
-    const isMoved = goal.x !== Math.floor(this.drag.x) || goal.y !== Math.floor(this.drag.y);
-    this.drag = null;
-    if (isMoved && marks.dragged) {
-      await this.bench.act([`object move ${goal.id} ${goal.x} ${goal.y}`]);
-    }
-    marks.dragged = null;
-    marks.redraw();
-  }
-}
-
-async function insertObject(bench, [x, y, width, height]) {
-  const { map, layer } = bench;
-  if (layer?.type !== "objectgroup") return bench.say("Choose an object layer first.");
-  const told = await ask("A new object", [{ name: "name", label: "Name", value: "object" }]);
-  if (!told) return;
-  const box = [x * map.tileWidth, y * map.tileHeight, width * map.tileWidth, height * map.tileHeight];
-  return bench.act([`object add ${layer.id} ${box.join(" ")} ${told.name}`]);
 }
 
 function select(bench, cells, { shift, ctrl }) {
@@ -187,23 +50,35 @@ function select(bench, cells, { shift, ctrl }) {
 }
 
 // All tools by their names, the one that is used, and the hand's events on the map.
+//
+// A tool has `down`, `move` and `up`, each with the place of the hand and its event, and `hover`, which tells what is shown under the
+// hand. With `cancel` it ends what it is about. It may also have calls for keys: `copy`, `cut`, `paste`, `remove`, `duplicate`, `drop` and
+// `nudge`. One that gives `true` has done what its key asks for; else the key is about cells.
 export class Tools {
   constructor(bench) {
     this.bench = bench;
+    const rectangle = (name, done) => new RectangleTool(bench, name, done);
     this.all = {
-      brush: new StrokeTool(bench, "brush"),
-      eraser: new StrokeTool(bench, "eraser"),
-      fill: new FillTool(bench),
-      select: new RectangleTool(bench, "select", (cells, keys) => select(bench, cells, keys)),
+      brush: new StrokeTool(bench, "brush", COLOURS.brush),
+      eraser: new StrokeTool(bench, "eraser", COLOURS.eraser),
+      fill: new FillTool(bench, COLOURS.fill),
+      rectangle: rectangle("rectangle", cells => fillRectangle(bench, cells)),
+      select: rectangle("select", (cells, keys) => select(bench, cells, keys)),
       objects: new ObjectTool(bench),
-      insert: new RectangleTool(bench, "insert", cells => insertObject(bench, cells)),
-      capture: new RectangleTool(bench, "capture", cells => bench.takeCells(...cells)),
+      insert: rectangle("insert", cells => insertObject(bench, cells)),
+      capture: rectangle("capture", cells => bench.takeCells(...cells)),
     };
     this.name = "brush";
     this.held = null;
     this.isSpace = false;
-    this.turned = 0;
+    // The time of the last move of a drag that came before a frame of the screen.
+    this.drawnUpTo = -Infinity;
+    this.viewHand = new ViewHand(bench.view, () => this.cancel());
     this.listen(bench.view.box);
+  }
+
+  get now() {
+    return this.all[this.name];
   }
 
   choose(name) {
@@ -216,32 +91,25 @@ export class Tools {
   listen(box) {
     box.onpointerdown = event => this.down(event);
     box.onpointermove = event => this.move(event);
+    // Comes at once, where the browser has it; `pointermove` waits for a frame of the screen.
+    box.addEventListener("pointerrawupdate", event => this.raw(event));
     box.onpointerup = event => this.up(event);
     box.onpointercancel = event => this.up(event);
     box.onpointerleave = () => this.showHand(null);
     box.oncontextmenu = event => event.preventDefault();
-    box.addEventListener("wheel", event => this.wheel(event), { passive: false });
-  }
-
-  // A step of the wheel is a step of the scale; small turns, as pads give them, come together.
-  wheel(event) {
-    event.preventDefault();
-    this.turned += event.deltaY * (event.deltaMode === WheelEvent.DOM_DELTA_LINE ? LINE : 1);
-    if (Math.abs(this.turned) < WHEEL_STEP) return;
-    const { x, y } = this.bench.view.placeOf(event);
-    this.bench.view.zoom(this.turned < 0 ? 1 : -1, x, y);
-    this.turned = 0;
+    addEventListener("blur", () => (this.isSpace = false));
   }
 
   // The tool of a press: the middle button or the space bar moves the view, the right button takes tiles.
   toolOf(event) {
     if (event.button === 1 || this.isSpace) return "pan";
-    if (event.button === 2) return this.name === "brush" || this.name === "fill" ? "capture" : null;
+    if (event.button === 2) return TAKING.has(this.name) ? "capture" : null;
     return event.button === 0 ? this.name : null;
   }
 
   down(event) {
     document.activeElement?.blur();
+    getSelection().removeAllRanges();
     const name = this.toolOf(event);
     if (!name || this.held || (name !== "pan" && !this.isReady())) return;
     if (PAINTING.has(name) && this.bench.layer.isTiles && this.bench.barredLayer()) return;
@@ -249,8 +117,11 @@ export class Tools {
     this.bench.view.box.setPointerCapture(event.pointerId);
     this.held = name;
     this.bench.isHeld = true;
+    this.drawnUpTo = -Infinity;
+    this.bench.view.work = performance.now();
     this.from = this.bench.view.placeOf(event);
     if (name !== "pan") this.all[name].down(this.from, event);
+    this.bench.view.drawNow();
   }
 
   isReady() {
@@ -262,34 +133,70 @@ export class Tools {
   }
 
   move(event) {
+    if (this.held === "pan") this.pan(event);
+    else if (this.held) this.drag(event);
+    if (this.held !== "pan") this.showHand(this.bench.view.placeOf(event), event);
+  }
+
+  pan(event) {
     const { view } = this.bench;
-    if (this.held === "pan") {
-      const place = view.placeOf(event);
-      const [x, y] = [Math.round(place.x - this.from.x), Math.round(place.y - this.from.y)];
-      view.pan(x, y);
-      this.from = { x: this.from.x + x, y: this.from.y + y };
-      return;
-    }
-    if (this.held) {
-      for (const part of event.getCoalescedEvents?.() ?? []) this.all[this.held].move(view.placeOf(part), part);
-      this.all[this.held].move(view.placeOf(event), event);
-    }
-    this.showHand(view.placeOf(event));
+    const place = view.placeOf(event);
+    const [x, y] = [Math.round(place.x - this.from.x), Math.round(place.y - this.from.y)];
+    view.panBy(x, y);
+    this.from = { x: this.from.x + x, y: this.from.y + y };
+  }
+
+  // A move of the hand with all that came with it, but what was drawn already.
+  drag(event) {
+    const { view } = this.bench;
+    const parts = [...(event.getCoalescedEvents?.() ?? []), event].filter(part => part.timeStamp > this.drawnUpTo);
+    view.work = performance.now();
+    for (const part of parts) this.all[this.held].move(view.placeOf(part), part);
+    view.drawNow();
+  }
+
+  raw(event) {
+    if (!this.held || this.held === "pan") return;
+    this.drag(event);
+    this.drawnUpTo = event.timeStamp;
   }
 
   up(event) {
     const name = this.held;
-    this.held = null;
-    this.bench.isHeld = false;
-    if (name && name !== "pan") this.all[name].up(this.bench.view.placeOf(event), event);
-    this.showHand(this.bench.view.placeOf(event));
+    const place = this.bench.view.placeOf(event);
+    this.release();
+    if (name && name !== "pan") this.all[name].up(place, event);
+    this.showHand(place, event);
     this.bench.tell("free");
   }
 
-  showHand(place) {
+  release() {
+    this.held = null;
+    this.bench.isHeld = false;
+  }
+
+  // Ends what the hand is about, and says whether it was about something: a stroke stays as far as it came, another drag does nothing.
+  cancel() {
+    if (!this.held) return false;
+    if (this.held !== "pan") this.all[this.held].cancel?.();
+    this.release();
+    this.showHand(this.bench.place);
+    this.bench.tell("free");
+    return true;
+  }
+
+  // Ends what the hand is about; or else drops what the tool has chosen; or else the selection.
+  escape() {
+    const { bench } = this;
+    if (this.cancel() || this.now.drop?.() === true) return;
+    if (bench.map?.selected && (this.name !== "objects" || bench.objectId === null)) bench.act(["select none"]);
+    bench.chooseObject(null);
+  }
+
+  showHand(place, event = null) {
     const { marks, map } = this.bench;
     const tool = this.all[this.held && this.held !== "pan" ? this.held : this.name];
-    marks.hand = place && map ? tool.hover(place) : null;
+    marks.hand = place && map ? tool.hover(place, event) : null;
     marks.redrawHand();
     this.bench.place = place;
     this.bench.tell("hand");

@@ -1,0 +1,90 @@
+// Copies of objects: one step of `object add` and of a `prop set` for each property. What no line can copy is named.
+import { ask } from "./dom.js";
+import { KINDS } from "./kinds.js";
+import { endNotice, notice } from "./notices.js";
+import { unsaidOf } from "./unsaid.js";
+
+const ABOUT = "copy";
+
+const listed = words => (words.length < 2 ? words.join("") : `${words.slice(0, -1).join(", ")} and ${words[words.length - 1]}`);
+export const nameOf = object => object.name || `Object ${object.id}`;
+
+// The lines that make a copy with an id in a layer.
+function linesOf(object, id, layer, x, y, name) {
+  const size = [object.width ?? 0, object.height ?? 0].map(Math.floor).join(" ");
+  const unsaid = new Set(unsaidOf({ properties: object.properties }));
+  const said = (object.properties ?? []).filter(each => !unsaid.has(`the property ${each.name}`));
+  return [
+    `object add ${layer} ${Math.round(x)} ${Math.round(y)} ${size} ${name}`,
+    ...said.map(({ name: key, type = "string", value }) => `prop set object:${id} ${key} ${type} ${value}`),
+  ];
+}
+
+export class ObjectCopies {
+  constructor(bench) {
+    Object.assign(this, { bench, copied: null });
+    bench.addEventListener("object chosen", () => endNotice(ABOUT));
+  }
+
+  // Calls `go` where lines can copy an object whole. Else it says what they cannot, and offers to copy the rest.
+  whole(object, done, go) {
+    endNotice(ABOUT);
+    const unsaid = unsaidOf(object);
+    if (!unsaid.length) return go();
+    const words = `${nameOf(object)} is not ${done}: no line can copy ${listed(unsaid)}.`;
+    this.bench.say(words);
+    notice(ABOUT, words, done === "cut" ? [["OK", () => {}]] : [["Copy the rest", () => void go()], ["OK", () => {}]], "mild");
+    return null;
+  }
+
+  // Keeps an object for a paste.
+  keep(object, layer) {
+    return this.whole(object, "copied", () => this.take(object, layer));
+  }
+
+  take(object, layer) {
+    this.copied = { object: structuredClone(object), layer: layer.id };
+    this.bench.say(`${nameOf(object)} is copied: Ctrl+V puts it where the mouse is.`);
+    return true;
+  }
+
+  // Puts a copy beside the object, one cell to the right and down.
+  duplicate(object, layer) {
+    const { map } = this.bench;
+    const [x, y] = [(object.x ?? 0) + map.tileWidth, (object.y ?? 0) + map.tileHeight];
+    return this.whole(object, "copied", () => this.put(object, layer.id, x, y, "Duplicate Object || duplicate object"));
+  }
+
+  // Puts what was kept where the hand is, or else beside where it was.
+  paste() {
+    const { bench, copied } = this;
+    const { object } = copied;
+    const layer = bench.layer?.type === "objectgroup" ? bench.layer : bench.map.layer(copied.layer);
+    if (layer?.type !== "objectgroup") return bench.say("Choose an object layer first.");
+    if (bench.barsObjects(layer, "pasted")) return null;
+    const at = bench.place;
+    const up = object.gid ? -1 : 1;
+    const [x, y] = at
+      ? [at.pixelX - layer.offsetX - (object.width ?? 0) / 2, at.pixelY - layer.offsetY - up * (object.height ?? 0) / 2]
+      : [(object.x ?? 0) + bench.map.tileWidth, (object.y ?? 0) + bench.map.tileHeight];
+    return this.put(object, layer.id, x, y, "Paste Object || paste object");
+  }
+
+  async put(object, layer, x, y, step) {
+    const { bench } = this;
+    const name = await this.nameFor(object);
+    if (name === null) return;
+    const id = bench.map.data.nextobjectid;
+    if (!bench.doAsOne(step, linesOf(object, id, layer, x, y, name)).isHeard) return;
+    bench.chooseObject(id);
+    if (object.point) bench.say("The copy is a rectangle of no size: no line makes a point.");
+  }
+
+  // The name of a copy. No line adds an object without one.
+  async nameFor(object) {
+    if (!KINDS.text.fault(object.name ?? "")) return object.name;
+    const title = object.name ? "No line can say the name of this object" : "No line adds an object without a name";
+    const told = await ask(title, [{ name: "name", label: "Name of the copy", value: "object", kind: KINDS.text }]);
+    return told?.name ?? null;
+  }
+}

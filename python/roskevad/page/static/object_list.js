@@ -1,0 +1,113 @@
+// The objects of the map in a list, by their layers, with a search. It stands in the place of the tiles while a tool for objects is in hand.
+import { byId, element } from "./dom.js";
+
+// How many rows the list has at most: others are found by the search.
+const MOST_ROWS = 1000;
+// Which side is shown with a tool; with any other one the side stays.
+const SIDES = { objects: "objects", insert: "objects", brush: "tiles", eraser: "tiles", fill: "tiles", rectangle: "tiles" };
+
+const countOf = number => number.toLocaleString("en-US");
+
+export class ObjectList {
+  constructor(bench, tools) {
+    Object.assign(this, { bench, tools, said: "" });
+    this.search = element("input", { type: "search", id: "object-search", placeholder: "name, class or id", autocomplete: "off" });
+    this.list = element("ul", { id: "objects" });
+    byId("left").append(element("div", { id: "object-list" }, this.search, this.list));
+    byId("show-tiles").onclick = () => this.turnTo("tiles");
+    byId("show-objects").onclick = () => this.turnTo("objects");
+    this.search.oninput = () => this.show();
+    this.search.onkeydown = event => this.key(event);
+    this.list.onclick = event => this.click(event);
+    bench.addEventListener("chosen", () => this.show());
+    bench.addEventListener("object chosen", () => this.list.querySelector(".now")?.scrollIntoView({ block: "nearest" }));
+    bench.addEventListener("tool", () => this.turnTo(SIDES[tools.name]));
+    bench.addEventListener("inserted", () => tools.choose("objects"));
+    this.turnTo("tiles");
+  }
+
+  turnTo(side = this.side) {
+    this.side = side;
+    byId("left").dataset.side = side;
+    for (const each of ["tiles", "objects"]) byId(`show-${each}`).classList.toggle("on", each === side);
+    this.show();
+  }
+
+  // The layers with objects that the search finds, the one drawn last first: [layer, objects].
+  found() {
+    const words = this.search.value.toLowerCase().split(" ").filter(word => word);
+    const fits = object => {
+      const text = `${object.name} ${object.type || object.class || ""} ${object.id}`.toLowerCase();
+      return words.every(word => text.includes(word));
+    };
+    const layers = (this.bench.map?.layers ?? []).filter(layer => layer.type === "objectgroup").reverse();
+    return layers.map(layer => [layer, (layer.data.objects ?? []).filter(fits)]).filter(([, objects]) => objects.length || !words.length);
+  }
+
+  show() {
+    if (this.side !== "objects") return;
+    const rows = this.found().flatMap(([layer, objects]) => [this.headOf(layer, objects), ...objects.map(object => this.told(object, layer))]);
+    const said = JSON.stringify(rows);
+    if (said !== this.said) this.list.replaceChildren(...this.made(rows));
+    this.said = said;
+    for (const row of this.list.children) row.classList.toggle("now", Number(row.dataset.object) === this.bench.objectId);
+  }
+
+  // What a row tells.
+  headOf(layer, objects) {
+    const name = `${layer.group ? `${layer.group.data.name} / ` : ""}${layer.data.name || "(no name)"}`;
+    return { layer: layer.id, name, kind: `${countOf(objects.length)} of ${countOf((layer.data.objects ?? []).length)}`, isHidden: !layer.isSeen };
+  }
+
+  told(object, layer) {
+    const isHidden = !layer.isSeen || object.visible === false;
+    return { object: object.id, name: object.name || "(no name)", kind: `${object.type || object.class || ""} ${object.id}`.trim(), isHidden };
+  }
+
+  made(rows) {
+    const shown = rows.slice(0, MOST_ROWS).map(row => this.row(row));
+    const left = rows.length - shown.length;
+    if (left > 0) shown.push(element("li", { className: "more", textContent: `and ${countOf(left)} more: search for them` }));
+    if (!rows.length) shown.push(element("li", { className: "more", textContent: this.search.value ? "No object is found." : "The map has no object layer." }));
+    return shown;
+  }
+
+  row({ object, layer, name, kind, isHidden }) {
+    const data = object === undefined ? { layer } : { object };
+    const title = isHidden ? `${name}: hidden` : name;
+    const parts = [element("span", { className: "name", textContent: name }), element("span", { className: "kind", textContent: kind })];
+    const row = element("li", { data, title }, ...parts);
+    row.classList.toggle("head", object === undefined);
+    row.classList.toggle("hidden", isHidden);
+    return row;
+  }
+
+  click(event) {
+    const row = event.target.closest("li");
+    if (row?.dataset.layer) this.bench.chooseLayer(Number(row.dataset.layer));
+    if (row?.dataset.object) this.choose(Number(row.dataset.object));
+  }
+
+  // Chooses an object, with the tool that shows it, and moves the view to it where it is not seen.
+  choose(id) {
+    const { bench, tools } = this;
+    if (tools.name !== "objects") tools.choose("objects");
+    bench.chooseObject(id);
+    const { view } = bench;
+    const { object, layer } = bench.chosenObject;
+    const x = view.originX + ((object.x ?? 0) + layer.offsetX + (object.width ?? 0) / 2) * view.scale;
+    const y = view.originY + ((object.y ?? 0) + layer.offsetY + (object.height ?? 0) / 2) * view.scale;
+    if (x > 0 && y > 0 && x < view.canvas.width && y < view.canvas.height) return;
+    view.pan(Math.round(view.canvas.width / 2 - x), Math.round(view.canvas.height / 2 - y));
+  }
+
+  key(event) {
+    const first = this.list.querySelector("[data-object]");
+    if (event.key === "Enter" && first) this.choose(Number(first.dataset.object));
+    else if (event.key === "Escape" && this.search.value === "") this.search.blur();
+    else if (event.key === "Escape") this.search.value = "";
+    else return;
+    event.preventDefault();
+    this.show();
+  }
+}

@@ -1,0 +1,278 @@
+"""Types into the fields and dialogs of the page in Chromium: what each type of property takes, what is
+refused and why, in the field's own terms, Escape and Ctrl+Z in a field, values that no line sets,
+and the words for refused lines."""
+import json
+import re
+
+from lib.maps import layers_in
+from page.bench import Bench, choose, layer_of, middle_of, object_of, spelled, standing
+from page.browser import ActionChains, Keys
+from selenium.webdriver.support.ui import Select
+
+NEEDS_BROWSER = True
+IS_LONG = True
+
+# Lines that are refused, each with the place of the word at fault and with words of what is wanted
+# there, as docs/session-lines.md says what the words of a line are.
+REFUSED = [
+    ('prop set map a b string x', 5, 'string or file'),
+    ('prop set map a string ', 6, 'not empty'),
+    ('prop set map a color #FF0000', 6, '#rrggbb'),
+    ('prop set map a color red', 6, '#rrggbb'),
+    ('prop set map a bool yes', 6, 'true or false'),
+    ('prop set map a int 1.5', 6, 'a whole number'),
+    ('prop set map a int 01', 6, 'zero in front'),
+    ('prop set map a float 1', 5, 'string or file'),
+    ('prop set layer a int 1', 3, 'layer: or object: and an id'),
+    ('layer rename 1 ', 4, 'not empty'),
+    ('layer show 1 perhaps', 4, 'yes or no'),
+    ('object move 1 1000000001 0', 4, 'from -1,000,000,000 to 1,000,000,000'),
+    ('object resize 1 -3 4', 4, 'from 0 to'),
+    ('stamp 1 0 0 2 5,6,7', 6, 'rows of 2'),
+    ('stamp 1 0 0 1 05', 6, 'numbers joined by commas'),
+    ('stamp 1 0 0 4097 5', 5, 'from 1 to 4,096'),
+    ('tile 1 -0 0', 3, 'zero in front'),
+    ('goto', 2, 'is missing'),
+    ('undo x', 2, 'one too many'),
+    ('undo ', 2, 'is empty'),
+    ('begin A || ', 4, 'not empty'),
+    ('open a ../b', 3, 'of A-Z a-z 0-9'),
+    ('new my map 4 4 4 4 t', 3, 'a whole number'),
+    ('fill+ 1 0 0 5', 1, 'no command'),
+    ('Undo', 1, 'no command'),
+]
+
+
+def field_of(page, name):
+    return page.find(f'#properties [data-key="{name}"]')
+
+
+def value_of(page, name):
+    return field_of(page, name).get_attribute('value')
+
+
+def faults(page):
+    return [text for text in page.texts('#properties .fault') if text]
+
+
+def type_keys(page, *keys):
+    """Types where the keys go by now."""
+    ActionChains(page.driver).send_keys(*keys).perform()
+    page.js('return new Promise(done => setTimeout(done, 50))')
+    page.settle()
+
+
+def with_ctrl(page, key, *more):
+    """Presses a key with Ctrl, in the field that has the keys."""
+    chain = ActionChains(page.driver)
+    for each in (Keys.CONTROL, *more):
+        chain.key_down(each)
+    chain.send_keys(key)
+    for each in (Keys.CONTROL, *more):
+        chain.key_up(each)
+    chain.perform()
+    page.js('return new Promise(done => setTimeout(done, 50))')
+    page.settle()
+
+
+def property_of(tree, name):
+    return next(each for each in tree['properties'] if each['name'] == name)
+
+
+def test_words_of_refusals():
+    """Of a line with a bad word the page says which word that is and what is wanted, at the box and
+    in the list of lines."""
+    with Bench() as page:
+        for line, place, wanted in REFUSED:
+            page.js('roskevad.bench.act([arguments[0]])', line)
+            page.settle()
+            told = page.find('#bubble').text
+            listed = page.texts('#lines li:last-child .why')[0]
+            number = int(re.search(r'Word (\d+)', told)[1])
+            assert number == place and wanted in told, (line, told)
+            assert f'Word {place}' in listed, (line, listed)
+        page.say('prop set map a bool yes')
+        assert "'yes'" in page.bubble() and 'prop set OWNER KEY bool true|false' in page.bubble()
+        assert not spelled(page)
+
+
+def test_ctrl_z():
+    """Ctrl+Z in a field undoes the typing, and where nothing is typed the map's last step, which
+    the field then shows; no line follows as the field is left."""
+    with Bench() as page:
+        page.find('#of-map').click()
+        field_of(page, 'people').click()
+        type_keys(page, Keys.END, '5')
+        assert value_of(page, 'people') == '125'
+        with_ctrl(page, 'z')
+        assert value_of(page, 'people') == '12' and not spelled(page)
+        type_keys(page, Keys.BACKSPACE, '3', Keys.ENTER)
+        assert spelled(page) == ['prop set map people int 13']
+        with_ctrl(page, 'z')
+        assert value_of(page, 'people') == '12' and standing(page) == (0, 1)
+        with_ctrl(page, 'z', Keys.SHIFT)
+        assert value_of(page, 'people') == '13' and standing(page) == (1, 1)
+        with_ctrl(page, 'z')
+        type_keys(page, Keys.TAB)
+        assert spelled(page)[1:] == ['undo', 'redo', 'undo'] and standing(page) == (0, 1)
+
+
+def test_refused_values():
+    """A refused value is marked and says why; nothing is sent; it stays while others are set, and
+    Escape brings the old one back."""
+    with Bench() as page:
+        page.find('#of-map').click()
+        for typed in ('many', '1.5', ''):
+            page.type_into('#properties [data-key="people"]', typed or Keys.DELETE)
+            assert faults(page) == ['a whole number'] and value_of(page, 'people') == typed, typed
+        page.type_into('#properties [data-key="people"]', '9999999999')
+        assert faults(page) == ['a whole number from -1,000,000,000 to 1,000,000,000']
+        page.type_into('#properties [data-key="music"]', 'harp.ogg')
+        assert spelled(page) == ['prop set map music file harp.ogg']
+        assert value_of(page, 'people') == '9999999999' and len(faults(page)) == 1
+        field_of(page, 'people').send_keys(Keys.ESCAPE)
+        assert value_of(page, 'people') == '12' and not faults(page)
+        page.type_into('#properties [data-key="people"]', '007')
+        assert spelled(page)[-1] == 'prop set map people int 7'
+        page.type_into('#properties [data-key="author"]', Keys.DELETE)
+        assert 'not empty' in faults(page)[0]
+        field_of(page, 'author').send_keys(Keys.ESCAPE)
+        page.keys('s')
+        page.drag_points([middle_of(page, 2)])
+        page.type_into('#properties [data-key=" x"]', '130.5')
+        assert faults(page) == ['a whole number'] and object_of(page, 2)['x'] == 128
+        field_of(page, ' x').send_keys(Keys.ESCAPE)
+        assert value_of(page, ' x') == '128'
+        page.type_into('#properties [data-key=" width"]', '-3')
+        assert 'from 0 to' in faults(page)[0] and len(spelled(page)) == 2
+
+
+def test_fields_of_types():
+    """A bool is a checkbox; a colour has a picker that keeps its alpha; a file has a chooser among
+    the folder's files; an object has a list of them."""
+    with Bench() as page:
+        page.find('#of-map').click()
+        field_of(page, 'night').click()
+        page.settle()
+        assert spelled(page)[-1] == 'prop set map night bool true'
+        page.click('#properties tr[data-property="music"] .choose-file')
+        page.wait(lambda: page.texts('dialog[open]'), 'the chooser')
+        names = page.texts('dialog .rows option')
+        assert {'town.tmj', 'house.tmj', 'tiles.png', 'furniture.tsx'} <= set(names), names
+        Select(page.find('dialog .rows')).select_by_value('house.tmj')
+        page.fill_in()
+        assert spelled(page)[-1] == 'prop set map music file house.tmj'
+        page.keys('s')
+        page.drag_points([middle_of(page, 3)])
+        field_of(page, 'key').click()
+        Select(field_of(page, 'key')).select_by_value('2')
+        page.settle()
+        assert spelled(page)[-1] == 'prop set object:3 key object 2'
+        page.click('#objects li[data-object="4"]')
+        pick = 'arguments[0].value = "#123456"; arguments[0].dispatchEvent(new Event("change"))'
+        page.js(pick, page.find('#properties input[type=color]'))
+        page.settle()
+        assert spelled(page)[-1] == 'prop set object:4 colour color #ff123456'
+        page.type_into('#properties [data-key="colour"]', '#80FF00AA')
+        assert spelled(page)[-1] == 'prop set object:4 colour color #80ff00aa'
+        page.js(pick, page.find('#properties input[type=color]'))
+        page.settle()
+        assert spelled(page)[-1] == 'prop set object:4 colour color #80123456'
+        page.type_into('#properties [data-key="colour"]', 'red')
+        assert '#rrggbb' in faults(page)[0]
+
+
+def test_values_that_no_line_sets():
+    """A float and a class are shown, barred, with a word; so is a name with a space. A long value is
+    seen whole, without a bar to scroll."""
+    bench = Bench(empty=True)
+    with bench as page:
+        town = json.loads((bench.folder / 'town.tmj').read_text())
+        long = 'the quick brown fox jumps over the lazy dog, and back again over the same dog'
+        town['properties'] = [
+            {'name': 'weight', 'type': 'float', 'value': 2.5},
+            {'name': 'guard', 'type': 'class', 'value': {'speed': 3}, 'propertytype': 'Guard'},
+            {'name': 'two words', 'type': 'int', 'value': 4},
+            {'name': 'saying', 'type': 'string', 'value': long},
+        ]
+        (bench.folder / 'kinds.tmj').write_text(json.dumps(town))
+        page.choose_files(bench.folder / 'kinds.tmj', *bench.folder.glob('*.ts?'))
+        page.find('#of-map').click()
+        for name, shown, why in (
+            ('weight', '2.5', 'float'),
+            ('guard', 'speed: 3', 'class'),
+            ('two words', '4', 'space'),
+        ):
+            field, row = field_of(page, name), f'#properties tr[data-property="{name}"]'
+            assert field.get_attribute('value') == shown and not field.is_enabled(), name
+            assert why in page.find(f'{row} .barred').text, name
+        saying = field_of(page, 'saying')
+        assert saying.get_attribute('value') == long
+        sizes = '[arguments[0].scrollHeight - arguments[0].clientHeight, arguments[0].clientHeight]'
+        over, high = page.js(f'return {sizes}', saying)
+        assert over <= 0 and high > 30, (over, high)
+
+
+def test_new_property():
+    """A new property's name and value are checked at their fields before a line is sent."""
+    with Bench() as page:
+        page.find('#of-map').click()
+        name = page.find('#new-name')
+        name.send_keys('two words')
+        page.find('#new-value').send_keys('x', Keys.ENTER)
+        page.settle()
+        assert 'space' in faults(page)[0] and 'wrong' in name.get_attribute('class')
+        name.clear()
+        name.send_keys('weather')
+        assert not faults(page), 'the mark goes with the next key'
+        for kind, value, why in (
+            ('string', '', 'not empty'),
+            ('int', '1.5', 'a whole number'),
+            ('color', 'red', '#rrggbb'),
+        ):
+            Select(page.find('#new-type')).select_by_visible_text(kind)
+            page.find('#new-value').clear()
+            page.find('#new-value').send_keys(value)
+            page.click('#add-property')
+            assert why in faults(page)[0] and not spelled(page), kind
+        page.find('#new-value').send_keys(Keys.CONTROL, 'a')
+        page.find('#new-value').send_keys(Keys.NULL, '#FF0000', Keys.ENTER)
+        page.settle()
+        assert spelled(page) == ['prop set map weather color #ff0000']
+        assert page.find('#new-name').get_attribute('value') == ''
+
+
+def test_dialogs():
+    """A dialog selects its text, stays open on a refusal, and marks the field at fault; what was
+    typed stays."""
+    with Bench() as page:
+        page.find('#add-tile-layer').click()
+        page.wait(lambda: page.texts('dialog[open]'), 'a dialog')
+        type_keys(page, 'Deco', Keys.ENTER)
+        assert spelled(page) == ['layer add tile Deco']
+        page.find('#new').click()
+        page.fill_in(name='my map')
+        assert page.texts('dialog[open]') and '1 to 64' in page.find('dialog .fault').text
+        page.fill_in(name='town')
+        assert 'name taken' in page.find('dialog .fault').text, page.texts('dialog .fault')
+        assert 'wrong' in page.find('dialog [name=name]').get_attribute('class')
+        page.fill_in(name='field', width='5000')
+        assert '4,096' in page.find('dialog label:nth-of-type(2) .fault').text
+        page.fill_in(width='4096', height='4096')
+        assert 'out of range' in page.texts('dialog p.fault')[0]
+        page.fill_in(width='8', height='7')
+        assert page.editor.state()['active'] == 'field' and not page.texts('dialog[open]')
+        page.find('#resize').click()
+        page.fill_in(width='5000')
+        assert '4,096' in page.find('dialog .fault').text
+        assert page.find('dialog [name=width]').get_attribute('value') == '5000'
+        page.fill_in('Cancel')
+        page.click('#macro')
+        assert 'End the macro first' in page.find('#undo').get_attribute('title')
+        choose(page, 'Tile Layer 1')
+        page.find('#rename-layer').click()
+        page.wait(lambda: page.texts('dialog[open]'), 'a dialog')
+        type_keys(page, Keys.DELETE, Keys.ENTER)
+        assert 'not empty' in page.find('dialog .fault').text
+        type_keys(page, 'Floor', Keys.ENTER)
+        assert [layer['name'] for layer in layers_in(page.editor.map()['layers'])] == ['Floor']
