@@ -213,10 +213,8 @@ def open_and_draw(page, name, words, wrong=''):
         page.keys('b')
         page.drag([(1, 1)])
         assert cell(page, number, 1, 1) == first + 4
-        page.keys('s')
         [seen] = page.colours(page.places([(1, 1)], (8, 8)))
         assert name == 'objects.tmj' or seen == image_colour(page, (4, 0), 8), (name, seen)
-        page.keys('x')
     longest = page.js('return window.longest')
     assert longest < LONGEST, (name, longest)
     page.editor.lines(f'discard {name[:-4]}')

@@ -1,5 +1,4 @@
 // What the files of tilesets tell, `.tsx` or `.tsj`, and their images: read with care, since a file may claim anything.
-
 import { looksInXml, looksOf } from "./tileset_looks.js";
 
 // The longest file of a tileset that is read, and the most pixels of an image that are unpacked.
@@ -63,7 +62,10 @@ export function checked(told) {
   for (const name of ["tilewidth", "tileheight"]) {
     if (made[name] > LONGEST_SIDE) throw new Wrong(`its ${name} is ${grouped(made[name])} pixels, and tiles up to ${grouped(LONGEST_SIDE)} are drawn`);
   }
-  return { ...made, ...looksOf(told) };
+  const looks = looksOf(told);
+  const farthest = Math.max(...looks.offset.map(Math.abs));
+  if (farthest > LONGEST_SIDE) throw new Wrong(`its tiles are moved by ${grouped(farthest)} pixels, and up to ${grouped(LONGEST_SIDE)} are drawn`);
+  return { ...made, ...looks };
 }
 
 // The first id behind those of the tiles that are told one by one.
