@@ -12,6 +12,12 @@ const BEHIND = "#26282c";
 // Whether a layer stands where the map does, and what it has hides what is below.
 const isPlain = layer => layer.opacity === 1 && layer.offsetX === 0 && layer.offsetY === 0 && !layer.tint;
 
+// The objects of a layer in the order in which they are drawn: the upper ones first, if it says nothing else.
+function inOrder({ data }) {
+  const objects = data.objects ?? [];
+  return data.draworder === "index" ? objects : [...objects].sort((one, other) => (one.y ?? 0) - (other.y ?? 0));
+}
+
 export class LayerPainter {
   constructor(view, images) {
     Object.assign(this, { view, images, tints: new Tints() });
@@ -71,7 +77,7 @@ export class LayerPainter {
     this.view.pen.globalAlpha = layer.opacity;
     this.view.pen.imageSmoothingEnabled = this.view.scale < 1;
     if (layer.type === "imagelayer") this.paintImage(layer);
-    else for (const object of layer.data.objects ?? []) if (this.view.hidden !== object.id) paintThing(this, layer, object);
+    else for (const object of inOrder(layer)) if (this.view.hidden !== object.id) paintThing(this, layer, object);
   }
 
   // ---- near
