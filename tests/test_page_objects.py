@@ -2,6 +2,7 @@
 with its search, a new one and its name, handles and arrow keys, copies and what no line can copy,
 and keys that act on what the tool in hand shows as chosen."""
 import json
+import math
 
 from lib.cases import passed
 from lib.maps import objects_in
@@ -275,12 +276,15 @@ def test_clipboard():
         assert spelled(page)[-1] == 'object remove 7' and chosen(page) is None
         x, y = points_at(page, [(200, 420)])[0]
         page.drag_points([[x, y]])
+        place = page.js('const {pixelX, pixelY} = roskevad.bench.place; return [pixelX, pixelY]')
+        left, top = (math.floor(at - half + 0.5) for at, half in zip(place, (16, 8)))
         page.ctrl('v')
         assert spelled(page)[-3:] == [
             'begin Paste Object || paste object',
-            f'object add {layer} 184 412 32 16 trap',
+            f'object add {layer} {left} {top} 32 16 trap',
             'end',
         ] and chosen(page) == 8
+        assert abs(left - 184) < 2 and abs(top - 412) < 2, 'its middle is where the mouse is'
         page.drag_points([middle_of(page, INN)])
         lines = spelled(page)
         page.ctrl('x')

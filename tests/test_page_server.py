@@ -3,6 +3,7 @@ must refuse: addresses, keys, hosts, methods, heads, bodies, files below the roo
 slow connections; its ends; the wheel of the package, which serves the page from elsewhere; and
 command lines."""
 import hashlib
+import json
 import os
 import re
 import signal
@@ -75,6 +76,11 @@ def test_what_is_listed():
         door.want('the maps', found == [('a.tmj', 11), ('in/my map.tmj', 12)], found)
         when = (folder / 'a.tmj').stat().st_mtime_ns // 1000
         door.want('the time', told['maps'][0]['time'] == when, told)
+        (folder / 'in' / 'wind.ogg').write_bytes(b'wind')
+        names = [each['path'] for each in json.loads(door.ask('GET', f'/names?{door.query}')[2])]
+        wanted = ['a.tmj', 'in/my map.tmj', 'in/wind.ogg', 'tiles.tsx']
+        door.want('all files', sorted(names) == wanted, names)
+        door.want('the key', door.status('GET', '/names?key=none') == 403)
         rest = {name: told[name] for name in ('files', 'limit', 'prefix', 'folder')}
         wanted = {'files': [], 'limit': 0, 'prefix': '', 'folder': str(folder.resolve())}
         door.want('the folder', rest == wanted, rest)
@@ -247,6 +253,9 @@ def test_files_below_the_root():
         try:
             told = door.listed()
             door.want('the folder', (told['prefix'], told['files']) == ('maps/', ['a.tmj']), told)
+            got = json.loads(door.ask('GET', f'/tilesets?{door.query}')[2])
+            found = [(each['path'], each['size']) for each in got]
+            door.want('the tilesets', found == [('../tilesets/walls.tsx', 10)], got)
             given = {
                 'maps/a.tmj': MAP,
                 'tilesets/walls.tsx': b'<tileset/>',

@@ -134,7 +134,7 @@ class Session:
 
 
 # Where a question stands on the page, what is under way waits for its answer.
-QUIET = 'return roskevad.editor.isQuiet || document.querySelector("dialog[open]") !== null'
+QUIET = 'return roskevad.editor.isQuiet || document.querySelector("dialog[open]:not([data-busy])") !== null'
 CLEAR = '''
 const done = arguments[0];
 sessionStorage.clear();

@@ -56,11 +56,15 @@ class Folder:
         """The files of tilesets below the root, with their sizes and times."""
         return self._files(self.root, TILESETS)
 
-    def _files(self, top: Path, suffixes: tuple[str, ...]) -> list[dict[str, Any]]:
-        """The files below a folder with one of these ends, with their paths from the folder of the maps."""
+    def names(self) -> list[dict[str, Any]]:
+        """All files of the folder, with their sizes and times."""
+        return self._files(self.folder, None)
+
+    def _files(self, top: Path, suffixes: Optional[tuple[str, ...]]) -> list[dict[str, Any]]:
+        """The files below a folder with one of these ends, or all, with their paths from the folder of the maps."""
         found: list[dict[str, Any]] = []
         for path in self._names(top):
-            if path.suffix.lower() in suffixes and len(found) < _MOST_FILES:
+            if (suffixes is None or path.suffix.lower() in suffixes) and len(found) < _MOST_FILES:
                 told = self._told(path)
                 if told is not None:
                     name = Path(os.path.relpath(path, self.folder)).as_posix()

@@ -6,6 +6,7 @@ has the key as `?key=`. Whoever has the key can read and replace the maps of the
     GET /               the page, which is one file
     GET /files          the folder, its place below the root, the maps to open, the undo limit, and the files that may be maps
     GET /tilesets       the files of tilesets below the root
+    GET /names          the names of all files of the folder, for properties that name one
     GET /files/PATH     a map, a tileset or an image below the root; `Roskevad-Time` is when it was changed
     PUT /files/PATH     saves a map of the folder, whole. `If-Match: "HASH"` says which SHA-256 the file has that it replaces,
                         `If-None-Match: *` that there is none
@@ -301,6 +302,9 @@ class Door(BaseHTTPRequestHandler):
         told = {**self.server.told, 'folder': str(folder.folder), 'prefix': folder.prefix, 'maps': folder.maps()}
         self._give(json.dumps(told, separators=(',', ':')).encode(), 'application/json')
 
+    def _give_names(self, body: bytes) -> None:
+        self._give(json.dumps(self.server.folder.names(), separators=(',', ':')).encode(), 'application/json')
+
     def _give_tilesets(self, body: bytes) -> None:
         self._give(json.dumps(self.server.folder.tilesets(), separators=(',', ':')).encode(), 'application/json')
 
@@ -339,5 +343,6 @@ _ROUTES: dict[str, dict[str, Any]] = {
     '/': {'GET': Door._give_page},
     '/files': {'GET': Door._give_files},
     '/tilesets': {'GET': Door._give_tilesets},
+    '/names': {'GET': Door._give_names},
     'files/': {'GET': Door._give_file, 'PUT': Door._take_file},
 }

@@ -38,7 +38,9 @@ export class Bench extends EventTarget {
   // Keeps to a layer and an object that are there.
   settle() {
     if (this.map && !this.layer) this.layerId = (this.map.layers.find(layer => layer.isTiles) ?? this.map.layers[0])?.id ?? null;
-    if (this.objectId !== null && !this.map?.object(this.objectId)) this.objectId = null;
+    const { active } = this.editor.notes;
+    if (active !== this.document || !this.map?.object(this.objectId)) this.objectId = null;
+    this.document = active;
     this.marks.chosen = this.objectId;
     this.tell("chosen");
   }

@@ -1,5 +1,5 @@
 // What is said where the hand is: for some seconds, or until the next thing works.
-import { byId } from "./dom.js";
+import { byId, isField } from "./dom.js";
 
 const SHOWN_FOR = 5000;
 // How far from the hand it stands, and how far from the edge of the window at least.
@@ -33,7 +33,8 @@ export class Bubble {
     box.textContent = words.trim();
     box.hidden = false;
     box.style.left = box.style.top = "0";
-    const free = [...KEPT_FREE.map(id => byId(id).getBoundingClientRect()), boxAt(x - 1, y - 1, 2, 2), this.drawn()].filter(each => each);
+    const typed = isField(document.activeElement) ? [document.activeElement] : [];
+    const free = [...[...KEPT_FREE.map(byId), ...typed].map(each => each.getBoundingClientRect()), boxAt(x - 1, y - 1, 2, 2), this.drawn()].filter(each => each);
     const places = placesFor(x, y, box.offsetWidth, box.offsetHeight);
     const { left, top } = places.find(place => free.every(each => isApart(place, each))) ?? places[0];
     box.style.left = `${left}px`;

@@ -5,6 +5,7 @@ import { FileList } from "./file_list.js";
 import { MapProbe } from "./map_probe.js";
 import { lastOf } from "./names.js";
 import { endNotice, hasNotice, notice } from "./notices.js";
+import { saidOf } from "./refusals.js";
 
 // What a document is called for the user: the name of its file, or its own name where it has none.
 const titleOf = ({ name, path }) => (path ? lastOf(path) : name);
@@ -97,16 +98,22 @@ export class Documents {
     return this.bench.act([`save ${await this.editor.wordOf(path)}`]);
   }
 
-  async saveAs() {
+  // Asks for a name and saves under it. Where that is refused it asks anew, with why; but not where the user kept a file as it is.
+  async saveAs(typed = null, refusal = null) {
     const { file, active } = this.editor.state;
-    const told = await ask("Save the map", [{ name: "file", label: "File", value: file ?? `${active ?? "map"}.tmj` }]);
-    return told?.file ? this.saveTo(told.file) : { isHeard: false };
+    const field = { name: "file", label: "File", value: typed ?? file ?? `${active ?? "map"}.tmj`, kind: KINDS.path };
+    const told = await ask("Save the map", [field], ["OK"], undefined, refusal);
+    if (!told) return { isHeard: false };
+    this.isKept = false;
+    const done = await this.saveTo(told.file);
+    return done.isHeard || this.isKept ? done : this.saveAs(told.file, { words: saidOf(done) });
   }
 
   // Whether a file may be replaced that is another one than the document has.
   async mayReplace(path, isOwn) {
     const words = isOwn ? `${path} has changed since it was opened or saved.` : `${path} is there already.`;
     const told = await ask(words, [], isOwn ? ["Replace it", "Reload", "Save as"] : ["Replace it"]);
+    this.isKept = told?.answer !== "Replace it";
     // Each of the two begins once this save has ended.
     if (told?.answer === "Reload") setTimeout(() => this.reload(path));
     if (told?.answer === "Save as") setTimeout(() => this.saveAs());

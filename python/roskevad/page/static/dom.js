@@ -81,10 +81,11 @@ function fieldOf(field) {
 
 // A list below a field, whose rows go into it by a click: those that have what is typed.
 function listFor(input, rows) {
-  const box = element("select", { size: 10, className: "rows", tabIndex: -1, onchange: () => {
+  const box = element("select", { size: 10, className: "rows", tabIndex: -1, ondblclick: () => input.form.requestSubmit() });
+  box.onchange = () => {
     input.value = box.value;
     mark(input, "");
-  } });
+  };
   const narrow = () => {
     const typed = input.value.toLowerCase();
     const fitting = rows.filter(row => row.toLowerCase().includes(typed)).slice(0, MOST_ROWS);
@@ -112,8 +113,10 @@ class Question {
     };
   }
 
-  async ask() {
-    const answer = await shown(this.dialog);
+  async ask(refusal) {
+    const answered = shown(this.dialog);
+    if (refusal) this.refuse(refusal);
+    const answer = await answered;
     return answer ? this.told(answer) : null;
   }
 
@@ -130,8 +133,10 @@ class Question {
     const wrong = this.fields.find(({ name, kind }) => kind?.fault(told[name]));
     if (wrong) return this.refuse({ words: wrong.kind.fault(told[wrong.name]), field: wrong.name });
     this.isBusy = true;
+    this.dialog.dataset.busy = "yes";
     const refusal = await this.take(told);
     this.isBusy = false;
+    delete this.dialog.dataset.busy;
     return refusal ? this.refuse(refusal) : this.dialog.close(answer);
   }
 
@@ -148,7 +153,7 @@ class Question {
 
 // Asks for fields, and gives what was typed by their names, with the answer that was clicked; null where nothing was wanted. A field is
 // { name, label, value, kind }, with one of KINDS, which says what it takes. `take` does what was asked for; where that is refused, it
-// gives { words, field }: the dialog stays open, and marks the field.
-export function ask(title, fields, answers = ["OK"], take = () => null) {
-  return new Question(title, fields, answers, take).ask();
+// gives { words, field }: the dialog stays open, and marks the field. With a `refusal` it begins with one.
+export function ask(title, fields, answers = ["OK"], take = () => null, refusal = null) {
+  return new Question(title, fields, answers, take).ask(refusal);
 }

@@ -199,7 +199,13 @@ class ObjectField extends ChosenField {
     this.map = map;
     this.input.onfocus = () => this.list();
     this.input.onpointerdown = () => this.list();
+    this.input.onblur = () => (this.isListed = false);
     this.put(value);
+  }
+
+  // An object may have another name by now.
+  update(value) {
+    if (value !== this.value || !this.isListed) this.put(value);
   }
 
   put(value) {

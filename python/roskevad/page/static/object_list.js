@@ -1,5 +1,6 @@
 // The objects of the map in a list, by their layers, with a search. It stands in the place of the tiles while a tool for objects is in hand.
 import { byId, element } from "./dom.js";
+import { boxOf } from "./object_shapes.js";
 
 // How many rows the list has at most: others are found by the search.
 const MOST_ROWS = 1000;
@@ -7,6 +8,12 @@ const MOST_ROWS = 1000;
 const SIDES = { objects: "objects", insert: "objects", brush: "tiles", eraser: "tiles", fill: "tiles", rectangle: "tiles" };
 
 const countOf = number => number.toLocaleString("en-US");
+
+// The place of an object's middle.
+function middleOf(object) {
+  const [left, top, right, bottom] = boxOf(object);
+  return { x: (object.x ?? 0) + (left + right) / 2, y: (object.y ?? 0) + (top + bottom) / 2 };
+}
 
 export class ObjectList {
   constructor(bench, tools) {
@@ -95,8 +102,7 @@ export class ObjectList {
     bench.chooseObject(id);
     const { view } = bench;
     const { object, layer } = bench.chosenObject;
-    const x = view.originX + ((object.x ?? 0) + layer.offsetX + (object.width ?? 0) / 2) * view.scale;
-    const y = view.originY + ((object.y ?? 0) + layer.offsetY + (object.height ?? 0) / 2) * view.scale;
+    const [x, y] = bench.marks.screenPlace(middleOf(object), layer);
     if (x > 0 && y > 0 && x < view.canvas.width && y < view.canvas.height) return;
     view.pan(Math.round(view.canvas.width / 2 - x), Math.round(view.canvas.height / 2 - y));
   }

@@ -106,7 +106,8 @@ export class ObjectTool {
     if (this.isBarred(chosen, "moved")) return true;
     const { object } = chosen;
     const [byX, byY] = [toX * (isFar ? bench.map.tileWidth : 1), toY * (isFar ? bench.map.tileHeight : 1)];
-    const moved = (at, by) => (by === 0 ? Math.floor(at) : Math.round(at + by));
+    // From a fraction it goes on to whole pixels.
+    const moved = (at, by) => (by < 0 ? Math.ceil(at) : Math.floor(at)) + by;
     const [x, y] = [moved(object.x ?? 0, byX), moved(object.y ?? 0, byY)];
     const follows = this.run?.id === object.id;
     if (!follows) this.run = { id: object.id, x: object.x ?? 0, y: object.y ?? 0 };

@@ -4,7 +4,7 @@
 //
 //   kind, title       which one it is, and what stands beside the tabs
 //   isDownload        whether a save is a download, which nobody sees end
-//   maps(), tilesets()  the files that may be maps, and the files of tilesets: [{ path, size, time }]
+//   maps(), tilesets(), names()  the files that may be maps, those of tilesets, and all files: [{ path, size, time }]
 //   look(path)        the size and the time of a file; null where there is none, or where that cannot be told
 //   read(path)        the bytes of a file and its mark: { bytes, mark }; null where there is none
 //   bytes(path)       the bytes of a tileset or of an image; null where there is none
@@ -70,6 +70,10 @@ export class ChosenFiles {
 
   async tilesets() {
     return this.named(isTilesetName);
+  }
+
+  async names() {
+    return this.named(() => true);
   }
 
   named(isWanted) {
@@ -156,6 +160,10 @@ export class FolderFiles {
 
   tilesets() {
     return this.named(isTilesetName);
+  }
+
+  names() {
+    return this.named(() => true);
   }
 
   async named(isWanted) {
@@ -286,6 +294,10 @@ export class ServedFiles extends EventTarget {
 
   async tilesets() {
     return (await (await this.ask(this.address("/tilesets"))).json()).sort(byPath);
+  }
+
+  async names() {
+    return (await (await this.ask(this.address("/names"))).json()).sort(byPath);
   }
 
   async look(path) {

@@ -19,6 +19,8 @@ export class Player {
   // Shows the lines that are to be played, to be pasted, read from the clipboard or from a file.
   async ask() {
     const text = element("textarea", { name: "session", rows: 12, spellcheck: false, placeholder: "session lines, one below the other" });
+    // Lines that were refused are there to be mended.
+    text.value = this.refused ?? "";
     const read = async () => (text.value = await input.files[0].text());
     const input = element("input", { type: "file", hidden: true, id: "session-file", onchange: read });
     const paste = async () => {
@@ -45,6 +47,7 @@ export class Player {
     if (!(await this.mayPlay(lines))) return;
     const isMacro = active !== null && depth === 0 && lines.every(isEdit);
     const { done, at } = await (isMacro ? this.asMacro(lines) : this.oneByOne(lines));
+    this.refused = done.isHeard ? null : text;
     if (done.isHeard) {
       this.bench.say(`${lines.length} lines were played${isMacro ? ", as one step" : ""}.`);
       return;

@@ -32,6 +32,7 @@ export class PropertyPanel {
 
   choose(kind) {
     this.kind = kind;
+    this.shownDocument = this.bench.editor.notes.active;
     this.show();
   }
 
@@ -55,6 +56,8 @@ export class PropertyPanel {
     byId("owner").textContent = owner?.title ?? none;
     byId("owner").title = owner && this.kind === "object" ? "No line changes an object's name" : "";
     this.last.hidden = !owner;
+    if (owner?.word !== this.shownOwner) this.unmark();
+    this.shownOwner = owner?.word;
     this.putRows(owner ? [...this.factRows(owner), ...(owner.data.properties ?? []).map(property => this.row(owner, property))] : []);
   }
 
@@ -171,8 +174,13 @@ export class PropertyPanel {
       event.preventDefault();
       this.add();
     } else if (event.key === "Escape") {
+      this.unmark();
       event.target.blur();
     }
+  }
+
+  unmark() {
+    for (const input of [this.name, this.field.input]) mark(input, "");
   }
 
   async add() {
