@@ -11,8 +11,8 @@ from pathlib import Path
 from lib.cases import passed
 from lib.places import EXAMPLE_MAPS
 from lib.tiled_package import exported, unpacked
-from page.bench import Bench, cell, choose, corner_of, spelled, standing, take_tile
-from page.browser import ActionChains, Keys, pixels
+from page.bench import PAGE, Bench, cell, choose, corner_of, spelled, standing, take_tile
+from page.browser import ActionChains, Keys, Page, pixels, started
 from page.tiled_pictures import compared, put, show, without_outlines
 
 NEEDS_BROWSER = True
@@ -20,9 +20,16 @@ IS_LONG = True
 PACKAGES = ('tiled',)
 # Tiles of these examples have images of their own, which the page does not draw, and says so.
 COLLECTIONS = ('sandbox', 'sandbox2')
-# The opacity 0.49 of a layer is rounded otherwise, by at most this of 255.
-ROUNDED = {'sewers': 2}
-TURNED = 0x30000000
+# An opacity of 0.49, and soft edges of tiles over one another, are rounded otherwise: by at most this
+# of 255.
+ROUNDED = {
+    'sewers': 2,
+    'isometric_grass_and_water': 3,
+    'isometric_staggered_grass_and_water': 3,
+}
+# Flags of tiles that are turned by 60 or 120 degrees, and how far their corners reach out of their
+# cells then.
+TURNED, REACH = 0x30000000, 12
 
 
 def cells_of(layer):
@@ -43,7 +50,7 @@ def turned_boxes(told):
             if value & TURNED:
                 x, y = at % told['width'], at // told['width']
                 top = y * high + (high // 2 if x % 2 else 0)
-                yield x * step - 2, top - 2, x * step + wide + 2, top + high + 2
+                yield x * step - REACH, top - REACH, x * step + wide + REACH, top + high + REACH
 
 
 def is_in(box, place):
@@ -52,7 +59,7 @@ def is_in(box, place):
 
 def test_examples():
     """Tiled's example maps are drawn pixel by pixel as Tiled draws them, but for outlines of objects,
-    rounded opacity, and edges of turned hexagons. Of tiles with images of their own the page says
+    rounded shares of colours, and edges of turned hexagons. Of tiles with images of their own the page says
     that they are not drawn."""
     bench = Bench(empty=True)
     with bench as page:
@@ -67,7 +74,7 @@ def test_examples():
                 show(page, seen)
                 assert 'images of their own' in page.find('#not-drawn').text, path
                 continue
-            came = compared(page, seen, ROUNDED.get(path.stem, 1))
+            came = compared(page, seen, ROUNDED.get(path.stem, 0))
             boxes = [] if told['orientation'] != 'hexagonal' else list(turned_boxes(told))
             unlike = [each for each in came['unlike'] if not any(is_in(box, each) for box in boxes)]
             assert not unlike and came['count'] < 1000, (path, came['count'], unlike[:4])
@@ -466,29 +473,25 @@ def test_mini_map():
 
 
 def test_sharp():
-    """On screens of other scales each pixel of the canvas is one of the screen, and tiles are as sharp as
-    their images, on the map and under the hand."""
-    with Bench() as page:
-        size = page.js('return [innerWidth, innerHeight]')
+    """On screens of other scales each pixel of the canvas is one of the screen, so that tiles are as sharp
+    as their images."""
+    for ratio in (1.25, 1.5):
+        driver = started(f'--force-device-scale-factor={ratio}')
         try:
-            for ratio in (1.25, 1.5, 2):
-                page.driver.execute_cdp_cmd(
-                    'Emulation.setDeviceMetricsOverride',
-                    {'width': size[0], 'height': size[1], 'deviceScaleFactor': ratio, 'mobile': False},
-                )
-                page.settle()
-                page.js('const {view} = roskevad; view.scale = 2; view.originX = view.originY = 20; view.redraw()')
-                page.ctrl('g')
-                page.settle()
-                see_sharp(page, ratio)
-                page.ctrl('g')
+            page = Page(driver, PAGE.as_uri())
+            page.open()
+            page.choose_files(*(EXAMPLE_MAPS / name for name in ('tiles.tsx', 'tiles.png', 'flips.tmj')))
+            page.js('const {view} = roskevad; view.scale = 2; view.originX = view.originY = 20; view.redraw()')
+            page.ctrl('g')
+            see_sharp(page, ratio)
         finally:
-            page.driver.execute_cdp_cmd('Emulation.clearDeviceMetricsOverride', {})
+            driver.quit()
+        passed()
 
 
 def see_sharp(page, ratio):
     """Sees that a part of the screen is the canvas, pixel by pixel."""
-    box = page.js('const box = roskevad.view.box.getBoundingClientRect(); return [box.left, box.top, box.width, box.height]')
+    box = page.js('const box = roskevad.view.canvas.getBoundingClientRect(); return [box.left, box.top, box.width, box.height]')
     canvas = page.js('const {canvas} = roskevad.view; return [canvas.width, canvas.height]')
     assert abs(canvas[0] - box[2] * ratio) <= 1 and abs(canvas[1] - box[3] * ratio) <= 1, (canvas, box, ratio)
     places = [(20 + 4 * x, 20 + 5 * y + y % 2) for x in range(12) for y in range(12)]
