@@ -195,6 +195,20 @@ def test_handles():
         page.ctrl('z')
         drag_handle(page, INN, 'e', 5, 5)
         assert spelled(page)[-1] == f'object resize {INN} 37 48', 'an edge moves one way'
+        count, (x, y) = len(spelled(page)), middle_of(page, INN)
+        chain = ActionChains(page.driver, duration=30)
+        hand = chain.w3c_actions.pointer_action
+        hand.move_to_location(x, y)
+        hand.pointer_down(button=0)
+        hand.move_to_location(x + 30, y + 9)
+        chain.perform()
+        assert page.js('return roskevad.marks.dragged.id') == INN
+        type_keys(page, Keys.ESCAPE)
+        chain = ActionChains(page.driver, duration=30)
+        chain.w3c_actions.pointer_action.pointer_up(button=0)
+        chain.perform()
+        page.settle()
+        assert len(spelled(page)) == count, 'Escape ends a drag, which does nothing then'
 
 
 def test_arrows():

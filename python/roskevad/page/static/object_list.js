@@ -102,7 +102,7 @@ export class ObjectList {
     bench.chooseObject(id);
     const { view } = bench;
     const { object, layer } = bench.chosenObject;
-    const [x, y] = bench.marks.screenPlace(middleOf(object), layer);
+    const [x, y] = bench.marks.screenPlace(middleOf(bench.marks.shapeOf(object)), layer);
     if (x > 0 && y > 0 && x < view.canvas.width && y < view.canvas.height) return;
     view.pan(Math.round(view.canvas.width / 2 - x), Math.round(view.canvas.height / 2 - y));
   }

@@ -2,7 +2,7 @@
 import { ask } from "./dom.js";
 import { KINDS } from "./kinds.js";
 import { ObjectCopies, nameOf } from "./object_copies.js";
-import { handleAt, ownPlace, resized } from "./object_shapes.js";
+import { handleAt, resized } from "./object_shapes.js";
 
 // How far the hand moves before a press is a drag, in pixels of the screen.
 const SHORTEST_DRAG = 3;
@@ -32,7 +32,9 @@ export class ObjectTool {
     const { bench } = this;
     const chosen = bench.chosenObject;
     if (!chosen || !bench.marks.isShown(chosen)) return null;
-    return handleAt(chosen.object, chosen.layer, place.pixelX, place.pixelY, bench.view.scale / bench.view.ratio);
+    const { marks, view } = bench;
+    const at = marks.ownPlace(chosen.object, chosen.layer, place.pixelX, place.pixelY);
+    return handleAt(marks.shapeOf(chosen.object), at, view.scale / view.ratio);
   }
 
   down(place) {
@@ -76,8 +78,7 @@ export class ObjectTool {
     const snapTo = side => at => (isOnGrid ? Math.round(at / side) * side : Math.round(at));
     const snaps = [snapTo(map.tileWidth), snapTo(map.tileHeight)];
     if (handle) {
-      const [toX, toY] = ownPlace(object, layer, place.pixelX, place.pixelY);
-      const [fromX, fromY] = ownPlace(object, layer, from.pixelX, from.pixelY);
+      const [[toX, toY], [fromX, fromY]] = [place, from].map(at => this.bench.marks.ownPlace(object, layer, at.pixelX, at.pixelY));
       return resized(object, handle, [toX - fromX, toY - fromY], snaps);
     }
     // Where the hand has not moved it one way, it keeps the whole part that it has there, and so its fraction.
