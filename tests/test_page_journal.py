@@ -65,7 +65,7 @@ def test_killed_in_strokes():
             life.kill()
             page = life.begin()
             [told] = page.notices()
-            assert 'town (' in told and 'not saved' in told, told
+            assert 'town.tmj (' in told and 'not saved' in told, told
             page.answer('Restore')
             assert page.notices() == [] and page.find('#undo').is_enabled()
             index, count = standing(page)
@@ -240,7 +240,7 @@ def test_a_browser_that_keeps_nothing():
         page.answer('OK')
         page.choose_files(*FILES)
         draw(page, 20)
-        assert standing(page) == (1, 1) and page.texts('#steps li .name')[-1] == 'Stamp'
+        assert standing(page) == (1, 1) and page.texts('#steps li .name')[-1] == 'Stamp · Ground'
         page.ctrl('s')
         page.reload()
         assert page.notices() == [] and page.editor.state()['active'] is None

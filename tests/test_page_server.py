@@ -253,6 +253,9 @@ def test_files_below_the_root():
         try:
             told = door.listed()
             door.want('the folder', (told['prefix'], told['files']) == ('maps/', ['a.tmj']), told)
+            got = json.loads(door.ask('GET', f'/tilesets?{door.query}')[2])
+            found = [(each['path'], each['size']) for each in got]
+            door.want('the tilesets', found == [('../tilesets/walls.tsx', 10)], got)
             given = {
                 'maps/a.tmj': MAP,
                 'tilesets/walls.tsx': b'<tileset/>',

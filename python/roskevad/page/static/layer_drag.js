@@ -48,7 +48,7 @@ export class LayerDrag {
     const { layer } = this;
     if (!layer) return null;
     const all = this.panel.listed.filter(each => each.group === layer.group).map(each => this.blockOf(each));
-    const isOutside = y < all[0].top - EDGE || y > all[all.length - 1].bottom + EDGE;
+    const isOutside = y < all[0].top - FAR || y > all[all.length - 1].bottom + FAR;
     if (layer.group && isOutside) return null;
     const others = all.filter(block => block.layer !== layer);
     const above = others.filter(block => (block.top + block.bottom) / 2 < y).length;

@@ -107,7 +107,7 @@ class Page {
     this.view.takeMap();
     this.showNotDrawn();
     this.marks.redraw();
-    await this.showTilesets();
+    await this.editor.during(this.showTilesets());
     if (kept && this.shownDocument === active) this.layouts.enterTiles(kept);
   }
 

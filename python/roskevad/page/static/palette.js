@@ -15,6 +15,8 @@ export class Palette {
     this.bench = bench;
     this.tilesets = tilesets;
     this.first = null;
+    // The tiles of the stamp, which have a frame.
+    this.framed = new Set();
     this.side = SIDES[USUAL];
     this.canvas = byId("palette");
     this.pen = this.canvas.getContext("2d");
@@ -51,26 +53,27 @@ export class Palette {
   }
 
   // ---- its scale
-  zoom(steps) {
+  // By steps, where a point of what is seen stays: the upper left corner, or where the hand is.
+  zoom(steps, x = 0, y = 0) {
     const at = Math.max(0, Math.min(SIDES.length - 1, SIDES.indexOf(this.side) + steps));
-    this.zoomTo(SIDES[at]);
+    this.zoomTo(SIDES[at], x, y);
   }
 
-  // What is in the middle stays there.
-  zoomTo(side) {
+  zoomTo(side, x = 0, y = 0) {
     if (!SIDES.includes(side) || side === this.side) return;
     const { box } = this;
-    const [x, y] = [box.scrollLeft + box.clientWidth / 2, box.scrollTop + box.clientHeight / 2].map(at => at / this.side * side);
+    const [left, top] = [(box.scrollLeft + x) / this.side * side - x, (box.scrollTop + y) / this.side * side - y];
     this.side = side;
     this.draw();
-    box.scrollTo(x - box.clientWidth / 2, y - box.clientHeight / 2);
+    box.scrollTo(left, top);
     this.bench.tell("layout");
   }
 
   wheel(event) {
     if (!event.ctrlKey && !event.metaKey) return;
     event.preventDefault();
-    this.zoom(event.deltaY < 0 ? 1 : -1);
+    const frame = this.box.getBoundingClientRect();
+    this.zoom(event.deltaY < 0 ? 1 : -1, event.clientX - frame.left, event.clientY - frame.top);
   }
 
   // ---- drawing
@@ -85,7 +88,6 @@ export class Palette {
     const set = this.tileset;
     const size = byId("palette-size");
     size.hidden = !set;
-    this.drawStamp();
     if (!set) return;
     const [width, height] = [this.columns * this.side + 1, this.rows * this.side + 1];
     size.style.width = `${width}px`;
@@ -129,9 +131,9 @@ export class Palette {
     const { side, columns, tileset } = this;
     this.pen.strokeStyle = "#ffd34d";
     this.pen.lineWidth = 2;
-    for (const value of new Set(this.bench.stamp.values.map(each => each & TILE))) {
+    for (const value of this.framed) {
       const tile = value - tileset.first;
-      if (tile < 0 || tile >= tileset.count || value === 0) continue;
+      if (tile < 0 || tile >= tileset.count) continue;
       this.pen.strokeRect(tile % columns * side + 1, Math.floor(tile / columns) * side + 1, side - 1, side - 1);
     }
   }
@@ -151,9 +153,16 @@ export class Palette {
   // Shows where the first tile of a stamp stands that was taken elsewhere.
   takeStamp() {
     const value = this.bench.stamp.values.find(each => each !== 0) ?? 0;
+    this.framed = new Set(this.bench.stamp.values.filter(each => each !== 0).map(each => each & TILE));
     const tileset = this.tilesets.of(value);
     if (!this.from && tileset && value) this.reveal(tileset, (value & TILE) - tileset.first);
+    this.show();
+  }
+
+  // Draws the tiles and the stamp.
+  show() {
     this.draw();
+    this.drawStamp();
   }
 
   reveal(tileset, tile) {

@@ -1,6 +1,7 @@
 // What the journals are for: at the start of the page the documents of windows that live no more are offered, with all their steps.
 import { ask, byId } from "./dom.js";
 import { lock } from "./journal.js";
+import { lastOf } from "./names.js";
 import { endNotice, notice } from "./notices.js";
 import { ChosenFiles, FolderFiles, download } from "./places.js";
 
@@ -9,7 +10,7 @@ const SAID = "roskevad-said-that-nothing-is-kept";
 // The word behind `#` of a window that is opened for a journal.
 const RESTORE = "restore=";
 
-const nameOf = ({ name, steps, isClean }) => `${name} (${steps} ${steps === 1 ? "step" : "steps"}${isClean ? "" : ", not saved"})`;
+const nameOf = ({ name, path, steps, isClean }) => `${path ? lastOf(path) : name} (${steps} ${steps === 1 ? "step" : "steps"}${isClean ? "" : ", not saved"})`;
 const namesOf = row => row.documents.map(nameOf).join(", ");
 const timeOf = row => new Date(row.changed).toLocaleString();
 

@@ -1,5 +1,4 @@
 // What the files of tilesets tell, `.tsx` or `.tsj`, and their images: read with care, since a file may claim anything.
-
 import { looksInXml, looksOf } from "./tileset_looks.js";
 
 // The longest file of a tileset that is read, and the most pixels of an image that are unpacked.
@@ -12,6 +11,7 @@ const LONGEST_NAME = 80;
 const NUMBERS = ["tilewidth", "tileheight", "tilecount", "columns", "spacing", "margin"];
 // The kinds that an image must have told, since a browser does not look for them.
 const KINDS = { svg: "image/svg+xml" };
+const NO_XML = "its file is no tileset in XML";
 const decoder = new TextDecoder();
 
 // What is wrong with a tileset, in words.
@@ -28,8 +28,12 @@ export function readTileset(path, bytes) {
 }
 
 function readXml(text) {
+  // An entity may stand for a text of any length, or for a file; Tiled writes none.
+  if (text.includes("<!ENTITY")) throw new Wrong("its file declares entities, which are not read");
+  // A file that is cut short; of others the browser tells.
+  if (!/(<\/tileset>|\/>)\s*$/.test(text)) throw new Wrong(NO_XML);
   const root = new DOMParser().parseFromString(text, "application/xml").documentElement;
-  if (root.tagName !== "tileset" || root.querySelector("parsererror")) throw new Wrong("its file is no tileset in XML");
+  if (root.tagName !== "tileset" || root.querySelector("parsererror")) throw new Wrong(NO_XML);
   const children = name => [...root.children].filter(child => child.tagName === name);
   const numbers = NUMBERS.filter(name => root.hasAttribute(name)).map(name => [name, Number(root.getAttribute(name))]);
   const [image] = children("image");
@@ -58,7 +62,10 @@ export function checked(told) {
   for (const name of ["tilewidth", "tileheight"]) {
     if (made[name] > LONGEST_SIDE) throw new Wrong(`its ${name} is ${grouped(made[name])} pixels, and tiles up to ${grouped(LONGEST_SIDE)} are drawn`);
   }
-  return { ...made, ...looksOf(told) };
+  const looks = looksOf(told);
+  const farthest = Math.max(...looks.offset.map(Math.abs));
+  if (farthest > LONGEST_SIDE) throw new Wrong(`its tiles are moved by ${grouped(farthest)} pixels, and up to ${grouped(LONGEST_SIDE)} are drawn`);
+  return { ...made, ...looks };
 }
 
 // The first id behind those of the tiles that are told one by one.
@@ -95,8 +102,21 @@ export function claimOf({ width, height }, { tileWidth, tileHeight, columns }, h
 }
 
 // ---- the image
+// How wide and high an image is, by its head, in the format that nearly all tilesets have; null in another one.
+function pngSize(bytes) {
+  const view = new DataView(bytes.buffer, bytes.byteOffset, bytes.length);
+  return bytes.length >= 24 && view.getUint32(0) === 0x89504e47 ? [view.getUint32(16), view.getUint32(20)] : null;
+}
+
+function seeSize(width, height) {
+  if (width * height <= MOST_PIXELS) return;
+  throw new Wrong(`its image has ${grouped(width)} × ${grouped(height)} pixels, and at most ${grouped(MOST_PIXELS)} are unpacked`);
+}
+
 // The image of bytes. How many pixels it has is known before they are unpacked. Throws Wrong.
 export async function imageOf(path, bytes) {
+  const told = pngSize(bytes);
+  if (told) seeSize(...told);
   const image = new Image();
   const type = KINDS[path.slice(path.lastIndexOf(".") + 1).toLowerCase()] ?? "";
   const address = URL.createObjectURL(new Blob([bytes], { type }));
@@ -106,10 +126,7 @@ export async function imageOf(path, bytes) {
       image.onerror = () => reject(new Wrong(`its image ${path} is none that the browser can read`));
       image.src = address;
     });
-    const { naturalWidth: width, naturalHeight: height } = image;
-    if (width * height > MOST_PIXELS) {
-      throw new Wrong(`its image has ${grouped(width)} × ${grouped(height)} pixels, and at most ${grouped(MOST_PIXELS)} are unpacked`);
-    }
+    seeSize(image.naturalWidth, image.naturalHeight);
     await image.decode().catch(() => {
       throw new Wrong(`its image ${path} cannot be unpacked`);
     });

@@ -7,6 +7,9 @@ import { endNotice, notice } from "./notices.js";
 import { checked, readTileset } from "./tileset_files.js";
 
 const ABOUT = "wrong tilesets";
+// How many wrong tilesets are named, and how long a name is then.
+const MOST_SAID = 3;
+const LONGEST_NAME = 60;
 
 export class TilesetPanel {
   constructor(bench, tilesets, palette) {
@@ -30,7 +33,7 @@ export class TilesetPanel {
     byId("tilesets").replaceChildren(...sets.map(set => element("option", { value: set.first, textContent: nameOf(set), title: set.source ?? "in the map" })));
     if (sets.length && !sets.some(set => set.first === this.palette.first)) this.palette.first = sets[0].first;
     byId("tilesets").value = String(this.palette.first);
-    this.palette.draw();
+    this.palette.show();
     this.showWrong();
   }
 
@@ -38,7 +41,8 @@ export class TilesetPanel {
   showWrong() {
     const { wrong } = this.tilesets;
     if (!wrong.length) return endNotice(ABOUT);
-    const words = wrong.map(({ name, why }) => `${name}: ${why}.`).join(" ");
+    const said = wrong.slice(0, MOST_SAID).map(({ name, why }) => `${name.slice(0, LONGEST_NAME)}: ${why}.`).join(" ");
+    const words = wrong.length > MOST_SAID ? `${said} And ${wrong.length - MOST_SAID} more.` : said;
     return notice(ABOUT, `Wrong with a tileset: ${words} Tiles that its image does not hold are drawn as numbers.`, [["OK", () => {}]], "mild");
   }
 
@@ -68,8 +72,8 @@ export class TilesetPanel {
     const has = new Set(map.data.tilesets.map(set => set.source));
     const known = new Map(files.filter(each => has.has(pathFrom(folder, each.path))).map(each => [each.path, "in the map already"]));
     const first = element("input", { name: "first", type: "number", min: 1, value: this.nextFirst() });
-    const unknown = this.tilesets.all.filter(set => set.span === null).map(set => set.name);
-    const doubt = unknown.length ? ` It is not known how many tiles ${unknown.join(", ")} has.` : "";
+    const unknown = this.tilesets.all.filter(set => set.span === null).length;
+    const doubt = unknown ? ` Of ${unknown} of them it is not known how many tiles they have.` : "";
     const label = element("label", {}, element("span", { textContent: `Its first id, behind the tiles of the others.${doubt}` }), first);
     const none = "There is no tileset here: a .tsx or .tsj file, in the folder or among the chosen files.";
     const path = await new FileList("Add a tileset", files, { known, look: path => this.look(path), none, fields: [label] }).ask();

@@ -52,7 +52,8 @@ class Tileset {
 
   // Where a tile stands in the image, in pixels; of an animation its first picture does.
   placeOf(id) {
-    const tile = this.told.frames?.get(id) ?? id;
+    const shown = this.told.frames?.get(id) ?? id;
+    const tile = shown < this.count ? shown : id;
     const column = tile % this.columns;
     const row = Math.floor(tile / this.columns);
     return [this.margin + column * (this.tileWidth + this.spacing), this.margin + row * (this.tileHeight + this.spacing)];

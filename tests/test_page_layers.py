@@ -1,0 +1,218 @@
+"""Works with the list of layers on the page in Chromium, by mouse and keys: a double click, a drag within a
+group, groups that are folded, and layers that are hidden or locked, on which nothing is drawn unasked."""
+import json
+
+from lib.maps import layers_in
+from page.bench import Bench, cell, cells_with, choose, colours_now, layer_of, see_colours, spelled, standing, take_tile
+from page.browser import ActionChains, Keys
+
+NEEDS_BROWSER = True
+IS_LONG = True
+# The line that shows where a layer would go.
+DROP = (0xFF, 0xD3, 0x4D)
+
+
+def row_of(page, number):
+    """The row of a layer: left, top, width, height."""
+    return page.js(
+        'const box = document.querySelector(`#layers li[data-layer="${arguments[0]}"]`).getBoundingClientRect();'
+        'return [box.left, box.top, box.width, box.height]',
+        number,
+    )
+
+
+def point_in(page, number, share=0.5):
+    left, top, _, height = row_of(page, number)
+    return [int(left + 120), int(top + height * share)]
+
+
+def hold(page, *points):
+    """Presses at the first point and goes over the others; `let_go` ends it."""
+    chain = ActionChains(page.driver, duration=30)
+    hand = chain.w3c_actions.pointer_action
+    hand.move_to_location(*points[0])
+    hand.pointer_down(button=0)
+    for point in points[1:]:
+        hand.move_to_location(*point)
+    chain.perform()
+
+
+def let_go(page):
+    chain = ActionChains(page.driver, duration=30)
+    chain.w3c_actions.pointer_action.pointer_up(button=0)
+    chain.perform()
+    page.settle()
+
+
+def ids_of(layers):
+    return [layer['id'] for layer in layers]
+
+
+def make_room(page):
+    """Has the list of layers high enough for all."""
+    for panel in ('properties', 'steps'):
+        page.click(f'#panel-{panel} h2')
+
+
+def test_double_click():
+    """It renames the layer under the hand, whichever is the one in hand; the rows stay the same ones at a
+    click. A double click at an eye is two clicks."""
+    with Bench() as page:
+        ground, square = choose(page, 'Ground'), layer_of(page, 'Square')['id']
+        page.js('window.rows = [...document.querySelectorAll("#layers li")]')
+        choose(page, 'Square')
+        choose(page, 'Ground')
+        assert page.js('return window.rows.every((row, at) => document.querySelectorAll("#layers li")[at] === row)')
+        ActionChains(page.driver).double_click(page.find(f'#layers li[data-layer="{square}"] .name')).perform()
+        page.fill_in(name='Market place')
+        assert spelled(page) == [f'layer rename {square} Market place']
+        assert page.texts('#layers li.now .name') == ['Market place']
+        ActionChains(page.driver).double_click(page.find(f'#layers li[data-layer="{ground}"] .eye')).perform()
+        page.settle()
+        assert spelled(page)[1:] == [f'layer show {ground} no', f'layer show {ground} yes']
+
+
+def test_drag():
+    """A layer is dragged to each place of its group, the drop is shown, and one line is sent."""
+    with Bench() as page:
+        make_room(page)
+        top = ids_of(page.editor.map()['layers'])
+        ground, last = top[0], top[-1]
+        # Above the upper half of a row is above it; the list begins with the layer that is drawn last.
+        hold(page, point_in(page, ground), point_in(page, last, 0.9), point_in(page, last, 0.1))
+        left, high, width, _ = row_of(page, last)
+        assert colours_now(page, [(int(left + width / 2), int(high) + 1)]) == [DROP]
+        assert spelled(page) == []
+        let_go(page)
+        assert spelled(page) == [f'layer move {ground} {len(top) - 1}']
+        assert ids_of(page.editor.map()['layers']) == [*top[1:], ground]
+        see_colours(page, [(x, 2) for x in range(0, 40, 3)])
+        page.ctrl('z')
+        hold(page, point_in(page, last), point_in(page, ground, 0.1), point_in(page, ground, 0.9))
+        left, high, width, height = row_of(page, ground)
+        assert colours_now(page, [(int(left + width / 2), int(high + height) - 1)]) == [DROP]
+        let_go(page)
+        assert ids_of(page.editor.map()['layers']) == [last, *top[:-1]]
+        assert standing(page) == (1, 1)
+        # A press that hardly moves is a click.
+        spot = point_in(page, ground)
+        page.drag_points([spot, [spot[0] + 2, spot[1] + 1]])
+        assert page.js('return roskevad.bench.layerId') == ground and standing(page) == (1, 1)
+
+
+def test_drag_in_a_group():
+    """A layer stays in its group: beside it nothing is sent, and the page says so. Escape ends a drag."""
+    with Bench() as page:
+        make_room(page)
+        houses = layer_of(page, 'Houses')
+        inside = ids_of(houses['layers'])
+        ground = layer_of(page, 'Ground')['id']
+        hold(page, point_in(page, inside[0]), point_in(page, inside[0], 0.1), point_in(page, inside[-1], 0.1))
+        let_go(page)
+        assert ids_of(layer_of(page, 'Houses')['layers']) == [*inside[1:], inside[0]]
+        assert spelled(page) == [f'layer move {inside[0]} {len(inside) - 1}']
+        things = layer_of(page, 'Things')['id']
+        for goal in (things, ground):
+            away = point_in(page, goal)
+            hold(page, point_in(page, inside[0]), away, [away[0], away[1] + 1])
+            assert 'no-drop' in page.find('#layers').get_attribute('class')
+            let_go(page)
+            assert len(spelled(page)) == 1 and 'stays in its group' in page.bubble()
+        hold(page, point_in(page, ground), point_in(page, things), point_in(page, things, 0.1))
+        page.driver.switch_to.active_element.send_keys(Keys.ESCAPE)
+        let_go(page)
+        assert len(spelled(page)) == 1 and page.texts('#layers .drop-above, #layers .drop-below, #layers .dragged') == []
+
+
+def test_folds():
+    """A group hides its layers in the list, and is unfolded where one of them is chosen elsewhere; a drag over
+    a folded group goes past all of it."""
+    with Bench() as page:
+        names = page.texts('#layers .name')
+        houses = layer_of(page, 'Houses')
+        count = len(list(layers_in(houses['layers'])))
+        page.click(f'#layers li[data-layer="{houses["id"]}"] .fold')
+        at = names.index('Houses')
+        assert page.texts('#layers .name') == names[: at + 1] + names[at + 1 + count :] and spelled(page) == []
+        ground = layer_of(page, 'Ground')['id']
+        hold(page, point_in(page, ground), point_in(page, houses['id'], 0.9), point_in(page, houses['id'], 0.1))
+        let_go(page)
+        assert spelled(page) == [f'layer move {ground} 1'] and page.editor.map()['layers'][0]['id'] == houses['id']
+        page.ctrl('z')
+        page.reload()
+        assert page.texts('#layers .name') == names[: at + 1] + names[at + 1 + count :], 'it stays folded'
+        page.js('roskevad.bench.chooseLayer(arguments[0])', houses['layers'][0]['id'])
+        assert len(page.texts('#layers .name')) > len(names) - count
+        page.click(f'#layers li[data-layer="{houses["id"]}"] .fold')
+        page.click(f'#layers li[data-layer="{houses["id"]}"] .fold')
+        assert set(page.texts('#layers .name')) == set(names)
+
+
+def test_hidden():
+    """Nothing is drawn on a hidden layer, by no tool; the page says so at the mouse, and draws all the same
+    where it is told to. A layer that is shown again is barred anew when it is hidden."""
+    with Bench() as page:
+        ground = choose(page, 'Ground')
+        take_tile(page, (3, 1))
+        page.click(f'#layers li[data-layer="{ground}"] .eye')
+        before, lines = page.editor.map(), spelled(page)
+        for key in 'bef':
+            page.keys(key)
+            page.drag([(3, 22), (6, 22)])
+            assert 'Ground is hidden' in page.bubble(), key
+            [told] = page.notices()
+            assert 'Ground is hidden' in told
+            hand, spot = page.point((6, 22)), page.find('#bubble').location
+            assert abs(spot['x'] - hand[0]) < 200 and abs(spot['y'] - hand[1]) < 80
+        assert page.editor.map() == before and spelled(page) == lines
+        choose(page, 'Square')
+        assert page.notices() == [], 'behind another layer it is over'
+        choose(page, 'Ground')
+        page.keys('b')
+        page.drag([(3, 22)])
+        page.answer('Draw all the same')
+        page.drag([(3, 22), (6, 22)])
+        assert cells_with(page, 'Ground', 12) >= {(3, 22), (6, 22)} and page.notices() == []
+        page.ctrl('z')
+        page.click(f'#layers li[data-layer="{ground}"] .eye')
+        page.drag([(3, 22), (6, 22)])
+        see_colours(page, [(x, 22) for x in range(3, 7)])
+        page.click(f'#layers li[data-layer="{ground}"] .eye')
+        count = standing(page)
+        page.drag([(3, 23)])
+        assert standing(page) == count and page.notices()
+        page.answer('Show it')
+        assert spelled(page)[-1] == f'layer show {ground} yes' and page.notices() == []
+        houses = layer_of(page, 'Houses')
+        page.click(f'#layers li[data-layer="{houses["id"]}"] .eye')
+        choose(page, 'Cottages')
+        page.drag([(3, 23)])
+        assert 'The group Houses is hidden' in page.bubble()
+
+
+def test_locked():
+    """A layer that Tiled has locked, or that stands in a group that it has locked, is drawn on where the page
+    is told to alone; no line is sent for that, and the map keeps what it has."""
+    bench = Bench(empty=True)
+    with bench as page:
+        told = json.loads((bench.folder / 'town.tmj').read_text())
+        layers = {layer['name']: layer for layer in layers_in(told['layers'])}
+        layers['Ground']['locked'] = layers['Houses']['locked'] = True
+        (bench.folder / 'locked.tmj').write_text(json.dumps(told))
+        page.choose_files(*bench.folder.glob('*.ts?'), *bench.folder.glob('*.png'), bench.folder / 'locked.tmj')
+        shown = page.js('return [...document.querySelectorAll("#layers li")].filter(row => !row.querySelector(".lock").hidden).map(row => row.dataset.layer)')
+        assert sorted(map(int, shown)) == sorted([layers['Ground']['id'], layers['Houses']['id']])
+        take_tile(page, (3, 1))
+        for name, words in (('Ground', 'Ground is locked'), ('Cottages', 'The group Houses is locked')):
+            number, count = choose(page, name), standing(page)
+            page.keys('b')
+            page.drag([(3, 23)])
+            assert words in page.bubble() and words in page.notices()[0]
+            assert standing(page) == count
+            page.answer('Draw all the same')
+            page.drag([(3, 23)])
+            assert cell(page, number, 3, 23) == 12 and standing(page)[0] == count[0] + 1
+            page.drag([(4, 23)])
+            assert cell(page, number, 4, 23) == 12, 'it is told once'
+        assert all(line.startswith('stamp') for line in spelled(page))
+        assert layer_of(page, 'Ground')['locked'] is True
