@@ -26,6 +26,7 @@ export class ObjectList {
     this.search.oninput = () => this.show();
     this.search.onkeydown = event => this.key(event);
     this.list.onclick = event => this.click(event);
+    this.list.ondblclick = event => event.target.closest("[data-object]") && bench.say("No line changes the name of an object.");
     bench.addEventListener("chosen", () => this.show());
     bench.addEventListener("object chosen", () => this.list.querySelector(".now")?.scrollIntoView({ block: "nearest" }));
     bench.addEventListener("tool", () => this.turnTo(SIDES[tools.name]));

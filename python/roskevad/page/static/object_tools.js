@@ -130,7 +130,7 @@ export class ObjectTool {
   }
 
   // Calls with the chosen object, where there is one that is not barred.
-  with(done, call) {
+  onChosen(done, call) {
     const chosen = this.bench.chosenObject;
     if (!chosen) this.bench.say("Choose an object first: click at one.");
     else if (!this.isBarred(chosen, done)) call(chosen.object, chosen.layer);
@@ -138,15 +138,15 @@ export class ObjectTool {
   }
 
   remove() {
-    return this.with("removed", object => this.bench.act([`object remove ${object.id}`]));
+    return this.onChosen("removed", object => this.bench.act([`object remove ${object.id}`]));
   }
 
   copy() {
-    return this.with("copied", (object, layer) => this.copies.keep(object, layer));
+    return this.onChosen("copied", (object, layer) => this.copies.keep(object, layer));
   }
 
   cut() {
-    return this.with("cut", (object, layer) => this.copies.whole(object, "cut", () => {
+    return this.onChosen("cut", (object, layer) => this.copies.whole(object, "cut", () => {
       this.copies.take(object, layer);
       this.bench.act([`object remove ${object.id}`]);
     }));
@@ -159,7 +159,7 @@ export class ObjectTool {
   }
 
   duplicate() {
-    return this.with("copied", (object, layer) => this.copies.duplicate(object, layer));
+    return this.onChosen("copied", (object, layer) => this.copies.duplicate(object, layer));
   }
 
   // Chooses no object any more.
