@@ -266,7 +266,8 @@ def test_escape():
 def test_keys_in_fields():
     """Ctrl+S saves in a field, too, and never opens the browser's own Save, also in a dialog; Ctrl+C
     copies text that is marked in the log, and no cells."""
-    with Bench() as page:
+    bench = Bench()
+    with bench as page:
         choose(page, 'Ground')
         take_tile(page, (3, 1))
         page.js(
@@ -275,7 +276,7 @@ def test_keys_in_fields():
         page.drag([(3, 20), (5, 20)])
         page.find('#macro-name').send_keys(Keys.CONTROL, 's')
         page.settle()
-        assert page.editor.state()['isClean']
+        assert page.editor.state()['isClean'] and bench.saved('town.tmj')
         page.click('#resize')
         field = page.find('dialog input')
         field.send_keys(Keys.CONTROL, 's')
