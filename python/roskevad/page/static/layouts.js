@@ -14,7 +14,7 @@ function isStamp(stamp) {
 }
 
 export class Layouts {
-  // `page` has the parts: bench, editor, view, tools, toolbar, palette, layers, properties, panels.
+  // `page` has the parts: bench, editor, view, tools, toolbar, palette, layers, properties, objects, panels.
   constructor(page) {
     Object.assign(this, { page, editor: page.editor, document: null, timer: null });
     this.all = this.stored();
@@ -47,10 +47,11 @@ export class Layouts {
   }
 
   now() {
-    const { bench, view, tools, palette, layers, properties, panels } = this.page;
+    const { bench, view, tools, palette, layers, properties, objects, panels } = this.page;
     return {
       view: [view.scale, view.originX, view.originY], layer: bench.layerId, tool: tools.name, brush: bench.brushSize, stamp: bench.stamp,
-      tileset: palette.first, side: palette.side, folded: [...layers.folded], owner: properties.kind, panels: panels.state(),
+      tileset: palette.first, side: palette.side, folded: [...layers.folded], owner: properties.kind, left: objects.side,
+      panels: panels.state(),
     };
   }
 
@@ -78,28 +79,41 @@ export class Layouts {
   // ---- showing
   // Another map is shown from now on. Gives what is kept of it, or null; its tiles are taken later, once its tilesets are there.
   enter(document) {
-    const { bench, view, tools, toolbar, layers, properties, panels } = this.page;
     if (this.document !== null) this.put();
     const kept = document === null ? null : this.all.get(this.keyOf(document)) ?? null;
     this.document = null;
-    layers.folded = new Set(kept?.folded ?? []);
-    bench.layerId = kept?.layer ?? null;
-    if (kept) {
+    this.page.layers.folded = new Set();
+    this.page.bench.layerId = null;
+    const isTaken = kept !== null && this.isTaken(kept);
+    this.document = document;
+    return isTaken ? kept : null;
+  }
+
+  // Shows a map so. What another version of the page has kept may be unlike.
+  isTaken(kept) {
+    const { bench, view, tools, toolbar, layers, properties, objects, panels } = this.page;
+    try {
       panels.take(kept.panels);
+      layers.folded = new Set(kept.folded);
+      bench.layerId = kept.layer;
       if (Object.hasOwn(tools.all, kept.tool)) tools.choose(kept.tool);
       toolbar.setBrush(kept.brush);
       properties.choose(kept.owner);
-      if (kept.view.every(isNumber)) [view.scale, view.originX, view.originY] = kept.view;
+      objects.turnTo(kept.left);
+      if (!kept.view.every(isNumber)) return false;
+      [view.scale, view.originX, view.originY] = kept.view;
+      return true;
+    } catch (fault) {
+      console.warn(`how a map was shown is not taken up: ${fault.message}`);
+      return false;
     }
-    this.document = document;
-    return kept;
   }
 
   // The tileset that the palette shows, and the stamp.
   enterTiles(kept) {
-    const { bench, palette } = this.page;
+    const { bench, palette, tilesets } = this.page;
     if (isStamp(kept.stamp)) bench.takeStamp(kept.stamp);
     palette.zoomTo(kept.side);
-    if (kept.tileset !== null) palette.choose(kept.tileset);
+    if (kept.tileset !== palette.first && tilesets.all.some(set => set.first === kept.tileset)) palette.choose(kept.tileset);
   }
 }

@@ -9,6 +9,8 @@ import { wordsOf } from "./tile_words.js";
 const SIDES = [16, 24, 32, 48, 64, 96, 128];
 const USUAL = 2;
 const WIDEST = 8;
+// The side of the picture of the stamp, in pixels of the page.
+const STAMP = 64;
 
 export class Palette {
   constructor(bench, tilesets) {
@@ -47,6 +49,7 @@ export class Palette {
   // Shows a tileset of the map, by its first id.
   choose(first) {
     this.first = first;
+    byId("tilesets").value = String(first);
     this.box.scrollTo(0, 0);
     this.draw();
     this.bench.tell("layout");
@@ -141,9 +144,9 @@ export class Palette {
   drawStamp() {
     const { width, height, values } = this.bench.stamp;
     const canvas = byId("stamp");
+    canvas.width = canvas.height = Math.round(STAMP * devicePixelRatio);
     const pen = canvas.getContext("2d");
     const side = Math.floor(canvas.width / Math.max(width, height));
-    pen.clearRect(0, 0, canvas.width, canvas.height);
     pen.imageSmoothingEnabled = false;
     if (side > 0) values.forEach((value, at) => value && drawTile(pen, this.tilesets, value, at % width * side, Math.floor(at / width) * side, side, side));
     byId("stamp-size").textContent = values.length === 1 ? wordsOf(values[0], this.tilesets) : `${width} × ${height}`;
@@ -166,9 +169,8 @@ export class Palette {
   }
 
   reveal(tileset, tile) {
-    if (tileset !== this.tileset) this.first = tileset.first;
-    byId("tilesets").value = String(this.first);
-    this.draw();
+    if (tileset !== this.tileset) this.choose(tileset.first);
+    else this.draw();
     const { box, side } = this;
     const within = (from, length, at) => Math.max(at + side + 1 - length, Math.min(from, at));
     box.scrollTo(within(box.scrollLeft, box.clientWidth, tile % this.columns * side), within(box.scrollTop, box.clientHeight, Math.floor(tile / this.columns) * side));
