@@ -1,6 +1,6 @@
-"""Types into the fields and dialogs of the page in Chromium: what each type of property takes, what is
-refused and why, in the field's own terms, Escape and Ctrl+Z in a field, values that no line sets,
-and the words for refused lines."""
+"""Types into the fields and dialogs of the page in Chromium: what each type of property takes, what
+is refused and why, in the field's own terms, Escape and Ctrl+Z in a field, values that no line
+sets, and the words for refused lines."""
 import json
 import re
 
@@ -183,8 +183,8 @@ def test_fields_of_types():
 
 
 def test_values_that_no_line_sets():
-    """A float and a class are shown, barred, with a word; so is a name with a space. A long value is
-    seen whole, without a bar to scroll."""
+    """A float and a class are shown, barred, with a word; so is a name with a space. A long value
+    is seen whole, without a bar to scroll."""
     bench = Bench(empty=True)
     with bench as page:
         town = json.loads((bench.folder / 'town.tmj').read_text())

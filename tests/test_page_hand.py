@@ -50,7 +50,9 @@ def test_lines():
         page.drag([(24, 25)], Keys.SHIFT)
         assert spelled(page)[-1].startswith('erase+ ') and standing(page) == (3, 3)
         page.click('.tab[data-document="flips"]')
-        page.drag([(0, 0)], Keys.SHIFT)
+        page.keys('b')
+        take_tile(page, (5, 1))
+        page.drag([(2, 0)], Keys.SHIFT)
         assert len(spelled(page)) == 1, 'a line does not lead from one map to another'
 
 
@@ -75,7 +77,7 @@ def test_rectangles():
         page.drag([(1, 1), (3, 3)])
         assert 'selection' in page.bubble() and standing(page) == (4, 4)
         page.keys('b')
-        page.drag_points([page.point((-2, 3))])
+        page.drag_points([page.point((-1, 3))])
         assert 'outside' in page.bubble() and standing(page) == (4, 4)
 
 
@@ -266,7 +268,8 @@ def test_escape():
 def test_keys_in_fields():
     """Ctrl+S saves in a field, too, and never opens the browser's own Save, also in a dialog; Ctrl+C
     copies text that is marked in the log, and no cells."""
-    with Bench() as page:
+    bench = Bench()
+    with bench as page:
         choose(page, 'Ground')
         take_tile(page, (3, 1))
         page.js(
@@ -275,7 +278,7 @@ def test_keys_in_fields():
         page.drag([(3, 20), (5, 20)])
         page.find('#macro-name').send_keys(Keys.CONTROL, 's')
         page.settle()
-        assert page.editor.state()['isClean']
+        assert page.editor.state()['isClean'] and bench.saved('town.tmj')
         page.click('#resize')
         field = page.find('dialog input')
         field.send_keys(Keys.CONTROL, 's')

@@ -1,6 +1,6 @@
-"""Works with objects on the page in Chromium, by mouse and keys: which one a click chooses, the list
-with its search, a new one and its name, handles and arrow keys, copies and what no line can copy,
-and keys that act on what the tool in hand shows as chosen."""
+"""Works with objects on the page in Chromium, by mouse and keys: which one a click chooses, the
+list with its search, a new one and its name, handles and arrow keys, copies and what no line can
+copy, and keys that act on what the tool in hand shows as chosen."""
 import json
 import math
 
@@ -93,7 +93,8 @@ def test_list():
     with Bench() as page:
         page.click('#show-objects')
         assert page.texts('#objects .head .name') == ['Places', 'Things']
-        names = [each['name'] for layer in ('Places', 'Things') for each in layer_of(page, layer)['objects']]
+        listed = [layer_of(page, name)['objects'] for name in ('Places', 'Things')]
+        names = [each['name'] for objects in listed for each in objects]
         assert page.texts('#objects li:not(.head) .name') == names
         page.find('#object-search').send_keys('door')
         assert page.texts('#objects li:not(.head) .name') == ['Inn', 'Smithy']
@@ -114,7 +115,8 @@ def test_list():
 
 
 def test_many():
-    """In a map of 3,000 objects the list is searched, and follows each choice."""
+    """In a map of 3,000 objects the list is searched, and follows each choice. An object of a
+    locked layer is chosen where that layer is in hand, and not removed."""
     bench = Bench(empty=True)
     with bench as page:
         town = json.loads((bench.folder / 'town.tmj').read_text())
@@ -125,6 +127,7 @@ def test_many():
             for at in range(3000)
         ]
         town['nextobjectid'] = 4000
+        next(each for each in town['layers'] if each['name'] == 'Places')['locked'] = True
         (bench.folder / 'crates.tmj').write_text(json.dumps(town))
         page.choose_files(bench.folder / 'crates.tmj', *bench.folder.glob('*.ts?'))
         page.keys('s')
@@ -135,6 +138,14 @@ def test_many():
         page.keys(Keys.ARROW_LEFT)
         assert chosen(page) == 3009
         assert spelled(page) == ['object move 3009 589 441'], spelled(page)
+        lake = object_of(page, LAKE)
+        click_at(page, lake['x'] + 96, lake['y'] + 112)
+        assert chosen(page) not in (LAKE, 3009), 'none of a locked layer that is not in hand'
+        choose(page, 'Places')
+        click_at(page, lake['x'] + 96, lake['y'] + 112)
+        assert chosen(page) == LAKE
+        page.keys(Keys.DELETE)
+        assert 'locked' in page.bubble() and len(spelled(page)) == 1
 
 
 def test_new():
@@ -195,6 +206,20 @@ def test_handles():
         page.ctrl('z')
         drag_handle(page, INN, 'e', 5, 5)
         assert spelled(page)[-1] == f'object resize {INN} 37 48', 'an edge moves one way'
+        count, (x, y) = len(spelled(page)), middle_of(page, INN)
+        chain = ActionChains(page.driver, duration=30)
+        hand = chain.w3c_actions.pointer_action
+        hand.move_to_location(x, y)
+        hand.pointer_down(button=0)
+        hand.move_to_location(x + 30, y + 9)
+        chain.perform()
+        assert page.js('return roskevad.marks.dragged.id') == INN
+        type_keys(page, Keys.ESCAPE)
+        chain = ActionChains(page.driver, duration=30)
+        chain.w3c_actions.pointer_action.pointer_up(button=0)
+        chain.perform()
+        page.settle()
+        assert len(spelled(page)) == count, 'Escape ends a drag, which does nothing then'
 
 
 def test_arrows():

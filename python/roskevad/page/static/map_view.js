@@ -48,7 +48,7 @@ export class MapView {
     return this.editor.map;
   }
 
-  // Follows the size of its box, in pixels of the screen where the browser tells them: then each of the canvas is one of the screen.
+  // Follows the size of its box, and the scale of the screen.
   watch() {
     const watcher = new ResizeObserver(([entry]) => this.resize(entry.devicePixelContentBoxSize?.[0]));
     try {
@@ -56,17 +56,38 @@ export class MapView {
     } catch {
       watcher.observe(this.box);
     }
+    this.watchRatio();
   }
 
+  watchRatio() {
+    this.screen = matchMedia(`(resolution: ${devicePixelRatio}dppx)`);
+    this.screen.onchange = () => {
+      this.resize();
+      this.watchRatio();
+    };
+  }
+
+  // Has each pixel of the canvases be one of the screen. `size` is that of the box in such pixels, where the browser tells it.
   resize(size = null) {
     this.ratio = window.devicePixelRatio || 1;
-    const width = Math.max(1, size?.inlineSize ?? Math.round(this.box.clientWidth * this.ratio));
-    const height = Math.max(1, size?.blockSize ?? Math.round(this.box.clientHeight * this.ratio));
+    const lengthOf = (length, told) => Math.max(1, Math.abs(told - length * this.ratio) < 2 ? told : Math.round(length * this.ratio));
+    const width = lengthOf(this.box.clientWidth, size?.inlineSize);
+    const height = lengthOf(this.box.clientHeight, size?.blockSize);
     for (const canvas of this.box.querySelectorAll("#map, #marks, #hand")) {
       if (canvas.width !== width) canvas.width = width;
       if (canvas.height !== height) canvas.height = height;
+      this.align(canvas);
     }
     this.redraw();
+  }
+
+  // The box may begin within a pixel of the screen.
+  align(canvas) {
+    const { left, top } = this.box.getBoundingClientRect();
+    const aside = place => Math.round(place * this.ratio) / this.ratio - place;
+    const { width, height } = canvas;
+    const lengths = { left: aside(left), top: aside(top), width: width / this.ratio, height: height / this.ratio };
+    for (const [name, length] of Object.entries(lengths)) canvas.style[name] = `${length}px`;
   }
 
   // ---- where things are
@@ -96,7 +117,7 @@ export class MapView {
 
   // The place of the hand on the screen, on the map in pixels as objects count them, and its cell.
   placeOf(event) {
-    const frame = this.box.getBoundingClientRect();
+    const frame = this.canvas.getBoundingClientRect();
     const [x, y] = [(event.clientX - frame.left) * this.ratio, (event.clientY - frame.top) * this.ratio];
     const [left, top] = [(x - this.originX) / this.scale, (y - this.originY) / this.scale];
     const { projection } = this.map ?? {};
@@ -106,7 +127,7 @@ export class MapView {
 
   // The middle of a cell, in pixels of the page: for scripts that look at pixels.
   middleOf(x, y) {
-    const frame = this.box.getBoundingClientRect();
+    const frame = this.canvas.getBoundingClientRect();
     const { projection } = this.map;
     const [left, top] = projection.corner(x, y);
     const across = (this.screenX(left) + this.screenX(left + projection.tileWidth)) / 2;
@@ -246,6 +267,7 @@ export class MapView {
   }
 
   draw() {
+    if (this.ratio !== devicePixelRatio) this.resize();
     const { isWhole, changed, moved } = this;
     const isMoved = moved[0] !== 0 || moved[1] !== 0;
     this.isWhole = false;

@@ -69,15 +69,18 @@ export class Marks {
   }
 
   // ---- objects
+  // The chosen one stands over all others.
   drawObjects() {
+    const chosen = this.chosen !== null && this.showsChosen ? this.map.object(this.chosen) : null;
     for (const layer of this.map.layers) {
       if (!layer.isSeen) continue;
       for (const object of layer.data.objects ?? []) {
-        if (this.isInView(object, layer)) this.drawObject(this.placed(object), layer);
+        if (object.id !== chosen?.object.id && this.isInView(object, layer)) this.drawObject(this.placed(object), layer);
       }
     }
-    const chosen = this.chosen !== null && this.showsChosen ? this.map.object(this.chosen) : null;
-    if (chosen && this.isShown(chosen)) this.drawHandles(chosen);
+    if (!chosen || !this.isShown(chosen)) return;
+    this.drawObject(this.placed(chosen.object), chosen.layer);
+    this.drawHandles(chosen);
   }
 
   // Whether a part of the object or its name may be seen: all of it lies within its greatest length of its place.
@@ -168,7 +171,17 @@ export class Marks {
   }
 
   isUnder(object, layer, x, y) {
-    return object.visible !== false && isOn(object, ...ownPlace(object, layer, x, y), this.view.scale / this.view.ratio);
+    return object.visible !== false && isOn(this.shapeOf(object), ...this.ownPlace(object, layer, x, y), this.view.scale / this.view.ratio);
+  }
+
+  // A place of the map in an object's own coordinates.
+  ownPlace(object, layer, x, y) {
+    return ownPlace(object, layer, x, y, this.map.projection);
+  }
+
+  // An object with how it stands at its place.
+  shapeOf(object) {
+    return object.gid ? { ...object, aligned: alignedAt(this.tilesets.of(object.gid), this.map) } : object;
   }
 
   // Whether an object is drawn.
@@ -193,7 +206,7 @@ export class Marks {
     pen.lineWidth = view.ratio;
     pen.strokeStyle = "#000";
     pen.fillStyle = "#fff";
-    for (const [, x, y] of handlePlaces(shown, view.scale / view.ratio)) {
+    for (const [, x, y] of handlePlaces(this.shapeOf(shown), view.scale / view.ratio)) {
       const [left, top] = [(a * x + c * y) * view.scale, (b * x + d * y) * view.scale];
       const box = [Math.round(left - side / 2), Math.round(top - side / 2), side, side];
       pen.fillRect(...box);

@@ -26,6 +26,7 @@ export class ObjectList {
     this.search.oninput = () => this.show();
     this.search.onkeydown = event => this.key(event);
     this.list.onclick = event => this.click(event);
+    this.list.ondblclick = event => event.target.closest("[data-object]") && bench.say("No line changes the name of an object.");
     bench.addEventListener("chosen", () => this.show());
     bench.addEventListener("object chosen", () => this.list.querySelector(".now")?.scrollIntoView({ block: "nearest" }));
     bench.addEventListener("tool", () => this.turnTo(SIDES[tools.name]));
@@ -102,7 +103,7 @@ export class ObjectList {
     bench.chooseObject(id);
     const { view } = bench;
     const { object, layer } = bench.chosenObject;
-    const [x, y] = bench.marks.screenPlace(middleOf(object), layer);
+    const [x, y] = bench.marks.screenPlace(middleOf(bench.marks.shapeOf(object)), layer);
     if (x > 0 && y > 0 && x < view.canvas.width && y < view.canvas.height) return;
     view.pan(Math.round(view.canvas.width / 2 - x), Math.round(view.canvas.height / 2 - y));
   }

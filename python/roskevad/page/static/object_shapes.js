@@ -1,6 +1,7 @@
 // The shapes of objects: what is under the hand, and what a drag at a handle makes of one. Lengths are pixels of the map.
 //
-// An object's own coordinates begin at its place and are turned as it is.
+// An object's own coordinates begin at its place, and are turned and slanted as it is drawn. `aligned` tells how far a tile reaches to the
+// left of its place and above it, as shares of its size.
 
 // How far from the box its handles stand, how far from one the hand may be, and from which length on an edge has one in its middle: in
 // pixels of the screen.
@@ -22,12 +23,16 @@ const cornersOf = object => object.polygon ?? object.polyline ?? null;
 // Whether it has no size: a point, or a rectangle of none.
 const isSpot = object => !cornersOf(object) && !object.width && !object.height;
 
-// The box of an object: [left, top, right, bottom] in its own coordinates. A tile stands on its place.
+// A tile stands on its place, but where its tileset or the map says otherwise.
+const STANDING = [0, 1];
+
+// The box of an object: [left, top, right, bottom] in its own coordinates.
 export function boxOf(object) {
   const corners = cornersOf(object);
   if (corners) return frameOf(corners);
   const [width, height] = [object.width ?? 0, object.height ?? 0];
-  return object.gid ? [0, -height, width, 0] : [0, 0, width, height];
+  const [left, up] = object.gid ? object.aligned ?? STANDING : [0, 0];
+  return [-left * width, -up * height, (1 - left) * width, (1 - up) * height];
 }
 
 // A vector turned by an angle in degrees.
@@ -37,8 +42,11 @@ function turned(x, y, degrees) {
 }
 
 // A place of the map in an object's own coordinates.
-export function ownPlace(object, layer, x, y) {
-  return turned(x - layer.offsetX - (object.x ?? 0), y - layer.offsetY - (object.y ?? 0), -(object.rotation ?? 0));
+export function ownPlace(object, layer, x, y, projection) {
+  const [[atX, atY], [fromX, fromY]] = [projection.place(x, y), projection.place(object.x ?? 0, object.y ?? 0)];
+  const [right, down] = turned(atX - layer.offsetX - fromX, atY - layer.offsetY - fromY, -(object.rotation ?? 0));
+  const [a, b, c, d] = object.gid ? [1, 0, 0, 1] : projection.matrix;
+  return [(d * right - c * down) / (a * d - b * c), (a * down - b * right) / (a * d - b * c)];
 }
 
 // ---- what is under the hand
@@ -89,9 +97,10 @@ export function areaOf(object) {
 }
 
 // ---- handles
-// The handles that an object has: of a turned one only those that leave its place where it is.
+// The handles that an object has: of a turned one only those that leave its place where it is, and of a tile that does not stand on its
+// place none.
 function handlesOf(object) {
-  if (cornersOf(object) || object.point) return [];
+  if (cornersOf(object) || object.point || (object.gid && String(object.aligned ?? STANDING) !== String(STANDING))) return [];
   if (!object.rotation) return HANDLES;
   return object.gid ? ["n", "ne", "e"] : ["e", "s", "se"];
 }
@@ -109,9 +118,8 @@ export function handlePlaces(object, scale) {
   ]);
 }
 
-// The handle of an object at a place of the map, or null.
-export function handleAt(object, layer, x, y, scale) {
-  const [atX, atY] = ownPlace(object, layer, x, y);
+// The handle of an object at a place in its own coordinates, or null.
+export function handleAt(object, [atX, atY], scale) {
   const near = NEAR_HANDLE / scale;
   return handlePlaces(object, scale).find(([, left, top]) => Math.abs(atX - left) <= near && Math.abs(atY - top) <= near)?.[0] ?? null;
 }

@@ -2,7 +2,7 @@
 import { ask } from "./dom.js";
 import { KINDS } from "./kinds.js";
 import { ObjectCopies, nameOf } from "./object_copies.js";
-import { handleAt, ownPlace, resized } from "./object_shapes.js";
+import { handleAt, resized } from "./object_shapes.js";
 
 // How far the hand moves before a press is a drag, in pixels of the screen.
 const SHORTEST_DRAG = 3;
@@ -32,7 +32,9 @@ export class ObjectTool {
     const { bench } = this;
     const chosen = bench.chosenObject;
     if (!chosen || !bench.marks.isShown(chosen)) return null;
-    return handleAt(chosen.object, chosen.layer, place.pixelX, place.pixelY, bench.view.scale / bench.view.ratio);
+    const { marks, view } = bench;
+    const at = marks.ownPlace(chosen.object, chosen.layer, place.pixelX, place.pixelY);
+    return handleAt(marks.shapeOf(chosen.object), at, view.scale / view.ratio);
   }
 
   down(place) {
@@ -76,8 +78,7 @@ export class ObjectTool {
     const snapTo = side => at => (isOnGrid ? Math.round(at / side) * side : Math.round(at));
     const snaps = [snapTo(map.tileWidth), snapTo(map.tileHeight)];
     if (handle) {
-      const [toX, toY] = ownPlace(object, layer, place.pixelX, place.pixelY);
-      const [fromX, fromY] = ownPlace(object, layer, from.pixelX, from.pixelY);
+      const [[toX, toY], [fromX, fromY]] = [place, from].map(at => this.bench.marks.ownPlace(object, layer, at.pixelX, at.pixelY));
       return resized(object, handle, [toX - fromX, toY - fromY], snaps);
     }
     // Where the hand has not moved it one way, it keeps the whole part that it has there, and so its fraction.
@@ -129,7 +130,7 @@ export class ObjectTool {
   }
 
   // Calls with the chosen object, where there is one that is not barred.
-  with(done, call) {
+  onChosen(done, call) {
     const chosen = this.bench.chosenObject;
     if (!chosen) this.bench.say("Choose an object first: click at one.");
     else if (!this.isBarred(chosen, done)) call(chosen.object, chosen.layer);
@@ -137,15 +138,15 @@ export class ObjectTool {
   }
 
   remove() {
-    return this.with("removed", object => this.bench.act([`object remove ${object.id}`]));
+    return this.onChosen("removed", object => this.bench.act([`object remove ${object.id}`]));
   }
 
   copy() {
-    return this.with("copied", (object, layer) => this.copies.keep(object, layer));
+    return this.onChosen("copied", (object, layer) => this.copies.keep(object, layer));
   }
 
   cut() {
-    return this.with("cut", (object, layer) => this.copies.whole(object, "cut", () => {
+    return this.onChosen("cut", (object, layer) => this.copies.whole(object, "cut", () => {
       this.copies.take(object, layer);
       this.bench.act([`object remove ${object.id}`]);
     }));
@@ -158,7 +159,7 @@ export class ObjectTool {
   }
 
   duplicate() {
-    return this.with("copied", (object, layer) => this.copies.duplicate(object, layer));
+    return this.onChosen("copied", (object, layer) => this.copies.duplicate(object, layer));
   }
 
   // Chooses no object any more.

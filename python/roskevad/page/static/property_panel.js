@@ -194,6 +194,8 @@ export class PropertyPanel {
     const done = await this.bench.editor.send([`prop set ${this.owner().word} ${name.value} ${type.value} ${value}`]);
     if (!done.isHeard) return mark(name, saidOf(done));
     name.value = "";
+    // The keys stay in the row, for the next property.
+    if (document.activeElement === field.input) name.focus();
     return this.newField();
   }
 }
