@@ -3,7 +3,7 @@
 
 const STORED = "roskevad-layouts";
 // The largest stamp that is stored, how many maps are, and how long behind a change that is done.
-const LARGEST_STAMP = 4096;
+const LARGEST_STAMP = 1024;
 const MOST_MAPS = 100;
 const LATER = 300;
 
