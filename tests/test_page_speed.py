@@ -1,5 +1,5 @@
 """Measures how long the page takes in Chromium on a map of eight layers of 1,024 by 1,024 cells: from
-the hand, or from the key, to the picture; a stamp of 10,000 tiles takes more than one line, and is
+the hand, or from the key, to the picture, and how much of that is its work; a stamp of 10,000 tiles takes more than one line, and is
 one step. docs/speed.md has what it measures on a machine that does nothing else; here it may take
 longer, and is tried several times."""
 import json
@@ -56,17 +56,19 @@ def measured(page, name):
 
 def times_at(page, scale):
     """Draws a stroke, undoes it, makes it again, and leaves the map as it was: the middle and the
-    longest time of a move of the hand, and those of the turns."""
+    longest time of a move of the hand, the longest of the page's work in it, and those of the
+    turns."""
     page.js('performance.clearMeasures()')
     step = max(1, round(2 / scale))
     page.drag([(step * x, step * (3 + x % 5)) for x in range(2, 14)])
     middle, longest, count = measured(page, 'stroke')
+    work = measured(page, 'stroke work')[1]
     assert count > 5
     page.ctrl('z')
     page.ctrl('z', Keys.SHIFT)
     undo, redo = measured(page, 'undo')[1], measured(page, 'redo')[1]
     page.ctrl('z')
-    return middle, longest, undo, redo
+    return middle, longest, work, undo, redo
 
 
 def test_large_map():
@@ -84,9 +86,9 @@ def test_large_map():
             )
             page.settle()
             for _ in range(TRIES):
-                middle, longest, undo, redo = times_at(page, scale)
+                middle, longest, work, undo, redo = times_at(page, scale)
                 told.append(
-                    f'at {scale:.4g}: stroke {middle:.0f} to {longest:.0f} ms, undo {undo:.0f}, redo {redo:.0f}'
+                    f'at {scale:.4g}: stroke {middle:.0f} to {longest:.0f} ms, work {work:.0f}, undo {undo:.0f}, redo {redo:.0f}'
                 )
                 is_quick = longest <= STROKE * SLACK and max(undo, redo) <= TURN * SLACK
                 if is_quick:

@@ -141,12 +141,14 @@ export class CellMarks {
   }
 
   // ---- the hand
-  // Shows what the hand is about to do: { cells: [x, y, width, height], values, line, colour }.
+  // Shows what the hand is about to do: { cells: [x, y, width, height], values, line, colour, layer }.
   drawHand(hand) {
     const { handPen: pen, view } = this;
     pen.clearRect(0, 0, view.canvas.width, view.canvas.height);
     if (!view.map || !hand) return;
-    const { cells, values, line, colour } = hand;
+    const { cells, values, line, colour, layer } = hand;
+    pen.save();
+    pen.translate(Math.round((layer?.offsetX ?? 0) * view.scale), Math.round((layer?.offsetY ?? 0) * view.scale));
     pen.globalAlpha = 0.75;
     pen.imageSmoothingEnabled = view.scale < 1;
     if (values) this.drawValues(cells, values);
@@ -158,6 +160,7 @@ export class CellMarks {
     else this.addCells(cells);
     if (line) for (const [x, y] of line) this.addPoint(x, y, line[0][0] === x && line[0][1] === y);
     pen.stroke();
+    pen.restore();
   }
 
   drawValues([x, y, width], values) {
@@ -189,5 +192,5 @@ export class CellMarks {
   }
 }
 
-// What is shown under the hand stands where the map does.
+// The pen of the hand is moved to where the layer lies.
 const NOWHERE = { offsetX: 0, offsetY: 0 };

@@ -115,14 +115,15 @@ export class MapView {
     ];
   }
 
-  // The place of the hand on the screen, on the map in pixels as objects count them, and its cell.
-  placeOf(event) {
+  // The place of the hand on the screen, on the map in pixels as objects count them, and its cell: that of a layer, where one is named.
+  placeOf(event, layer = null) {
     const frame = this.canvas.getBoundingClientRect();
     const [x, y] = [(event.clientX - frame.left) * this.ratio, (event.clientY - frame.top) * this.ratio];
     const [left, top] = [(x - this.originX) / this.scale, (y - this.originY) / this.scale];
     const { projection } = this.map ?? {};
     const [pixelX, pixelY] = projection?.named(left, top) ?? [left, top];
-    return { x, y, pixelX, pixelY, cell: projection?.cellAt(left, top) ?? [0, 0] };
+    const cell = projection?.cellAt(left - (layer?.offsetX ?? 0), top - (layer?.offsetY ?? 0)) ?? [0, 0];
+    return { x, y, pixelX, pixelY, cell };
   }
 
   // The middle of a cell, in pixels of the page: for scripts that look at pixels.

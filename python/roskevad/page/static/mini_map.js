@@ -15,7 +15,6 @@ export class MiniMap {
     this.canvas.onpointerdown = event => this.down(event);
     this.canvas.onpointermove = event => this.move(event);
     this.canvas.onpointerup = this.canvas.onpointercancel = event => this.up(event);
-    this.canvas.addEventListener("wheel", event => event.stopPropagation());
     for (const name of ["map", "cells", "done"]) editor.addEventListener(name, () => this.change());
   }
 
@@ -24,7 +23,7 @@ export class MiniMap {
     this.show();
   }
 
-  // The map is another one, or has others cells: drawn anew a while later.
+  // The map is another one, or has other cells: drawn anew a while later.
   change() {
     this.isStale = true;
     clearTimeout(this.timer);

@@ -76,7 +76,7 @@ export class ObjectTool {
     const { object, layer, handle, from } = drag;
     const isOnGrid = event.ctrlKey || event.metaKey;
     const snapTo = side => at => (isOnGrid ? Math.round(at / side) * side : Math.round(at));
-    const snaps = [snapTo(map.tileWidth), snapTo(map.tileHeight)];
+    const snaps = map.projection.side.map(snapTo);
     if (handle) {
       const [[toX, toY], [fromX, fromY]] = [place, from].map(at => this.bench.marks.ownPlace(object, layer, at.pixelX, at.pixelY));
       return resized(object, handle, [toX - fromX, toY - fromY], snaps);
@@ -106,7 +106,8 @@ export class ObjectTool {
     if (!chosen) return false;
     if (this.isBarred(chosen, "moved")) return true;
     const { object } = chosen;
-    const [byX, byY] = [toX * (isFar ? bench.map.tileWidth : 1), toY * (isFar ? bench.map.tileHeight : 1)];
+    const [wide, high] = isFar ? bench.map.projection.side : [1, 1];
+    const [byX, byY] = [toX * wide, toY * high];
     // From a fraction it goes on to whole pixels.
     const moved = (at, by) => (by < 0 ? Math.ceil(at) : Math.floor(at)) + by;
     const [x, y] = [moved(object.x ?? 0, byX), moved(object.y ?? 0, byY)];
@@ -178,7 +179,7 @@ export async function insertObject(bench, [x, y, width, height]) {
     return bench.say(isNone ? "Add an object layer first: '+ Objects'." : "Choose an object layer first.");
   }
   if (bench.barsObjects(layer, "added")) return null;
-  const box = [x * map.tileWidth, y * map.tileHeight, width * map.tileWidth, height * map.tileHeight];
+  const box = map.projection.objectBox([x, y, x + width, y + height]);
   const field = { name: "name", label: "Name", value: "object", kind: KINDS.text };
   const told = await ask("A new object", [field], ["OK"], ({ name }) => bench.attempt([`object add ${layer.id} ${box.join(" ")} ${name}`]));
   if (!told) return null;

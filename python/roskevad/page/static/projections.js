@@ -10,6 +10,8 @@
 //   walk(cells, box, call)    calls with each of the cells that may touch the box, in the order in which they are drawn
 //   place(x, y)               where a point stands that an object names, and `named` the other way round
 //   matrix                    how the lengths of an object lie in the picture
+//   side                      how wide and high a cell is, as objects count
+//   objectBox(cells)          the box of an object over cells: [x, y, width, height]
 
 const boxAround = points => {
   const [across, down] = [points.map(([x]) => x), points.map(([, y]) => y)];
@@ -18,8 +20,15 @@ const boxAround = points => {
 
 const PLAIN = [1, 0, 0, 1];
 
+// The box of an object that lies over cells, where objects count as the picture does.
+function boxOver(projection, cells) {
+  const [left, top, right, bottom] = projection.boxOf(cells).map(Math.round);
+  return [left, top, right - left, bottom - top];
+}
+
 class Orthogonal {
   constructor(map) {
+    this.side = [map.tileWidth, map.tileHeight];
     Object.assign(this, { tileWidth: map.tileWidth, tileHeight: map.tileHeight, order: map.data.renderorder ?? "right-down" });
     Object.assign(this, { width: map.width * map.tileWidth, height: map.height * map.tileHeight, isPlain: true, matrix: PLAIN });
   }
@@ -60,6 +69,10 @@ class Orthogonal {
   named(left, top) {
     return [left, top];
   }
+
+  objectBox(cells) {
+    return boxOver(this, cells);
+  }
 }
 
 class Isometric {
@@ -67,6 +80,7 @@ class Isometric {
     const { width, height, tileWidth, tileHeight } = map;
     Object.assign(this, { tileWidth, tileHeight, from: height * tileWidth / 2, isPlain: false, isIsometric: true });
     Object.assign(this, { width: (width + height) * tileWidth / 2, height: (width + height) * tileHeight / 2 });
+    this.side = [tileHeight, tileHeight];
     this.matrix = [tileWidth / 2 / tileHeight, 1 / 2, -tileWidth / 2 / tileHeight, 1 / 2];
   }
 
@@ -122,6 +136,10 @@ class Isometric {
   named(left, top) {
     return this.inCells(left, top).map(cells => cells * this.tileHeight);
   }
+
+  objectBox([x0, y0, x1, y1]) {
+    return [x0, y0, x1 - x0, y1 - y0].map(cells => cells * this.tileHeight);
+  }
 }
 
 // Staggered and hexagonal maps: every other row or column is moved by half a cell.
@@ -135,6 +153,7 @@ class Staggered {
     const [sideX, sideY] = byColumns ? [side, 0] : [0, side];
     Object.assign(this, { tileWidth, tileHeight, sideX, sideY, byColumns, isHexagonal: data.orientation === "hexagonal" });
     Object.assign(this, { isPlain: false, matrix: PLAIN });
+    this.side = [tileWidth, tileHeight];
     this.parity = data.staggerindex === "even" ? 0 : 1;
     // How far the slanted edges reach, and how far a moved row or column is from the one before it.
     Object.assign(this, { slantX: Math.floor((tileWidth - sideX) / 2), slantY: Math.floor((tileHeight - sideY) / 2) });
@@ -204,6 +223,10 @@ class Staggered {
 
   named(left, top) {
     return [left, top];
+  }
+
+  objectBox(cells) {
+    return boxOver(this, cells);
   }
 }
 

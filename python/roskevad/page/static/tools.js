@@ -8,6 +8,8 @@ const COLOURS = { brush: "#7fd67f", eraser: "#ff8f8f", fill: "#7fd67f", rectangl
 // The tools that draw on the layer in hand, and those with which the right button takes tiles.
 const PAINTING = new Set(["brush", "eraser", "fill", "rectangle"]);
 const TAKING = new Set(["brush", "fill", "rectangle"]);
+// Those whose cells are those of the layer in hand, where it lies.
+const ON_LAYER = new Set([...PAINTING, "capture"]);
 
 // The rectangle of cells from one corner to the other.
 function cellsBetween([x0, y0], [x1, y1]) {
@@ -119,7 +121,7 @@ export class Tools {
     this.bench.isHeld = true;
     this.drawnUpTo = -Infinity;
     this.bench.view.work = performance.now();
-    this.from = this.bench.view.placeOf(event);
+    this.from = this.placeOf(event);
     if (name !== "pan") this.all[name].down(this.from, event);
     this.bench.view.drawNow();
   }
@@ -135,7 +137,7 @@ export class Tools {
   move(event) {
     if (this.held === "pan") this.pan(event);
     else if (this.held) this.drag(event);
-    if (this.held !== "pan") this.showHand(this.bench.view.placeOf(event), event);
+    if (this.held !== "pan") this.showHand(this.placeOf(event), event);
   }
 
   pan(event) {
@@ -146,12 +148,22 @@ export class Tools {
     this.from = { x: this.from.x + x, y: this.from.y + y };
   }
 
+  // The tool that is about something, or else the one in hand.
+  get busy() {
+    return this.held && this.held !== "pan" ? this.held : this.name;
+  }
+
+  // The place of the hand, for a tool.
+  placeOf(event, name = this.busy) {
+    return this.bench.view.placeOf(event, ON_LAYER.has(name) ? this.bench.layer : null);
+  }
+
   // A move of the hand with all that came with it, but what was drawn already.
   drag(event) {
     const { view } = this.bench;
     const parts = [...(event.getCoalescedEvents?.() ?? []), event].filter(part => part.timeStamp > this.drawnUpTo);
     view.work = performance.now();
-    for (const part of parts) this.all[this.held].move(view.placeOf(part), part);
+    for (const part of parts) this.all[this.held].move(this.placeOf(part), part);
     view.drawNow();
   }
 
@@ -163,10 +175,10 @@ export class Tools {
 
   up(event) {
     const name = this.held;
-    const place = this.bench.view.placeOf(event);
+    const place = this.placeOf(event);
     this.release();
     if (name && name !== "pan") this.all[name].up(place, event);
-    this.showHand(place, event);
+    this.showHand(this.placeOf(event), event);
     this.bench.tell("free");
   }
 
@@ -195,8 +207,8 @@ export class Tools {
 
   showHand(place, event = null) {
     const { marks, map } = this.bench;
-    const tool = this.all[this.held && this.held !== "pan" ? this.held : this.name];
-    marks.hand = place && map ? tool.hover(place, event) : null;
+    const hand = place && map ? this.all[this.busy].hover(place, event) : null;
+    marks.hand = hand && { ...hand, layer: ON_LAYER.has(this.busy) ? this.bench.layer : null };
     marks.redrawHand();
     this.bench.place = place;
     this.bench.tell("hand");
