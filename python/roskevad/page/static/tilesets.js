@@ -11,12 +11,13 @@ export { colourOf } from "./tile_looks.js";
 // How many tiles a tileset without an image has, where its file does not tell, and how many of them are shown at most.
 const USUAL = 256;
 const MOST_BARE = 65_536;
+const LONGEST_NAME = 80;
 
 class Tileset {
   // `first` and `last` are values of the map, and `told` is what its file tells: checked, or nothing.
   constructor(first, last, source, told, image, map) {
     Object.assign(this, { first, source, image, why: "" });
-    this.name = told.name || source || "tiles";
+    this.name = told.name || source?.slice(0, LONGEST_NAME) || "tiles";
     this.tileWidth = told.tilewidth || map.tileWidth;
     this.tileHeight = told.tileheight || map.tileHeight;
     this.spacing = told.spacing ?? 0;
