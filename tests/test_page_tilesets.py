@@ -135,19 +135,19 @@ def test_status():
         page.say('object move 1 8 8')
         page.say('prop set map weather string calm')
         page.say('layer rename 1 Meadow')
-        page.say('begin Fence')
-        page.say('erase 1 4 20 1 1')
-        page.say('end')
+        for name, more in (('Fence', 'erase+ 1 5 20 1 1'), ('Mixed', 'layer show 2 no')):
+            for line in (f'begin {name}', 'erase 1 4 20 1 1', more, 'end'):
+                page.say(line)
         inn = page.js('return roskevad.editor.map.object(1).object.name')
         names = page.texts('#steps li .name')
         assert names[1:3] == ['Stamp · Meadow'] * 2, 'a layer has the name that it has now'
-        assert names[-5:] == [
-            'Erase · Meadow', f'Move Object · {inn}', 'Set Property · weather', 'Rename Layer · Meadow', 'Fence',
+        assert names[-6:] == [
+            'Erase · Meadow', f'Move Object · {inn}', 'Set Property · weather', 'Rename Layer · Meadow', 'Fence · Meadow', 'Mixed',
         ], names  # fmt: skip
         page.reload()
         assert page.texts('#steps li .name') == names
-        page.ctrl('z')
-        page.ctrl('z')
+        for _ in range(3):
+            page.ctrl('z')
         page.say('layer show 1 no')
         assert page.texts('#steps li .name')[-1] == 'Show Layer · Ground'
 

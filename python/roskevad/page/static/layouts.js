@@ -3,11 +3,13 @@
 
 const STORED = "roskevad-layouts";
 // The largest stamp that is stored, how many maps are, and how long behind a change that is done.
-const LARGEST_STAMP = 4096;
+const LARGEST_STAMP = 1024;
 const MOST_MAPS = 100;
 const LATER = 300;
 
 const isNumber = Number.isFinite;
+
+const tilesOf = ({ stamp, tileset, side }) => ({ stamp, tileset, side });
 
 function isStamp(stamp) {
   return Boolean(stamp) && stamp.width > 0 && stamp.values?.length === stamp.width * stamp.height && stamp.values.every(isNumber);
@@ -16,7 +18,8 @@ function isStamp(stamp) {
 export class Layouts {
   // `page` has the parts: bench, editor, view, tools, toolbar, palette, layers, properties, objects, panels.
   constructor(page) {
-    Object.assign(this, { page, editor: page.editor, document: null, timer: null });
+    // `pending` is what is kept of a map whose tilesets are still being read.
+    Object.assign(this, { page, editor: page.editor, document: null, timer: null, pending: null });
     this.all = this.stored();
     for (const name of ["chosen", "tool", "stamp", "layout"]) page.bench.addEventListener(name, () => this.keep());
     this.editor.addEventListener("state", () => this.keep());
@@ -51,7 +54,7 @@ export class Layouts {
     return {
       view: [view.scale, view.originX, view.originY], layer: bench.layerId, tool: tools.name, brush: bench.brushSize, stamp: bench.stamp,
       tileset: palette.first, side: palette.side, folded: [...layers.folded], owner: properties.kind, left: objects.side,
-      panels: panels.state(),
+      panels: panels.state(), ...(this.pending && tilesOf(this.pending)),
     };
   }
 
@@ -84,9 +87,9 @@ export class Layouts {
     this.document = null;
     this.page.layers.folded = new Set();
     this.page.bench.layerId = null;
-    const isTaken = kept !== null && this.isTaken(kept);
+    this.pending = kept !== null && this.isTaken(kept) ? kept : null;
     this.document = document;
-    return isTaken ? kept : null;
+    return this.pending;
   }
 
   // Shows a map so. What another version of the page has kept may be unlike.
@@ -112,6 +115,7 @@ export class Layouts {
   // The tileset that the palette shows, and the stamp.
   enterTiles(kept) {
     const { bench, palette, tilesets } = this.page;
+    this.pending = null;
     if (isStamp(kept.stamp)) bench.takeStamp(kept.stamp);
     palette.zoomTo(kept.side);
     if (kept.tileset !== palette.first && tilesets.all.some(set => set.first === kept.tileset)) palette.choose(kept.tileset);

@@ -17,10 +17,14 @@ function subjectOf(line) {
   return kind === "tileset" && words[0] === "add" ? { name: rest(2) } : null;
 }
 
+// What two lines are about together.
+const common = (one, other) => (JSON.stringify(one) === JSON.stringify(other) ? one : null);
+
 export class StepSubjects {
   // With an undo limit the steps change their places, and nothing is kept.
   constructor(hasLimit) {
-    Object.assign(this, { hasLimit, all: [], index: 0, depth: 0 });
+    // `inside` is what the lines of the open macro are about: undefined where it has none, null where they are not about the same.
+    Object.assign(this, { hasLimit, all: [], index: 0, depth: 0, inside: undefined });
   }
 
   of(at) {
@@ -36,9 +40,15 @@ export class StepSubjects {
     Object.assign(this, { index, depth });
     if (word === "limit") this.hasLimit = true;
     if (this.hasLimit || word === "clear") this.all = [];
-    else if (word === "begin" && wasIn === 0) this.all.length = Math.min(this.all.length, before);
-    else if (word === "end" && depth === 0) this.all[before] = null;
+    else if (word === "begin" && wasIn === 0) this.beginMacro(before);
+    else if (word === "end" && depth === 0) this.all[before] = this.inside ?? null;
     else if (isEdit(line) && depth === 0) this.step(line, before, index);
+    else if (isEdit(line)) this.inside = this.inside === undefined ? subjectOf(line) : common(this.inside, subjectOf(line));
+  }
+
+  beginMacro(before) {
+    this.all.length = Math.min(this.all.length, before);
+    this.inside = undefined;
   }
 
   // A step was added behind those below the index; or the line was joined to the last one, or has changed nothing; or the last one is gone.

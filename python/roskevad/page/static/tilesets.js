@@ -13,12 +13,13 @@ const USUAL = 256;
 const MOST_BARE = 65_536;
 // The most pixels of the images of one tileset's tiles.
 const MOST_PICTURED = 64 * 1024 * 1024;
+const LONGEST_NAME = 80;
 
 class Tileset {
   // `first` and `last` are values of the map, and `told` is what its file tells: checked, or nothing.
   constructor(first, last, source, told, image, map) {
     Object.assign(this, { first, source, image, why: "" });
-    this.name = told.name || source || "tiles";
+    this.name = told.name || source?.slice(0, LONGEST_NAME) || "tiles";
     this.tileWidth = told.tilewidth || map.tileWidth;
     this.tileHeight = told.tileheight || map.tileHeight;
     this.spacing = told.spacing ?? 0;
