@@ -207,28 +207,36 @@ def test_resize():
 
 
 def places_in_view(page):
-    """Cells that no object covers, and that are not beside the view of the map."""
+    """Cells that no object covers, nor a bar or the map in small, and that are not beside the view
+    of the map."""
     left, top, right, bottom = page.js(
         'const box = roskevad.view.box.getBoundingClientRect();'
         'return [box.left, box.top, box.right, box.bottom]'
     )
     cells = list(free_places(page.editor.map()))
     places = zip(cells, page.places(cells, (5, 9)))
-    return [
-        cell for cell, (x, y) in places if left < x - 2 < right - 4 and top < y - 2 < bottom - 4
+    shown = [
+        (cell, place)
+        for cell, place in places
+        if left < place[0] - 2 < right - 4 and top < place[1] - 2 < bottom - 4
     ]
+    uncovered = page.js(
+        'return arguments[0].map(([x, y]) => document.elementFromPoint(x, y).id === "hand")',
+        [place for _, place in shown],
+    )
+    return [cell for (cell, _), is_free in zip(shown, uncovered) if is_free]
 
 
 def test_moving():
-    """The wheel makes the map larger and smaller where the hand is; the middle button moves it;
-    only what is seen is drawn."""
+    """The wheel with Ctrl makes the map larger and smaller where the hand is; the middle button
+    moves it; only what is seen is drawn."""
     with Bench() as page:
         hand = page.point((10, 10))
         scales = [page.js('return roskevad.view.scale')]
         for turn in (100, -100, -100, -100):
-            ActionChains(page.driver).scroll_from_origin(
-                ScrollOrigin.from_viewport(*hand), 0, turn
-            ).perform()
+            chain = ActionChains(page.driver).key_down(Keys.CONTROL)
+            chain.scroll_from_origin(ScrollOrigin.from_viewport(*hand), 0, turn)
+            chain.key_up(Keys.CONTROL).perform()
             page.wait(
                 lambda: page.js('return roskevad.view.scale') != scales[-1],
                 'the wheel changes the scale',

@@ -179,6 +179,13 @@ export class Marks {
     return ownPlace(object, layer, x, y, this.map.projection);
   }
 
+  // A place of the map as an object of a layer names it, whose layer may be moved.
+  inLayer(layer, x, y) {
+    const { projection } = this.map;
+    const [left, top] = projection.place(x, y);
+    return projection.named(left - layer.offsetX, top - layer.offsetY);
+  }
+
   // An object with how it stands at its place.
   shapeOf(object) {
     return object.gid ? { ...object, aligned: alignedAt(this.tilesets.of(object.gid), this.map) } : object;

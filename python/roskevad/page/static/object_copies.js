@@ -20,6 +20,9 @@ function linesOf(object, id, layer, x, y, name) {
   ];
 }
 
+// The place one cell to the right and down of an object.
+const besides = (object, { projection }) => [(object.x ?? 0) + projection.side[0], (object.y ?? 0) + projection.side[1]];
+
 export class ObjectCopies {
   constructor(bench) {
     Object.assign(this, { bench, copied: null });
@@ -50,9 +53,8 @@ export class ObjectCopies {
 
   // Puts a copy beside the object, one cell to the right and down.
   duplicate(object, layer) {
-    const { map } = this.bench;
-    const [x, y] = [(object.x ?? 0) + map.tileWidth, (object.y ?? 0) + map.tileHeight];
-    return this.whole(object, "copied", () => this.put(object, layer.id, x, y, "Duplicate Object || duplicate object"));
+    const place = besides(object, this.bench.map);
+    return this.whole(object, "copied", () => this.put(object, layer.id, ...place, "Duplicate Object || duplicate object"));
   }
 
   // Puts what was kept where the hand is, or else beside where it was.
@@ -64,10 +66,9 @@ export class ObjectCopies {
     if (bench.barsObjects(layer, "pasted")) return null;
     const at = bench.place;
     const up = object.gid ? -1 : 1;
-    const [x, y] = at
-      ? [at.pixelX - layer.offsetX - (object.width ?? 0) / 2, at.pixelY - layer.offsetY - up * (object.height ?? 0) / 2]
-      : [(object.x ?? 0) + bench.map.tileWidth, (object.y ?? 0) + bench.map.tileHeight];
-    return this.put(object, layer.id, x, y, "Paste Object || paste object");
+    const [x, y] = at ? bench.marks.inLayer(layer, at.pixelX, at.pixelY) : besides(object, bench.map);
+    const [left, top] = at ? [x - (object.width ?? 0) / 2, y - up * (object.height ?? 0) / 2] : [x, y];
+    return this.put(object, layer.id, left, top, "Paste Object || paste object");
   }
 
   async put(object, layer, x, y, step) {

@@ -179,7 +179,8 @@ export async function insertObject(bench, [x, y, width, height]) {
     return bench.say(isNone ? "Add an object layer first: '+ Objects'." : "Choose an object layer first.");
   }
   if (bench.barsObjects(layer, "added")) return null;
-  const box = map.projection.objectBox([x, y, x + width, y + height]);
+  const [left, top, ...size] = map.projection.objectBox([x, y, x + width, y + height]);
+  const box = [...bench.marks.inLayer(layer, left, top).map(Math.round), ...size];
   const field = { name: "name", label: "Name", value: "object", kind: KINDS.text };
   const told = await ask("A new object", [field], ["OK"], ({ name }) => bench.attempt([`object add ${layer.id} ${box.join(" ")} ${name}`]));
   if (!told) return null;

@@ -136,8 +136,9 @@ export class Palette {
   }
 
   drawTile(set, tile, x, y) {
-    const scale = Math.min((this.side - 1) / set.tileWidth, (this.side - 1) / set.tileHeight);
-    drawTile(this.pen, this.tilesets, set.first + tile, x + 1, y + 1, set.tileWidth * scale, set.tileHeight * scale);
+    const [width, height] = set.has(tile) ? set.sizeOf(tile) : [set.tileWidth, set.tileHeight];
+    const scale = Math.min((this.side - 1) / width, (this.side - 1) / height);
+    drawTile(this.pen, this.tilesets, set.first + tile, x + 1, y + 1, width * scale, height * scale);
   }
 
   // A frame around the tiles of the stamp, where they stand in this tileset.
