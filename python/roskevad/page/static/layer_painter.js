@@ -52,14 +52,14 @@ export class LayerPainter {
     pen.fillStyle = map.data.backgroundcolor ?? GROUND;
     pen.fillRect(left, top, view.screenX(width) - left, view.screenY(height) - top);
     const layers = map.layers.filter(layer => layer.isSeen && layer.type !== "group");
-    if (this.isFar) this.paintFar(layers, box);
+    if (this.isFar) this.paintAfar(layers, box);
     else this.paintNear(layers, box);
     pen.globalAlpha = 1;
   }
 
   // ---- from afar
   // Tile layers that stand one behind the other in one place are painted together.
-  paintFar(layers, box) {
+  paintAfar(layers, box) {
     let batch = [];
     const flush = () => {
       if (batch.length) paintFar(this.view, batch, box);
@@ -69,12 +69,13 @@ export class LayerPainter {
       const isAside = batch.length && (layer.offsetX !== batch[0].offsetX || layer.offsetY !== batch[0].offsetY);
       if (!layer.isTiles || isAside) flush();
       if (layer.isTiles) batch.push(layer);
-      else this.paintOther(layer);
+      else this.paintThings(layer);
     }
     flush();
   }
 
-  paintOther(layer) {
+  // Paints what is no tile of a cell: an image, or objects.
+  paintThings(layer) {
     this.view.pen.globalAlpha = layer.opacity;
     this.view.pen.imageSmoothingEnabled = this.view.scale < 1;
     if (layer.type === "imagelayer") this.paintImage(layer);
@@ -85,7 +86,7 @@ export class LayerPainter {
   paintNear(layers, box) {
     const hiding = this.hidingLayers(layers, box);
     layers.forEach((layer, at) => {
-      if (!layer.isTiles) return this.paintOther(layer);
+      if (!layer.isTiles) return this.paintThings(layer);
       if (at < hiding.lowest) return null;
       this.view.pen.globalAlpha = layer.opacity;
       this.view.pen.imageSmoothingEnabled = this.view.scale < 1;

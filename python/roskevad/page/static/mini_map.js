@@ -9,6 +9,8 @@ const GROUND = 0xff68605b;
 export class MiniMap {
   constructor(view, editor) {
     Object.assign(this, { view, editor, isWanted: true, isStale: true, timer: null });
+    // Whether a stroke is drawn, which it does not hold up.
+    this.isBusy = () => false;
     this.canvas = element("canvas", { id: "mini-map", hidden: true, title: "The whole map: a press moves the view (M hides it)" });
     this.pen = this.canvas.getContext("2d");
     view.box.append(this.canvas);
@@ -27,7 +29,7 @@ export class MiniMap {
   change() {
     this.isStale = true;
     clearTimeout(this.timer);
-    this.timer = setTimeout(() => this.show(), LATER);
+    this.timer = setTimeout(() => (this.isBusy() ? this.change() : this.show()), LATER);
   }
 
   get map() {
