@@ -15,7 +15,7 @@ NEEDS_BROWSER = True
 IS_LONG = True
 # The longest that the page may work in one go, in milliseconds: what goes over the tiles that are
 # claimed takes minutes. Other steps may take the processors.
-LONGEST = 3000
+LONGEST = 8000
 
 
 def frame_of(page, css):

@@ -18,15 +18,17 @@ from page.tiled_pictures import compared, put, show, without_outlines
 NEEDS_BROWSER = True
 IS_LONG = True
 PACKAGES = ('tiled',)
-# Tiles of these examples have images of their own, which the page does not draw, and says so.
-COLLECTIONS = ('sandbox', 'sandbox2')
 # An opacity of 0.49, and soft edges of tiles over one another, are rounded otherwise: by at most this
 # of 255.
 ROUNDED = {
     'sewers': 2,
     'isometric_grass_and_water': 3,
     'isometric_staggered_grass_and_water': 3,
+    'sandbox': 3,
+    'sandbox2': 3,
 }
+# How many pixels differ at the edges of tile objects whose sizes are stretched to fractions of a pixel.
+EDGES = {'sandbox': 40}
 # Flags of tiles that are turned by 60 or 120 degrees, and how far their corners reach out of their
 # cells then.
 TURNED, REACH = 0x30000000, 12
@@ -59,8 +61,7 @@ def is_in(box, place):
 
 def test_examples():
     """Tiled's example maps are drawn pixel by pixel as Tiled draws them, but for outlines of objects,
-    rounded shares of colours, and edges of turned hexagons. Of tiles with images of their own the page says
-    that they are not drawn."""
+    rounded shares of colours, and edges of turned hexagons and of stretched tile objects."""
     bench = Bench(empty=True)
     with bench as page:
         top = Path(bench.top.name) / 'tiled'
@@ -70,14 +71,14 @@ def test_examples():
             name = f'seen_{path.parent.name}_{path.stem}.tmj'
             told = without_outlines(json.loads(exported(path, path.parent, name)))
             seen = put(path.parent / name, told)
-            if path.stem in COLLECTIONS:
-                show(page, seen)
-                assert 'images of their own' in page.find('#not-drawn').text, path
-                continue
             came = compared(page, seen, ROUNDED.get(path.stem, 0))
             boxes = [] if told['orientation'] != 'hexagonal' else list(turned_boxes(told))
             unlike = [each for each in came['unlike'] if not any(is_in(box, each) for box in boxes)]
-            assert not unlike and came['count'] < 1000, (path, came['count'], unlike[:4])
+            assert len(unlike) <= EDGES.get(path.stem, 0) and came['count'] < 1000, (
+                path,
+                came['count'],
+                unlike[:4],
+            )
             assert came['colours'] > 3, path
             passed()
 
@@ -254,6 +255,10 @@ def test_moved_layers():
         page.editor.lines('stamp 2 0 0 1 12')
         page.settle()
         assert page.js(code, [40 + 30, 40 + 4]) == moved
+        choose(page, 'Layer 2')
+        take_tile(page, (4, 0))
+        page.drag_points([points_on(page, 30 + 16 + 2, 4 + 16 + 2)])
+        assert spelled(page)[-1] == 'stamp 2 1 1 1 5', 'a click is about the cell of the layer'
 
 
 # ---- clicks
@@ -307,6 +312,28 @@ def test_clicks():
         assert {at for at, value in enumerate(data) if value == 12} == {
             y * 9 + x for y in range(3) for x in range(4)
         }
+
+
+def test_objects_over_cells():
+    """A new object over cells of an isometric map has as many pixels a cell each way as a cell is high,
+    as Tiled counts; a click in it chooses it."""
+    bench = Bench(empty=True)
+    with bench as page:
+        folder = put_tiles(Path(bench.top.name) / 'objects')
+        things = {'type': 'objectgroup', 'id': 2, 'name': 'Things', 'visible': True, 'opacity': 1}
+        things.update(x=0, y=0, draworder='topdown', objects=[])
+        layers = [tile_layer(1, 9, 8, [1] * 72), things]
+        show(page, put(folder / 'iso.tmj', map_of(layers, 9, 8, **KINDS[4])))
+        choose(page, 'Things')
+        page.keys('i')
+        page.drag([(4, 3), (6, 5)])
+        page.fill_in(name='door')
+        assert spelled(page)[-1] == 'object add 2 64 48 48 48 door'
+        page.keys('s')
+        page.drag([(1, 1)])
+        assert page.js('return roskevad.bench.objectId') is None
+        page.drag([(5, 4)])
+        assert page.js('return roskevad.bench.objectId') == 90
 
 
 def points_on(page, x, y):

@@ -34,9 +34,12 @@ export class Bubble {
     box.hidden = false;
     box.style.left = box.style.top = "0";
     const typed = isField(document.activeElement) ? [document.activeElement] : [];
-    const free = [...[...KEPT_FREE.map(byId), ...typed].map(each => each.getBoundingClientRect()), boxAt(x - 1, y - 1, 2, 2), this.drawn()].filter(each => each);
+    const free = [...[...KEPT_FREE.map(byId), ...typed].map(each => each.getBoundingClientRect()), boxAt(x - 1, y - 1, 2, 2)];
+    const drawn = this.drawn() ?? boxAt(0, 0, 0, 0);
     const places = placesFor(x, y, box.offsetWidth, box.offsetHeight);
-    const { left, top } = places.find(place => free.every(each => isApart(place, each))) ?? places[0];
+    // Where most of what is seen was drawn, what is said stands over it.
+    const isFree = boxes => place => boxes.every(each => isApart(place, each));
+    const { left, top } = places.find(isFree([...free, drawn])) ?? places.find(isFree(free)) ?? places[0];
     box.style.left = `${left}px`;
     box.style.top = `${top}px`;
     clearTimeout(this.timer);

@@ -18,8 +18,8 @@ function hexagonMatrixOf(value) {
   return [Math.cos(angle) * toSide, Math.sin(angle) * toSide, -Math.sin(angle) * upDown, Math.cos(angle) * upDown];
 }
 
-// `imageOf(tileset)` gives the image to take it from.
-export function drawTile(pen, tilesets, value, x, y, width, height, imageOf = null, isHexagonal = false) {
+// `tinted(image)` gives the image to take it from.
+export function drawTile(pen, tilesets, value, x, y, width, height, tinted = null, isHexagonal = false) {
   const tileset = tilesets.of(value);
   const tile = (value & TILE) - (tileset?.first ?? 0);
   if (!tileset?.has(tile)) {
@@ -27,16 +27,17 @@ export function drawTile(pen, tilesets, value, x, y, width, height, imageOf = nu
     return;
   }
   const [fromX, fromY] = tileset.placeOf(tile);
-  const image = imageOf ? imageOf(tileset) : tileset.image;
+  const [tileWidth, tileHeight] = tileset.sizeOf(tile);
+  const image = tinted ? tinted(tileset.imageFor(tile)) : tileset.imageFor(tile);
   if (value <= TILE) {
-    pen.drawImage(image, fromX, fromY, tileset.tileWidth, tileset.tileHeight, x, y, width, height);
+    pen.drawImage(image, fromX, fromY, tileWidth, tileHeight, x, y, width, height);
     return;
   }
   const [wide, high] = value & DIAGONAL && !isHexagonal ? [height, width] : [width, height];
   const before = pen.getTransform();
   pen.translate(x + width / 2, y + height / 2);
   pen.transform(...(isHexagonal ? hexagonMatrixOf(value) : matrixOf(value)), 0, 0);
-  pen.drawImage(image, fromX, fromY, tileset.tileWidth, tileset.tileHeight, -wide / 2, -high / 2, wide, high);
+  pen.drawImage(image, fromX, fromY, tileWidth, tileHeight, -wide / 2, -high / 2, wide, high);
   pen.setTransform(before);
 }
 

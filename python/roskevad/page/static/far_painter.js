@@ -2,6 +2,14 @@
 
 // A colour with at least this alpha hides what is below it.
 const HIDES = 250;
+// Where cells are no rectangles, a tile's image has clear corners: above this alpha it fills its cell.
+const FILLS = 24;
+
+// How far a tile of a mean colour hides what is below it in its cell, up to 255.
+export function alphaOf(colour, projection) {
+  const alpha = colour >>> 24;
+  return projection.isPlain || alpha <= FILLS ? alpha : 255;
+}
 
 // Paints layers that stand in one place into a box of the screen.
 export function paintFar(view, layers, box) {
@@ -61,12 +69,12 @@ function topLayers(view, layers, cells) {
   return { tops, lowest };
 }
 
-function topCells({ seen, tilesets }, layer, at, tops, [x0, y0, x1, y1]) {
+function topCells({ map, seen, tilesets }, layer, at, tops, [x0, y0, x1, y1]) {
   const [values, [left, top, right]] = [seen.cellsOf(layer.id), seen.box];
   let found = 0;
   for (let y = y0, spot = 0; y < y1; y++) {
     for (let place = (y - top) * (right - left) + x0 - left, end = place + x1 - x0; place < end; place++, spot++) {
-      if (tops[spot] || values[place] === 0 || (tilesets.mean(values[place]) >>> 24) * layer.opacity < HIDES) continue;
+      if (tops[spot] || values[place] === 0 || alphaOf(tilesets.mean(values[place]), map.projection) * layer.opacity < HIDES) continue;
       tops[spot] = at;
       found++;
     }
@@ -74,18 +82,20 @@ function topCells({ seen, tilesets }, layer, at, tops, [x0, y0, x1, y1]) {
   return found;
 }
 
-function addMeans({ seen, tilesets }, layer, at, tops, pixels, [x0, y0, x1, y1]) {
+function addMeans({ map, seen, tilesets }, layer, at, tops, pixels, [x0, y0, x1, y1]) {
   const [values, [left, top, right]] = [seen.cellsOf(layer.id), seen.box];
   for (let y = y0, spot = 0; y < y1; y++) {
     for (let place = (y - top) * (right - left) + x0 - left, end = place + x1 - x0; place < end; place++, spot++) {
       const value = values[place];
       if (value === 0 || tops[spot] > at) continue;
       const colour = tilesets.mean(value);
-      const alpha = (colour >>> 24) * layer.opacity;
-      pixels[spot] = alpha >= HIDES || pixels[spot] === 0 ? colour : mixed(pixels[spot], colour, alpha / 255);
+      const alpha = alphaOf(colour, map.projection) * layer.opacity;
+      pixels[spot] = alpha >= HIDES ? (colour | 0xff000000) >>> 0 : pixels[spot] === 0 ? faded(colour, alpha) : mixed(pixels[spot], colour, alpha / 255);
     }
   }
 }
+
+const faded = (colour, alpha) => ((colour & 0xffffff) | Math.round(alpha) << 24) >>> 0;
 
 // A pixel with another one over it.
 function mixed(under, over, share) {

@@ -1,6 +1,7 @@
 // Paints the layers of a map into a part of the screen, in their order: tiles, images, and of objects those that are tiles or texts.
 import { drawTile } from "./draw_tile.js";
 import { paintFar } from "./far_painter.js";
+import { TILE } from "./map_model.js";
 import { paintThing } from "./thing_painter.js";
 import { Tints } from "./tints.js";
 
@@ -51,14 +52,14 @@ export class LayerPainter {
     pen.fillStyle = map.data.backgroundcolor ?? GROUND;
     pen.fillRect(left, top, view.screenX(width) - left, view.screenY(height) - top);
     const layers = map.layers.filter(layer => layer.isSeen && layer.type !== "group");
-    if (this.isFar) this.paintFar(layers, box);
+    if (this.isFar) this.paintAfar(layers, box);
     else this.paintNear(layers, box);
     pen.globalAlpha = 1;
   }
 
   // ---- from afar
   // Tile layers that stand one behind the other in one place are painted together.
-  paintFar(layers, box) {
+  paintAfar(layers, box) {
     let batch = [];
     const flush = () => {
       if (batch.length) paintFar(this.view, batch, box);
@@ -68,12 +69,13 @@ export class LayerPainter {
       const isAside = batch.length && (layer.offsetX !== batch[0].offsetX || layer.offsetY !== batch[0].offsetY);
       if (!layer.isTiles || isAside) flush();
       if (layer.isTiles) batch.push(layer);
-      else this.paintOther(layer);
+      else this.paintThings(layer);
     }
     flush();
   }
 
-  paintOther(layer) {
+  // Paints what is no tile of a cell: an image, or objects.
+  paintThings(layer) {
     this.view.pen.globalAlpha = layer.opacity;
     this.view.pen.imageSmoothingEnabled = this.view.scale < 1;
     if (layer.type === "imagelayer") this.paintImage(layer);
@@ -84,7 +86,7 @@ export class LayerPainter {
   paintNear(layers, box) {
     const hiding = this.hidingLayers(layers, box);
     layers.forEach((layer, at) => {
-      if (!layer.isTiles) return this.paintOther(layer);
+      if (!layer.isTiles) return this.paintThings(layer);
       if (at < hiding.lowest) return null;
       this.view.pen.globalAlpha = layer.opacity;
       this.view.pen.imageSmoothingEnabled = this.view.scale < 1;
@@ -131,11 +133,11 @@ export class LayerPainter {
     const [values, [left, top, right]] = [seen.cellsOf(layer.id), seen.box];
     const mayHide = tops !== null && isPlain(layer);
     const isHidden = (x, y) => x >= x0 && x < x1 && y >= y0 && y < y1 && tops[(y - y0) * (x1 - x0) + x - x0] > at;
-    const imageOf = layer.tint ? tileset => this.tints.of(tileset.image, layer.tint) : null;
+    const tinted = layer.tint ? image => this.tints.of(image, layer.tint) : null;
     projection.walk(view.within(projection.cellsIn(part)), part, (x, y) => {
       const value = values[(y - top) * (right - left) + x - left];
       if (value === 0 || (mayHide && isHidden(x, y) && !this.isLarge(value))) return;
-      this.paintCell(layer, value, x, y, imageOf);
+      this.paintCell(layer, value, x, y, tinted);
     });
   }
 
@@ -143,13 +145,14 @@ export class LayerPainter {
   isLarge(value) {
     const { map, tilesets } = this.view;
     const tileset = tilesets.of(value);
-    if (!tileset?.image) return false;
-    const { tileWidth, tileHeight, offsetX, offsetY } = tileset;
-    return tileWidth !== map.tileWidth || tileHeight !== map.tileHeight || offsetX !== 0 || offsetY !== 0;
+    const tile = (value & TILE) - (tileset?.first ?? 0);
+    if (!tileset?.has(tile)) return false;
+    const [width, height] = tileset.sizeOf(tile);
+    return width !== map.tileWidth || height !== map.tileHeight || tileset.offsetX !== 0 || tileset.offsetY !== 0;
   }
 
   // A tile stands on the lower left corner of its cell; one of another size reaches up and to the right.
-  paintCell(layer, value, x, y, imageOf, pen = this.view.pen) {
+  paintCell(layer, value, x, y, tinted, pen = this.view.pen) {
     const { view } = this;
     const { map, scale, tilesets } = view;
     const [asideX, asideY] = [Math.round(layer.offsetX * scale), Math.round(layer.offsetY * scale)];
@@ -157,13 +160,13 @@ export class LayerPainter {
     const [left, top] = [view.screenX(cornerX) + asideX, view.screenY(cornerY) + asideY];
     const { tileWidth, tileHeight } = map.projection;
     const [width, height] = [view.screenX(cornerX + tileWidth) + asideX - left, view.screenY(cornerY + tileHeight) + asideY - top];
-    if (!this.isLarge(value)) return drawTile(pen, tilesets, value, left, top, width, height, imageOf, map.isHexagonal);
+    if (!this.isLarge(value)) return drawTile(pen, tilesets, value, left, top, width, height, tinted, map.isHexagonal);
     const tileset = tilesets.of(value);
     const isTurned = value & 0x20000000 && !map.isHexagonal;
-    const [wide, high] = [Math.round(tileset.tileWidth * scale), Math.round(tileset.tileHeight * scale)];
+    const [wide, high] = tileset.sizeOf((value & TILE) - tileset.first).map(side => Math.round(side * scale));
     const [across, down] = isTurned ? [high, wide] : [wide, high];
     const [toLeft, toTop] = [left + Math.round(tileset.offsetX * scale), top + height - down + Math.round(tileset.offsetY * scale)];
-    return drawTile(pen, tilesets, value, toLeft, toTop, across, down, imageOf, map.isHexagonal);
+    return drawTile(pen, tilesets, value, toLeft, toTop, across, down, tinted, map.isHexagonal);
   }
 
   // ---- images

@@ -73,7 +73,7 @@ export class LayerPanel {
     return element("li", { data: { layer: id } },
       button("", "", null, { className: "fold" }),
       button("", "", null, { className: "eye" }),
-      element("span", { className: "lock", textContent: "🔒", title: "Locked in Tiled; no line unlocks it" }),
+      element("span", { className: "lock", textContent: "locked", title: "Locked in Tiled; no line unlocks it" }),
       element("span", { className: "name" }),
       element("span", { className: "kind" }));
   }

@@ -51,6 +51,7 @@ class Page {
     this.tools = new Tools(bench);
     this.documents = new Documents(bench);
     this.toolbar = new Toolbar(bench, this.tools, this.documents, this.miniMap);
+    this.miniMap.isBusy = () => bench.isHeld;
     this.palette = new Palette(bench, this.tilesets);
     this.tilesetPanel = new TilesetPanel(bench, this.tilesets, this.palette);
     this.status = new StatusBar(bench, this.tilesets);

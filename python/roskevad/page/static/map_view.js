@@ -154,9 +154,11 @@ export class MapView {
   // By whole pixels, so that what is drawn already may move with it; never so far that nothing of the map is seen.
   pan(x, y) {
     const [width, height] = this.sizeOnScreen();
-    const kept = (origin, length, by, most) => Math.max(Math.min(origin, LEAST_SEEN - length), Math.min(Math.max(origin, most - LEAST_SEEN), origin + by));
-    const [toX, toY] = [kept(this.originX, width, Math.round(x), this.canvas.width), kept(this.originY, height, Math.round(y), this.canvas.height)];
-    this.panBy(Math.round(toX - this.originX), Math.round(toY - this.originY));
+    const kept = (origin, length, by, most) => {
+      const [least, last] = [Math.min(origin, LEAST_SEEN - length), Math.max(origin, most - LEAST_SEEN)];
+      return Math.round(Math.max(least, Math.min(last, origin + Math.round(by))) - origin);
+    };
+    this.panBy(kept(this.originX, width, x, this.canvas.width), kept(this.originY, height, y, this.canvas.height));
   }
 
   panBy(x, y) {

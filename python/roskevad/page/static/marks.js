@@ -112,7 +112,7 @@ export class Marks {
     pen.rotate((object.rotation ?? 0) * Math.PI / 180);
     const isChosen = this.chosen === object.id && this.showsChosen;
     pen.globalAlpha = layer.opacity;
-    pen.lineWidth = isChosen ? 3 : 1.5;
+    pen.lineWidth = (isChosen ? 3 : 1.5) * view.ratio;
     pen.strokeStyle = isChosen ? "#ffd34d" : layer.data.color ?? "#e4e7eb";
     pen.fillStyle = isChosen ? "#ffd34d33" : "#ffffff22";
     this.drawShape(object, scale);
@@ -146,15 +146,16 @@ export class Marks {
 
   drawName(object, isChosen) {
     if (!object.name) return;
-    const { pen } = this;
-    const top = object.gid ? -(object.height ?? 0) * this.view.scale : 0;
-    pen.font = "12px sans-serif";
+    const { pen, view: { ratio, scale } } = this;
+    const [aside, up] = object.gid ? alignedAt(this.tilesets.of(object.gid), this.map) : [0, 0];
+    const [left, top] = [-aside * (object.width ?? 0) * scale, -up * (object.height ?? 0) * scale];
+    pen.font = `${12 * ratio}px sans-serif`;
     pen.textBaseline = "bottom";
     const width = pen.measureText(object.name).width;
     pen.fillStyle = isChosen ? "#ffd34d" : "#000a";
-    pen.fillRect(0, top - 18, width + 8, 16);
+    pen.fillRect(left, top - 18 * ratio, width + 8 * ratio, 16 * ratio);
     pen.fillStyle = isChosen ? "#000" : "#fff";
-    pen.fillText(object.name, 4, top - 4);
+    pen.fillText(object.name, left + 4 * ratio, top - 4 * ratio);
   }
 
   // The object at a place in pixels of the map: first of the layer in hand, then the smallest, then the one drawn last. One of a locked

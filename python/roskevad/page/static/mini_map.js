@@ -1,14 +1,19 @@
 // The whole map in small, where not all of it is seen: a press there moves the view.
 import { element } from "./dom.js";
+import { alphaOf } from "./far_painter.js";
 
 // Its longest side in pixels of the page, and how long behind a change it is drawn.
 const LONGEST = 160;
 const LATER = 400;
 const GROUND = 0xff68605b;
+// A tile whose colour has a greater alpha than this is shown.
+const SHOWN = 127;
 
 export class MiniMap {
   constructor(view, editor) {
     Object.assign(this, { view, editor, isWanted: true, isStale: true, timer: null });
+    // Whether a stroke is drawn, which it does not hold up.
+    this.isBusy = () => false;
     this.canvas = element("canvas", { id: "mini-map", hidden: true, title: "The whole map: a press moves the view (M hides it)" });
     this.pen = this.canvas.getContext("2d");
     view.box.append(this.canvas);
@@ -27,7 +32,7 @@ export class MiniMap {
   change() {
     this.isStale = true;
     clearTimeout(this.timer);
-    this.timer = setTimeout(() => this.show(), LATER);
+    this.timer = setTimeout(() => (this.isBusy() ? this.change() : this.show()), LATER);
   }
 
   get map() {
@@ -80,7 +85,7 @@ export class MiniMap {
         if (x < 0) continue;
         if (!rows.has(y)) rows.set(y, map.cells(layer.id, 0, y, map.width, 1));
         const colour = rows.get(y)[x] && tilesets.mean(rows.get(y)[x]);
-        if (colour >>> 24 > 127) pixels[at] = (colour | 0xff000000) >>> 0;
+        if (alphaOf(colour, map.projection) > SHOWN) pixels[at] = (colour | 0xff000000) >>> 0;
       }
     }
   }

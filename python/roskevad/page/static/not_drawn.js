@@ -14,7 +14,6 @@ export function notDrawn(map, tilesets, images) {
     ["parallax", some(map.layers, isMoved)],
     ["animations (their first picture stands)", some(tilesets.all, set => set.told.frames)],
     ["texts in their own fonts", some(objectsOf(map), object => object.text)],
-    ["tiles with images of their own", some(tilesets.all, set => !set.image && set.told.tiles > 0 && !set.told.image)],
     [`the images ${[...images.missing].join(", ")}`, images.missing.size > 0],
     ["modes of blending", some(map.layers, layer => layer.data.mode && layer.data.mode !== "normal")],
   ];

@@ -101,12 +101,23 @@ export class Palette {
     this.pen.setTransform(ratio, 0, 0, ratio, -left * ratio, -top * ratio);
     this.pen.clearRect(left, top, this.box.clientWidth, this.box.clientHeight);
     this.pen.imageSmoothingEnabled = this.side < set.tileWidth;
-    const [x0, y0] = [Math.floor(left / this.side), Math.floor(top / this.side)];
-    const [x1, y1] = [Math.ceil((left + this.box.clientWidth) / this.side), Math.ceil((top + this.box.clientHeight) / this.side)];
-    for (let at = x0 + y0 * this.columns, y = y0; y < Math.min(y1, this.rows); y++, at = x0 + y * this.columns) {
-      for (let x = x0; x < Math.min(x1, this.columns); x++, at++) if (at < set.count) this.drawTile(set, at, x * this.side, y * this.side);
-    }
+    this.drawRows(set, left, top);
     this.drawFrame();
+  }
+
+  // Draws the rows and columns of tiles that are seen.
+  drawRows(set, left, top) {
+    const { side, box } = this;
+    const [right, bottom] = [Math.ceil((left + box.clientWidth) / side), Math.ceil((top + box.clientHeight) / side)];
+    const columns = [Math.floor(left / side), Math.min(right, this.columns)];
+    for (let row = Math.floor(top / side); row < Math.min(bottom, this.rows); row++) this.drawRow(set, row, ...columns);
+  }
+
+  drawRow(set, row, from, to) {
+    for (let column = from; column < to; column++) {
+      const tile = row * this.columns + column;
+      if (tile < set.count) this.drawTile(set, tile, column * this.side, row * this.side);
+    }
   }
 
   // A canvas is as large as what is seen, in pixels of the screen.
@@ -125,8 +136,9 @@ export class Palette {
   }
 
   drawTile(set, tile, x, y) {
-    const scale = Math.min((this.side - 1) / set.tileWidth, (this.side - 1) / set.tileHeight);
-    drawTile(this.pen, this.tilesets, set.first + tile, x + 1, y + 1, set.tileWidth * scale, set.tileHeight * scale);
+    const [width, height] = set.has(tile) ? set.sizeOf(tile) : [set.tileWidth, set.tileHeight];
+    const scale = Math.min((this.side - 1) / width, (this.side - 1) / height);
+    drawTile(this.pen, this.tilesets, set.first + tile, x + 1, y + 1, width * scale, height * scale);
   }
 
   // A frame around the tiles of the stamp, where they stand in this tileset.

@@ -162,6 +162,11 @@ class Staggered {
     this.height = byColumns ? height * (tileHeight + sideY) + (width > 1 ? this.stepY : 0) : height * this.stepY + this.slantY;
   }
 
+  // How far a column is from the one before it, and a row.
+  get steps() {
+    return this.byColumns ? [this.stepX, this.tileHeight + this.sideY] : [this.tileWidth + this.sideX, this.stepY];
+  }
+
   isMoved(at) {
     return (at & 1) === this.parity;
   }
@@ -195,14 +200,15 @@ class Staggered {
   }
 
   boxOf([x0, y0, x1, y1]) {
-    const [left, top] = [x0, y0].map((at, way) => (way ? at * (this.byColumns ? this.tileHeight + this.sideY : this.stepY) : at * (this.byColumns ? this.stepX : this.tileWidth + this.sideX)));
+    const [wide, high] = this.steps;
+    const [left, top] = [x0 * wide, y0 * high];
     const [right, bottom] = this.corner(x1 - 1, y1 - 1);
     const [moreX, moreY] = this.byColumns ? [0, this.stepY] : [this.stepX, 0];
     return [left, top, right + this.tileWidth + moreX, bottom + this.tileHeight + moreY];
   }
 
   cellsIn([left, top, right, bottom]) {
-    const [wide, high] = this.byColumns ? [this.stepX, this.tileHeight + this.sideY] : [this.tileWidth + this.sideX, this.stepY];
+    const [wide, high] = this.steps;
     return [Math.floor(left / wide) - 2, Math.floor(top / high) - 2, Math.floor(right / wide) + 2, Math.floor(bottom / high) + 2];
   }
 

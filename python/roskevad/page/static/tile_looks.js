@@ -103,8 +103,8 @@ export class TileLooks {
     this.pen ??= new OffscreenCanvas(LONGEST_SIDE, LONGEST_SIDE).getContext("2d", { willReadFrequently: true });
     this.pen.clearRect(0, 0, width, height);
     if (tileset?.has(tile - tileset.first)) {
-      const [x, y] = tileset.placeOf(tile - tileset.first);
-      this.pen.drawImage(tileset.image, x, y, tileset.tileWidth, tileset.tileHeight, 0, 0, width, height);
+      const id = tile - tileset.first;
+      this.pen.drawImage(tileset.imageFor(id), ...tileset.placeOf(id), ...tileset.sizeOf(id), 0, 0, width, height);
     } else {
       this.pen.fillStyle = colourOf(tile);
       this.pen.fillRect(0, 0, width, height);

@@ -1,8 +1,10 @@
 // What a tileset tells of how its tiles are drawn, beside their sizes: how far they are moved, where a tile object stands, which picture an
-// animation shows first, and which colour of its image is clear.
+// animation shows first, which colour of its image is clear, and which images its tiles have of their own.
 import { partsOfColour } from "./tints.js";
 
 const FARTHEST = 1_000_000;
+// How many tiles with images of their own are looked at.
+const MOST_PICTURES = 2000;
 // The most pixels of an image in which a colour is made clear.
 const MOST_PIXELS = 16 * 1024 * 1024;
 
@@ -16,20 +18,23 @@ export function looksInXml(root, image, tiles) {
     tileoffset: offset && { x: offset.getAttribute("x"), y: offset.getAttribute("y") },
     objectalignment: root.getAttribute("objectalignment"),
     transparentcolor: image?.getAttribute("trans"),
+    pictures: tiles.map(each => [Number(each.getAttribute("id")), each.querySelector(":scope > image")?.getAttribute("source")]),
     animated: animated.map(each => [Number(each.getAttribute("id")), Number(each.querySelector("frame").getAttribute("tileid"))]),
   };
 }
 
-// { offset, alignment, frames, clear }, whatever the file has.
+// { offset, alignment, frames, clear, pictures }, whatever the file has.
 export function looksOf(told) {
   const tiles = Array.isArray(told.tiles) ? told.tiles.filter(each => Array.isArray(each?.animation) && each.animation.length) : [];
   const animated = told.animated ?? tiles.map(each => [each.id, each.animation[0]?.tileid]);
+  const pictures = told.pictures ?? (Array.isArray(told.tiles) ? told.tiles.map(each => [each?.id, each?.image]) : []);
   const frames = animated.filter(pair => pair.every(id => Number.isSafeInteger(id) && id >= 0));
   return {
     offset: [numberOf(told.tileoffset?.x ?? 0), numberOf(told.tileoffset?.y ?? 0)],
     alignment: typeof told.objectalignment === "string" ? told.objectalignment : "unspecified",
     frames: frames.length ? new Map(frames) : null,
     clear: partsOfColour(told.transparentcolor),
+    pictures: pictures.filter(([id, path]) => Number.isSafeInteger(id) && id >= 0 && path && typeof path === "string").slice(0, MOST_PICTURES),
   };
 }
 

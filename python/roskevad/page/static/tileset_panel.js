@@ -54,13 +54,13 @@ export class TilesetPanel {
   }
 
   greatestUsed() {
+    return this.bench.map.layers.reduce((greatest, layer) => Math.max(greatest, this.greatestIn(layer)), 0);
+  }
+
+  greatestIn(layer) {
     const { map } = this.bench;
-    let greatest = 0;
-    for (const layer of map.layers) {
-      const values = layer.isTiles ? map.cells(layer.id, 0, 0, map.width, map.height) : (layer.data.objects ?? []).map(each => each.gid ?? 0);
-      for (const value of values) if ((value & TILE) > greatest) greatest = value & TILE;
-    }
-    return greatest;
+    const values = layer.isTiles ? map.cells(layer.id, 0, 0, map.width, map.height) : (layer.data.objects ?? []).map(each => each.gid ?? 0);
+    return values.reduce((greatest, value) => Math.max(greatest, value & TILE), 0);
   }
 
   async add() {

@@ -11,12 +11,15 @@ export { colourOf } from "./tile_looks.js";
 // How many tiles a tileset without an image has, where its file does not tell, and how many of them are shown at most.
 const USUAL = 256;
 const MOST_BARE = 65_536;
+// The most pixels of the images of one tileset's tiles.
+const MOST_PICTURED = 64 * 1024 * 1024;
+const LONGEST_NAME = 80;
 
 class Tileset {
   // `first` and `last` are values of the map, and `told` is what its file tells: checked, or nothing.
   constructor(first, last, source, told, image, map) {
     Object.assign(this, { first, source, image, why: "" });
-    this.name = told.name || source || "tiles";
+    this.name = told.name || source?.slice(0, LONGEST_NAME) || "tiles";
     this.tileWidth = told.tilewidth || map.tileWidth;
     this.tileHeight = told.tileheight || map.tileHeight;
     this.spacing = told.spacing ?? 0;
@@ -45,6 +48,15 @@ class Tileset {
     return this.why ? known : Math.max(this.told.tilecount ?? 0, known ?? 0) || null;
   }
 
+  // The image that has a tile, and the size of the tile there.
+  imageFor() {
+    return this.image;
+  }
+
+  sizeOf() {
+    return [this.tileWidth, this.tileHeight];
+  }
+
   // Whether the image has a tile.
   has(tile) {
     return Boolean(this.image) && tile >= 0 && tile < this.count;
@@ -57,6 +69,35 @@ class Tileset {
     const column = tile % this.columns;
     const row = Math.floor(tile / this.columns);
     return [this.margin + column * (this.tileWidth + this.spacing), this.margin + row * (this.tileHeight + this.spacing)];
+  }
+}
+
+// A tileset of which each tile has an image of its own.
+class PictureSet extends Tileset {
+  // `pictures` are the images by the ids of the tiles.
+  constructor(first, last, source, told, pictures, map) {
+    super(first, last, source, told, null, map);
+    this.pictures = pictures;
+    // Some image: so it is drawn.
+    this.image = pictures.values().next().value ?? null;
+    this.count = Math.min(told.tiles, last - first + 1, MOST_BARE);
+  }
+
+  imageFor(id) {
+    return this.pictures.get(this.told.frames?.get(id)) ?? this.pictures.get(id);
+  }
+
+  sizeOf(id) {
+    const { width, height } = this.imageFor(id);
+    return [width, height];
+  }
+
+  has(tile) {
+    return this.pictures.has(tile);
+  }
+
+  placeOf() {
+    return [0, 0];
   }
 }
 
@@ -104,17 +145,22 @@ export class Tilesets {
   async read(data, next, map, found) {
     let told = {};
     let image = null;
+    let pictures = null;
     let why = "";
     try {
       told = checked(data.source ? await this.readFile(this.folder + data.source, found) : data);
       const path = told.image && this.folder + folderOf(data.source ?? "") + told.image;
       const bytes = path && (await this.bytesOf(path, found));
       if (bytes) image = withoutColour(await imageOf(told.image, bytes), told.clear);
+      if (!told.image && told.pictures.length) pictures = await this.picturesOf(told.pictures, this.folder + folderOf(data.source ?? ""), found);
     } catch (fault) {
       if (!(fault instanceof Wrong)) throw fault;
       why = fault.message;
     }
-    const tileset = new Tileset(data.firstgid, next - 1, data.source, why ? { name: told.name } : told, image, map);
+    const isPictures = pictures !== null && !why;
+    const tileset = isPictures
+      ? new PictureSet(data.firstgid, next - 1, data.source, told, pictures, map)
+      : new Tileset(data.firstgid, next - 1, data.source, why ? { name: told.name } : told, image, map);
     tileset.why ||= why;
     if (tileset.why) found.wrong.push({ name: data.source ?? tileset.name, why: tileset.why });
     return tileset;
@@ -123,6 +169,20 @@ export class Tilesets {
   async readFile(path, found) {
     const bytes = await this.bytesOf(path, found);
     return bytes ? readTileset(path, bytes) : {};
+  }
+
+  // The images of tiles, by their ids: those that can be had.
+  async picturesOf(pictures, folder, found) {
+    const images = new Map();
+    let left = MOST_PICTURED;
+    for (const [id, path] of pictures) {
+      const bytes = await this.bytesOf(folder + path, found);
+      const image = bytes && (await imageOf(path, bytes));
+      left -= image ? image.width * image.height : 0;
+      if (left < 0) throw new Wrong(`its images have more than ${MOST_PICTURED} pixels`);
+      if (image) images.set(id, image);
+    }
+    return images;
   }
 
   async bytesOf(path, found) {

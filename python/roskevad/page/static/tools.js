@@ -4,7 +4,8 @@ import { ObjectTool, insertObject } from "./object_tools.js";
 import { StrokeTool } from "./stroke_tool.js";
 import { ViewHand } from "./view_hand.js";
 
-const COLOURS = { brush: "#7fd67f", eraser: "#ff8f8f", fill: "#7fd67f", rectangle: "#7fd67f", select: "#8cc8ff", insert: "#ffd34d", capture: "#d8b4ff" };
+const DRAWN = "#7fd67f";
+const COLOURS = { brush: DRAWN, eraser: "#ff8f8f", fill: DRAWN, rectangle: DRAWN, select: "#8cc8ff", insert: "#ffd34d", capture: "#d8b4ff" };
 // The tools that draw on the layer in hand, and those with which the right button takes tiles.
 const PAINTING = new Set(["brush", "eraser", "fill", "rectangle"]);
 const TAKING = new Set(["brush", "fill", "rectangle"]);
@@ -144,7 +145,7 @@ export class Tools {
     const { view } = this.bench;
     const place = view.placeOf(event);
     const [x, y] = [Math.round(place.x - this.from.x), Math.round(place.y - this.from.y)];
-    view.panBy(x, y);
+    view.pan(x, y);
     this.from = { x: this.from.x + x, y: this.from.y + y };
   }
 
