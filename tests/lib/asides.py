@@ -52,6 +52,11 @@ def whole_part(number):
     return max(-(2**63), min(2**63 - 1, math.floor(number)))
 
 
+def are_whole(values):
+    """Whether all entries of a list are whole numbers, as cells are."""
+    return set(map(type, values)) <= {int}
+
+
 def notes_of(place, value):
     """The stand-ins of an object's coordinates that are fractions."""
     return {
@@ -68,7 +73,7 @@ def aside(value, place=MAP):
         members = {name: aside(member, below(place, name)) for name, member in value.items()}
         return {**members, RESERVED: notes} if notes else members
     if isinstance(value, list):
-        return [aside(entry, inside(place)) for entry in value]
+        return value if are_whole(value) else [aside(entry, inside(place)) for entry in value]
     if not isinstance(value, float) or place == VERSION:
         return value
     return whole_part(value) if place == COORDINATE else stand_in(value)
@@ -144,12 +149,14 @@ def has_fraction(value, place=MAP):
 
 def exact(value):
     """A tree with each float as its bits, so that trees are equal only if they have the same
-    numbers."""
+    numbers; and with truth values told from 0 and 1."""
     if isinstance(value, dict):
         return {name: exact(member) for name, member in value.items()}
     if isinstance(value, list):
-        return [exact(entry) for entry in value]
-    return ('float', struct.pack('>d', value)) if isinstance(value, float) else (type(value), value)
+        return value if are_whole(value) else [exact(entry) for entry in value]
+    if isinstance(value, float):
+        return 'float', struct.pack('>d', value)
+    return (bool, value) if isinstance(value, bool) else value
 
 
 def exact_text(data):

@@ -2,7 +2,7 @@
 with one entry for each cell, and infinite maps that are made and edited by chance."""
 import base64
 import binascii
-import copy
+import json
 import struct
 
 from lib.maps import cells_of, packed
@@ -143,6 +143,11 @@ def every_layer(layers):
             yield from every_layer(layer.get('layers', []))
 
 
+def copied(tree):
+    """A copy that shares nothing with a tree of JSON; its floats are written as texts that read as they are."""
+    return json.loads(json.dumps(tree))
+
+
 def is_infinite(tree):
     return type(tree) is dict and tree.get('infinite') is True
 
@@ -151,7 +156,7 @@ def finite_of(tree):
     """The finite map of an infinite one; None for a map that is not infinite."""
     if not is_infinite(tree):
         return None
-    tree = copy.deepcopy(tree)
+    tree = copied(tree)
     left, top, right, bottom = box_of(tree)
     width, height = right - left, bottom - top
     is_small = max(width, height) <= MOST_SIDE and width * height <= MOST_CELLS
@@ -266,7 +271,7 @@ def infinite_of(tree):
     """The infinite map that a finite one is; None for one that was not infinite."""
     if type(tree) is not dict or type(tree.get(MARK)) is not dict or 'infinite' not in tree[MARK]:
         return None
-    tree = copy.deepcopy(tree)
+    tree = copied(tree)
     note = tree.pop(MARK)['infinite']
     width, height = tree.pop('width'), tree.pop('height')
     for layer in every_layer(tree.get('layers', [])):
@@ -326,9 +331,9 @@ def some_chunks(chosen, is_text, is_grid):
     rectangles = []
     for _ in range(chosen.randint(0, 5)):
         if is_grid:
-            new = 16 * chosen.randint(-2, 2), 16 * chosen.randint(-2, 2), 16, 16
+            new = 16 * chosen.randint(-1, 1), 16 * chosen.randint(-1, 1), 16, 16
         else:
-            places = chosen.randint(-20, 20), chosen.randint(-20, 20)
+            places = chosen.randint(-12, 12), chosen.randint(-12, 12)
             new = (*places, chosen.randint(1, 9), chosen.randint(1, 9))
         if apart(rectangles, new):
             rectangles.append(new)

@@ -1,9 +1,9 @@
 -- The facts about an answer, from what was seen of its tree.
-use Rattle.std.proofs.Common.{◌≡◌, ◌⊎◌, inl, inr, ℕ, ◌≤◌, ◌<◌, nat_le, leb-false, List, Bool, true, false, not, ◌||◌, true≢false, Option, Some, None, is_some, Vec, Global, Err, refl, sym, ap, ◌∙◌, arith}
+use Rattle.std.proofs.Common.{◌≡◌, inr, ℕ, ◌≤◌, ◌<◌, nat_le, leb-false, List, Bool, true, false, not, ◌||◌, true≢false, Option, Some, None, is_some, Vec, Global, Err, refl, sym, ap, ◌∙◌, arith}
 use Rattle.std.specs.Prelude.{unwrap_or}
 use Rattle.serde_json.specs.Data.{Data, depth}
 use Rattle.serde_json.specs.Read.{max_depth}
-use Rattle.infinite_maps.specs.Infinite.{is_infinite, infinite_of}
+use Rattle.infinite_maps.specs.Infinite.{is_infinite}
 use Rattle.tiled_maps.specs.declared.fault.Fault.{Fault}
 use Rattle.tiled_maps.specs.declared.fault.Fault.TheVariants.{Memory, NotJson, NameTaken, TooDeep, BadChunk, Overlap, TooLarge, Unlike}
 use Rattle.tiled_maps.specs.declared.place.Place.TheVariants.{Map}

@@ -1,5 +1,5 @@
 -- One lexeme of a text after another, as the look passes them.
-use Rattle.std.proofs.Common.{IfSome, take_all, length-drop, ◌≡◌, ℕ, zero, suc, ◌+◌, ◌-◌, ◌*◌, ◌^◌, ◌<◌, ◌≤◌, ◌⊎◌, inl, inr, Bool, true, false, cond, ◌||◌, ◌==◌, nat_lt, List, [], ◌∷◌, ◌++◌, length, take, drop, get_or, Option, Some, None, option_and_then, refl, sym, ap, ap₂, ◌∙◌, subst, arith, append-nil, take-append-drop, length-take, append_assoc, drop-drop, get_or-drop, zero-lt-suc}
+use Rattle.std.proofs.Common.{IfSome, ◌≡◌, ℕ, suc, ◌+◌, ◌-◌, ◌*◌, ◌^◌, ◌<◌, ◌≤◌, ◌⊎◌, inl, inr, Bool, true, false, cond, ◌||◌, ◌==◌, List, [], ◌∷◌, ◌++◌, length, take, drop, get_or, Option, Some, None, option_and_then, refl, sym, ap, ap₂, ◌∙◌, subst, arith, append-nil, take-append-drop, length-take, append_assoc, drop-drop, get_or-drop, zero-lt-suc}
 use native.Mathlib.Nat.{pow-le-pow_right}
 use Rattle.std.specs.Fmt.{sign_text}
 use Rattle.std.proofs.lemmas.Bool.{cases_eq, true≢false, false≢true, eqb-true, ne_eqb, leb-true, and_parts, and_from, lt-ltb, le-leb}
@@ -12,16 +12,15 @@ use Rattle.std.specs.Char.{is_ascii_digit, digit_value}
 use Rattle.std.specs.Str.Parse.{AllDigits, digits_value, digits_value_after}
 use Rattle.fast_float.specs.Text.{Parts, scan, digits_of, IsWellFormed}
 use Rattle.json.specs.Token.{Token, begin_object, end_object, begin_array, end_array, boolean, null, bad}
-use Rattle.json.specs.Text.{content, plain, prepend}
 use Rattle.json.specs.Word.{is_operator, is_space, head, ends_word, after_whole, after_fraction, after_exponent, after_number, word}
-use Rattle.json.specs.Lex.{Lexeme, token, comma, colon, quote, backslash, operator, space, other, class, operator_lexeme, string_token, Mode, between, in_word, in_string, lex_byte, lex}
+use Rattle.json.specs.Lex.{Lexeme, token, comma, colon, quote, backslash, operator, space, other, class, operator_lexeme, Mode, between, in_word, lex_byte, lex}
 use Rattle.json.specs.Print.{IsNumber}
 use Rattle.json.proofs.Printed.Numbers.{lex-number, in_word-ended}
 use Rattle.serde_json.specs.Data.{Num, unsigned}
 use Rattle.serde_json.specs.Find.{is_float}
 use Rattle.serde_json.specs.Read.{is_integer, number_from, number_of}
 use Rattle.serde_json.proofs.Numbers.{number_of-decimal}
-use Rattle.tiled_maps.specs.Lexemes.{IsWhole, BeginFalse, AreFalse, IsPlainText, First, ArePlain, BeginsLiteral, Ends, Leads, EndsWell}
+use Rattle.tiled_maps.specs.Lexemes.{IsWhole, BeginFalse, AreFalse, First, ArePlain, BeginsLiteral, Ends, Leads, EndsWell}
 
 -- ---- operators and spaces
 mark : (b : Bool) (l m : Lexeme) (ls : List Lexeme) → ArePlain (l ∷ ls) → ArePlain (m ∷ ls) → ArePlain (cond b l m ∷ ls)
@@ -370,6 +369,20 @@ cell_plain text at end h inside is some few zeros behind rest =
         let next : end ≡ at + 1 = omega arith in
         zero_plain text at h e (subst (λ k. ends_word (drop k text) ≡ true) next ended) (subst (λ k. ArePlain (lex between (drop k text))) next there)
     of (inr ne) ended there high low = whole_plain text at end is few (omega arith) high ended there
+
+one_digit : (t : List ℕ) → is_ascii_digit (get_or t 0 0) ≡ true → get_or t 1 0 ≡ 44 → prefix_len is_ascii_digit t ≡ 1
+one_digit [] digit behind = absurd (false≢true digit)
+one_digit (x ∷ []) digit behind = absurd (omega (arith, behind))
+one_digit (x ∷ y ∷ ys) digit behind =
+    ap (λ b. cond b (1 + prefix_len is_ascii_digit (y ∷ ys)) 0) digit ∙ ap (λ z. 1 + cond (is_ascii_digit z) (1 + prefix_len is_ascii_digit ys) 0) behind
+
+-- a cell of one digit
+pub short_cell_plain : (text : List ℕ) (at : ℕ) → EndsWell text → at < length text → is_ascii_digit (get_or text at 0) ≡ true → get_or text (at + 1) 0 ≡ 44
+    → ArePlain (lex between (drop (at + 1 + 1) text)) → ArePlain (lex between (drop at text))
+short_cell_plain text at well h digit behind rest =
+    let one : prefix_len is_ascii_digit (drop at text) ≡ 1 =
+    one_digit (drop at text) (subst (λ x. is_ascii_digit x ≡ true) (sym (first_at text at)) digit) (get_or-drop at text 1 0 ∙ behind) in
+    cell_plain text at (at + 1) h (digit_follows text at well h digit) (omega (arith, one)) (omega arith) (omega arith) (λ _. omega arith) behind rest
 
 pub space_plain : (text : List ℕ) (at : ℕ) → at < length text → get_or text at 0 ≡ 32 → ArePlain (lex between (drop (at + 1) text)) → ArePlain (lex between (drop at text))
 space_plain text at h is rest = delimiter_plain text at h (ap (λ x. is_operator x || is_space x) is) rest

@@ -1,18 +1,18 @@
 -- Setting fractions aside and making a map finite do not meet: neither changes what the other looks for.
-use Rattle.std.proofs.Common.{◌≡◌, ℕ, List, codes, Bool, true, false, Option, Some, None, option_map, Ordering, Less, Equal, Greater, nat_cmp, Float, refl, sym, ap, ◌∙◌, subst}
+use Rattle.std.proofs.Common.{◌≡◌, ℕ, List, codes, false, Option, Some, None, option_map, Ordering, Less, Equal, Greater, nat_cmp, Float, refl, sym, ap, ◌∙◌}
 use Rattle.std.specs.Prelude.{option_and_then, unwrap_or}
 use Rattle.std.specs.Cmp.Lexicographic.{slice_cmp}
 use Rattle.std.specs.Ordering.{match_ordering}
-use Rattle.serde_json.specs.Data.{Num, unsigned, negative, float, Data, null, boolean, number, string, array, object, Items, no_items, item, Members, no_members, member}
-use Rattle.serde_json.specs.Find.{get, get_member, as_bool, of_integer, to_float}
+use Rattle.serde_json.specs.Data.{unsigned, negative, float, Data, null, boolean, number, string, array, object, Members, no_members, member}
+use Rattle.serde_json.specs.Find.{get, get_member, as_bool}
 use Rattle.infinite_maps.specs.Infinite.{is_true, is_infinite, infinite_of, map_by}
 use Rattle.tiled_maps.specs.declared.place.Place.{Place}
 use Rattle.tiled_maps.specs.declared.place.Place.TheVariants.{Map, Layer, Object, Coordinate, Version, Elsewhere}
 use Rattle.tiled_maps.specs.Members.{has_name}
 use Rattle.tiled_maps.specs.Places.{below}
-use Rattle.tiled_maps.specs.Aside.{reserved_name, stand_in, whole_part, aside, members_aside, set_aside_of}
+use Rattle.tiled_maps.specs.Aside.{reserved_name, stand_in, aside, members_aside, set_aside_of}
 use Rattle.tiled_maps.specs.Back.{back}
-use Rattle.tiled_maps.specs.Trees.{IsAside, put_back_of}
+use Rattle.tiled_maps.specs.Trees.{put_back_of}
 use Rattle.tiled_maps.proofs.MembersLemmas.{same_name}
 use Rattle.tiled_maps.proofs.ReadTrees.{IsReadTree}
 use Rattle.tiled_maps.proofs.Law.{absent, back-set_aside_of}

@@ -220,6 +220,29 @@ fn text_end(text: &[u8], at: usize) -> Option<usize>
     }
 }
 
+// The place of the comma behind the number that begins there. The same place: no such number surely needs nothing.
+#[inline(always)]
+fn cell_end(text: &[u8], at: usize) -> usize
+    requires within { at < length text.now }
+    requires last { EndsWell text.now }
+    ensures low { at ≤ result }
+    ensures bound { at < result → result + 1 < length text.now }
+    ensures plain { at < result → ArePlain (lex between (drop (result + 1) text.now)) → ArePlain (lex between (drop at text.now)) }
+{
+    if text[at].is_ascii_digit() && text[at + 1] == b',' {
+        return at + 1;
+    }
+    let end = digits_end(text, at);
+    let len = end - at;
+    if len == 0 || len > MAX_DIGITS || text[end] != b',' {
+        return at;
+    }
+    if text[at] == b'0' && len > 1 {
+        return at;
+    }
+    end
+}
+
 // Passes numbers that have a comma behind them, and perhaps one space, as cells are.
 #[inline(always)]
 fn cells_end(text: &[u8], from: usize) -> usize
@@ -230,12 +253,8 @@ fn cells_end(text: &[u8], from: usize) -> usize
 {
     let mut at = from;
     loop {
-        let end = digits_end(text, at);
-        let len = end - at;
-        if len == 0 || len > MAX_DIGITS || text[end] != b',' {
-            return at;
-        }
-        if text[at] == b'0' && len > 1 {
+        let end = cell_end(text, at);
+        if end == at {
             return at;
         }
         at = end + 1;
