@@ -27,66 +27,31 @@ use Rattle.map_json.proofs.map_text.+pushes.Goals as goal
 pub push_framed-loop-name-init : goal.push_framed-loop-name-init
 push_framed-loop-name-init t c =
     let d = layers_in c.args.writing.detail c.args.room c.args.writing.size.width c.args.writing.size.height c.args.layers.now in
-    let every = replaced LAYERS.now d c.args.frame.now in
     let held : c.into_iter-name-iterator.result ≡ c.members.result.now.entries = search rules in
-    let same = ap members_view held ∙ c.members.ensures in
-    let shown = ap (replaced LAYERS.now d) same in (
-      [],
-      refl,
-      ap (λ ms. c.push.new.self.items ++ members_text false ms) shown,
-      λ h. subst (λ ms. MembersReturn ms no_members every) shown h,
-      ap members_have_float same ∙ c.requires.whole,
-      subst (λ ms. members_depth ms ≤ max_depth) (sym same) c.requires.shallow,
-    )
+    ArePut-none LAYERS.now d c.args.frame.now c.push.new.self.items c.into_iter-name-iterator.result (ap members_view held ∙ c.members.ensures) c.requires.whole c.requires.shallow
 
 pub push_framed-loop-name-preserved : goal.push_framed-loop-name-preserved
 push_framed-loop-name-preserved t c =
     let l = c.loop-name in
     let d = layers_in c.args.writing.detail c.args.room c.args.writing.size.width c.args.writing.size.height c.args.layers.now in
-    let shown = λ (es : List Entry). replaced LAYERS.now d (members_view es) in
-    let every = replaced LAYERS.now d c.args.frame.now in
-    let done = l.invariant.0 in
     let e : Entry = (c.in-Some.name.now, c.in-Some.value.now) in
     let k = string_bytes c.in-Some.name.now in
-    let value = instead LAYERS.now d k (view c.in-Some.value.now) in
-    let left = c.next.new.self in
-    let step : l.name-iterator ≡ e ∷ left = c.in-Some.ensures.steps in
-    let all = l.invariant.1 ∙ ap (λ es. done ++ es) step in
     let held : c.into_iter-name-iterator.result ≡ c.members.result.now.entries = search rules in
-    let last = put_last done e left (subst (λ es. IsStrictlySortedBy string_cmp (keys_of es)) (sym held ∙ all) c.iter-name-items.ensures.ordered) in
-    let found : put k value (shown done) ≡ shown (done ++ e ∷ []) = sym (replaced-put LAYERS.now k d (view c.in-Some.value.now) (members_view done)) ∙ ap (replaced LAYERS.now d) last in
-    let rest = members_text true (shown left) in
-    let whole = or_parts (has_float (view c.in-Some.value.now)) _ (ap (λ es. members_have_float (members_view es)) (sym step) ∙ l.invariant.4) in
-    let named : c.push_name.new.text.items ≡ l.text.items ++ (comma_if l.later ++ (quoted k ++ 58 ∷ [])) =
-    subst (λ n. c.push_name.new.text.items ≡ l.text.items ++ (comma_if l.later ++ (quoted n ++ 58 ∷ []))) c.as_str.ensures.value c.in_ok-push_name.ensures in
-    let shows : Appends value c.push_name.new.text.items c.push_member.new.text.items =
-    subst (λ n. Appends (instead LAYERS.now d n (view c.in-Some.value.now)) c.push_name.new.text.items c.push_member.new.text.items) c.as_str-in-loop-name.ensures.value c.in_ok-push_member.ensures in (
-      done ++ e ∷ [],
-      all ∙ sym (append_assoc done (e ∷ []) left),
-      ap (λ t. t ++ rest) (shows.0 ∙ ap (λ t. t ++ compact_text value) named)
-          ∙ (regroup_member l.text.items (comma_if l.later) (quoted k) (compact_text value) rest ∙ (ap (λ es. l.text.items ++ members_text l.later (shown es)) (sym step) ∙ l.invariant.2)),
-      λ h. l.invariant.3 (subst (λ es. MembersReturn (shown es) (shown done) every) (sym step)
-          (MembersReturn-member k value (shown left) (shown done) every (IsUtf8-string_bytes c.in-Some.name.now) shows.1 (subst (λ ms. MembersReturn (shown left) ms every) (sym found) h))),
-      whole.1,
-      omega (arith, l.invariant.5, ap (λ es. members_depth (members_view es)) step),
-    )
+    let put = subst (λ es. ArePut LAYERS.now d c.args.frame.now c.push.new.self.items c.into_iter-name-iterator.result es l.later l.text.items) c.in-Some.ensures.steps l.invariant in
+    let ordered = subst (λ es. IsStrictlySortedBy string_cmp (keys_of es)) (sym held) c.iter-name-items.ensures.ordered in
+    let named = subst (λ n. c.push_name.new.text.items ≡ l.text.items ++ (comma_if l.later ++ (quoted n ++ 58 ∷ []))) c.as_str.ensures.value c.in_ok-push_name.ensures in
+    let shows = subst (λ n. Appends (instead LAYERS.now d n (view c.in-Some.value.now)) c.push_name.new.text.items c.push_member.new.text.items) c.as_str-in-loop-name.ensures.value c.in_ok-push_member.ensures in
+    ArePut-more LAYERS.now d c.args.frame.now c.push.new.self.items c.into_iter-name-iterator.result c.next.new.self l.later l.text.items c.push_name.new.text.items c.push_member.new.text.items e put ordered named shows
 
 pub push_framed-returns : goal.push_framed-returns
 push_framed-returns t c =
     let l = c.loop-name in
-    let shown = λ (es : List Entry). replaced LAYERS.now (layers_in c.args.writing.detail c.args.room c.args.writing.size.width c.args.writing.size.height c.args.layers.now) (members_view es) in
-    let every = replaced LAYERS.now (layers_in c.args.writing.detail c.args.room c.args.writing.size.width c.args.writing.size.height c.args.layers.now) c.args.frame.now in
-    let done = l.invariant.0 in
+    let d = layers_in c.args.writing.detail c.args.room c.args.writing.size.width c.args.writing.size.height c.args.layers.now in
     let none : l.name-iterator ≡ [] = search rules in
     let held : c.into_iter-name-iterator.result ≡ c.members.result.now.entries = search rules in
-    let all : c.members.result.now.entries ≡ done = sym held ∙ (l.invariant.1 ∙ (ap (λ es. done ++ es) none ∙ append-nil done)) in
-    let same : every ≡ shown done = ap (replaced LAYERS.now (layers_in c.args.writing.detail c.args.room c.args.writing.size.width c.args.writing.size.height c.args.layers.now)) (sym c.members.ensures) ∙ ap shown all in
-    let back = subst (λ ms. MembersReturn no_members ms every) same (MembersReturn-none every) in (
-      c.in_ok-push-2.ensures.items
-          ∙ (ap (λ es. l.text.items ++ members_text l.later (shown es)) (sym none)
-          ∙ (l.invariant.2 ∙ (ap (λ t. t ++ members_text false every) c.in_ok-push.ensures.items ∙ append_assoc c.args.text.now.items (123 ∷ []) (members_text false every)))),
-      Returns-object every (l.invariant.3 (subst (λ es. MembersReturn (shown es) (shown done) every) (sym none) back)),
-    )
+    let put = subst (λ es. ArePut LAYERS.now d c.args.frame.now c.push.new.self.items c.into_iter-name-iterator.result es l.later l.text.items) none l.invariant in
+    ArePut-all LAYERS.now d c.args.frame.now c.push.new.self.items c.into_iter-name-iterator.result l.later c.args.text.now.items l.text.items c.push-2.new.self.items put (ap members_view held ∙ c.members.ensures)
+    c.in_ok-push.ensures.items c.in_ok-push-2.ensures.items
 
 pub push_layer-push_framed-requires : goal.push_layer-push_framed-requires
 push_layer-push_framed-requires t c =
@@ -132,8 +97,8 @@ push_layer-returns t c =
     elim c.if-room-gt0.branch [
       | push_layer-then-room-gt0+in_default w ↦
           let none : group_in l.body ≡ None = search rules in
-          layer_in-frame c.args.writing.detail c.args.room c.args.writing.size.width c.args.writing.size.height l none
-      | push_layer-else-room-gt0 w ↦ layer_in-room c.args.writing.detail c.args.room c.args.writing.size.width c.args.writing.size.height l (omega (arith, w.if-room-gt0))
+          layer_in-frame c.args.writing.detail c.args.room c.args.writing.size.width c.args.writing.size.height l whole none
+      | push_layer-else-room-gt0 w ↦ layer_in-room c.args.writing.detail c.args.room c.args.writing.size.width c.args.writing.size.height l whole (omega (arith, w.if-room-gt0))
     ] in
     subst (λ d. OnOk c.push_value.result (Appends d c.args.text.now.items c.push_value.new.text.items)) (c.into_value.ensures ∙ (ap object c.in_ok-frame.ensures ∙ whole)) c.push_value.ensures
 
