@@ -231,9 +231,22 @@ AreWritten-plain room width height ls h =
 framed_own_plain : (level n size width height : ℕ) → property_level (object_level level) + n ≡ MAX_DEPTH → (l : Layer) → IsLayer level size l
     → ArePlainOwn (suc (suc (suc (suc n)))) (layer_own width height (array no_items) (record l { body = framed_body l.body }))
 framed_own_plain level n size width height room l h =
-    let m = suc (suc (suc (suc n))) in
-    (text_plain m (type_word (framed_body l.body)), (whole_plain m l.id, (text_plain m l.name, (truth_plain m l.visible, (properties_plain level (suc (suc n)) (omega arith) l.properties h.properties,
-    framed_plain level n size width height room (array no_items) (refl, omega arith) l.body h.body)))))
+    let m = suc (suc (suc (suc n))) in (
+      text_plain m (type_word (framed_body l.body)),
+      (
+        whole_plain m l.id,
+        (
+          text_plain m l.name,
+          (
+            truth_plain m l.visible,
+            (
+              properties_plain level (suc (suc n)) (omega arith) l.properties h.properties,
+              framed_plain level n size width height room (array no_items) (refl, omega arith) l.body h.body,
+            ),
+          ),
+        ),
+      ),
+    )
 
 pub layer_frame_plain : (room width height : ℕ) (l : Layer) → AreWritten room (width * height) (l ∷ []) → IsPlain 127 (object (layer_frame width height l))
 layer_frame_plain room width height l h =

@@ -20,13 +20,18 @@ use crate::detail::{Detail, Writing};
 use crate::json_object::JsonObject;
 use crate::numbers::push_numbers;
 use crate::size::Size;
-use crate::writing::{frame_in, frame_of, numbers_in, text_tree};
+use crate::writing::{frame_in, frame_of, numbers_in, text_tree, values_room};
 use link_chain::Chain;
 use map_model::limits::MAX_GROUPS;
 use map_model::{Layer, Map, names};
 use serde_json::Value;
 use std::alloc::{AllocError, Global};
 use tile_id::Gid;
+
+// About the bytes of a layer's members but its values, and of a map's but its layers.
+const LAYER_ROOM: usize = 256;
+
+const MAP_ROOM: usize = 1024;
 
 // Puts the text of a value behind what is there.
 fn push_value(alloc: Global, text: &mut Vec<u8>, value: &Value) -> Result<(), AllocError>
@@ -200,14 +205,30 @@ fn push_framed(
     Ok(())
 }
 
-// The text of a map in this detail.
+// About the bytes that the text of layers takes, in which layers may stand in so many groups.
+fn layers_room(detail: Detail, groups: usize, layers: &Chain<Layer>) -> usize {
+    let mut bytes: usize = 0;
+    for layer in layers.iter() {
+        bytes = bytes.saturating_add(LAYER_ROOM);
+        bytes = bytes.saturating_add(values_room(detail, &layer.body));
+        if let Some(inside) = layer.body.layers() {
+            if groups > 0 {
+                bytes = bytes.saturating_add(layers_room(detail, groups - 1, inside));
+            }
+        }
+    }
+    bytes
+}
+
+// The text of a map in this detail. Its room is taken at once, since a text that grows is copied.
 fn write_in(alloc: Global, map: &Map, detail: Detail) -> Result<Vec<u8>, AllocError>
     ensures text { IfOk result (λ bytes. Appends (map_in detail map.now) [] bytes.items) }
     ensures well_formed { IsWellFormed map.now }
 {
     let parts = map.parts();
     let frame = frame_of(alloc, parts)?;
-    let mut text = Vec::new(alloc);
+    let room = layers_room(detail, MAX_GROUPS, &parts.layers).saturating_add(MAP_ROOM);
+    let mut text = Vec::with_capacity(alloc, room)?;
     let size = Size::of_map(parts);
     let writing = Writing { size, detail };
     push_framed(alloc, &mut text, writing, MAX_GROUPS, &parts.layers, &frame)?;

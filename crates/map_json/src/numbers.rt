@@ -5,7 +5,7 @@ ghost use Rattle.map_model.specs.WellFormed.{IsTileValue};
 ghost use Rattle.map_json.specs.Appending.{Appends, numbers_text};
 ghost use Rattle.map_json.specs.Trees.{array_by, whole_tree};
 
-use itoa::write_digits;
+use itoa::{Buffer, write_digits};
 use std::alloc::AllocError;
 use tile_id::Gid;
 
@@ -31,6 +31,18 @@ fn write_numbers(numbers: &[Gid], buffer: &mut [u8]) -> usize
         buffer[start] = b',';
     }
     start
+}
+
+/// About the bytes that an array of these numbers takes: as if each were as long as the greatest.
+pub fn room_for(numbers: &[Gid]) -> usize {
+    let mut greatest = 0;
+    for number in numbers {
+        greatest = number.0.max(greatest);
+    }
+    let mut buffer = Buffer::new();
+    numbers
+        .len()
+        .saturating_mul(1 + buffer.format(greatest).len())
 }
 
 /// Puts the array of numbers that the values of a tile layer are.

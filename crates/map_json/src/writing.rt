@@ -12,6 +12,7 @@ ghost use Rattle.map_json.specs.Details.{common_own, frame_in, numbers_in, numbe
 
 use crate::detail::{Detail, Writing};
 use crate::json_object::JsonObject;
+use crate::numbers::room_for;
 use crate::size::Size;
 use base64::encoded_len;
 use base64::engine::general_purpose::STANDARD;
@@ -368,6 +369,19 @@ pub fn numbers_in(detail: Detail, body: &Body) -> Option<&[Gid]>
     match detail {
         Detail::Whole => numbers_of(body),
         Detail::Outline => None,
+    }
+}
+
+/// About the bytes that a layer's values take, where they are written.
+pub fn values_room(detail: Detail, body: &Body) -> usize {
+    if let Some(numbers) = numbers_in(detail, body) {
+        return room_for(numbers);
+    }
+    match (detail, body) {
+        (Detail::Whole, Body::Tiles(Encoding::Base64, cells)) => {
+            encoded_len(cells.as_slice().len().saturating_mul(4), true).unwrap_or(0)
+        }
+        _ => 0,
     }
 }
 

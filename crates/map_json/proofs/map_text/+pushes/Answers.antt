@@ -1,26 +1,24 @@
-use Rattle.std.proofs.Common.{◌≡◌, ◌*◌, ◌-◌, ◌≤◌, suc, None, Some, OnOk, List, [], ◌∷◌, ◌++◌, string_bytes, false, true, refl, sym, ap, ◌∙◌, subst, arith, rules, append_assoc, append-nil}
-use Rattle.std.proofs.lemmas.Bool.{or_parts}
-use Rattle.std.proofs.lemmas.Str.{IsUtf8-string_bytes}
+use Rattle.std.proofs.Common.{◌≡◌, ◌*◌, ◌-◌, ◌≤◌, suc, None, Some, OnOk, List, [], ◌∷◌, ◌++◌, string_bytes, false, true, sym, ap, ◌∙◌, subst, arith, rules, append_assoc}
 use Rattle.std.specs.List.Sorted.{IsStrictlySortedBy}
 use Rattle.std.specs.Map.{keys_of}
 use Rattle.std.specs.String.{string_cmp}
 use Rattle.json.specs.Print.{quoted}
-use Rattle.serde_json.specs.Data.{depth, item, members_depth, no_members, object, put}
+use Rattle.serde_json.specs.Data.{depth, item, members_depth, object, put}
 use Rattle.serde_json.specs.Read.{max_depth}
 use Rattle.serde_json.specs.View.{view, members_view}
-use Rattle.serde_json.specs.Written.{comma_if, compact_text, items_text, has_float, members_have_float, members_text}
-use Rattle.serde_json.proofs.Views.{Entry, put_last}
-use Rattle.map_model.specs.declared.names.TheConstants.{LAYERS}
+use Rattle.serde_json.specs.Written.{comma_if, compact_text, items_text, has_float, members_have_float}
+use Rattle.serde_json.proofs.Views.{Entry}
+use Rattle.map_model.specs.declared.names.TheConstants.{DATA, LAYERS}
 use Rattle.map_model.specs.declared.parts.Layer.{Layer}
 use Rattle.map_model.specs.Groups.{group_in}
 use Rattle.map_model.specs.Lists.{or_empty}
 use Rattle.map_json.specs.Appending.{Appends, AreWritten, instead, replaced}
-use Rattle.map_json.specs.Details.{frame_in, layer_in, layers_in}
-use Rattle.map_json.specs.Trees.{items_by}
-use Rattle.map_json.proofs.Frames.{replaced-put}
-use Rattle.map_json.proofs.Outlines.{frame_in_plain, layer_in-frame, layer_in-group, layer_in-room}
-use Rattle.map_json.proofs.Returning.{ItemsReturn, ItemsReturn-none, ItemsReturn-item, MembersReturn, MembersReturn-none, MembersReturn-member, Returns-array, Returns-object, regroup_item, regroup_member}
-use Rattle.map_json.proofs.Written.{AreWritten-first, AreWritten-rest, AreWritten-inside, AreWritten-lacks}
+use Rattle.map_json.specs.Details.{frame_in, layer_in, layers_in, numbers_in}
+use Rattle.map_json.specs.Trees.{array_by, items_by, whole_tree}
+use Rattle.map_json.proofs.Outlines.{frame_in_plain, layer_in-frame, layer_in-group, layer_in-numbers, layer_in-room}
+use Rattle.map_json.proofs.PutMembers.{ArePut, ArePut-none, ArePut-more, ArePut-all}
+use Rattle.map_json.proofs.Returning.{ItemsReturn, ItemsReturn-none, ItemsReturn-item, Returns-array, regroup_item}
+use Rattle.map_json.proofs.Written.{AreWritten-first, AreWritten-rest, AreWritten-inside, AreWritten-lacks, AreWritten-values}
 use Rattle.map_json.proofs.map_text.+pushes.Goals.{push_layer-then-room-gt0+in_default, push_layer-else-room-gt0}
 use Rattle.map_json.proofs.map_text.+pushes.Goals as goal
 
@@ -80,6 +78,32 @@ push_layer-returns-in-Some t c =
     ∙ layer_in-group c.args.writing.detail c.args.room less c.args.writing.size.width c.args.writing.size.height l c.in-Some.inside.now more group (AreWritten-lacks c.args.room (c.args.writing.size.width * c.args.writing.size.height) l c.requires) in
     subst (λ d. OnOk c.push_framed.result (Appends d c.args.text.now.items c.push_framed.new.text.items)) whole c.push_framed.ensures
 
+pub push_layer-push_numbered-requires-clause-numbers : goal.push_layer-push_numbered-requires-clause-numbers
+push_layer-push_numbered-requires-clause-numbers t c =
+    let l = c.args.layer.now in
+    let some : numbers_in c.args.writing.detail l.body ≡ Some c.in-Some-numbers_in.numbers.now = search rules in
+    AreWritten-values c.args.writing.detail c.args.room (c.args.writing.size.width * c.args.writing.size.height) l c.in-Some-numbers_in.numbers.now some c.requires
+
+pub push_layer-push_numbered-requires-clause-whole : goal.push_layer-push_numbered-requires-clause-whole
+push_layer-push_numbered-requires-clause-whole t c =
+    let plain = frame_in_plain c.args.writing.detail c.args.room c.args.writing.size.width c.args.writing.size.height c.args.layer.now c.requires in
+    ap members_have_float c.in_ok-frame.ensures ∙ plain.0
+
+pub push_layer-push_numbered-requires-clause-shallow : goal.push_layer-push_numbered-requires-clause-shallow
+push_layer-push_numbered-requires-clause-shallow t c =
+    let plain = frame_in_plain c.args.writing.detail c.args.room c.args.writing.size.width c.args.writing.size.height c.args.layer.now c.requires in
+    let deep = plain.1 in
+    subst (λ ms. members_depth ms ≤ max_depth) (sym c.in_ok-frame.ensures) (omega (arith, deep))
+
+pub push_layer-returns-in-Some-numbers_in : goal.push_layer-returns-in-Some-numbers_in
+push_layer-returns-in-Some-numbers_in t c =
+    let l = c.args.layer.now in
+    let numbers = c.in-Some-numbers_in.numbers.now in
+    let some : numbers_in c.args.writing.detail l.body ≡ Some numbers = search rules in
+    let whole = ap (λ ms. object (replaced DATA.now (array_by whole_tree numbers) ms)) c.in_ok-frame.ensures
+    ∙ layer_in-numbers c.args.writing.detail c.args.room c.args.writing.size.width c.args.writing.size.height l numbers some (AreWritten-lacks c.args.room (c.args.writing.size.width * c.args.writing.size.height) l c.requires) in
+    subst (λ d. OnOk c.push_numbered.result (Appends d c.args.text.now.items c.push_numbered.new.text.items)) whole c.push_numbered.ensures
+
 pub push_layer-push_value-requires-clause-whole : goal.push_layer-push_value-requires-clause-whole
 push_layer-push_value-requires-clause-whole t c =
     let plain = frame_in_plain c.args.writing.detail c.args.room c.args.writing.size.width c.args.writing.size.height c.args.layer.now c.requires in
@@ -93,12 +117,13 @@ push_layer-push_value-requires-clause-shallow t c =
 pub push_layer-returns : goal.push_layer-returns
 push_layer-returns t c =
     let l = c.args.layer.now in
+    let plain : numbers_in c.args.writing.detail l.body ≡ None = search rules in
     let whole : object (frame_in c.args.writing.detail c.args.writing.size.width c.args.writing.size.height l) ≡ layer_in c.args.writing.detail c.args.room c.args.writing.size.width c.args.writing.size.height l =
     elim c.if-room-gt0.branch [
       | push_layer-then-room-gt0+in_default w ↦
           let none : group_in l.body ≡ None = search rules in
-          layer_in-frame c.args.writing.detail c.args.room c.args.writing.size.width c.args.writing.size.height l whole none
-      | push_layer-else-room-gt0 w ↦ layer_in-room c.args.writing.detail c.args.room c.args.writing.size.width c.args.writing.size.height l whole (omega (arith, w.if-room-gt0))
+          layer_in-frame c.args.writing.detail c.args.room c.args.writing.size.width c.args.writing.size.height l plain none
+      | push_layer-else-room-gt0 w ↦ layer_in-room c.args.writing.detail c.args.room c.args.writing.size.width c.args.writing.size.height l plain (omega (arith, w.if-room-gt0))
     ] in
     subst (λ d. OnOk c.push_value.result (Appends d c.args.text.now.items c.push_value.new.text.items)) (c.into_value.ensures ∙ (ap object c.in_ok-frame.ensures ∙ whole)) c.push_value.ensures
 

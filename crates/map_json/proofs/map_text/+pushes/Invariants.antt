@@ -1,11 +1,7 @@
-use Rattle.std.proofs.Common.{◌≡◌, ◌+◌, ◌*◌, ◌≤◌, ◌++◌, List, false}
-use Rattle.serde_json.specs.Data.{members_depth, no_members}
-use Rattle.serde_json.specs.Read.{max_depth}
-use Rattle.serde_json.specs.View.{members_view}
-use Rattle.serde_json.specs.Written.{items_text, members_have_float, members_text}
-use Rattle.serde_json.proofs.Views.{Entry}
+use Rattle.std.proofs.Common.{◌≡◌, ◌+◌, ◌*◌, ◌++◌, false}
+use Rattle.serde_json.specs.Written.{items_text}
 use Rattle.map_model.specs.declared.names.TheConstants.{LAYERS}
-use Rattle.map_json.specs.Appending.{AreWritten, replaced}
+use Rattle.map_json.specs.Appending.{AreWritten}
 use Rattle.map_json.specs.Details.{layer_in, layers_in}
 use Rattle.map_json.specs.Trees.{items_by}
 use Rattle.map_json.proofs.PutMembers.{ArePut}
