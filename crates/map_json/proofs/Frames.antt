@@ -8,15 +8,17 @@ use Rattle.std.proofs.lemmas.Map.Text.{is_eq-slice_cmp}
 use Rattle.std.proofs.lemmas.Slice.Eq.{bytes_eq-Decides}
 use Rattle.serde_json.specs.Data.{Data, array, boolean, no_items, object, string, Members, no_members, member, put}
 use Rattle.serde_json.specs.Find.{get_member}
-use Rattle.map_model.specs.declared.names.TheConstants.{ID, NAME, VISIBLE, TYPE, PROPERTIES, LAYERS, TILESETS, VERSION}
+use Rattle.map_model.specs.declared.names.TheConstants.{ID, NAME, VISIBLE, TYPE, PROPERTIES, WIDTH, HEIGHT, LAYERS, TILESETS, VERSION, ENCODING, COMPRESSION, DATA}
 use Rattle.map_model.specs.declared.parts.Body.{Body}
 use Rattle.map_model.specs.declared.parts.Body.TheVariants.{Tiles, Objects, Other, Group'}
+use Rattle.map_model.specs.declared.parts.Encoding.TheVariants.{Array, Base64}
 use Rattle.map_model.specs.declared.parts.Layer.{Layer}
 use Rattle.map_model.specs.declared.parts.MapParts.{MapParts}
 use Rattle.map_model.specs.Groups.{group_in, inside}
 use Rattle.map_model.specs.Keeping.{layer_names}
 use Rattle.map_model.specs.Lists.{Each, or_empty}
-use Rattle.map_json.specs.Appending.{frame_of, instead, layer_frame, replaced}
+use Rattle.map_json.specs.Appending.{frame_of, framed_body, instead, layer_frame, replaced}
+use Rattle.map_json.specs.Details.{numbers_of}
 use Rattle.map_json.specs.Members.{Own, put_some, with_own}
 use Rattle.map_json.specs.Trees.{array_by, layer_own, layer_tree, layers_tree, own_around, plain_own, properties_member, tileset_tree, whole_tree}
 use Rattle.map_json.proofs.MembersLemmas.{same_name}
@@ -85,7 +87,7 @@ replaced-frame_of d m absent =
 
 -- ---- a group's own
 own_instead-layer_own : (width height : ℕ) (d : Data) (l : Layer) (b : Body) (ls : List Layer) → group_in b ≡ Some ls
-    → own_instead LAYERS.now d (layer_own width height (array no_items) (record l { body = b })) ≡ layer_own width height d (record l { body = b })
+    → own_instead LAYERS.now d (layer_own width height (array no_items) (record l { body = framed_body b })) ≡ layer_own width height d (record l { body = b })
 unfolding own_instead
 own_instead-layer_own width height d l (Tiles e cells) ls g = cc
 own_instead-layer_own width height d l (Objects os) ls g = cc
@@ -105,7 +107,7 @@ layers_absent (Group' s r) ls kept g h = h.1.1.1.1.1.0
 pub replaced-layer_frame : (width height : ℕ) (d : Data) (l : Layer) (ls : List Layer) → group_in l.body ≡ Some ls → Each (λ name. get_member name l.kept ≡ None) (layer_names l.body)
     → replaced LAYERS.now d (layer_frame width height l) ≡ with_own (layer_own width height d l) l.kept
 replaced-layer_frame width height d l ls g h =
-    replaced-with_own LAYERS.now d (layer_own width height (array no_items) l) l.kept
+    replaced-with_own LAYERS.now d (layer_own width height (array no_items) (record l { body = framed_body l.body })) l.kept
     ∙ rw (replaced-absent LAYERS.now d l.kept (layers_absent l.body ls l.kept g h)) (ap (λ own. with_own own l.kept) (own_instead-layer_own width height d l l.body ls g))
 
 -- a layer's own members, where it is no group
@@ -115,15 +117,73 @@ layer_own-other width height d e l (Objects os) g = refl
 layer_own-other width height d e l Other g = refl
 layer_own-other width height d e l (Group' s r) g = cc
 
--- the tree of a layer is its frame's, where it is no group or has no room for layers in it
-pub layer_tree-frame : (room width height : ℕ) (l : Layer) → group_in l.body ≡ None → object (layer_frame width height l) ≡ layer_tree room width height l
-unfolding layer_tree
-layer_tree-frame zero width height l g = refl
-layer_tree-frame (suc room) width height l g = ap (λ own. object (with_own own l.kept)) (layer_own-other width height (array no_items) (layers_tree room width height (inside l)) l l.body g)
+-- ---- a tile layer's own numbers
+-- where its values are no numbers, all of a body stands in its frame
+framed_body-whole : (b : Body) → numbers_of b ≡ None → framed_body b ≡ b
+framed_body-whole (Tiles Array cells) none = cc
+framed_body-whole (Tiles Base64 cells) none = refl
+framed_body-whole (Objects os) none = refl
+framed_body-whole Other none = refl
+framed_body-whole (Group' s r) none = refl
 
-pub layer_tree-room : (room width height : ℕ) (l : Layer) → room ≡ 0 → object (layer_frame width height l) ≡ layer_tree room width height l
+pub framed-whole : (l : Layer) → numbers_of l.body ≡ None → record l { body = framed_body l.body } ≡ l
+framed-whole l none = ap (λ (b : Body). record l { body = b }) (framed_body-whole l.body none)
+
+properties_stay : (d : Data) (o : Option Data) → option_map (instead DATA.now d PROPERTIES.now) o ≡ o
+properties_stay d None = refl
+properties_stay d (Some e) = refl
+
+own_instead-numbers : (width height : ℕ) (d : Data) (l : Layer) (b : Body) (ns : List ℕ) → numbers_of b ≡ Some ns
+    → own_instead DATA.now (array_by whole_tree ns) (layer_own width height (array no_items) (record l { body = framed_body b })) ≡ layer_own width height d (record l { body = b })
+unfolding own_instead
+own_instead-numbers width height d l (Tiles Array cells) ns g =
+    let same : cells ≡ ns = cc in
+    ap (λ o. (TYPE.now, Some (string (codes "tilelayer"))) ∷ (ID.now, Some (whole_tree l.id)) ∷ (NAME.now, Some (string l.name)) ∷ (VISIBLE.now, Some (boolean l.visible))
+    ∷ (PROPERTIES.now, o) ∷ (ENCODING.now, None) ∷ (COMPRESSION.now, None) ∷ (WIDTH.now, Some (whole_tree width)) ∷ (HEIGHT.now, Some (whole_tree height))
+    ∷ (DATA.now, Some (array_by whole_tree ns)) ∷ [])
+    (properties_stay (array_by whole_tree ns) (properties_member l.properties))
+    ∙ ap (λ (xs : List ℕ). layer_own width height d (record l { body = Tiles Array xs })) (sym same)
+own_instead-numbers width height d l (Tiles Base64 cells) ns g = cc
+own_instead-numbers width height d l (Objects os) ns g = cc
+own_instead-numbers width height d l Other ns g = cc
+own_instead-numbers width height d l (Group' s r) ns g = cc
+
+data_absent : (b : Body) (ns : List ℕ) (kept : Members) → numbers_of b ≡ Some ns → Each (λ name. get_member name kept ≡ None) (layer_names b) → get_member DATA.now kept ≡ None
+data_absent (Tiles Array cells) ns kept g h = h.1.1.1.1.1.1.1.1.1.0
+data_absent (Tiles Base64 cells) ns kept g h = cc
+data_absent (Objects os) ns kept g h = cc
+data_absent Other ns kept g h = cc
+data_absent (Group' s r) ns kept g h = cc
+
+-- the members of a tile layer are its frame's, with the numbers in their place
+replaced-numbers : (width height : ℕ) (d : Data) (l : Layer) (ns : List ℕ) → numbers_of l.body ≡ Some ns → Each (λ name. get_member name l.kept ≡ None) (layer_names l.body)
+    → replaced DATA.now (array_by whole_tree ns) (layer_frame width height l) ≡ with_own (layer_own width height d l) l.kept
+replaced-numbers width height d l ns g h =
+    let values = array_by whole_tree ns in
+    replaced-with_own DATA.now values (layer_own width height (array no_items) (record l { body = framed_body l.body })) l.kept
+    ∙ rw (replaced-absent DATA.now values l.kept (data_absent l.body ns l.kept g h)) (ap (λ own. with_own own l.kept) (own_instead-numbers width height d l l.body ns g))
+
+-- ---- the tree of a layer
+-- it is its frame's with its numbers
+pub layer_tree-numbers : (room width height : ℕ) (l : Layer) (ns : List ℕ) → numbers_of l.body ≡ Some ns → Each (λ name. get_member name l.kept ≡ None) (layer_names l.body)
+    → object (replaced DATA.now (array_by whole_tree ns) (layer_frame width height l)) ≡ layer_tree room width height l
 unfolding layer_tree
-layer_tree-room room width height l none = rw none refl
+layer_tree-numbers zero width height l ns g h = ap object (replaced-numbers width height (array no_items) l ns g h)
+layer_tree-numbers (suc room) width height l ns g h = ap object (replaced-numbers width height (layers_tree room width height (inside l)) l ns g h)
+
+layer_frame-whole : (width height : ℕ) (l : Layer) → numbers_of l.body ≡ None → object (layer_frame width height l) ≡ object (with_own (layer_own width height (array no_items) l) l.kept)
+layer_frame-whole width height l none = ap (λ (k : Layer). object (with_own (layer_own width height (array no_items) k) l.kept)) (framed-whole l none)
+
+-- it is its frame's, where it has no numbers, and is no group or has no room for layers in it
+pub layer_tree-frame : (room width height : ℕ) (l : Layer) → numbers_of l.body ≡ None → group_in l.body ≡ None → object (layer_frame width height l) ≡ layer_tree room width height l
+unfolding layer_tree
+layer_tree-frame zero width height l none g = layer_frame-whole width height l none
+layer_tree-frame (suc room) width height l none g =
+    layer_frame-whole width height l none ∙ ap (λ own. object (with_own own l.kept)) (layer_own-other width height (array no_items) (layers_tree room width height (inside l)) l l.body g)
+
+pub layer_tree-room : (room width height : ℕ) (l : Layer) → numbers_of l.body ≡ None → room ≡ 0 → object (layer_frame width height l) ≡ layer_tree room width height l
+unfolding layer_tree
+layer_tree-room room width height l none no_room = rw no_room (layer_frame-whole width height l none)
 
 -- the tree of a group
 pub layer_tree-group : (room less width height : ℕ) (l : Layer) (ls : List Layer) → room ≡ suc less → group_in l.body ≡ Some ls → Each (λ name. get_member name l.kept ≡ None) (layer_names l.body)

@@ -30,3 +30,5 @@ pub mod DrawnLayers
 pub mod Written
 pub mod Outlines
 pub mod LayerLaw
+pub mod NumberTexts
+pub mod PutMembers

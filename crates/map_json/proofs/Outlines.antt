@@ -1,8 +1,8 @@
 -- What is written of a layer in an outline, and in either detail.
-use Rattle.std.proofs.Common.{◌≡◌, ℕ, zero, suc, ◌-◌, ◌*◌, List, [], ◌∷◌, ◌++◌, Some, None, cond, Bool, true, false, refl, sym, ap, ◌∙◌, subst, arith}
+use Rattle.std.proofs.Common.{◌≡◌, ℕ, zero, suc, ◌-◌, ◌*◌, List, [], ◌∷◌, ◌++◌, Some, None, cond, Bool, true, false, refl, sym, ap, ◌∙◌, arith}
 use Rattle.std.specs.Prelude.{filter, not, Option}
 use Rattle.std.specs.Str.{bytes_eq}
-use Rattle.serde_json.specs.Data.{Data, array, object, no_items}
+use Rattle.serde_json.specs.Data.{Data, Members, array, object, no_items}
 use Rattle.serde_json.specs.Find.{get_member}
 use Rattle.map_model.specs.declared.names.TheConstants.{DATA, LAYERS}
 use Rattle.map_model.specs.declared.parts.Body.{Body}
@@ -16,13 +16,13 @@ use Rattle.map_model.specs.Lists.{Each, or_empty}
 use Rattle.map_model.specs.WellFormed.{IsDrawn}
 use Rattle.map_json.specs.declared.detail.Detail.{Detail}
 use Rattle.map_json.specs.declared.detail.Detail.TheVariants.{Whole, Outline}
-use Rattle.map_json.specs.Appending.{AreWritten, replaced}
-use Rattle.map_json.specs.Details.{common_own, frame_in, layer_in, layers_in, outline_frame, shape_own}
+use Rattle.map_json.specs.Appending.{AreWritten, layer_frame, replaced}
+use Rattle.map_json.specs.Details.{common_own, frame_in, layer_in, layers_in, numbers_in, numbers_of, outline_frame, shape_own}
 use Rattle.map_json.specs.Members.{Own, with_own}
 use Rattle.map_json.specs.Outlines.{outline_layer, outline_own}
-use Rattle.map_json.specs.Trees.{array_by, layer_own}
+use Rattle.map_json.specs.Trees.{array_by, layer_own, whole_tree}
 use Rattle.map_json.proofs.DrawnLayers.{Each-left}
-use Rattle.map_json.proofs.Frames.{layer_own-other, layer_tree-frame, layer_tree-group, layer_tree-room, replaced-layer_frame}
+use Rattle.map_json.proofs.Frames.{framed-whole, layer_own-other, layer_tree-frame, layer_tree-group, layer_tree-numbers, layer_tree-room, replaced-layer_frame}
 use Rattle.map_json.proofs.Plain.{ArePlainOwn, IsPlain, IsPlainOwn, kept_plain, layer_frame_plain, object_plain, own_are_plain, own_IsLayer}
 
 -- ---- the own members in an outline
@@ -42,6 +42,18 @@ outline_own-tiles width height d l (Tiles f values) e cells is =
 outline_own-tiles width height d l (Objects os) e cells is = absurd (let worse : ⊥ = cc in worse)
 outline_own-tiles width height d l Other e cells is = absurd (let worse : ⊥ = cc in worse)
 outline_own-tiles width height d l (Group' s r) e cells is = absurd (let worse : ⊥ = cc in worse)
+
+no_numbers : (b : Body) → (IsTiles b → ⊥) → numbers_of b ≡ None
+no_numbers (Tiles e cells) h = absurd (h tt)
+no_numbers (Objects os) h = refl
+no_numbers Other h = refl
+no_numbers (Group' s r) h = refl
+
+-- of a layer that is no tile layer the whole frame stands in an outline
+pub outline_frame-other : (width height : ℕ) (l : Layer) → (IsTiles l.body → ⊥) → layer_frame width height l ≡ outline_frame width height l
+outline_frame-other width height l h =
+    ap (λ (k : Layer). with_own (layer_own width height (array no_items) k) l.kept) (framed-whole l (no_numbers l.body h))
+    ∙ sym (ap (λ (own : Own). with_own own l.kept) (outline_own-other width height (array no_items) l l.body h))
 
 no_tiles : (b : Body) (ls : List Layer) → group_in b ≡ Some ls → IsTiles b → ⊥
 no_tiles (Tiles e cells) ls g = absurd (let worse : ⊥ = cc in worse)
@@ -80,28 +92,34 @@ outline_layer-frame zero width height l g = refl
 outline_layer-frame (suc room) width height l g =
     ap (λ (own : Own). object (with_own (filter (λ p. not (bytes_eq p.0 DATA.now)) own) l.kept)) (layer_own-other width height (array no_items) (array_by (outline_layer room width height) (inside l)) l l.body g)
 
--- the tree of a layer is its frame's, where it is no group or has no room for layers in it
-pub layer_in-frame : (detail : Detail) (room width height : ℕ) (l : Layer) → group_in l.body ≡ None → object (frame_in detail width height l) ≡ layer_in detail room width height l
-layer_in-frame Whole room width height l g = layer_tree-frame room width height l g
-layer_in-frame Outline room width height l g = outline_layer-frame room width height l g
+-- the tree of a layer is its frame's, where it has no numbers, and is no group or has no room for layers in it
+pub layer_in-frame : (detail : Detail) (room width height : ℕ) (l : Layer) → numbers_in detail l.body ≡ None → group_in l.body ≡ None → object (frame_in detail width height l) ≡ layer_in detail room width height l
+layer_in-frame Whole room width height l none g = layer_tree-frame room width height l none g
+layer_in-frame Outline room width height l none g = outline_layer-frame room width height l g
+
+-- the tree of a layer is its frame's with its numbers
+pub layer_in-numbers : (detail : Detail) (room width height : ℕ) (l : Layer) (ns : List ℕ) → numbers_in detail l.body ≡ Some ns → Each (λ name. get_member name l.kept ≡ None) (layer_names l.body)
+    → object (replaced DATA.now (array_by whole_tree ns) (frame_in detail width height l)) ≡ layer_in detail room width height l
+layer_in-numbers Whole room width height l ns some h = layer_tree-numbers room width height l ns some h
+layer_in-numbers Outline room width height l ns some h = absurd (let worse : ⊥ = cc in worse)
 
 outline_layer-room : (room width height : ℕ) (l : Layer) → room ≡ 0 → object (outline_frame width height l) ≡ outline_layer room width height l
 unfolding outline_layer
 outline_layer-room room width height l none = rw none refl
 
-pub layer_in-room : (detail : Detail) (room width height : ℕ) (l : Layer) → room ≡ 0 → object (frame_in detail width height l) ≡ layer_in detail room width height l
-layer_in-room Whole room width height l none = layer_tree-room room width height l none
-layer_in-room Outline room width height l none = outline_layer-room room width height l none
+pub layer_in-room : (detail : Detail) (room width height : ℕ) (l : Layer) → numbers_in detail l.body ≡ None → room ≡ 0 → object (frame_in detail width height l) ≡ layer_in detail room width height l
+layer_in-room Whole room width height l none no_room = layer_tree-room room width height l none no_room
+layer_in-room Outline room width height l none no_room = outline_layer-room room width height l no_room
 
 outline_layer-group : (room less width height : ℕ) (l : Layer) (ls : List Layer) → room ≡ suc less → group_in l.body ≡ Some ls → Each (λ name. get_member name l.kept ≡ None) (layer_names l.body)
     → object (replaced LAYERS.now (array_by (outline_layer less width height) ls) (outline_frame width height l)) ≡ outline_layer room width height l
 unfolding outline_layer
 outline_layer-group room less width height l ls more g h =
     let d = array_by (outline_layer less width height) ls in
-    let same = λ (e : Data). outline_own-other width height e l l.body (no_tiles l.body ls g) in
-    ap (λ (own : Own). object (replaced LAYERS.now d (with_own own l.kept))) (same (array no_items))
+    let other = no_tiles l.body ls g in
+    ap (λ (ms : Members). object (replaced LAYERS.now d ms)) (sym (outline_frame-other width height l other))
     ∙ (ap object (replaced-layer_frame width height d l ls g h)
-    ∙ (sym (ap (λ (own : Own). object (with_own own l.kept)) (same d))
+    ∙ (sym (ap (λ (own : Own). object (with_own own l.kept)) (outline_own-other width height d l l.body other))
     ∙ (ap (λ (o : Option (List Layer)). object (with_own (outline_own width height (array_by (outline_layer less width height) (or_empty o)) l) l.kept)) (sym g)
     ∙ ap (λ n. outline_layer n width height l) (sym more))))
 

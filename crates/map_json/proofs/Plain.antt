@@ -25,8 +25,8 @@ use Rattle.map_model.specs.Keeping.{AreKept, deepest_level, inner_level, map_lev
 use Rattle.map_model.specs.WellFormed.{IsValue, IsProperty, AreProperties, IsObject, IsBody, IsDrawn, IsLayer, IsTileset, IsWellFormed}
 use Rattle.map_model.proofs.GroupBodies.{IsLayer-without}
 use Rattle.map_json.specs.Members.{with_own, put_some}
-use Rattle.map_json.specs.Trees.{items_by, array_by, whole_tree, value_tree, property_own, property_tree, properties_member, object_own, object_tree, tileset_own, tileset_tree, cells_tree, encoding_member, body_own, layer_own, layer_tree, layers_tree, own_around, tree_of}
-use Rattle.map_json.specs.Appending.{AreWritten, frame_of, layer_frame}
+use Rattle.map_json.specs.Trees.{items_by, array_by, whole_tree, value_tree, property_own, property_tree, properties_member, object_own, object_tree, tileset_own, tileset_tree, cells_tree, encoding_member, body_own, layer_own, layer_tree, layers_tree, own_around, tree_of, type_word}
+use Rattle.map_json.specs.Appending.{AreWritten, frame_of, framed_body, layer_frame}
 use Rattle.map_json.proofs.DrawnLayers.{Each-left, Each-right, tree-Each}
 use Rattle.map_json.proofs.Own.{put_whole}
 
@@ -169,6 +169,15 @@ body_plain level n size width height room d layers (Objects os) h =
 body_plain level n size width height room d layers Other h = tt
 body_plain level n size width height room d layers (Group' s r) h = (layers, tt)
 
+-- what stands in a layer's frame, with this for the layers of a group
+framed_plain : (level n size width height : ℕ) → property_level (object_level level) + n ≡ MAX_DEPTH → (d : Data) → IsPlain (suc (suc (suc (suc n)))) d → (b : Body) → IsBody level size b
+    → ArePlainOwn (suc (suc (suc (suc n)))) (body_own width height d (framed_body b))
+framed_plain level n size width height room d layers (Tiles Array cells) h = body_plain level n 0 width height room d layers (Tiles Array []) (refl, tt)
+framed_plain level n size width height room d layers (Tiles Base64 cells) h = body_plain level n size width height room d layers (Tiles Base64 cells) h
+framed_plain level n size width height room d layers (Objects os) h = body_plain level n size width height room d layers (Objects os) h
+framed_plain level n size width height room d layers Other h = body_plain level n size width height room d layers Other h
+framed_plain level n size width height room d layers (Group' s r) h = body_plain level n size width height room d layers (Group' s r) h
+
 -- the own members of a layer, with this for the layers of a group
 pub own_are_plain : (level n size width height : ℕ) → property_level (object_level level) + n ≡ MAX_DEPTH → (d : Data) → IsPlain (suc (suc (suc (suc n)))) d → (l : Layer) → IsLayer level size l
     → ArePlainOwn (suc (suc (suc (suc n)))) (layer_own width height d l)
@@ -219,11 +228,33 @@ AreWritten-plain room width height ls h =
     (items.0, omega (arith, h.balance, h.high, deep))
 
 -- the frame of one of them
+framed_own_plain : (level n size width height : ℕ) → property_level (object_level level) + n ≡ MAX_DEPTH → (l : Layer) → IsLayer level size l
+    → ArePlainOwn (suc (suc (suc (suc n)))) (layer_own width height (array no_items) (record l { body = framed_body l.body }))
+framed_own_plain level n size width height room l h =
+    let m = suc (suc (suc (suc n))) in (
+      text_plain m (type_word (framed_body l.body)),
+      (
+        whole_plain m l.id,
+        (
+          text_plain m l.name,
+          (
+            truth_plain m l.visible,
+            (
+              properties_plain level (suc (suc n)) (omega arith) l.properties h.properties,
+              framed_plain level n size width height room (array no_items) (refl, omega arith) l.body h.body,
+            ),
+          ),
+        ),
+      ),
+    )
+
 pub layer_frame_plain : (room width height : ℕ) (l : Layer) → AreWritten room (width * height) (l ∷ []) → IsPlain 127 (object (layer_frame width height l))
 layer_frame_plain room width height l h =
     let n = 123 - h.level in
+    let m = suc (suc (suc (suc n))) in
     let own = own_IsLayer room h.level (width * height) l (Each-left (IsDrawn (width * height)) (tree room h.level l) [] h.each) in
-    let frame = own_plain h.level n (width * height) width height (omega (arith, h.balance)) (array no_items) (refl, omega arith) l own in
+    let all = framed_own_plain h.level n (width * height) width height (omega (arith, h.balance)) l own in
+    let frame = object_plain m (layer_own width height (array no_items) (record l { body = framed_body l.body })) l.kept all (kept_plain h.level m (layer_names l.body) l.kept (omega (arith, h.balance)) own.kept) in
     let deep = frame.1 in
     (frame.0, omega (arith, h.balance, h.high, deep))
 

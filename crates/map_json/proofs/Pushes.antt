@@ -2,30 +2,10 @@
 use Rattle.std.proofs.Common.{◌≡◌, ℕ, ◌+◌, ◌<◌, List, [], ◌∷◌, ◌++◌, length, get_or, take, refl, sym, ap, ◌∙◌, append_assoc}
 use Rattle.std.specs.Int.{w32, to_le_bytes}
 use Rattle.std.proofs.lemmas.List.{take_more, append-nil}
-use Rattle.serde_json.specs.Data.{Data, Items, no_items, item}
+use Rattle.serde_json.specs.Data.{Items, no_items, item}
 use Rattle.serde_json.specs.View.{view, items_view}
 use Rattle.serde_json.specs.declared.value.Value.{Value}
-use Rattle.map_json.specs.Trees.{items_by, bytes_of}
-
-snoc : Items → Data → Items
-snoc no_items e = item e no_items
-snoc (item d ds) e = item d (snoc ds e)
-
-items_view-push : (vs : List Value) (v : Value) → items_view (vs ++ v ∷ []) ≡ snoc (items_view vs) (view v)
-unfolding snoc
-items_view-push [] v = refl
-items_view-push (w ∷ vs) v = ap (item (view w)) (items_view-push vs v)
-
-items_by-push : {A : Type 0} (f : A → Data) (xs : List A) (x : A) → items_by f (xs ++ x ∷ []) ≡ snoc (items_by f xs) (f x)
-unfolding snoc
-items_by-push f [] x = refl
-items_by-push f (y ∷ xs) x = ap (item (f y)) (items_by-push f xs x)
-
--- one more element, which is x
-pub one_more_tree : {A : Type 0} (f : A → Data) (vs : List Value) (v : Value) (xs : List A) (i : ℕ) (x d : A) → i < length xs → x ≡ get_or xs i d
-    → items_view vs ≡ items_by f (take i xs) → view v ≡ f x → items_view (vs ++ v ∷ []) ≡ items_by f (take (i + 1) xs)
-one_more_tree f vs v xs i x d lt is so_far e =
-    items_view-push vs v ∙ (rw (so_far, e) (sym (items_by-push f (take i xs) x)) ∙ ap (items_by f) (ap (λ y. take i xs ++ y ∷ []) is ∙ sym (take_more xs i d lt)))
+use Rattle.map_json.specs.Trees.{bytes_of}
 
 bytes_of-push : (ns : List ℕ) (n : ℕ) → bytes_of (ns ++ n ∷ []) ≡ bytes_of ns ++ to_le_bytes w32 n
 bytes_of-push [] n = append-nil (to_le_bytes w32 n)

@@ -1,10 +1,15 @@
 -- For private clauses: a text that grows by one value after another, and what stays true of it.
-use Rattle.std.specs.Prelude.{◌≡◌, IsUtf8, ℕ, ◌+◌, ◌*◌, ◌≤◌, List, ◌++◌, if◌then◌else◌, Some}
+use Rattle.std.specs.Prelude.{◌≡◌, IsUtf8, ℕ, ◌+◌, ◌*◌, ◌≤◌, List, [], ◌∷◌, ◌++◌, if◌then◌else◌, Some, decimal}
+use Rattle.std.specs.List.{flat_map}
 use Rattle.std.specs.Str.{bytes_eq}
 use Rattle.json.specs.Tree.{HasNumbers}
 use Rattle.serde_json.specs.Data.{Data, array, Members, no_members, member, no_items}
 use Rattle.serde_json.specs.Read.{of_json}
 use Rattle.serde_json.specs.Written.{compact_text, outline}
+use Rattle.map_model.specs.declared.parts.Body.{Body}
+use Rattle.map_model.specs.declared.parts.Body.TheVariants.{Tiles, Objects, Other, Group'}
+use Rattle.map_model.specs.declared.parts.Encoding.{Encoding}
+use Rattle.map_model.specs.declared.parts.Encoding.TheVariants.{Array, Base64}
 use Rattle.map_model.specs.declared.parts.MapParts.{MapParts}
 use Rattle.map_model.specs.declared.parts.Layer.{Layer}
 use Rattle.map_model.specs.Groups.{drawn}
@@ -40,9 +45,25 @@ pub record AreWritten (room size : ℕ) (ls : List Layer) : Type 0 where
   pub balance : level + 2 * room ≡ deepest_level
   pub each : Each (IsDrawn size) (drawn room level ls)
 
--- the members of a layer, with an empty array for the layers of a group
+-- numbers, each behind a comma
+abbrev pub numbers_text : List ℕ → List ℕ
+numbers_text ns = flat_map (λ n. 44 ∷ decimal n) ns
+
+-- a tile layer's values as they stand in its frame: of an array none
+abbrev pub framed_cells : Encoding → List ℕ → List ℕ
+framed_cells Array cells = []
+framed_cells Base64 cells = cells
+
+-- what a layer holds, as it stands in its frame
+abbrev pub framed_body : Body → Body
+framed_body (Tiles e cells) = Tiles e (framed_cells e cells)
+framed_body (Objects os) = Objects os
+framed_body Other = Other
+framed_body (Group' s r) = Group' s r
+
+-- the members of a layer, with an empty array for numbers and for the layers of a group
 abbrev pub layer_frame : ℕ → ℕ → Layer → Members
-layer_frame width height l = with_own (layer_own width height (array no_items) l) l.kept
+layer_frame width height l = with_own (layer_own width height (array no_items) (record l { body = framed_body l.body })) l.kept
 
 -- the members of a map, with an empty array for its layers
 abbrev pub frame_of : MapParts → Members

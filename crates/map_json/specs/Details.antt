@@ -1,8 +1,11 @@
 -- For private clauses: what is written of a layer and of a map, whole or as an outline.
-use Rattle.std.specs.Prelude.{ℕ, List, [], ◌∷◌, Some, None}
+use Rattle.std.specs.Prelude.{ℕ, List, [], ◌∷◌, Option, Some, None}
 use Rattle.serde_json.specs.Data.{Data, array, boolean, string, Members, no_items}
 use Rattle.map_model.specs.declared.names.TheConstants.{ID, NAME, TYPE, VISIBLE, PROPERTIES, WIDTH, HEIGHT, ENCODING, COMPRESSION}
+use Rattle.map_model.specs.declared.parts.Body.{Body}
+use Rattle.map_model.specs.declared.parts.Body.TheVariants.{Tiles, Objects, Other, Group'}
 use Rattle.map_model.specs.declared.parts.Encoding.{Encoding}
+use Rattle.map_model.specs.declared.parts.Encoding.TheVariants.{Array, Base64}
 use Rattle.map_model.specs.declared.parts.Layer.{Layer}
 use Rattle.map_model.specs.declared.parts.MapParts.{MapParts}
 use Rattle.map_json.specs.declared.detail.Detail.{Detail}
@@ -27,7 +30,20 @@ shape_own width height e =
 abbrev pub outline_frame : ℕ → ℕ → Layer → Members
 outline_frame width height l = with_own (outline_own width height (array no_items) l) l.kept
 
+-- the numbers that a layer's values are; none, where they are in base64 or it has no values
+abbrev pub numbers_of : Body → Option (List ℕ)
+numbers_of (Tiles Array cells) = Some cells
+numbers_of (Tiles Base64 cells) = None
+numbers_of (Objects os) = None
+numbers_of Other = None
+numbers_of (Group' s r) = None
+
 -- ---- in either detail
+-- the numbers that are written
+abbrev pub numbers_in : Detail → Body → Option (List ℕ)
+numbers_in Whole b = numbers_of b
+numbers_in Outline b = None
+
 abbrev pub frame_in : Detail → ℕ → ℕ → Layer → Members
 frame_in Whole width height l = layer_frame width height l
 frame_in Outline width height l = outline_frame width height l

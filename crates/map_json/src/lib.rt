@@ -11,6 +11,7 @@ mod fractions;
 mod json_object;
 mod layer;
 mod map_text;
+mod numbers;
 mod object;
 mod property;
 mod reading;

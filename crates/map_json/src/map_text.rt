@@ -6,24 +6,32 @@ ghost use Rattle.serde_json.specs.Data.{object, depth, members_depth};
 ghost use Rattle.serde_json.specs.Read.{max_depth};
 ghost use Rattle.serde_json.specs.View.{view as data_of};
 ghost use Rattle.serde_json.specs.Written.{comma_if, has_float, members_have_float};
-ghost use Rattle.map_model.specs.declared.names.TheConstants.{LAYERS};
-ghost use Rattle.map_model.specs.WellFormed.{IsWellFormed};
+ghost use Rattle.map_model.specs.declared.names.TheConstants.{DATA, LAYERS};
+ghost use Rattle.map_model.specs.Lists.{Each};
+ghost use Rattle.map_model.specs.WellFormed.{IsTileValue, IsWellFormed};
 ghost use Rattle.map_json.specs.Appending.{Appends, AreWritten, instead, replaced};
 ghost use Rattle.map_json.specs.Details.{layer_in, layers_in, map_in};
 ghost use Rattle.map_json.specs.Maps.{IsTreeOf, map_of};
 ghost use Rattle.map_json.specs.Outlines.{outline_text};
 ghost use Rattle.map_json.specs.RoundTrip.{WrittenIsRead};
-ghost use Rattle.map_json.specs.Trees.{text_of, tree_of};
+ghost use Rattle.map_json.specs.Trees.{array_by, text_of, tree_of, whole_tree};
 
 use crate::detail::{Detail, Writing};
 use crate::json_object::JsonObject;
+use crate::numbers::push_numbers;
 use crate::size::Size;
-use crate::writing::{frame_in, frame_of, text_tree};
+use crate::writing::{frame_in, frame_of, numbers_in, text_tree, values_room};
 use link_chain::Chain;
 use map_model::limits::MAX_GROUPS;
 use map_model::{Layer, Map, names};
 use serde_json::Value;
 use std::alloc::{AllocError, Global};
+use tile_id::Gid;
+
+// About the bytes of a layer's members but its values, and of a map's but its layers.
+const LAYER_ROOM: usize = 256;
+
+const MAP_ROOM: usize = 1024;
 
 // Puts the text of a value behind what is there.
 fn push_value(alloc: Global, text: &mut Vec<u8>, value: &Value) -> Result<(), AllocError>
@@ -53,6 +61,50 @@ fn push_name(alloc: Global, text: &mut Vec<u8>, later: bool, name: &str) -> Resu
     push_comma(text, later)?;
     push_value(alloc, text, &text_tree(alloc, name)?)?;
     text.push(b':')?;
+    Ok(())
+}
+
+// Puts the value of a tile layer's member: the numbers, or what stands there.
+fn push_numbered_member(
+    alloc: Global,
+    text: &mut Vec<u8>,
+    numbers: &[Gid],
+    name: &str,
+    value: &Value,
+) -> Result<(), AllocError>
+    requires numbers { Each IsTileValue numbers.now }
+    requires whole { has_float (data_of value.now) ≡ false }
+    requires shallow { depth (data_of value.now) ≤ max_depth }
+    ensures { OnOk result (Appends (instead DATA.now (array_by whole_tree numbers.now) name.now (data_of value.now))
+        text.old.items text.new.items) }
+{
+    if name == names::DATA {
+        return push_numbers(text, numbers);
+    }
+    push_value(alloc, text, value)
+}
+
+// Puts the object of a tile layer: the members of its frame, and its numbers in the place of its values.
+fn push_numbered(
+    alloc: Global,
+    text: &mut Vec<u8>,
+    numbers: &[Gid],
+    frame: &JsonObject,
+) -> Result<(), AllocError>
+    requires numbers { Each IsTileValue numbers.now }
+    requires whole { members_have_float frame.now ≡ false }
+    requires shallow { members_depth frame.now ≤ max_depth }
+    ensures { OnOk result (Appends (object (replaced DATA.now (array_by whole_tree numbers.now) frame.now))
+        text.old.items text.new.items) }
+{
+    text.push(b'{')?;
+    let mut later = false;
+    for (name, value) in frame.members().iter() {
+        push_name(alloc, text, later, name.as_str())?;
+        push_numbered_member(alloc, text, numbers, name.as_str(), value)?;
+        later = true;
+    }
+    text.push(b'}')?;
     Ok(())
 }
 
@@ -96,6 +148,9 @@ fn push_layer(
         if let Some(inside) = layer.body.layers() {
             return push_framed(alloc, text, writing, room - 1, inside, &frame);
         }
+    }
+    if let Some(numbers) = numbers_in(writing.detail, &layer.body) {
+        return push_numbered(alloc, text, numbers, &frame);
     }
     push_value(alloc, text, &frame.into_value())
 }
@@ -150,14 +205,30 @@ fn push_framed(
     Ok(())
 }
 
-// The text of a map in this detail.
+// About the bytes that the text of layers takes, in which layers may stand in so many groups.
+fn layers_room(detail: Detail, groups: usize, layers: &Chain<Layer>) -> usize {
+    let mut bytes: usize = 0;
+    for layer in layers.iter() {
+        bytes = bytes.saturating_add(LAYER_ROOM);
+        bytes = bytes.saturating_add(values_room(detail, &layer.body));
+        if let Some(inside) = layer.body.layers() {
+            if groups > 0 {
+                bytes = bytes.saturating_add(layers_room(detail, groups - 1, inside));
+            }
+        }
+    }
+    bytes
+}
+
+// The text of a map in this detail. Its room is taken at once, since a text that grows is copied.
 fn write_in(alloc: Global, map: &Map, detail: Detail) -> Result<Vec<u8>, AllocError>
     ensures text { IfOk result (λ bytes. Appends (map_in detail map.now) [] bytes.items) }
     ensures well_formed { IsWellFormed map.now }
 {
     let parts = map.parts();
     let frame = frame_of(alloc, parts)?;
-    let mut text = Vec::new(alloc);
+    let room = layers_room(detail, MAX_GROUPS, &parts.layers).saturating_add(MAP_ROOM);
+    let mut text = Vec::with_capacity(alloc, room)?;
     let size = Size::of_map(parts);
     let writing = Writing { size, detail };
     push_framed(alloc, &mut text, writing, MAX_GROUPS, &parts.layers, &frame)?;

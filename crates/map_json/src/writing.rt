@@ -7,11 +7,12 @@ ghost use Rattle.serde_json.specs.Find.{of_integer};
 ghost use Rattle.map_json.specs.Members.{with_own};
 ghost use Rattle.map_model.specs.declared.parts.Body.TheVariants.{Tiles};
 ghost use Rattle.map_json.specs.Trees.{plain_own, lists_own, array_by, whole_tree, value_tree, property_own, property_tree, properties_member, object_tree, tileset_tree, bytes_of, cells_tree, encoding_member, body_own, type_word};
-ghost use Rattle.map_json.specs.Appending.{frame_of, layer_frame};
-ghost use Rattle.map_json.specs.Details.{common_own, frame_in, outline_frame, shape_own};
+ghost use Rattle.map_json.specs.Appending.{frame_of, framed_body, framed_cells, layer_frame};
+ghost use Rattle.map_json.specs.Details.{common_own, frame_in, numbers_in, numbers_of, outline_frame, shape_own};
 
 use crate::detail::{Detail, Writing};
 use crate::json_object::JsonObject;
+use crate::numbers::room_for;
 use crate::size::Size;
 use base64::encoded_len;
 use base64::engine::general_purpose::STANDARD;
@@ -176,16 +177,6 @@ impl Tree for Tileset {
     }
 }
 
-fn numbers_tree(alloc: Global, cells: &[Gid]) -> Result<Value, AllocError>
-    ensures { IfOk result (λ value. data_of value ≡ array_by whole_tree cells.now) }
-{
-    let mut values = Vec::with_capacity(alloc, cells.len())?;
-    for cell in cells {
-        values.push(Value::from(cell.0))?;
-    }
-    Ok(Value::from(values))
-}
-
 fn bytes_of(alloc: Global, cells: &[Gid]) -> Result<Vec<u8>, AllocError>
     ensures { IfOk result (λ bytes. bytes.items ≡ bytes_of cells.now) }
 {
@@ -196,11 +187,12 @@ fn bytes_of(alloc: Global, cells: &[Gid]) -> Result<Vec<u8>, AllocError>
     Ok(bytes)
 }
 
+// The values of a tile layer, with an empty array for numbers.
 fn cells_tree(alloc: Global, encoding: Encoding, cells: &[Gid]) -> Result<Value, AllocError>
-    ensures { IfOk result (λ value. data_of value ≡ cells_tree encoding cells.now) }
+    ensures { IfOk result (λ value. data_of value ≡ cells_tree encoding (framed_cells encoding cells.now)) }
 {
     match encoding {
-        Encoding::Array => numbers_tree(alloc, cells),
+        Encoding::Array => Ok(Value::from(Vec::new(alloc))),
         Encoding::Base64 => {
             let bytes = bytes_of(alloc, cells)?;
             let len = encoded_len(bytes.len(), true).unwrap_or(0);
@@ -236,7 +228,7 @@ fn put_shape(
     members.put_some(alloc, names::ENCODING, encoding)
 }
 
-// Puts the members of a tile layer.
+// Puts the members of a tile layer, with an empty array for numbers.
 fn put_tiles(
     alloc: Global,
     size: Size,
@@ -245,14 +237,14 @@ fn put_tiles(
     members: &mut JsonObject,
 ) -> Result<(), AllocError>
     ensures { OnOk result
-        (members.new ≡ with_own (body_own size.width size.height (array no_items) (Tiles encoding cells.now)) members.old) }
+        (members.new ≡ with_own (body_own size.width size.height (array no_items) (Tiles encoding (framed_cells encoding cells.now))) members.old) }
 {
     let data = cells_tree(alloc, encoding, cells)?;
     members.put(alloc, names::DATA, data)?;
     put_shape(alloc, size, encoding, members)
 }
 
-// Puts the members of a layer's kind, with an empty array for the layers of a group.
+// Puts the members of a layer's kind, with an empty array for numbers and for the layers of a group.
 fn put_body(
     alloc: Global,
     size: Size,
@@ -260,7 +252,7 @@ fn put_body(
     members: &mut JsonObject,
 ) -> Result<(), AllocError>
     ensures { OnOk result
-        (members.new ≡ with_own (body_own size.width size.height (array no_items) body.now) members.old) }
+        (members.new ≡ with_own (body_own size.width size.height (array no_items) (framed_body body.now)) members.old) }
 {
     match body {
         Body::Tiles(encoding, cells) => {
@@ -308,7 +300,7 @@ fn put_common(
     )
 }
 
-// The members of a layer, with an empty array for the layers of a group.
+// The members of a layer, with an empty array for numbers and for the layers of a group.
 fn layer_frame(alloc: Global, size: Size, layer: &Layer) -> Result<JsonObject, AllocError>
     ensures { IfOk result (λ frame. frame ≡ layer_frame size.width size.height layer.now) }
 {
@@ -346,7 +338,7 @@ fn outline_frame(alloc: Global, size: Size, layer: &Layer) -> Result<JsonObject,
     }
 }
 
-/// The members of a layer, as far as they are written, with an empty array for the layers of a group.
+/// The members of a layer, as far as they are written, with an empty array for numbers and for the layers of a group.
 pub fn frame_in(alloc: Global, writing: Writing, layer: &Layer) -> Result<JsonObject, AllocError>
     ensures { IfOk result (λ frame.
         frame ≡ frame_in writing.detail writing.size.width writing.size.height layer.now) }
@@ -354,6 +346,42 @@ pub fn frame_in(alloc: Global, writing: Writing, layer: &Layer) -> Result<JsonOb
     match writing.detail {
         Detail::Whole => layer_frame(alloc, writing.size, layer),
         Detail::Outline => outline_frame(alloc, writing.size, layer),
+    }
+}
+
+// The numbers that a layer's values are.
+fn numbers_of(body: &Body) -> Option<&[Gid]>
+    ensures { option_map (λ numbers. numbers.now) result ≡ numbers_of body.now }
+{
+    match body {
+        Body::Tiles(Encoding::Array, cells) => Some(cells.as_slice()),
+        Body::Tiles(Encoding::Base64, _) => None,
+        Body::Objects(_) => None,
+        Body::Other => None,
+        Body::Group(_) => None,
+    }
+}
+
+/// The numbers that a layer's values are, where they are written.
+pub fn numbers_in(detail: Detail, body: &Body) -> Option<&[Gid]>
+    ensures { option_map (λ numbers. numbers.now) result ≡ numbers_in detail body.now }
+{
+    match detail {
+        Detail::Whole => numbers_of(body),
+        Detail::Outline => None,
+    }
+}
+
+/// About the bytes that a layer's values take, where they are written.
+pub fn values_room(detail: Detail, body: &Body) -> usize {
+    if let Some(numbers) = numbers_in(detail, body) {
+        return room_for(numbers);
+    }
+    match (detail, body) {
+        (Detail::Whole, Body::Tiles(Encoding::Base64, cells)) => {
+            encoded_len(cells.as_slice().len().saturating_mul(4), true).unwrap_or(0)
+        }
+        _ => 0,
     }
 }
 

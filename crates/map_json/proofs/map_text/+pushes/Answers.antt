@@ -1,92 +1,55 @@
-use Rattle.std.proofs.Common.{◌≡◌, ◌*◌, ◌-◌, ◌≤◌, suc, None, Some, OnOk, List, [], ◌∷◌, ◌++◌, string_bytes, false, true, refl, sym, ap, ◌∙◌, subst, arith, rules, append_assoc, append-nil}
-use Rattle.std.proofs.lemmas.Bool.{or_parts}
-use Rattle.std.proofs.lemmas.Str.{IsUtf8-string_bytes}
+use Rattle.std.proofs.Common.{◌≡◌, ◌*◌, ◌-◌, ◌≤◌, suc, None, Some, OnOk, List, [], ◌∷◌, ◌++◌, string_bytes, false, true, sym, ap, ◌∙◌, subst, arith, rules, append_assoc}
 use Rattle.std.specs.List.Sorted.{IsStrictlySortedBy}
 use Rattle.std.specs.Map.{keys_of}
 use Rattle.std.specs.String.{string_cmp}
 use Rattle.json.specs.Print.{quoted}
-use Rattle.serde_json.specs.Data.{depth, item, members_depth, no_members, object, put}
+use Rattle.serde_json.specs.Data.{depth, item, members_depth, object, put}
 use Rattle.serde_json.specs.Read.{max_depth}
 use Rattle.serde_json.specs.View.{view, members_view}
-use Rattle.serde_json.specs.Written.{comma_if, compact_text, items_text, has_float, members_have_float, members_text}
-use Rattle.serde_json.proofs.Views.{Entry, put_last}
-use Rattle.map_model.specs.declared.names.TheConstants.{LAYERS}
+use Rattle.serde_json.specs.Written.{comma_if, compact_text, items_text, has_float, members_have_float}
+use Rattle.serde_json.proofs.Views.{Entry}
+use Rattle.map_model.specs.declared.names.TheConstants.{DATA, LAYERS}
 use Rattle.map_model.specs.declared.parts.Layer.{Layer}
 use Rattle.map_model.specs.Groups.{group_in}
 use Rattle.map_model.specs.Lists.{or_empty}
 use Rattle.map_json.specs.Appending.{Appends, AreWritten, instead, replaced}
-use Rattle.map_json.specs.Details.{frame_in, layer_in, layers_in}
-use Rattle.map_json.specs.Trees.{items_by}
-use Rattle.map_json.proofs.Frames.{replaced-put}
-use Rattle.map_json.proofs.Outlines.{frame_in_plain, layer_in-frame, layer_in-group, layer_in-room}
-use Rattle.map_json.proofs.Returning.{ItemsReturn, ItemsReturn-none, ItemsReturn-item, MembersReturn, MembersReturn-none, MembersReturn-member, Returns-array, Returns-object, regroup_item, regroup_member}
-use Rattle.map_json.proofs.Written.{AreWritten-first, AreWritten-rest, AreWritten-inside, AreWritten-lacks}
+use Rattle.map_json.specs.Details.{frame_in, layer_in, layers_in, numbers_in}
+use Rattle.map_json.specs.Trees.{array_by, items_by, whole_tree}
+use Rattle.map_json.proofs.Outlines.{frame_in_plain, layer_in-frame, layer_in-group, layer_in-numbers, layer_in-room}
+use Rattle.map_json.proofs.PutMembers.{ArePut, ArePut-none, ArePut-more, ArePut-all}
+use Rattle.map_json.proofs.Returning.{ItemsReturn, ItemsReturn-none, ItemsReturn-item, Returns-array, regroup_item}
+use Rattle.map_json.proofs.Written.{AreWritten-first, AreWritten-rest, AreWritten-inside, AreWritten-lacks, AreWritten-values}
 use Rattle.map_json.proofs.map_text.+pushes.Goals.{push_layer-then-room-gt0+in_default, push_layer-else-room-gt0}
 use Rattle.map_json.proofs.map_text.+pushes.Goals as goal
 
 pub push_framed-loop-name-init : goal.push_framed-loop-name-init
 push_framed-loop-name-init t c =
     let d = layers_in c.args.writing.detail c.args.room c.args.writing.size.width c.args.writing.size.height c.args.layers.now in
-    let every = replaced LAYERS.now d c.args.frame.now in
     let held : c.into_iter-name-iterator.result ≡ c.members.result.now.entries = search rules in
-    let same = ap members_view held ∙ c.members.ensures in
-    let shown = ap (replaced LAYERS.now d) same in (
-      [],
-      refl,
-      ap (λ ms. c.push.new.self.items ++ members_text false ms) shown,
-      λ h. subst (λ ms. MembersReturn ms no_members every) shown h,
-      ap members_have_float same ∙ c.requires.whole,
-      subst (λ ms. members_depth ms ≤ max_depth) (sym same) c.requires.shallow,
-    )
+    ArePut-none LAYERS.now d c.args.frame.now c.push.new.self.items c.into_iter-name-iterator.result (ap members_view held ∙ c.members.ensures) c.requires.whole c.requires.shallow
 
 pub push_framed-loop-name-preserved : goal.push_framed-loop-name-preserved
 push_framed-loop-name-preserved t c =
     let l = c.loop-name in
     let d = layers_in c.args.writing.detail c.args.room c.args.writing.size.width c.args.writing.size.height c.args.layers.now in
-    let shown = λ (es : List Entry). replaced LAYERS.now d (members_view es) in
-    let every = replaced LAYERS.now d c.args.frame.now in
-    let done = l.invariant.0 in
     let e : Entry = (c.in-Some.name.now, c.in-Some.value.now) in
     let k = string_bytes c.in-Some.name.now in
-    let value = instead LAYERS.now d k (view c.in-Some.value.now) in
-    let left = c.next.new.self in
-    let step : l.name-iterator ≡ e ∷ left = c.in-Some.ensures.steps in
-    let all = l.invariant.1 ∙ ap (λ es. done ++ es) step in
     let held : c.into_iter-name-iterator.result ≡ c.members.result.now.entries = search rules in
-    let last = put_last done e left (subst (λ es. IsStrictlySortedBy string_cmp (keys_of es)) (sym held ∙ all) c.iter-name-items.ensures.ordered) in
-    let found : put k value (shown done) ≡ shown (done ++ e ∷ []) = sym (replaced-put LAYERS.now k d (view c.in-Some.value.now) (members_view done)) ∙ ap (replaced LAYERS.now d) last in
-    let rest = members_text true (shown left) in
-    let whole = or_parts (has_float (view c.in-Some.value.now)) _ (ap (λ es. members_have_float (members_view es)) (sym step) ∙ l.invariant.4) in
-    let named : c.push_name.new.text.items ≡ l.text.items ++ (comma_if l.later ++ (quoted k ++ 58 ∷ [])) =
-    subst (λ n. c.push_name.new.text.items ≡ l.text.items ++ (comma_if l.later ++ (quoted n ++ 58 ∷ []))) c.as_str.ensures.value c.in_ok-push_name.ensures in
-    let shows : Appends value c.push_name.new.text.items c.push_member.new.text.items =
-    subst (λ n. Appends (instead LAYERS.now d n (view c.in-Some.value.now)) c.push_name.new.text.items c.push_member.new.text.items) c.as_str-in-loop-name.ensures.value c.in_ok-push_member.ensures in (
-      done ++ e ∷ [],
-      all ∙ sym (append_assoc done (e ∷ []) left),
-      ap (λ t. t ++ rest) (shows.0 ∙ ap (λ t. t ++ compact_text value) named)
-          ∙ (regroup_member l.text.items (comma_if l.later) (quoted k) (compact_text value) rest ∙ (ap (λ es. l.text.items ++ members_text l.later (shown es)) (sym step) ∙ l.invariant.2)),
-      λ h. l.invariant.3 (subst (λ es. MembersReturn (shown es) (shown done) every) (sym step)
-          (MembersReturn-member k value (shown left) (shown done) every (IsUtf8-string_bytes c.in-Some.name.now) shows.1 (subst (λ ms. MembersReturn (shown left) ms every) (sym found) h))),
-      whole.1,
-      omega (arith, l.invariant.5, ap (λ es. members_depth (members_view es)) step),
-    )
+    let put = subst (λ es. ArePut LAYERS.now d c.args.frame.now c.push.new.self.items c.into_iter-name-iterator.result es l.later l.text.items) c.in-Some.ensures.steps l.invariant in
+    let ordered = subst (λ es. IsStrictlySortedBy string_cmp (keys_of es)) (sym held) c.iter-name-items.ensures.ordered in
+    let named = subst (λ n. c.push_name.new.text.items ≡ l.text.items ++ (comma_if l.later ++ (quoted n ++ 58 ∷ []))) c.as_str.ensures.value c.in_ok-push_name.ensures in
+    let shows = subst (λ n. Appends (instead LAYERS.now d n (view c.in-Some.value.now)) c.push_name.new.text.items c.push_member.new.text.items) c.as_str-in-loop-name.ensures.value c.in_ok-push_member.ensures in
+    ArePut-more LAYERS.now d c.args.frame.now c.push.new.self.items c.into_iter-name-iterator.result c.next.new.self l.later l.text.items c.push_name.new.text.items c.push_member.new.text.items e put ordered named shows
 
 pub push_framed-returns : goal.push_framed-returns
 push_framed-returns t c =
     let l = c.loop-name in
-    let shown = λ (es : List Entry). replaced LAYERS.now (layers_in c.args.writing.detail c.args.room c.args.writing.size.width c.args.writing.size.height c.args.layers.now) (members_view es) in
-    let every = replaced LAYERS.now (layers_in c.args.writing.detail c.args.room c.args.writing.size.width c.args.writing.size.height c.args.layers.now) c.args.frame.now in
-    let done = l.invariant.0 in
+    let d = layers_in c.args.writing.detail c.args.room c.args.writing.size.width c.args.writing.size.height c.args.layers.now in
     let none : l.name-iterator ≡ [] = search rules in
     let held : c.into_iter-name-iterator.result ≡ c.members.result.now.entries = search rules in
-    let all : c.members.result.now.entries ≡ done = sym held ∙ (l.invariant.1 ∙ (ap (λ es. done ++ es) none ∙ append-nil done)) in
-    let same : every ≡ shown done = ap (replaced LAYERS.now (layers_in c.args.writing.detail c.args.room c.args.writing.size.width c.args.writing.size.height c.args.layers.now)) (sym c.members.ensures) ∙ ap shown all in
-    let back = subst (λ ms. MembersReturn no_members ms every) same (MembersReturn-none every) in (
-      c.in_ok-push-2.ensures.items
-          ∙ (ap (λ es. l.text.items ++ members_text l.later (shown es)) (sym none)
-          ∙ (l.invariant.2 ∙ (ap (λ t. t ++ members_text false every) c.in_ok-push.ensures.items ∙ append_assoc c.args.text.now.items (123 ∷ []) (members_text false every)))),
-      Returns-object every (l.invariant.3 (subst (λ es. MembersReturn (shown es) (shown done) every) (sym none) back)),
-    )
+    let put = subst (λ es. ArePut LAYERS.now d c.args.frame.now c.push.new.self.items c.into_iter-name-iterator.result es l.later l.text.items) none l.invariant in
+    ArePut-all LAYERS.now d c.args.frame.now c.push.new.self.items c.into_iter-name-iterator.result l.later c.args.text.now.items l.text.items c.push-2.new.self.items put (ap members_view held ∙ c.members.ensures)
+    c.in_ok-push.ensures.items c.in_ok-push-2.ensures.items
 
 pub push_layer-push_framed-requires : goal.push_layer-push_framed-requires
 push_layer-push_framed-requires t c =
@@ -115,6 +78,32 @@ push_layer-returns-in-Some t c =
     ∙ layer_in-group c.args.writing.detail c.args.room less c.args.writing.size.width c.args.writing.size.height l c.in-Some.inside.now more group (AreWritten-lacks c.args.room (c.args.writing.size.width * c.args.writing.size.height) l c.requires) in
     subst (λ d. OnOk c.push_framed.result (Appends d c.args.text.now.items c.push_framed.new.text.items)) whole c.push_framed.ensures
 
+pub push_layer-push_numbered-requires-clause-numbers : goal.push_layer-push_numbered-requires-clause-numbers
+push_layer-push_numbered-requires-clause-numbers t c =
+    let l = c.args.layer.now in
+    let some : numbers_in c.args.writing.detail l.body ≡ Some c.in-Some-numbers_in.numbers.now = search rules in
+    AreWritten-values c.args.writing.detail c.args.room (c.args.writing.size.width * c.args.writing.size.height) l c.in-Some-numbers_in.numbers.now some c.requires
+
+pub push_layer-push_numbered-requires-clause-whole : goal.push_layer-push_numbered-requires-clause-whole
+push_layer-push_numbered-requires-clause-whole t c =
+    let plain = frame_in_plain c.args.writing.detail c.args.room c.args.writing.size.width c.args.writing.size.height c.args.layer.now c.requires in
+    ap members_have_float c.in_ok-frame.ensures ∙ plain.0
+
+pub push_layer-push_numbered-requires-clause-shallow : goal.push_layer-push_numbered-requires-clause-shallow
+push_layer-push_numbered-requires-clause-shallow t c =
+    let plain = frame_in_plain c.args.writing.detail c.args.room c.args.writing.size.width c.args.writing.size.height c.args.layer.now c.requires in
+    let deep = plain.1 in
+    subst (λ ms. members_depth ms ≤ max_depth) (sym c.in_ok-frame.ensures) (omega (arith, deep))
+
+pub push_layer-returns-in-Some-numbers_in : goal.push_layer-returns-in-Some-numbers_in
+push_layer-returns-in-Some-numbers_in t c =
+    let l = c.args.layer.now in
+    let numbers = c.in-Some-numbers_in.numbers.now in
+    let some : numbers_in c.args.writing.detail l.body ≡ Some numbers = search rules in
+    let whole = ap (λ ms. object (replaced DATA.now (array_by whole_tree numbers) ms)) c.in_ok-frame.ensures
+    ∙ layer_in-numbers c.args.writing.detail c.args.room c.args.writing.size.width c.args.writing.size.height l numbers some (AreWritten-lacks c.args.room (c.args.writing.size.width * c.args.writing.size.height) l c.requires) in
+    subst (λ d. OnOk c.push_numbered.result (Appends d c.args.text.now.items c.push_numbered.new.text.items)) whole c.push_numbered.ensures
+
 pub push_layer-push_value-requires-clause-whole : goal.push_layer-push_value-requires-clause-whole
 push_layer-push_value-requires-clause-whole t c =
     let plain = frame_in_plain c.args.writing.detail c.args.room c.args.writing.size.width c.args.writing.size.height c.args.layer.now c.requires in
@@ -128,12 +117,13 @@ push_layer-push_value-requires-clause-shallow t c =
 pub push_layer-returns : goal.push_layer-returns
 push_layer-returns t c =
     let l = c.args.layer.now in
+    let plain : numbers_in c.args.writing.detail l.body ≡ None = search rules in
     let whole : object (frame_in c.args.writing.detail c.args.writing.size.width c.args.writing.size.height l) ≡ layer_in c.args.writing.detail c.args.room c.args.writing.size.width c.args.writing.size.height l =
     elim c.if-room-gt0.branch [
       | push_layer-then-room-gt0+in_default w ↦
           let none : group_in l.body ≡ None = search rules in
-          layer_in-frame c.args.writing.detail c.args.room c.args.writing.size.width c.args.writing.size.height l none
-      | push_layer-else-room-gt0 w ↦ layer_in-room c.args.writing.detail c.args.room c.args.writing.size.width c.args.writing.size.height l (omega (arith, w.if-room-gt0))
+          layer_in-frame c.args.writing.detail c.args.room c.args.writing.size.width c.args.writing.size.height l plain none
+      | push_layer-else-room-gt0 w ↦ layer_in-room c.args.writing.detail c.args.room c.args.writing.size.width c.args.writing.size.height l plain (omega (arith, w.if-room-gt0))
     ] in
     subst (λ d. OnOk c.push_value.result (Appends d c.args.text.now.items c.push_value.new.text.items)) (c.into_value.ensures ∙ (ap object c.in_ok-frame.ensures ∙ whole)) c.push_value.ensures
 

@@ -1,14 +1,11 @@
-use Rattle.std.proofs.Common.{◌≡◌, ◌+◌, ◌*◌, ◌≤◌, ◌++◌, List, false}
-use Rattle.serde_json.specs.Data.{members_depth, no_members}
-use Rattle.serde_json.specs.Read.{max_depth}
-use Rattle.serde_json.specs.View.{members_view}
-use Rattle.serde_json.specs.Written.{items_text, members_have_float, members_text}
-use Rattle.serde_json.proofs.Views.{Entry}
+use Rattle.std.proofs.Common.{◌≡◌, ◌+◌, ◌*◌, ◌++◌, false}
+use Rattle.serde_json.specs.Written.{items_text}
 use Rattle.map_model.specs.declared.names.TheConstants.{LAYERS}
-use Rattle.map_json.specs.Appending.{AreWritten, replaced}
+use Rattle.map_json.specs.Appending.{AreWritten}
 use Rattle.map_json.specs.Details.{layer_in, layers_in}
 use Rattle.map_json.specs.Trees.{items_by}
-use Rattle.map_json.proofs.Returning.{ItemsReturn, MembersReturn}
+use Rattle.map_json.proofs.PutMembers.{ArePut}
+use Rattle.map_json.proofs.Returning.{ItemsReturn}
 use Rattle.map_json.proofs.map_text.+pushes.Given as goal
 
 abbrev pub decreases-push_layer : goal.decreases-push_layer
@@ -34,11 +31,4 @@ invariant-push_layers-loop-layer l =
 
 abbrev pub invariant-push_framed-loop-name : goal.invariant-push_framed-loop-name
 invariant-push_framed-loop-name l =
-    let shown = λ (es : List Entry). replaced LAYERS.now (layers_in l.writing.detail l.room l.writing.size.width l.writing.size.height l.layers) (members_view es) in
-    let all = replaced LAYERS.now (layers_in l.writing.detail l.room l.writing.size.width l.writing.size.height l.layers) l.frame in
-    (done : List Entry)
-    × (l.initial.name-iterator ≡ done ++ l.name-iterator)
-    × (l.text.items ++ members_text l.later (shown l.name-iterator) ≡ l.initial.text.items ++ members_text false all)
-    × (MembersReturn (shown l.name-iterator) (shown done) all → MembersReturn all no_members all)
-    × (members_have_float (members_view l.name-iterator) ≡ false)
-    × (members_depth (members_view l.name-iterator) ≤ max_depth)
+    ArePut LAYERS.now (layers_in l.writing.detail l.room l.writing.size.width l.writing.size.height l.layers) l.frame l.initial.text.items l.initial.name-iterator l.name-iterator l.later l.text.items

@@ -1,5 +1,5 @@
 use Rattle.std.proofs.Common.{◌≡◌, ℕ, ◌*◌, sym, ap, ◌∙◌, subst, arith}
-use Rattle.serde_json.specs.Data.{Members, array, object}
+use Rattle.serde_json.specs.Data.{Members, object}
 use Rattle.serde_json.specs.Written.{compact_text}
 use Rattle.map_model.specs.declared.names.TheConstants.{LAYERS}
 use Rattle.map_model.specs.declared.limits.TheConstants.{MAX_GROUPS}
@@ -52,4 +52,4 @@ push_framed-requires-clause-shallow c =
 pub returns-clause-text : goal.returns-clause-text
 returns-clause-text c =
     let out = put_out c.args.detail c.of_map-size.result.width c.of_map-size.result.height c.parts-parts.result.now c.args.map.now c.in_ok-frame.frame c.of_map-size.ensures.width c.of_map-size.ensures.height c.parts-parts.ensures.value c.in_ok-frame.ensures c.parts-parts.ensures.well_formed in
-    (c.in_ok-push_framed.ensures.0 ∙ (rw c.new-text.ensures.items (ap compact_text out)), subst Returns out c.in_ok-push_framed.ensures.1)
+    (c.in_ok-push_framed.ensures.0 ∙ (rw c.in_ok-text.ensures.items (ap compact_text out)), subst Returns out c.in_ok-push_framed.ensures.1)
