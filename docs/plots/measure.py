@@ -108,23 +108,25 @@ def merges(folder):
 
 def bytes_of_a_map(folder):
     for side in (16, 64, 256, 1024):
-        size = save_map(Path(folder) / 'large.tmj', side)
+        source, copy = Path(folder) / 'large.tmj', Path(folder) / 'copy.tmj'
+        write_map(source, side)
         opened = instructions(['open m large.tmj', 'discard m'], folder) - instructions(['status'], folder)
         saved = instructions(['open m large.tmj', 'save copy.tmj'], folder) - instructions(['open m large.tmj'], folder)
-        yield size, opened / size, saved / size
+        read, written = source.stat().st_size, copy.stat().st_size
+        yield read, opened / read, saved / written
 
 
-def save_map(path, side):
+def write_map(path, side):
+    """Writes a map without spaces, as the editor and Tiled's minimized export do."""
     dice = random.Random(side)
     cells = [dice.randrange(1, 1_000) for _ in range(side * side)]
     layer = {'type': 'tilelayer', 'id': 1, 'name': 'l', 'visible': True, 'opacity': 1, 'x': 0, 'y': 0,
              'width': side, 'height': side, 'data': cells}
-    text = json.dumps({
+    tree = {
         'type': 'map', 'version': '1.10', 'tiledversion': '1.10.2', 'orientation': 'orthogonal', 'renderorder': 'right-down',
         'compressionlevel': -1, 'infinite': False, 'width': side, 'height': side, 'tilewidth': 16, 'tileheight': 16,
-        'nextlayerid': 2, 'nextobjectid': 1, 'layers': [layer], 'tilesets': [{'firstgid': 1, 'source': 't.tsj'}]})
-    path.write_text(text)
-    return len(text)
+        'nextlayerid': 2, 'nextobjectid': 1, 'layers': [layer], 'tilesets': [{'firstgid': 1, 'source': 't.tsj'}]}
+    path.write_text(json.dumps(tree, separators=(',', ':')))
 
 
 # The name of a series, its function, and the heads of its table.
