@@ -1,9 +1,14 @@
 -- The offset of the first newline.
-use Rattle.std.proofs.Common.{◌≡◌, ℕ, ◌+◌, ◌<◌, ◌≤◌, eqb, cond, not, List, ◌∷◌, ◌++◌, length, take, drop, get_or, sym, ap, ◌∙◌, arith}
+use Rattle.std.proofs.Common.{◌≡◌, ℕ, ◌+◌, ◌^◌, ◌<◌, ◌≤◌, Bool, true, false, eqb, ltb, cond, not, List, ◌∷◌, ◌++◌, length, map, take, drop, get_or, refl, sym, ap, ◌∙◌, arith, w64}
 use Rattle.std.specs.List.{before_first, after_first}
-use Rattle.std.proofs.lemmas.Bool.{ne_eqb, eq-eqb, eqb-true, eqb-false, false_from_ne_true}
+use Rattle.std.specs.Int.{bit_at, trailing_zeros}
+use Rattle.std.specs.Simd.Lanes.{mask_l}
+use Rattle.std.proofs.lemmas.Bool.{ne_eqb, eq-eqb, eqb-true, eqb-false, ltb-true, ltb-false, false_from_ne_true}
+use Rattle.std.proofs.lemmas.Nat.Bits.{bit_at-trailing_zeros}
+use Rattle.std.proofs.lemmas.Simd.{bit_mask_l}
+use Rattle.std.proofs.Math.ListN.{get_or-map}
 use Rattle.memchr.specs.Find.{NoneBefore, Nowhere, Passes, is_byte}
-use Rattle.std.proofs.lemmas.List.{get_or-take, length-take}
+use Rattle.std.proofs.lemmas.List.{get_or-take, get_or_past, length-take}
 use Rattle.std.proofs.lemmas.List.Sums.{position_or_len_is, fails_before_first, passes_at_first, split_at_first}
 use Rattle.std.proofs.lemmas.List.Folds.{prefix_len-append}
 use Rattle.lines.specs.Lines.{HasNoNewline}
@@ -31,6 +36,45 @@ first-append xs ys h =
 
 pub first_is : (bs : List ℕ) (n : ℕ) → NoneBefore (Passes (is_byte 10) bs) 0 (length bs) n × Passes (is_byte 10) bs n → n ≡ first_newline bs
 first_is bs n h = let low = h.0.high in sym (position_or_len_is (λ b. eqb b 10) bs n 0 (omega (arith, low)) (λ k l. false_from_ne_true _ (h.0.before k (omega arith) l)) (λ l. h.1))
+
+abbrev pub newline : ℕ → Bool
+newline b = eqb b 10
+
+-- a bit of the mask of some bytes
+bit_of_mask : (bs : List ℕ) (k : ℕ) → bit_at (mask_l (map newline bs)) k ≡ cond (newline (get_or bs k 0)) 1 0
+bit_of_mask bs k = bit_mask_l (map newline bs) k ∙ ap (λ b. cond b 1 0) (get_or-map newline bs k 0)
+
+is_set : (b : Bool) → cond {A = ℕ} b 1 0 ≡ 1 → b ≡ true
+is_set true h = refl
+is_set false h = absurd (omega (arith, h))
+
+is_not_set : (b : Bool) → cond {A = ℕ} b 1 0 ≡ 0 → b ≡ false
+is_not_set true h = absurd (omega (arith, h))
+is_not_set false h = refl
+
+-- a byte that passes is one of the bytes
+at_one : (bs : List ℕ) (k : ℕ) → newline (get_or bs k 0) ≡ true → k < length bs
+at_one bs k h = by (ltb k (length bs)) refl
+  where
+    by : (b : Bool) → ltb k (length bs) ≡ b → k < length bs
+    by true e = ltb-true k (length bs) e
+    by false e = let past : get_or bs k 0 ≡ 0 = get_or_past bs k 0 (ltb-false k (length bs) e) in absurd (omega (arith, eqb-true _ 10 h, past))
+
+-- the lowest bit of the mask of the first n bytes
+pub first_near : (bs : List ℕ) (n bits : ℕ) → bits ≡ mask_l (map newline (take n bs)) → 0 < bits → bits < 2 ^ 64 → (trailing_zeros w64 bits ≡ first_newline bs) × (trailing_zeros w64 bits ≤ length bs)
+first_near bs n bits is some fits =
+    let k = trailing_zeros w64 bits in
+    let lowest = bit_at-trailing_zeros w64 bits some fits in
+    let near : (i : ℕ) → bit_at bits i ≡ cond (newline (get_or (take n bs) i 0)) 1 0 = λ i. ap (λ m. bit_at m i) is ∙ bit_of_mask (take n bs) i in
+    let passes = is_set _ (sym (near k) ∙ lowest.1) in
+    let inside = at_one (take n bs) k passes in
+    let short = length-take n bs in
+    let within : k ≤ length bs = omega (arith, inside, short) in (
+      sym (position_or_len_is newline bs k 0 within
+          (λ i l. ap newline (sym (get_or-take n bs i 0 (omega (arith, inside, short, l)))) ∙ is_not_set _ (sym (near i) ∙ lowest.2 i l))
+          (λ l. ap newline (sym (get_or-take n bs k 0 (omega (arith, inside, short)))) ∙ passes)),
+      within,
+    )
 
 pub first_is_none : (bs : List ℕ) → Nowhere (Passes (is_byte 10) bs) 0 (length bs) → length bs ≡ first_newline bs
 first_is_none bs h = sym (position_or_len_is (λ b. eqb b 10) bs (length bs) 0 (omega arith) (λ k l. false_from_ne_true _ (h k (omega arith) l)) (λ l. absurd (omega (arith, l))))

@@ -1,5 +1,7 @@
-ghost use Rattle.std.specs.Prelude.{◌≡◌, ◌+◌, ◌-◌, ◌^◌, ◌↔◌, ◌<◌, ◌≤◌, false, [], ◌∷◌, ◌++◌, length, IsTrue, IfOk, OnOk, OnErr, IfSome, IfNone, Ok, Some, None, vec_len, slice_range, take, drop};
+ghost use Rattle.std.specs.Prelude.{◌≡◌, ◌==◌, map, ◌+◌, ◌-◌, ◌^◌, ◌↔◌, ◌<◌, ◌≤◌, false, [], ◌∷◌, ◌++◌, length, IsTrue, IfOk, OnOk, OnErr, IfSome, IfNone, Ok, Some, None, vec_len, slice_range, take, drop};
 ghost use Rattle.std.specs.Bool.{OnTrue, OnFalse};
+ghost use Rattle.std.specs.Simd.Lanes.{mask_l};
+ghost use Rattle.lines.specs.declared.reader.TheConstants.{LOOK_AHEAD};
 ghost use Rattle.std.specs.Io.KnownBytes.{IsAtEnd, Consumes, Keeps};
 ghost use Rattle.lines.specs.Lines.{HasNoNewline};
 ghost use Rattle.lines.specs.Reading.{Reading, fresh, budget, HasLine, first_newline, input_left, SameInput, FindsLine, SkipsLine, StopsInLine, AsksInNeed, SameCalls, HasFailed};
@@ -8,12 +10,16 @@ use memchr::memchr;
 use std::alloc::{AllocError, Global};
 use std::io::Read;
 use std::marker::Model;
+use std::simd::prelude::*;
 
 /// The bytes of the longest line, and its newline.
 const CAPACITY: usize = 65_536;
 
 /// The calls of `read` that a reader of lines makes at most.
 const MAX_CALLS: u64 = 4_294_967_296;
+
+/// So many bytes are looked at in one step.
+const LOOK_AHEAD: usize = 32;
 
 /// What the next line is.
 #[derive(Clone, Copy, Debug, PartialEq, Eq)]
@@ -60,11 +66,31 @@ impl Model for LineReader {
         × (r.newline ≡ r.start + first_newline (slice_range r.buffer.items r.start r.end)) };
 }
 
+/// Where newlines are among the first bytes, a bit for each of them.
+#[inline(always)]
+fn newline_bits(bytes: &[u8]) -> u64
+    requires { LOOK_AHEAD ≤ length bytes.now }
+    ensures small { result < 2 ^ 64 }
+    ensures mask { result ≡ mask_l (map (λ b. b == 10) (take LOOK_AHEAD bytes.now)) }
+{
+    u8x32::from_slice(bytes)
+        .simd_eq(u8x32::splat(b'\n'))
+        .to_bitmask()
+}
+
 /// The offset of the first newline, or the length where there is none.
+#[inline(always)]
 fn newline_at(bytes: &[u8]) -> usize
     ensures offset { result ≡ first_newline bytes.now }
     ensures within { result ≤ length bytes.now }
 {
+    // Most lines are short: their newline is found at once.
+    if bytes.len() >= LOOK_AHEAD {
+        let bits = newline_bits(bytes);
+        if bits != 0 {
+            return bits.trailing_zeros() as usize;
+        }
+    }
     match memchr(b'\n', bytes) {
         Some(n) => n,
         None => bytes.len(),

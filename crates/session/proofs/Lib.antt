@@ -15,4 +15,5 @@ pub mod ReadFields
 pub mod Lengths
 pub mod Forms
 pub mod Laws
+pub mod HotLines
 pub mod LastDigits

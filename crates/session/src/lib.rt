@@ -3,6 +3,7 @@
 
 mod fields;
 mod gids;
+mod hot_lines;
 mod layer_lines;
 pub mod limits;
 mod line;
@@ -18,6 +19,7 @@ mod typed_value;
 mod words;
 
 pub use gids::{Gids, Values};
+pub use hot_lines::{HotLine, StampLine, TileLine, hot_line};
 pub use line::{Line, LineFault};
 pub use parse::parse_line;
 pub use reply::{LocalTile, Refusal, Reply};

@@ -7,6 +7,7 @@ ghost use Rattle.std.specs.List.{list_all};
 ghost use Rattle.session.specs.Words.{words_left};
 
 use crate::fields::Fields;
+use crate::hot_lines::{TileLine, stamp_fields, tile_fields};
 use crate::layer_lines::layer;
 use crate::limits::MAX_LINE;
 use crate::line::{Line, LineFault};
@@ -80,18 +81,14 @@ fn choose_document<'a>(fields: &mut Fields<'a>) -> Result<Line<'a>, LineFault>
 fn stamp<'a>(follows: bool, fields: &mut Fields<'a>) -> Result<Line<'a>, LineFault>
     ensures { Gives (λ x. x) result (read (stamp_form follows) (words_left fields.old.rest)) }
 {
-    let layer = fields.number()?;
-    let x = fields.coordinate()?;
-    let y = fields.coordinate()?;
-    let (width, values) = fields.block()?;
-    fields.end()?;
+    let stamp = stamp_fields(follows, fields)?;
     Ok(Line::Stamp {
-        layer,
-        x,
-        y,
-        width,
-        values,
-        follows,
+        layer: stamp.layer,
+        x: stamp.x,
+        y: stamp.y,
+        width: stamp.width,
+        values: stamp.values,
+        follows: stamp.follows,
     })
 }
 
@@ -133,10 +130,7 @@ fn fill<'a>(fields: &mut Fields<'a>) -> Result<Line<'a>, LineFault>
 fn tile<'a>(fields: &mut Fields<'a>) -> Result<Line<'a>, LineFault>
     ensures { Gives (λ x. x) result (read tile_form (words_left fields.old.rest)) }
 {
-    let layer = fields.number()?;
-    let x = fields.coordinate()?;
-    let y = fields.coordinate()?;
-    fields.end()?;
+    let TileLine { layer, x, y } = tile_fields(fields)?;
     Ok(Line::Tile { layer, x, y })
 }
 
@@ -266,7 +260,7 @@ fn is_quiet_line(bytes: &[u8]) -> bool
 }
 
 // The bytes as text. Nearly all lines are ASCII, and that is seen eight bytes at a time.
-fn text_of(bytes: &[u8]) -> Option<&str>
+pub fn text_of(bytes: &[u8]) -> Option<&str>
     ensures some { IfSome result (λ text. (text.now ≡ bytes.now) × IsUtf8 bytes.now) }
     ensures none { IfNone result (IsUtf8 bytes.now → ⊥) }
 {
