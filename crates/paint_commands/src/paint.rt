@@ -28,13 +28,14 @@ enum PaintKind {
     Fill,
 }
 
-/// A paint on a tile layer. It holds exactly the cells that differ between the documents on its two sides.
+/// A paint on a tile layer. It holds exactly the cells that differ between the documents on its two sides. Its fields lie in
+/// this order, in 40 bytes.
 #[derive(Drop)]
 pub struct PaintCommand {
     kind: PaintKind,
-    layer: u32,
     follows: bool,
     is_made: bool,
+    layer: u32,
     cells: CellEdits,
 }
 
@@ -45,9 +46,9 @@ impl PaintCommand {
     {
         PaintCommand {
             kind,
-            layer: change.layer,
             follows,
             is_made: false,
+            layer: change.layer,
             cells: change.cells,
         }
     }
@@ -120,9 +121,9 @@ impl PaintCommand {
         // The cells and what kind of paint they are is all that a paint keeps.
         let PaintCommand {
             kind: _,
-            layer: _,
             follows: _,
             is_made: _,
+            layer: _,
             cells,
         } = self;
         cells.as_slice()
@@ -159,12 +160,12 @@ impl Exchange for PaintCommand {
         self.cells.as_slice().is_empty()
     }
 
-    // Each turn of a paint is this call.
+    // Each turn of a paint is this call. It ends in the put.
     #[inline(always)]
     fn exchange(&mut self, document: &mut Document) {
         let side = side_to_put(self.is_made);
-        document.put_edits(self.layer, self.cells.as_slice(), side);
         self.is_made = !self.is_made;
+        document.put_edits(self.layer, self.cells.as_slice(), side);
     }
 }
 
