@@ -2,12 +2,16 @@
 is refused and why, in the field's own terms, Escape and Ctrl+Z in a field, values that no line
 sets, and the words for refused lines."""
 import json
+import random
 import re
 
+from lib.cases import passed
 from lib.maps import layers_in
+from lib.refusals import refusal
 from page.bench import Bench, choose, layer_of, middle_of, object_of, spelled, standing
 from page.browser import ActionChains, Keys
 from selenium.webdriver.support.ui import Select
+from test_strict import a_line_at_fault
 
 NEEDS_BROWSER = True
 IS_LONG = True
@@ -94,6 +98,25 @@ def test_words_of_refusals():
         page.say('prop set map a bool yes')
         assert "'yes'" in page.bubble() and 'prop set OWNER KEY bool true|false' in page.bubble()
         assert not spelled(page)
+
+
+def test_word_at_fault():
+    """Of lines with one word at fault, made by chance, the page names that word."""
+    chance = random.Random(66)
+    made = [each for each in (a_line_at_fault(chance) for _ in range(1200)) if each]
+    lines = [' '.join(words) for words, _, _ in made]
+    with Bench() as page:
+        told = page.js(
+            '''const told = [], {editor} = roskevad;
+               editor.addEventListener("lines", ({detail}) => told.push(...detail), {once: true});
+               editor.doLines(arguments[0], {isFree: true});
+               return told.map(([, , reply, why]) => [reply, why]);''',
+            lines,
+        )
+        page.settle()
+    for line, (_, fault, _), (reply, why) in zip(lines, made, told, strict=True):
+        assert reply == refusal(4) and why.startswith(f'Word {fault + 1}'), (line, why)
+    passed(len(lines))
 
 
 def test_ctrl_z():

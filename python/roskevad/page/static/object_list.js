@@ -76,7 +76,8 @@ export class ObjectList {
     const shown = rows.slice(0, MOST_ROWS).map(row => this.row(row));
     const left = rows.length - shown.length;
     if (left > 0) shown.push(element("li", { className: "more", textContent: `and ${countOf(left)} more: search for them` }));
-    if (!rows.length) shown.push(element("li", { className: "more", textContent: this.search.value ? "No object is found." : "The map has no object layer." }));
+    const none = this.search.value ? "No object is found." : "The map has no object layer.";
+    if (!rows.length) shown.push(element("li", { className: "more", textContent: none }));
     return shown;
   }
 

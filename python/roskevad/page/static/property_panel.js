@@ -83,7 +83,8 @@ export class PropertyPanel {
     if (this.kind === "map") return [this.fact("size", `${data.width} × ${data.height}`, "")];
     if (this.kind !== "object") return [];
     const type = data.type || data.class;
-    return [...(type ? [this.fact("class", type, "No line sets a class.")] : []), this.partRow(owner, PARTS.slice(0, 2), "place"), this.partRow(owner, PARTS.slice(2), "size")];
+    const known = type ? [this.fact("class", type, "No line sets a class.")] : [];
+    return [...known, this.partRow(owner, PARTS.slice(0, 2), "place"), this.partRow(owner, PARTS.slice(2), "size")];
   }
 
   fact(name, text, why) {
@@ -133,7 +134,8 @@ export class PropertyPanel {
 
   // A property that no line sets: it is shown, with why.
   barredRow({ word }, name, type, text, why) {
-    const input = element("textarea", { disabled: true, value: text, title: why, rows: Math.min(8, text.split("\n").length), data: { key: name, owner: word } });
+    const rows = Math.min(8, text.split("\n").length);
+    const input = element("textarea", { disabled: true, value: text, title: why, rows, data: { key: name, owner: word } });
     const box = element("div", { className: "value" }, input, element("small", { className: "barred", textContent: why }));
     return { element: this.propertyRow(word, name, type, box), fields: [] };
   }
@@ -150,7 +152,8 @@ export class PropertyPanel {
   // ---- a new property
   newRow() {
     const name = element("input", { placeholder: "name", id: "new-name", autocomplete: "off", oninput: () => mark(name, "") });
-    const type = element("select", { id: "new-type", onchange: () => this.newField() }, ...Object.keys(TYPES).map(each => element("option", { textContent: each })));
+    const types = Object.keys(TYPES).map(each => element("option", { textContent: each }));
+    const type = element("select", { id: "new-type", onchange: () => this.newField() }, ...types);
     const box = element("td", { className: "new-value" });
     Object.assign(this, { name, type, box });
     const add = button("+", "Set this property", () => this.add(), { id: "add-property" });

@@ -25,11 +25,12 @@ const HINTS = {
 };
 
 const cut = text => (text.length <= LONGEST_SHOWN ? text : `${text.slice(0, LONGEST_SHOWN)}..`);
+const OWNER = "map, or layer: or object: and an id";
 const NUMBERS = matchedNumbers();
 const WORDS = {
   DOC: KINDS.document, FILE: KINDS.file, X: KINDS.coordinate, Y: KINDS.coordinate, KEY: KINDS.key, COLOUR: KINDS.colour,
   TEXT: KINDS.text, ACTION: KINDS.text, NAME: KINDS.text, SOURCE: KINDS.text,
-  OWNER: fitting(/^(map|(layer|object):(0|[1-9]\d{0,9}))$/, "map, or layer: or object: and an id"),
+  OWNER: { wanted: OWNER, fault: text => (text === "map" || !NUMBERS.number.fault(/^(?:layer|object):(.*)$/s.exec(text)?.[1] ?? "") ? "" : OWNER) },
   TYPE: fitting(/^(string|int|bool|color|file|object)$/, `one of ${Object.keys(TYPES).join(", ")}`),
 };
 const TEXTS = new Set(["TEXT", "ACTION", "NAME", "SOURCE"]);
@@ -55,8 +56,7 @@ function tilesFault(text, width) {
 // What a word of a form takes: { wanted, fault(text) }. `before` is the word of the line that stands before.
 function kindOf(form, word, before) {
   if (word === "TILES") return { wanted: `values that fill rows of ${before}`, fault: text => tilesFault(text, before) };
-  if (word === "VALUE") return TYPES[before] ?? KINDS.text;
-  if (word === "NUMBER" && before === "int") return NUMBERS.coordinate;
+  if (word === "VALUE" || word === "NUMBER") return { int: NUMBERS.coordinate, object: NUMBERS.number }[before] ?? TYPES[before] ?? NUMBERS.number;
   if (word === "WIDTH" && form.startsWith("stamp")) return NUMBERS.width;
   if (word === "X" || word === "Y") return NUMBERS.coordinate;
   if (WORDS[word]) return WORDS[word];
