@@ -545,31 +545,43 @@ def see_sharp(page, ratio):
     assert drawn == shown and len(set(shown)) > 3, ratio
 
 
+def touch(page, kind, *points):
+    """Has fingers touch the screen at these points of the window."""
+    touched = [{'x': x, 'y': y, 'id': at} for at, (x, y) in enumerate(points)]
+    page.driver.execute_cdp_cmd('Input.dispatchTouchEvent', {'type': kind, 'touchPoints': touched})
+
+
 def test_fingers():
-    """Two fingers change the scale and move the map; what one finger drew before stays a stroke."""
+    """Two fingers change the scale and move the map, and draw nothing; one finger draws, by a touch
+    or by a drag."""
     with Bench() as page:
-        choose(page, 'Ground')
+        ground = choose(page, 'Ground')
         take_tile(page, (3, 1))
-        x, y, scale = view_of(page)
-
-        def touch(kind, *points):
-            touched = [{'x': x, 'y': y, 'id': at} for at, (x, y) in enumerate(points)]
-            page.driver.execute_cdp_cmd(
-                'Input.dispatchTouchEvent', {'type': kind, 'touchPoints': touched}
-            )
-
+        scale = view_of(page)[2]
         left, top = page.point((20, 15))
-        touch('touchStart', (left, top))
-        touch('touchStart', (left, top), (left + 40, top))
-        touch('touchMove', (left - 20, top), (left + 60, top))
+        touch(page, 'touchStart', (left, top))
+        touch(page, 'touchStart', (left, top), (left + 40, top))
+        touch(page, 'touchMove', (left - 20, top), (left + 60, top))
         page.settle()
-        assert abs(view_of(page)[2] / scale - 2) < 0.05, view_of(page)
-        touch('touchMove', (left - 10, top + 30), (left + 70, top + 30))
-        touch('touchEnd')
+        x, y, larger = view_of(page)
+        assert abs(larger / scale - 2) < 0.05, larger
+        touch(page, 'touchMove', (left - 10, top + 30), (left + 70, top + 30))
         page.settle()
-        assert abs(view_of(page)[2] / scale - 2) < 0.05 and standing(page)[0] <= 1
-        page.drag([(20, 14)])
-        assert standing(page)[0] >= 1
+        moved = view_of(page)
+        assert abs(moved[0] - x - 10) < 2 and abs(moved[1] - y - 30) < 2, (x, y, moved)
+        touch(page, 'touchEnd')
+        page.settle()
+        assert standing(page) == (0, 0) and view_of(page) == moved
+        touch(page, 'touchStart', page.point((20, 14)))
+        touch(page, 'touchEnd')
+        page.settle()
+        assert spelled(page) == [f'stamp {ground} 20 14 1 12']
+        touch(page, 'touchStart', page.point((17, 13)))
+        touch(page, 'touchMove', page.point((18, 13)))
+        touch(page, 'touchMove', page.point((19, 13)))
+        touch(page, 'touchEnd')
+        page.settle()
+        assert standing(page) == (2, 2) and cell(page, ground, 18, 13) == 12
 
 
 def test_texts_and_words():
