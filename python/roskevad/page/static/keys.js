@@ -1,5 +1,6 @@
 // The table of keys: Tiled's, where Tiled has one. The page's keys are bound from it, and it can be listed.
 import { isTyping } from "./dom.js";
+import { showKeys } from "./key_list.js";
 import { flippedToSide, flippedUpDown, turnedLeft, turnedRight } from "./stamps.js";
 
 const DIGITS = [1, 2, 3, 4, 5, 6, 7, 8, 9];
@@ -61,16 +62,18 @@ function viewRows({ toolbar, tools, view }) {
     [["Ctrl+/"], "The whole map", () => view.fit()],
     [["Ctrl+g"], "Hides or shows the grid", () => toolbar.turnGrid()],
     [["m"], "Hides or shows the whole map in small", () => toolbar.turnMiniMap()],
+    [["?"], "Lists the keys", () => toolbar.keys.list()],
     [Object.keys(ARROWS).flatMap(key => [key, `Shift+${key}`]), "Moves the chosen object or the view", move],
   ];
 }
 
 // Those that go in fields, too.
-function mapRows({ documents }) {
+function mapRows({ documents, toolbar }) {
   return [
     [["Ctrl+s"], "Saves the map", () => documents.save()],
     [["Ctrl+Shift+s"], "Saves the map into another file", () => documents.saveAs()],
     [["Ctrl+o"], "Opens a map", () => documents.open()],
+    [["f1"], "Lists the keys", () => toolbar.keys.list()],
   ];
 }
 
@@ -108,6 +111,11 @@ export class Keys {
     }
     if (event.code === "Space") this.holdSpace(event);
     else if (!event.altKey && this.calls.has(word) && !this.isText(word)) this.run(event, word);
+  }
+
+  list() {
+    const others = [["Space"], "With a drag moves the map", null];
+    return showKeys([...this.rows, others]);
   }
 
   // A field takes what was typed before the map is saved.
