@@ -1,5 +1,6 @@
 // The table of keys: Tiled's, where Tiled has one. The page's keys are bound from it, and it can be listed.
 import { isTyping } from "./dom.js";
+import { showKeys } from "./key_list.js";
 import { flippedToSide, flippedUpDown, turnedLeft, turnedRight } from "./stamps.js";
 
 const DIGITS = [1, 2, 3, 4, 5, 6, 7, 8, 9];
@@ -74,6 +75,13 @@ function mapRows({ documents }) {
   ];
 }
 
+function pageRows(_, keys) {
+  return [[["f1", "?"], "Lists the keys", () => showKeys(keys.groups)]];
+}
+
+// The table, by what its rows are about.
+const GROUPS = [["Tools", toolRows], ["The stamp", stampRows], ["Cells, objects and steps", editRows], ["The view", viewRows], ["Maps", mapRows], ["The page", pageRows]];
+
 // The word of a key that was pressed: a digit or a sign is named without the Shift that it may need.
 function wordOf(event) {
   const digit = /^(?:Digit|Numpad)([1-9])$/.exec(event.code)?.[1];
@@ -86,9 +94,10 @@ export class Keys {
   // `parts` has the bench, the tools, the toolbar, the documents, the view, and the clips and kept stamps of cells.
   constructor(parts) {
     Object.assign(this, { tools: parts.tools });
-    this.rows = [toolRows, stampRows, editRows, viewRows, mapRows].flatMap(rows => rows(parts));
-    this.calls = new Map(this.rows.flatMap(([keys, , call]) => keys.map(key => [key, call])));
-    this.inFields = new Set(mapRows(parts).flatMap(([keys]) => keys));
+    this.groups = GROUPS.map(([title, rowsOf]) => ({ title, rows: rowsOf(parts, this) }));
+    const rows = this.groups.flatMap(group => group.rows);
+    this.calls = new Map(rows.flatMap(([keys, , call]) => keys.map(key => [key, call])));
+    this.inFields = new Set(["f1", ...mapRows(parts).flatMap(([keys]) => keys)]);
     document.addEventListener("keydown", event => this.press(event));
     document.addEventListener("keyup", event => {
       if (event.code === "Space") this.tools.isSpace = false;
