@@ -1,6 +1,6 @@
-"""Tries the hand on the page in Chromium: lines by Shift, rectangles, fills with a pattern, cut, copy and
-paste of cells, kept stamps, Escape, keys in fields, and where words at the hand stand. Each test has
-a copy of the maps of its own."""
+"""Tries the hand on the page in Chromium: lines by Shift, rectangles, fills with a pattern, cut,
+copy and paste of cells, kept stamps, Escape, keys in fields, and where words at the hand stand.
+Each test has a copy of the maps of its own."""
 import random
 
 from lib.cases import passed
@@ -14,7 +14,8 @@ FILLS = 24
 
 
 def line_between(one, other):
-    """The cells of a line: one a column, or one a row where it is steep, as near to it as can be."""
+    """The cells of a line: one a column, or one a row where it is steep, as near to it as can
+    be."""
     (x0, y0), (x1, y1) = one, other
     count = max(abs(x1 - x0), abs(y1 - y0), 1)
     return {
@@ -25,7 +26,8 @@ def line_between(one, other):
 
 def test_lines():
     """Shift draws a line from the last cell of the stroke before, as one step, with brush and
-    eraser; behind an undo it has its first cell, too; in another map it is a stroke as any other."""
+    eraser; behind an undo it has its first cell, too; in another map it is a stroke as any
+    other."""
     with Bench('town.tmj', 'flips.tmj') as page:
         page.click('.tab[data-document="town"]')
         choose(page, 'Ground')
@@ -91,8 +93,8 @@ def changed(page, before):
 
 
 def fill_both(page, x, y):
-    """Fills at a cell with a pattern, and then by a line, and undoes both: the cells of each. Gives how
-    many there were."""
+    """Fills at a cell with a pattern, and then by a line, and undoes both: the cells of each. Gives
+    how many there were."""
     before, (index, _) = page.editor.map()['layers'][0]['data'], standing(page)
     page.stroke([(x, y)])
     filled = changed(page, before)
@@ -112,8 +114,8 @@ def fill_both(page, x, y):
 
 
 def test_pattern_fills():
-    """A fill with a pattern takes the cells that the line `fill` takes, on maps and in selections by
-    chance, and is one step. It is repeated from the upper left corner of their rectangle on."""
+    """A fill with a pattern takes the cells that the line `fill` takes, on maps and in selections
+    by chance, and is one step. It is repeated from the upper left corner of their rectangle on."""
     numbers, counts = random.Random(20261127), []
     with Bench(empty=True) as page:
         page.say('new a 10 8 16 16 tiles.tsx')
@@ -142,8 +144,8 @@ def selected_cells(page):
 
 
 def test_cut_and_paste():
-    """Ctrl+X takes the selected cells and empties them; with a selection that bars it the stamp says so;
-    Ctrl+V drops the selection and has the stamp in the hand."""
+    """Ctrl+X takes the selected cells and empties them; with a selection that bars it the stamp
+    says so; Ctrl+V drops the selection and has the stamp in the hand."""
     with Bench() as page:
         ground = choose(page, 'Ground')
         old = [cell(page, ground, x, y) for y in (20, 21) for x in (3, 4, 5)]
@@ -170,12 +172,13 @@ def test_stamp_of_all():
     """A stamp of a whole map is one step of lines that each fit."""
     with Bench(empty=True) as page:
         page.say('new wide 3000 4 16 16 tiles.tsx')
-        page.editor.lines(*(f'stamp 1 0 {y} 3000 ' + ','.join([str(5 + y)] * 3000) for y in range(2)))
+        page.editor.lines(*(f'stamp 1 0 {y} 3000 {",".join(str(5 + y) * 3000)}' for y in range(2)))
         page.ctrl('a')
         page.ctrl('c')
         page.ctrl('v')
         page.js(
-            'const {view} = roskevad; view.zoomTo(1); view.originX = 600 - 1500 * 16; view.originY = 40; view.redraw()'
+            'const {view} = roskevad; view.zoomTo(1);'
+            'view.originX = 600 - 1500 * 16; view.originY = 40; view.redraw()'
         )
         page.settle()
         index = standing(page)[0]
@@ -191,8 +194,8 @@ def test_stamp_of_all():
 
 
 def test_kept_stamps():
-    """Ctrl and a digit keep the stamp, Shift and the digit take it again; a digit alone is the side of
-    the brush."""
+    """Ctrl and a digit keep the stamp, Shift and the digit take it again; a digit alone is the side
+    of the brush."""
     with Bench() as page:
         take_tile(page, (3, 1))
         page.ctrl('2')
@@ -233,8 +236,8 @@ def release(page):
 
 
 def test_escape():
-    """Escape ends a stroke, which stays as far as it came; a drag of a rectangle does nothing then; with
-    nothing under way it drops the selection; a dialog goes, and nothing else."""
+    """Escape ends a stroke, which stays as far as it came; a drag of a rectangle does nothing then;
+    with nothing under way it drops the selection; a dialog goes, and nothing else."""
     with Bench() as page:
         ground = choose(page, 'Ground')
         take_tile(page, (3, 1))
@@ -266,14 +269,16 @@ def test_escape():
 
 
 def test_keys_in_fields():
-    """Ctrl+S saves in a field, too, and never opens the browser's own Save, also in a dialog; Ctrl+C
-    copies text that is marked in the log, and no cells."""
+    """Ctrl+S saves in a field, too, and never opens the browser's own Save, also in a dialog;
+    Ctrl+C copies text that is marked in the log, and no cells."""
     bench = Bench()
     with bench as page:
         choose(page, 'Ground')
         take_tile(page, (3, 1))
         page.js(
-            'globalThis.kept = []; addEventListener("keydown", event => event.ctrlKey && kept.push(event.key + event.defaultPrevented))'
+            'globalThis.kept = [];'
+            'const keep = event => event.ctrlKey && kept.push(event.key + event.defaultPrevented);'
+            'addEventListener("keydown", keep)'
         )
         page.drag([(3, 20), (5, 20)])
         page.find('#macro-name').send_keys(Keys.CONTROL, 's')
@@ -290,10 +295,12 @@ def test_keys_in_fields():
         stamp = page.js('return roskevad.bench.stamp')
         code = page.driver.find_elements(By.CSS_SELECTOR, '#lines code')[-2]
         across = 8 - code.size['width'] // 2
-        ActionChains(page.driver).move_to_element_with_offset(code, across, 0).double_click().perform()
+        chain = ActionChains(page.driver).move_to_element_with_offset(code, across, 0)
+        chain.double_click().perform()
         marked = page.js('return String(getSelection()).trim()')
         assert marked
-        ActionChains(page.driver).key_down(Keys.CONTROL).send_keys('c').key_up(Keys.CONTROL).perform()
+        chain = ActionChains(page.driver).key_down(Keys.CONTROL).send_keys('c')
+        chain.key_up(Keys.CONTROL).perform()
         page.find('#line').send_keys(Keys.CONTROL, 'v')
         assert page.js('return document.getElementById("line").value').strip() == marked
         assert page.js('return roskevad.bench.stamp') == stamp
@@ -302,9 +309,32 @@ def test_keys_in_fields():
         assert page.js('return String(getSelection())') == ''
 
 
+def test_list_of_keys():
+    """F1, also in a field, `?` and a button list the keys from the table that binds them; Escape
+    closes the list."""
+    with Bench() as page:
+        page.keys(Keys.F1)
+        told = page.find('#keys').text
+        assert all(each in told for each in ('Ctrl+Shift+Z', 'Brush', 'Ctrl+1 to Ctrl+9', 'Esc')), told
+        page.keys('e')
+        ActionChains(page.driver).send_keys(Keys.ESCAPE).perform()
+        page.settle()
+        assert page.js('return roskevad.tools.name') == 'brush', 'no key goes past the list'
+        page.find('#macro-name').send_keys(Keys.F1)
+        ActionChains(page.driver).send_keys(Keys.ESCAPE).perform()
+        page.settle()
+        page.keys('?')
+        assert page.find('#keys').is_displayed()
+        ActionChains(page.driver).send_keys(Keys.ESCAPE).perform()
+        page.click('#list-keys')
+        bound = page.js('return roskevad.toolbar.keys.rows.length')
+        assert len(page.driver.find_elements(By.CSS_SELECTOR, '#keys tr')) == bound + 1
+
+
 def frame(page, css):
     return page.js(
-        'const {left, top, right, bottom} = document.querySelector(arguments[0]).getBoundingClientRect(); return [left, top, right, bottom]',
+        'const box = document.querySelector(arguments[0]).getBoundingClientRect();'
+        'return [box.left, box.top, box.right, box.bottom]',
         css,
     )
 
@@ -314,8 +344,8 @@ def is_apart(one, other):
 
 
 def test_notices():
-    """What is said at the hand covers neither the buttons for sessions, nor what was just drawn, in each
-    corner of the map; it goes when the next thing works."""
+    """What is said at the hand covers neither the buttons for sessions, nor what was just drawn, in
+    each corner of the map; it goes when the next thing works."""
     with Bench() as page:
         choose(page, 'Ground')
         take_tile(page, (3, 1))

@@ -22,18 +22,24 @@ image.onload = () => {
     [view.originX, view.originY, view.isWhole] = [-left, -top, true];
     view.draw();
     const [wide, high] = [Math.min(across, width - left), Math.min(down, height - top)];
-    const seen = view.pen.getImageData(0, 0, wide, high).data, wanted = pen.getImageData(left, top, wide, high).data;
+    const seen = view.pen.getImageData(0, 0, wide, high).data;
+    const wanted = pen.getImageData(left, top, wide, high).data;
     for (let at = 0; at < seen.length; at += 4) {
       const alpha = wanted[at + 3] / 255;
-      // A picture keeps its colours as shares of their alpha, so they are known the less, the clearer they are.
+      // A picture keeps its colours as shares of their alpha: so they are known the less, the
+      // clearer they are.
       const most = alpha === 1 ? tolerance : tolerance + 3;
-      const differs = [0, 1, 2].some(part => Math.abs(seen[at + part] - wanted[at + part] * alpha - ground[part] * (1 - alpha)) > most);
+      const over = part => wanted[at + part] * alpha + ground[part] * (1 - alpha);
+      const differs = [0, 1, 2].some(part => Math.abs(seen[at + part] - over(part)) > most);
       colours.add(wanted[at] << 16 | wanted[at + 1] << 8 | wanted[at + 2]);
       if (differs) unlike.push([left + at / 4 % wide, top + Math.floor(at / 4 / wide)]);
     }
   }
   const {projection} = view.map;
-  done({size: [width, height], drawn: [projection.width, projection.height], colours: colours.size, unlike: unlike.slice(0, 5000), count: unlike.length});
+  done({
+    size: [width, height], drawn: [projection.width, projection.height], colours: colours.size,
+    unlike: unlike.slice(0, 5000), count: unlike.length,
+  });
 };
 image.src = "data:image/png;base64," + picture;'''
 
@@ -63,7 +69,9 @@ def show(page, path):
             'const {editor, tilesets, view} = roskevad;'
             'if (!editor.map || tilesets.said === "[]") return false;'
             'for (const layer of editor.map.layers) view.images.of(layer);'
-            'return tilesets.all.length === editor.map.data.tilesets.length && [...view.images.all].every(([path, image]) => image || view.images.missing.has(path))'
+            'const {all, missing} = view.images;'
+            'return tilesets.all.length === editor.map.data.tilesets.length'
+            '  && [...all].every(([path, image]) => image || missing.has(path))'
         ),
         'the tilesets are there',
     )

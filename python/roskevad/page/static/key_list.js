@@ -1,48 +1,51 @@
-// The list of keys, made of the table that binds them, and of what keys do in lists and on the map.
+// The list of keys, from the table that binds them, and from what keys do in a list, on the map and on the tiles.
 import { button, element, shown } from "./dom.js";
 
-// Keys of parts of the page that have the focus: they are bound where those parts are.
+const NAMES = { escape: "Esc", delete: "Del", backspace: "Backspace", f1: "F1" };
+const ARROW = /arrow(left|right|up|down)$/;
+// Keys of what has the focus: they are bound where that is.
 const PLACES = [
-  ["A list: tabs, layers, objects, steps", [
-    ["Arrow keys, Home, End", "Go to a row; a layer or an object is chosen at once"],
-    ["Enter", "Shows the map of a tab, or goes to a step"],
+  { title: "A list, with Tab", rows: [
+    ["↑ ↓, ← → of tabs", "Go to a row; a layer or an object is chosen at once"],
+    ["Enter", "Shows the map of a tab; goes to a step"],
     ["← →", "Fold and unfold a group of layers"],
-    ["Space, F2, Delete", "Hide or show a layer, rename it, remove it; Delete closes a tab"],
-  ]],
-  ["The map, once Tab has reached it", [
-    ["Arrow keys", "Move the cell of the keys, with Shift by ten; with a chosen object, move that"],
-    ["Enter", "Does at the cell what a click does; with rectangle, select and insert the first one begins, and the second one ends"],
-    ["Shift+Enter", "Brush and eraser draw a line from the last cell"],
-  ]],
-  ["The tiles, once Tab has reached them", [["Arrow keys", "Take another tile; with Shift, several"]]],
+    ["Space, F2, Del", "Hide or show a layer, rename it, remove it; Del closes a tab"],
+  ] },
+  { title: "The map, with Tab", rows: [
+    ["Arrow keys", "Move the cell of the keys, with Shift by ten"],
+    ["Enter", "Does there what a click does; rectangle, select and insert begin, and end by another Enter"],
+    ["Shift+Enter", "Draws a line from the last cell"],
+  ] },
+  { title: "The tiles, with Tab", rows: [["Arrow keys", "Take another tile; with Shift, several"]] },
+  { title: "The mouse", rows: [["Space", "With a drag moves the map"]] },
 ];
 
-const SIGNS = { delete: "Delete", backspace: "Backspace", escape: "Escape" };
-const ARROW = /arrow(left|right|up|down)$/;
-
-// A key of the table as it stands on a keyboard: `Ctrl+Shift+z` is Ctrl+Shift+Z.
-function signOf(key) {
-  const parts = /^((?:Ctrl\+|Shift\+)*)(.+)$/.exec(key);
-  return parts[1] + (SIGNS[parts[2]] ?? parts[2].toUpperCase());
+// How a key is written: `Ctrl+Shift+Z`.
+function nameOf(word) {
+  const at = word.lastIndexOf("+", word.length - 2) + 1;
+  const key = word.slice(at);
+  return word.slice(0, at) + (NAMES[key] ?? key.toUpperCase());
 }
 
-// The keys of a row in words. Nine digits and four arrows are told as one.
-export function wordsOf(keys) {
-  const [first, last] = [keys[0], keys[keys.length - 1]];
-  if (ARROW.test(first)) return [...new Set(keys.map(key => key.replace(ARROW, "Arrow keys")))].join(", ");
-  return keys.length === 9 ? `${signOf(first)} to ${signOf(last)}` : keys.map(signOf).join(", ");
+// The keys of a row: of nine digits only the first and the last, and the four arrows as one.
+function namesOf(keys) {
+  if (ARROW.test(keys[0])) return [...new Set(keys.map(key => key.replace(ARROW, "Arrow keys")))].join(", ");
+  const names = keys.map(nameOf);
+  return names.length > 8 ? `${names[0]} to ${names[names.length - 1]}` : names.join(", ");
 }
 
 const rowOf = ([keys, text]) => element("tr", {}, element("th", { scope: "row", textContent: keys }), element("td", { textContent: text }));
 
-function tableOf(title, rows) {
+function tableOf({ title, rows }) {
   return element("section", {}, element("h3", { textContent: title }), element("table", {}, element("tbody", {}, ...rows.map(rowOf))));
 }
 
+// `groups` is the table that binds the keys: { title, rows } each.
 export function showKeys(groups) {
-  const bound = groups.map(({ title, rows }) => tableOf(title, rows.map(([keys, text]) => [wordsOf(keys), text])));
+  const bound = groups.map(({ title, rows }) => ({ title, rows: rows.map(([keys, text]) => [namesOf(keys), text]) }));
+  const tables = element("div", { className: "rows", tabIndex: 0 }, ...[...bound, ...PLACES].map(tableOf));
   const close = button("Close", "Esc", () => dialog.close(""));
-  const tables = element("div", { className: "tables", tabIndex: 0 }, ...bound, ...PLACES.map(place => tableOf(...place)));
-  const dialog = element("dialog", { id: "key-list" }, element("h2", { textContent: "Keys" }), tables, element("div", { className: "answers" }, close));
+  const form = element("form", { method: "dialog" }, element("h2", { textContent: "Keys" }), tables, element("div", { className: "answers" }, close));
+  const dialog = element("dialog", { id: "keys" }, form);
   return shown(dialog);
 }

@@ -62,16 +62,18 @@ function viewRows({ toolbar, tools, view }) {
     [["Ctrl+/"], "The whole map", () => view.fit()],
     [["Ctrl+g"], "Hides or shows the grid", () => toolbar.turnGrid()],
     [["m"], "Hides or shows the whole map in small", () => toolbar.turnMiniMap()],
+    [["?"], "Lists the keys", () => toolbar.keys.list()],
     [Object.keys(ARROWS).flatMap(key => [key, `Shift+${key}`]), "Moves the chosen object or the view", move],
   ];
 }
 
 // Those that go in fields, too.
-function mapRows({ documents }) {
+function mapRows({ documents, toolbar }) {
   return [
     [["Ctrl+s"], "Saves the map", () => documents.save()],
     [["Ctrl+Shift+s"], "Saves the map into another file", () => documents.saveAs()],
     [["Ctrl+o"], "Opens a map", () => documents.open()],
+    [["f1"], "Lists the keys", () => toolbar.keys.list()],
   ];
 }
 
@@ -117,6 +119,11 @@ export class Keys {
     }
     if (event.code === "Space") this.holdSpace(event);
     else if (!event.altKey && this.calls.has(word) && !this.isText(word)) this.run(event, word);
+  }
+
+  list() {
+    const others = [["Space"], "With a drag moves the map", null];
+    return showKeys([...this.rows, others]);
   }
 
   // A field takes what was typed before the map is saved.

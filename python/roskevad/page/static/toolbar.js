@@ -30,6 +30,7 @@ export class Toolbar {
       button("Fit", "The whole map (Ctrl+/)", () => bench.view.fit(), { id: "fit" }),
       button("Grid", "Hides or shows the grid (Ctrl+G)", () => this.turnGrid(), { id: "grid", className: "on" }),
       button("Mini-map", "Hides or shows the whole map in small (M)", () => this.turnMiniMap(), { id: "turn-mini-map", className: "on" }),
+      button("?", "The keys (F1)", () => this.keys.list(), { id: "list-keys" }),
     );
     const clips = new Clips(bench, tools);
     byId("take").onclick = () => clips.copy();

@@ -76,7 +76,7 @@ export class Tools {
     this.isSpace = false;
     // The time of the last move of a drag that came before a frame of the screen.
     this.drawnUpTo = -Infinity;
-    this.viewHand = new ViewHand(bench.view, () => this.cancel());
+    this.viewHand = new ViewHand(bench.view, event => this.down(event), () => this.cancel());
     this.listen(bench.view.box);
   }
 

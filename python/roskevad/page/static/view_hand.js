@@ -3,13 +3,14 @@
 // How far the wheel turns for a step of the scale, and how far a line and a page are where the browser counts these: in pixels.
 const ZOOM_STEP = 60;
 const LINE = 40;
-// The smallest and the largest scale of a pinch.
+// The smallest and the largest scale of a pinch, and how far a finger moves before it draws: in pixels of the page.
 const [LEAST, MOST] = [1 / 64, 16];
+const NEAR = 4;
 
 export class ViewHand {
-  // `cancel` ends what the tool in hand is about.
-  constructor(view, cancel) {
-    Object.assign(this, { view, cancel, turned: 0, pinch: null });
+  // `press` has the tool in hand take a press, and `cancel` ends what it is about.
+  constructor(view, press, cancel) {
+    Object.assign(this, { view, press, cancel, turned: 0, pinch: null, waiting: null });
     // The fingers on the map: [x, y] by their ids.
     this.fingers = new Map();
     const { box } = view;
@@ -43,12 +44,14 @@ export class ViewHand {
     this.turned = 0;
   }
 
-  // ---- two fingers
+  // ---- fingers
+  // The press of a finger waits until that moves or goes up: it may be the first one of two.
   down(event) {
     if (event.pointerType !== "touch") return;
     this.fingers.set(event.pointerId, [event.clientX, event.clientY]);
-    if (this.fingers.size !== 2) return;
     event.stopPropagation();
+    this.waiting = this.fingers.size === 1 ? event : null;
+    if (this.fingers.size !== 2) return;
     this.cancel();
     this.pinch = { ...this.span(), scale: this.view.scale };
   }
@@ -56,8 +59,18 @@ export class ViewHand {
   move(event) {
     if (!this.fingers.has(event.pointerId)) return;
     this.fingers.set(event.pointerId, [event.clientX, event.clientY]);
-    if (!this.pinch) return;
-    event.stopPropagation();
+    if (this.waiting && Math.hypot(event.clientX - this.waiting.clientX, event.clientY - this.waiting.clientY) > NEAR) this.pressNow();
+    if (this.waiting || this.pinch) event.stopPropagation();
+    if (this.pinch) this.moveTwo();
+  }
+
+  pressNow() {
+    const event = this.waiting;
+    this.waiting = null;
+    this.press(event);
+  }
+
+  moveTwo() {
     const span = this.span();
     const { view } = this;
     view.pan((span.x - this.pinch.x) * view.ratio, (span.y - this.pinch.y) * view.ratio);
@@ -67,6 +80,7 @@ export class ViewHand {
   }
 
   up(event) {
+    if (this.waiting?.pointerId === event.pointerId) this.pressNow();
     this.fingers.delete(event.pointerId);
     if (this.fingers.size < 2) this.pinch = null;
   }
