@@ -60,6 +60,7 @@ function viewRows({ toolbar, tools, view }) {
     [["Ctrl+0"], "As large as the tiles' images are", () => view.zoomTo(1)],
     [["Ctrl+/"], "The whole map", () => view.fit()],
     [["Ctrl+g"], "Hides or shows the grid", () => toolbar.turnGrid()],
+    [["n"], "Hides or shows the names of objects", () => toolbar.turnNames()],
     [["m"], "Hides or shows the whole map in small", () => toolbar.turnMiniMap()],
     [Object.keys(ARROWS).flatMap(key => [key, `Shift+${key}`]), "Moves the chosen object or the view", move],
   ];
