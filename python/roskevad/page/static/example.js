@@ -1,5 +1,6 @@
 // The example world, which the page has in itself: the town with its tileset, and a lesson on it.
 import { button, byId, element } from "./dom.js";
+import { iconButton } from "./icons.js";
 import { Lesson } from "./lesson.js";
 
 // The map of the example, and the word behind `#` of a window that is opened for it.
@@ -20,8 +21,8 @@ export class Example {
   constructor(page) {
     this.page = page;
     this.lesson = new Lesson(page, () => this.document);
-    const title = "The example world, with three tasks of two minutes";
-    byId("file-actions").append(button("Try it", title, () => this.start(), { id: "try" }));
+    const title = "the example world, with three tasks of two minutes";
+    byId("file-actions").append(iconButton("lesson", "Try it", `Try it: ${title}`, () => this.start(), { id: "try" }));
     const onEmpty = button("Try it", title, () => this.start(), { id: "try-empty" });
     onEmpty.onpointerdown = event => event.stopPropagation();
     byId("empty").after(element("div", { id: "try-box" }, onEmpty));

@@ -61,24 +61,23 @@ function viewRows({ toolbar, tools, view }) {
     [["Ctrl+0"], "As large as the tiles' images are", () => view.zoomTo(1)],
     [["Ctrl+/"], "The whole map", () => view.fit()],
     [["Ctrl+g"], "Hides or shows the grid", () => toolbar.turnGrid()],
+    [["n"], "Hides or shows the names of objects", () => toolbar.turnNames()],
     [["m"], "Hides or shows the whole map in small", () => toolbar.turnMiniMap()],
-    [["?"], "Lists the keys", () => toolbar.keys.list()],
     [Object.keys(ARROWS).flatMap(key => [key, `Shift+${key}`]), "Moves the chosen object or the view", move],
   ];
 }
 
 // Those that go in fields, too.
-function mapRows({ documents, toolbar }) {
+function mapRows({ documents }) {
   return [
     [["Ctrl+s"], "Saves the map", () => documents.save()],
     [["Ctrl+Shift+s"], "Saves the map into another file", () => documents.saveAs()],
     [["Ctrl+o"], "Opens a map", () => documents.open()],
-    [["f1"], "Lists the keys", () => toolbar.keys.list()],
   ];
 }
 
-function pageRows(_, keys) {
-  return [[["f1", "?"], "Lists the keys", () => showKeys(keys.groups)]];
+function pageRows({ toolbar }) {
+  return [[["f1", "?"], "Lists the keys", () => toolbar.keys.list()]];
 }
 
 // The table, by what its rows are about.
@@ -96,9 +95,8 @@ export class Keys {
   // `parts` has the bench, the tools, the toolbar, the documents, the view, and the clips and kept stamps of cells.
   constructor(parts) {
     Object.assign(this, { tools: parts.tools });
-    this.groups = GROUPS.map(([title, rowsOf]) => ({ title, rows: rowsOf(parts, this) }));
-    const rows = this.groups.flatMap(group => group.rows);
-    this.calls = new Map(rows.flatMap(([keys, , call]) => keys.map(key => [key, call])));
+    this.groups = GROUPS.map(([title, rowsOf]) => ({ title, rows: rowsOf(parts) }));
+    this.calls = new Map(this.rows.flatMap(([keys, , call]) => keys.map(key => [key, call])));
     this.inFields = new Set(["f1", ...mapRows(parts).flatMap(([keys]) => keys)]);
     document.addEventListener("keydown", event => this.press(event));
     document.addEventListener("keyup", event => {
@@ -121,9 +119,12 @@ export class Keys {
     else if (!event.altKey && this.calls.has(word) && !this.isText(word)) this.run(event, word);
   }
 
+  get rows() {
+    return this.groups.flatMap(group => group.rows);
+  }
+
   list() {
-    const others = [["Space"], "With a drag moves the map", null];
-    return showKeys([...this.rows, others]);
+    return showKeys(this.groups);
   }
 
   // A field takes what was typed before the map is saved.

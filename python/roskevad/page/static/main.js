@@ -65,7 +65,7 @@ class Page {
     this.steps = new StepPanel(bench);
     this.panel = new PlacePanel(bench, this.documents, this.tilesets);
     this.recovery = new Recovery(bench, this.panel);
-    this.lines = new LinePanel(bench);
+    this.lines = new LinePanel(bench, { layer: id => this.steps.nameOf("layer", id), object: id => this.steps.nameOf("object", id) });
     this.player = new Player(bench);
     this.layouts = new Layouts(this);
     this.example = new Example(this);
