@@ -43,8 +43,9 @@ function tableOf({ title, rows }) {
 // `groups` is the table that binds the keys: { title, rows } each.
 export function showKeys(groups) {
   const bound = groups.map(({ title, rows }) => ({ title, rows: rows.map(([keys, text]) => [namesOf(keys), text]) }));
-  const tables = element("div", { className: "rows", tabIndex: 0 }, ...[...bound, ...PLACES].map(tableOf));
-  const close = button("Close", "Esc", () => dialog.close(""));
+  const columns = element("div", { className: "columns" }, ...[...bound, ...PLACES].map(tableOf));
+  const tables = element("div", { className: "rows", tabIndex: 0, role: "region", ariaLabel: "All keys" }, columns);
+  const close = button("Close", "Esc", () => dialog.close(""), { autofocus: true });
   const form = element("form", { method: "dialog" }, element("h2", { textContent: "Keys" }), tables, element("div", { className: "answers" }, close));
   const dialog = element("dialog", { id: "keys" }, form);
   return shown(dialog);

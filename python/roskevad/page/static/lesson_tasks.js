@@ -30,6 +30,7 @@ function boxOf({ view }, [x, y, width, height]) {
 
 // Where a tile is in the palette.
 function tileBox({ palette }, value) {
+  if (!palette.tileset) return null;
   const tile = value - palette.tileset.first;
   const frame = byId("palette-size").getBoundingClientRect();
   const [left, top] = [frame.left + tile % palette.columns * palette.side, frame.top + Math.floor(tile / palette.columns) * palette.side];

@@ -24,7 +24,7 @@ const PARTS = [
 ];
 
 // Buttons that stay pressed.
-const PRESSED = "#tools button, #looks button, #macro, #sides button, #of-map, #of-layer, #of-object";
+const PRESSED = "#tools button, #grid, #turn-names, #turn-mini-map, #macro, #sides button, #of-map, #of-layer, #of-object";
 const HAS_LETTER = /[\p{L}\p{N}]/u;
 
 const textOf = (row, part) => row.querySelector(part)?.textContent ?? "";
@@ -33,7 +33,8 @@ const listed = (...words) => words.filter(word => word).join(", ");
 
 export class Readers {
   constructor(bench, layers) {
-    Object.assign(this, { bench, layers });
+    // The buttons that were named here.
+    Object.assign(this, { bench, layers, named: new WeakSet() });
     for (const [selector, told] of PARTS) for (const each of document.querySelectorAll(selector)) put(each, told);
     this.told = element("div", { id: "told", role: "status" });
     document.body.append(this.told);
@@ -80,9 +81,11 @@ export class Readers {
     put(byId("view"), { "aria-label": active ? `Map ${file ?? active}` : "Map: none is open" });
   }
 
-  // A sign is no name: its title is.
+  // A sign is no name: its title is, where the button has no name of its own.
   nameButton(at) {
-    if (at.title && !HAS_LETTER.test(at.textContent)) put(at, { "aria-label": at.title });
+    if (!at.title || HAS_LETTER.test(at.textContent) || (at.ariaLabel && !this.named.has(at))) return;
+    this.named.add(at);
+    put(at, { "aria-label": at.title });
   }
 
   nameFields(row) {
