@@ -24,7 +24,7 @@ class Bench:
     which all files of the copy are chosen, or, if `served`, what `./tile_page` serves. Behind the
     test the browser may have logged no error."""
 
-    def __init__(self, *files, limit=None, empty=False, served=False):
+    def __init__(self, *files, limit=None, empty=False, served=False, has_log=True):
         self.top = tempfile.TemporaryDirectory()
         self.folder = Path(self.top.name) / 'maps'
         shutil.copytree(EXAMPLE_MAPS, self.folder)
@@ -41,6 +41,7 @@ class Bench:
             blank = Path(self.top.name) / 'blank.html'
             blank.write_text('<!doctype html>')
             self.page.clear(blank.as_uri())
+        self.page.has_log = has_log
         browser().get_log('browser')
         self.page.open()
         if not served:

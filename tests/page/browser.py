@@ -149,6 +149,8 @@ class Page:
     def __init__(self, driver, address):
         self.driver, self.address = driver, address
         self.editor = Session(self)
+        # Whether the log is unfolded at once, for those who type lines or look at them.
+        self.has_log = True
 
     def clear(self, blank):
         """Has the browser forget all that pages of an origin have kept, by another page of it."""
@@ -166,6 +168,8 @@ class Page:
 
     def wait_ready(self):
         self.wait(lambda: self.js('return document.body.dataset.isReady'), 'the page is ready')
+        if self.has_log:
+            self.js('globalThis.roskevad?.panels.showLog(true)')
         self.settle()
 
     def js(self, code, *words):

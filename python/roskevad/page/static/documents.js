@@ -1,5 +1,6 @@
 // The open documents as tabs, and what is done with whole maps: new, open, save, close, resize, reload.
-import { ask, button, byId, element } from "./dom.js";
+import { ask, byId, element } from "./dom.js";
+import { iconButton } from "./icons.js";
 import { KINDS } from "./kinds.js";
 import { FileList } from "./file_list.js";
 import { MapProbe } from "./map_probe.js";
@@ -15,12 +16,12 @@ export class Documents {
     this.bench = bench;
     this.editor = bench.editor;
     byId("file-actions").append(
-      button("New", "A new map", () => this.make(), { id: "new" }),
-      button("Open", "Open a map (Ctrl+O)", () => this.open(), { id: "open" }),
-      button("Save", "Save the map into its file (Ctrl+S)", () => this.save(), { id: "save" }),
+      iconButton("new", "New", "New map", () => this.make(), { id: "new" }),
+      iconButton("open", "Open", "Open a map (Ctrl+O)", () => this.open(), { id: "open" }),
+      iconButton("save", "Save", "Save the map into its file (Ctrl+S)", () => this.save(), { id: "save" }),
       element("span", { id: "save-hint" }),
-      button("Save as", "Save the map into another file (Ctrl+Shift+S)", () => this.saveAs(), { id: "save-as" }),
-      button("Resize", "Another size of the map", () => this.resize(), { id: "resize" }),
+      iconButton("saveAs", "Save as", "Save as: the map into another file (Ctrl+Shift+S)", () => this.saveAs(), { id: "save-as" }),
+      iconButton("resize", "Resize", "Resize: another size of the map", () => this.resize(), { id: "resize" }),
     );
     this.editor.mayReplace = (path, isOwn) => this.mayReplace(path, isOwn);
     // The hash of each file that was kept as it is in the page though it is another one outside.
@@ -43,7 +44,7 @@ export class Documents {
 
   tab({ name, isActive, isClean, path }) {
     const mark = element("span", { className: "mark", textContent: isClean ? "" : "•", title: isClean ? "saved" : "not saved" });
-    const close = button("×", `Close ${titleOf({ name, path })}`, event => {
+    const close = iconButton("close", `Close ${titleOf({ name, path })}`, `Close ${titleOf({ name, path })}`, event => {
       event.stopPropagation();
       this.close(name);
     }, { className: "close" });

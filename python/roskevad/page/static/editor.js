@@ -3,6 +3,7 @@
 // Lines are done at once, in the order in which they come. Of `open` and `save` the file is read and written beside them.
 import { Broken, Editor as Session, FORMS, NoMemory, Refused, VERSION, documentName } from "../../../../js/roskevad.js";
 import { Journal } from "./journal.js";
+import { cellsIn } from "./log_words.js";
 import { ALL, NOTHING, bothChanges, changesOf, isAboutDocuments, isLook, isQuiet, wordOf } from "./line_kinds.js";
 import { MapModel } from "./map_model.js";
 import { FileNames, freeName } from "./names.js";
@@ -55,7 +56,7 @@ export class Otherwise extends Error {}
 //   cells      cells have changed otherwise than by a stroke of the hand; the detail is the part in which alone, or null
 //   selection  the selection has changed
 //   done       lines were done; the detail is the stroke whose edits they are, or null
-//   lines      the lines that were heard, each with its number, its reply, and what is at fault in it
+//   lines      the lines that were heard, each with its number, its reply, what is at fault in it, and how many cells it names
 //   state      how the documents and the steps stand, once the journal has it
 //   broken     the engine has ended the editor
 export class Editor extends EventTarget {
@@ -182,7 +183,7 @@ export class Editor extends EventTarget {
   }
 
   list(line, reply) {
-    this.listed.push([++this.heard, cut(line), reply === null ? null : cut(reply), shortHintOf(reply, line)]);
+    this.listed.push([++this.heard, cut(line), reply === null ? null : cut(reply), shortHintOf(reply, line), cellsIn(line)]);
   }
 
   // Takes what the lines have changed.

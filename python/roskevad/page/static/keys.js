@@ -61,21 +61,27 @@ function viewRows({ toolbar, tools, view }) {
     [["Ctrl+0"], "As large as the tiles' images are", () => view.zoomTo(1)],
     [["Ctrl+/"], "The whole map", () => view.fit()],
     [["Ctrl+g"], "Hides or shows the grid", () => toolbar.turnGrid()],
+    [["n"], "Hides or shows the names of objects", () => toolbar.turnNames()],
     [["m"], "Hides or shows the whole map in small", () => toolbar.turnMiniMap()],
-    [["?"], "Lists the keys", () => toolbar.keys.list()],
     [Object.keys(ARROWS).flatMap(key => [key, `Shift+${key}`]), "Moves the chosen object or the view", move],
   ];
 }
 
 // Those that go in fields, too.
-function mapRows({ documents, toolbar }) {
+function mapRows({ documents }) {
   return [
     [["Ctrl+s"], "Saves the map", () => documents.save()],
     [["Ctrl+Shift+s"], "Saves the map into another file", () => documents.saveAs()],
     [["Ctrl+o"], "Opens a map", () => documents.open()],
-    [["f1"], "Lists the keys", () => toolbar.keys.list()],
   ];
 }
+
+function pageRows({ toolbar }) {
+  return [[["f1", "?"], "Lists the keys", () => toolbar.keys.list()]];
+}
+
+// The table, by what its rows are about.
+const GROUPS = [["Tools", toolRows], ["The stamp", stampRows], ["Cells, objects and steps", editRows], ["The view", viewRows], ["Maps", mapRows], ["The page", pageRows]];
 
 // The word of a key that was pressed: a digit or a sign is named without the Shift that it may need.
 function wordOf(event) {
@@ -89,9 +95,9 @@ export class Keys {
   // `parts` has the bench, the tools, the toolbar, the documents, the view, and the clips and kept stamps of cells.
   constructor(parts) {
     Object.assign(this, { tools: parts.tools });
-    this.rows = [toolRows, stampRows, editRows, viewRows, mapRows].flatMap(rows => rows(parts));
+    this.groups = GROUPS.map(([title, rowsOf]) => ({ title, rows: rowsOf(parts) }));
     this.calls = new Map(this.rows.flatMap(([keys, , call]) => keys.map(key => [key, call])));
-    this.inFields = new Set(mapRows(parts).flatMap(([keys]) => keys));
+    this.inFields = new Set(["f1", ...mapRows(parts).flatMap(([keys]) => keys)]);
     document.addEventListener("keydown", event => this.press(event));
     document.addEventListener("keyup", event => {
       if (event.code === "Space") this.tools.isSpace = false;
@@ -113,9 +119,12 @@ export class Keys {
     else if (!event.altKey && this.calls.has(word) && !this.isText(word)) this.run(event, word);
   }
 
+  get rows() {
+    return this.groups.flatMap(group => group.rows);
+  }
+
   list() {
-    const others = [["Space"], "With a drag moves the map", null];
-    return showKeys([...this.rows, others]);
+    return showKeys(this.groups);
   }
 
   // A field takes what was typed before the map is saved.

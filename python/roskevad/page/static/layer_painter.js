@@ -8,7 +8,6 @@ import { Tints } from "./tints.js";
 // Below this width of a cell its mean colour is drawn, and no image.
 const SMALLEST_TILE = 6;
 const GROUND = "#5b6068";
-const BEHIND = "#26282c";
 
 // Whether a layer stands where the map does, and what it has hides what is below.
 const isPlain = layer => layer.opacity === 1 && layer.offsetX === 0 && layer.offsetY === 0 && !layer.tint;
@@ -38,7 +37,7 @@ export class LayerPainter {
     pen.beginPath();
     pen.rect(left, top, right - left, bottom - top);
     pen.clip();
-    pen.fillStyle = BEHIND;
+    pen.fillStyle = view.behind;
     pen.fillRect(left, top, right - left, bottom - top);
     if (view.map) this.paintMap(box);
     pen.restore();

@@ -1,5 +1,6 @@
 // The layers as a tree: the one that is drawn last stands on top, and a group above the layers in it.
 import { ask, button, byId, element } from "./dom.js";
+import { iconButton, showIcon } from "./icons.js";
 import { KINDS } from "./kinds.js";
 import { isLocked } from "./layer_bars.js";
 import { LayerDrag } from "./layer_drag.js";
@@ -18,12 +19,12 @@ export class LayerPanel {
     this.list.ondblclick = event => this.rowOf(event) && !event.target.closest("button") && this.rename();
     this.drag = new LayerDrag(this);
     byId("layer-actions").append(
-      button("+ Tiles", "Add a tile layer", () => this.add("tile"), { id: "add-tile-layer" }),
-      button("+ Objects", "Add an object layer", () => this.add("object"), { id: "add-object-layer" }),
-      button("↑", "Up: draw this layer later", () => this.move(1), { id: "layer-up" }),
-      button("↓", "Down: draw this layer earlier", () => this.move(-1), { id: "layer-down" }),
-      button("Rename", "Rename this layer: a double click", () => this.rename(), { id: "rename-layer" }),
-      button("Remove", "Remove this layer, with all that is in it", () => this.remove(), { id: "remove-layer" }),
+      iconButton("tileLayer", "Add a tile layer", "Add a tile layer", () => this.add("tile"), { id: "add-tile-layer" }),
+      iconButton("objectLayer", "Add an object layer", "Add an object layer", () => this.add("object"), { id: "add-object-layer" }),
+      iconButton("up", "Up", "Up: draw this layer later", () => this.move(1), { id: "layer-up" }),
+      iconButton("down", "Down", "Down: draw this layer earlier", () => this.move(-1), { id: "layer-down" }),
+      iconButton("rename", "Rename this layer", "Rename this layer: a double click", () => this.rename(), { id: "rename-layer" }),
+      iconButton("remove", "Remove this layer", "Remove this layer, with all that is in it", () => this.remove(), { id: "remove-layer" }),
     );
   }
 
@@ -57,8 +58,9 @@ export class LayerPanel {
     const [isShown, isFolded] = [layer.data.visible !== false, this.folded.has(layer.id)];
     fold.textContent = layer.type !== "group" ? "" : isFolded ? "▸" : "▾";
     fold.title = layer.type !== "group" ? "" : isFolded ? "Show the layers in it" : "Fold this group";
-    eye.textContent = isShown ? "●" : "○";
+    showIcon(eye, isShown ? "seen" : "hidden");
     eye.title = isShown ? "Hide this layer" : "Show this layer";
+    eye.setAttribute("aria-label", `${isShown ? "Hide" : "Show"} ${layer.data.name}`);
     lock.hidden = !isLocked(layer);
     name.textContent = layer.data.name || "(no name)";
     name.title = layer.data.name;

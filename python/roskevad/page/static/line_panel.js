@@ -1,14 +1,21 @@
-// The lines that were sent, each with its reply; and a box for own ones, with a history and completion.
+// The log: what was done, in words, beside the lines that were sent, each with its reply; and a box for own ones, with a history and completion.
 import { byId, element } from "./dom.js";
+import { LogWords } from "./log_words.js";
 
 const SHOWN = 1000;
+// A line that follows the step before it.
+const FOLLOWS = /^(?:\S+ )?\S+\+(?: |$)/;
 // The lines that have the name of a document, or of a file, as their word at a place.
 const DOCUMENT_WORDS = { close: 1, discard: 1, use: 1 };
 const FILE_WORDS = { open: 2, save: 1 };
 
 export class LinePanel {
-  constructor(bench) {
+  // `names` tells what layers and objects are called.
+  constructor(bench, names) {
     this.bench = bench;
+    this.words = new LogWords(names);
+    // The row of the last step, with the cells that its lines have named so far: { words, line, cells }.
+    this.step = null;
     this.editor = bench.editor;
     this.box = byId("line");
     this.history = [];
@@ -29,16 +36,32 @@ export class LinePanel {
     if (!lines.length) return;
     const list = byId("lines");
     const isAtEnd = list.scrollTop + list.clientHeight >= list.scrollHeight - 30;
-    list.append(...lines.slice(-SHOWN).map(([, line, reply, why]) => this.row(line, reply, why)));
+    list.append(...lines.slice(-SHOWN).map(heard => this.row(heard)));
     while (list.children.length > SHOWN) list.firstChild.remove();
     if (isAtEnd) list.scrollTop = list.scrollHeight;
   }
 
-  row(line, reply, why) {
+  row([, line, reply, why, cells]) {
+    const words = this.wordsOf(line, reply, cells);
     const told = [element("span", { className: "reply", textContent: reply ?? "" }), why ? element("span", { className: "why", textContent: why }) : null];
-    const row = element("li", { title: why ?? "" }, element("code", { textContent: line }), ...told);
+    const row = element("li", { title: why ?? "" }, words, element("code", { textContent: line }), ...told);
     row.classList.toggle("refused", reply?.startsWith("no ") ?? false);
+    row.classList.toggle("follows", FOLLOWS.test(line));
     return row;
+  }
+
+  // What a line has done. The cells of a line that follows are told where its step began.
+  wordsOf(line, reply, cells) {
+    const words = element("span", { className: "words" });
+    const isDone = !reply?.startsWith("no ");
+    if (isDone && FOLLOWS.test(line) && this.step) {
+      this.step.cells += cells;
+      this.step.words.textContent = this.step.words.title = this.words.of(this.step.line, this.step.cells);
+      return words;
+    }
+    words.textContent = words.title = isDone ? this.words.of(line, cells) : "Not done";
+    if (isDone && words.textContent) this.step = { words, line, cells };
+    return words;
   }
 
   async key(event) {

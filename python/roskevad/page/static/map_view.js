@@ -38,6 +38,8 @@ export class MapView {
     this.measures = [];
     // When the page began to work on the hand's last event.
     this.work = 0;
+    this.takeLook();
+    matchMedia("(prefers-color-scheme: light)").addEventListener("change", () => this.takeLook());
     // Called behind each drawing that the view has moved for.
     this.onMove = () => {};
     this.resize();
@@ -46,6 +48,12 @@ export class MapView {
 
   get map() {
     return this.editor.map;
+  }
+
+  // What is seen beside the map has the colour of its box, which is another one in the dark.
+  takeLook() {
+    this.behind = getComputedStyle(this.box).backgroundColor;
+    this.redraw();
   }
 
   // Follows the size of its box, and the scale of the screen.

@@ -17,6 +17,7 @@ export class Marks {
     this.pen = this.canvas.getContext("2d");
     this.cells = new CellMarks(view, this.pen, view.box.querySelector("#hand").getContext("2d"));
     this.hasGrid = true;
+    this.hasNames = true;
     this.chosen = null;
     this.place = null;
     // What the hand is about to do: { cells: [x, y, width, height], values, line, colour }; a line goes from a cell to a cell.
@@ -129,7 +130,7 @@ export class Marks {
     if (object.gid) {
       const [left, top] = alignedAt(this.tilesets.of(object.gid), this.map);
       pen.rect(-left * width, -top * height, width, height);
-      pen.stroke();
+      this.strokeShape();
       return;
     }
     pen.save();
@@ -141,11 +142,23 @@ export class Marks {
     if (object.polygon) pen.closePath();
     pen.restore();
     if (!object.polyline) pen.fill();
+    this.strokeShape();
+  }
+
+  // A line with a dark edge, which is seen on any ground.
+  strokeShape() {
+    const { pen, view } = this;
+    const [colour, width] = [pen.strokeStyle, pen.lineWidth];
+    pen.strokeStyle = "#000c";
+    pen.lineWidth = width + 2 * view.ratio;
+    pen.stroke();
+    pen.strokeStyle = colour;
+    pen.lineWidth = width;
     pen.stroke();
   }
 
   drawName(object, isChosen) {
-    if (!object.name) return;
+    if (!object.name || (!this.hasNames && !isChosen)) return;
     const { pen, view: { ratio, scale } } = this;
     const [aside, up] = object.gid ? alignedAt(this.tilesets.of(object.gid), this.map) : [0, 0];
     const [left, top] = [-aside * (object.width ?? 0) * scale, -up * (object.height ?? 0) * scale];

@@ -1,5 +1,7 @@
 // The panels around the map: a click at a head folds one, and the edges between them are dragged.
 import { byId, element } from "./dom.js";
+import { edgeByKeys } from "./edge_keys.js";
+import { icon } from "./icons.js";
 
 // The least width of a column and height of a panel or of the lines, and the most of the window that a column takes.
 const LEAST_WIDTH = 150;
@@ -14,6 +16,12 @@ export class Panels {
     byId("left").after(this.edge("left-edge", "Drag: the width of the tiles", event => this.widen("left", event.clientX)));
     byId("right").before(this.edge("right-edge", "Drag: the width of the layers", event => this.widen("right", innerWidth - event.clientX)));
     byId("line-box").before(this.edge("line-edge", "Drag: the height of the lines", event => this.heighten(event.clientY), true));
+    byId("turn-log").prepend(icon("log"));
+    byId("turn-log").onclick = () => {
+      this.showLog(byId("line-box").hidden);
+      this.onChange();
+    };
+    this.showLog(false);
     for (const [at, part] of this.parts.slice(1).entries()) part.before(this.edge(`edge-${at}`, "Drag: the heights", event => this.share(at, event.clientY), true));
   }
 
@@ -34,6 +42,10 @@ export class Panels {
 
   edge(id, title, drag, isFlat = false) {
     const edge = element("div", { className: `edge${isFlat ? " flat" : ""}`, id, title });
+    edgeByKeys(edge, isFlat, event => {
+      drag(event);
+      this.onChange();
+    });
     edge.onpointerdown = event => {
       event.preventDefault();
       edge.setPointerCapture(event.pointerId);
@@ -49,6 +61,13 @@ export class Panels {
   fold(part) {
     part.classList.toggle("folded");
     this.onChange();
+  }
+
+  // The log is folded until it is wanted.
+  showLog(isShown) {
+    byId("line-box").hidden = byId("line-edge").hidden = !isShown;
+    byId("turn-log").setAttribute("aria-expanded", String(isShown));
+    byId("lines").scrollTop = byId("lines").scrollHeight;
   }
 
   // ---- sizes
@@ -77,10 +96,11 @@ export class Panels {
   state() {
     const shares = this.parts.map(part => part.style.flexGrow || null);
     const folded = this.parts.filter(part => part.classList.contains("folded")).map(part => part.id);
-    return { left: byId("left").style.width, right: byId("right").style.width, lines: byId("line-box").style.height, shares, folded };
+    return { left: byId("left").style.width, right: byId("right").style.width, lines: byId("line-box").style.height, shares, folded, log: !byId("line-box").hidden };
   }
 
-  take({ left, right, lines, shares, folded }) {
+  take({ left, right, lines, shares, folded, log = false }) {
+    this.showLog(log);
     byId("left").style.width = left;
     byId("right").style.width = right;
     byId("line-box").style.height = lines;

@@ -1,5 +1,6 @@
 // Where the files come from: a folder of this machine, files that are chosen or dropped, or the folder that a server gives.
-import { button, byId, element } from "./dom.js";
+import { byId, element } from "./dom.js";
+import { iconButton } from "./icons.js";
 import { endNotice, notice } from "./notices.js";
 import { ChosenFiles, FolderFiles, chosen, isMapName } from "./places.js";
 
@@ -17,11 +18,11 @@ export class PlacePanel {
       await this.takeChosen([...input.files]);
       input.value = "";
     } });
-    const title = "Choose maps, tilesets and images; or drop them here. A save is a download then";
-    const more = [button("Open files", title, () => input.click(), { id: "open-files" }), input];
+    const title = "Open files: choose maps, tilesets and images; or drop them here. A save is a download then";
+    const more = [iconButton("files", "Open files", title, () => input.click(), { id: "open-files" }), input];
     if (globalThis.showDirectoryPicker) {
-      const said = "Choose the folder of the maps and of their tilesets; a save goes there";
-      more.unshift(button("Open folder", said, () => this.chooseFolder(), { id: "open-folder" }));
+      const said = "Open folder: choose that of the maps and of their tilesets; a save goes there";
+      more.unshift(iconButton("folder", "Open folder", said, () => this.chooseFolder(), { id: "open-folder" }));
     }
     byId("file-actions").append(...more);
     addEventListener("dragover", event => event.preventDefault());

@@ -12,6 +12,14 @@ export class StepPanel {
     this.names = new Map();
   }
 
+  // What a layer or an object is called, or was before the last line.
+  nameOf(kind, id) {
+    const { map, editor } = this.bench;
+    const kept = this.names.get(editor.notes.active)?.[`${kind}s`].get(Number(id));
+    const now = () => (kind === "layer" ? map?.layer(Number(id))?.data : map?.object(Number(id))?.object)?.name;
+    return kept || now() || `${kind} ${id}`;
+  }
+
   show() {
     const { state } = this.editor;
     const list = byId("steps");

@@ -1,5 +1,6 @@
 // The tilesets of the map: which one the palette shows, at what scale; one of the folder is added, or one is removed.
-import { button, byId, element } from "./dom.js";
+import { byId, element } from "./dom.js";
+import { iconButton } from "./icons.js";
 import { FileList } from "./file_list.js";
 import { folderOf, pathFrom } from "./names.js";
 import { TILE } from "./map_model.js";
@@ -15,10 +16,10 @@ export class TilesetPanel {
   constructor(bench, tilesets, palette) {
     Object.assign(this, { bench, tilesets, palette, editor: bench.editor });
     byId("tileset-actions").append(
-      button("−", "Smaller tiles: Ctrl and the wheel", () => palette.zoom(-1), { id: "palette-smaller" }),
-      button("+", "Larger tiles: Ctrl and the wheel", () => palette.zoom(1), { id: "palette-larger" }),
-      button("Add", "Add a tileset of the folder to the map", () => this.add(), { id: "add-tileset" }),
-      button("Remove", "Remove this tileset from the map, where nothing uses it", () => this.remove(), { id: "remove-tileset" }),
+      iconButton("minus", "Smaller tiles", "Smaller tiles: Ctrl and the wheel", () => palette.zoom(-1), { id: "palette-smaller" }),
+      iconButton("plus", "Larger tiles", "Larger tiles: Ctrl and the wheel", () => palette.zoom(1), { id: "palette-larger" }),
+      iconButton("files", "Add a tileset", "Add a tileset of the folder to the map", () => this.add(), { id: "add-tileset" }),
+      iconButton("remove", "Remove this tileset", "Remove this tileset from the map, where nothing uses it", () => this.remove(), { id: "remove-tileset" }),
     );
     byId("tilesets").onchange = event => {
       palette.choose(Number(event.target.value));

@@ -1,6 +1,7 @@
 // The row of tools, and what its buttons do.
 import { Clips, KeptStamps } from "./clips.js";
-import { button, byId, element, onEnter } from "./dom.js";
+import { byId, element, onEnter } from "./dom.js";
+import { iconButton, showIcon } from "./icons.js";
 import { Keys } from "./keys.js";
 
 const TOOLS = [
@@ -17,22 +18,24 @@ const LARGEST_BRUSH = 9;
 export class Toolbar {
   constructor(bench, tools, documents, miniMap) {
     Object.assign(this, { bench, tools, documents, miniMap, editor: bench.editor });
-    const buttonOf = ([name, text, key, title]) => button(text, `${title} (${key})`, () => tools.choose(name), { id: `tool-${name}` });
+    const buttonOf = ([name, text, key, title]) => iconButton(name, text, `${text} (${key}): ${title}`, () => tools.choose(name), { id: `tool-${name}` });
     byId("tools").append(...TOOLS.map(buttonOf));
     byId("turns").append(
-      button("Undo", "Ctrl+Z", event => this.turn("undo", event), { id: "undo" }),
-      button("Redo", "Ctrl+Shift+Z, Ctrl+Y", event => this.turn("redo", event), { id: "redo" }),
+      iconButton("undo", "Undo", "Undo (Ctrl+Z)", event => this.turn("undo", event), { id: "undo" }),
+      iconButton("redo", "Redo", "Redo (Ctrl+Shift+Z, Ctrl+Y)", event => this.turn("redo", event), { id: "redo" }),
     );
     byId("looks").append(
-      button("−", "Smaller (Ctrl+-, or the wheel with Ctrl)", () => bench.view.zoom(-1), { id: "zoom-out" }),
-      element("span", { id: "scale" }),
-      button("+", "Larger (Ctrl++, or the wheel with Ctrl)", () => bench.view.zoom(1), { id: "zoom-in" }),
-      button("Fit", "The whole map (Ctrl+/)", () => bench.view.fit(), { id: "fit" }),
-      button("Grid", "Hides or shows the grid (Ctrl+G)", () => this.turnGrid(), { id: "grid", className: "on" }),
-      button("Mini-map", "Hides or shows the whole map in small (M)", () => this.turnMiniMap(), { id: "turn-mini-map", className: "on" }),
-      button("?", "The keys (F1)", () => this.keys.list(), { id: "list-keys" }),
+      iconButton("smaller", "Smaller", "Smaller (Ctrl+-, or the wheel with Ctrl)", () => bench.view.zoom(-1), { id: "zoom-out" }),
+      element("span", { id: "scale", title: "The scale of the map" }),
+      iconButton("larger", "Larger", "Larger (Ctrl++, or the wheel with Ctrl)", () => bench.view.zoom(1), { id: "zoom-in" }),
+      iconButton("fit", "Fit", "Fit: the whole map (Ctrl+/)", () => bench.view.fit(), { id: "fit" }),
+      iconButton("grid", "Grid", "Grid: hides or shows it (Ctrl+G)", () => this.turnGrid(), { id: "grid", className: "on" }),
+      iconButton("names", "Names", "Names of objects: hides or shows them (N)", () => this.turnNames(), { id: "turn-names", className: "on" }),
+      iconButton("miniMap", "Mini-map", "Mini-map: hides or shows the whole map in small (M)", () => this.turnMiniMap(), { id: "turn-mini-map", className: "on" }),
+      iconButton("keys", "Keys", "Keys: lists them (F1)", () => this.keys.list(), { id: "list-keys" }),
     );
     const clips = new Clips(bench, tools);
+    showIcon(byId("take"), "take");
     byId("take").onclick = () => clips.copy();
     byId("macro").onclick = () => this.turnMacro();
     byId("macro-name").onkeydown = onEnter(() => this.turnMacro());
@@ -52,13 +55,24 @@ export class Toolbar {
     byId("undo").disabled = state.index === 0 || state.depth > 0;
     byId("redo").disabled = state.index === state.count || state.depth > 0;
     const why = state.depth > 0 ? "End the macro first: what is in it is one step. " : "";
-    byId("undo").title = `${why}Ctrl+Z`;
-    byId("redo").title = `${why}Ctrl+Shift+Z, Ctrl+Y`;
-    byId("macro").textContent = state.depth ? `End macro${state.depth > 1 ? ` (${state.depth})` : ""}` : "Begin macro";
-    byId("macro").classList.toggle("on", state.depth > 0);
-    byId("macro-name").hidden = state.depth > 0;
+    byId("undo").title = `${why}Undo (Ctrl+Z)`;
+    byId("redo").title = `${why}Redo (Ctrl+Shift+Z, Ctrl+Y)`;
+    this.showMacro(state.depth);
+    byId("turn-names").classList.toggle("on", this.bench.marks.hasNames);
     byId("grid").classList.toggle("on", this.bench.marks.hasGrid);
     byId("brush-size").value = String(this.bench.brushSize);
+  }
+
+  // A macro that is open is told in letters.
+  showMacro(depth) {
+    const macro = byId("macro");
+    if (depth === 0) showIcon(macro, "macro");
+    else macro.textContent = `End macro${depth > 1 ? ` (${depth})` : ""}`;
+    if (depth > 0) delete macro.dataset.icon;
+    macro.setAttribute("aria-label", macro.textContent || "Begin macro");
+    macro.title = `${depth === 0 ? "Begin a macro" : "End the macro"}: what stands between begin and end is one step`;
+    macro.classList.toggle("on", depth > 0);
+    byId("macro-name").hidden = depth > 0;
   }
 
   setBrush(size) {
@@ -74,6 +88,12 @@ export class Toolbar {
 
   turnGrid() {
     this.bench.marks.hasGrid = !this.bench.marks.hasGrid;
+    this.bench.marks.redraw();
+    this.show();
+  }
+
+  turnNames() {
+    this.bench.marks.hasNames = !this.bench.marks.hasNames;
     this.bench.marks.redraw();
     this.show();
   }
