@@ -445,7 +445,7 @@ def test_three_tasks():
     a house as one step, undoes all, and has it back; no other host and no file is asked for."""
     with Bench(empty=True) as page:
         page.open()
-        page.click('#try-empty')
+        page.click('#start-ways button:last-child')
         page.wait(lambda: page.find('#lesson').is_displayed(), 'the lesson')
         town = json.loads((EXAMPLE_MAPS / 'town.tmj').read_text())
         assert page.editor.map()['layers'] == town['layers'] and not page.notices()

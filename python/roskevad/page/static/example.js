@@ -1,5 +1,5 @@
 // The example world, which the page has in itself: the town with its tileset, and a lesson on it.
-import { button, byId, element } from "./dom.js";
+import { byId } from "./dom.js";
 import { iconButton } from "./icons.js";
 import { Lesson } from "./lesson.js";
 
@@ -23,10 +23,6 @@ export class Example {
     this.lesson = new Lesson(page, () => this.document);
     const title = "the example world, with three tasks of two minutes";
     byId("file-actions").append(iconButton("lesson", "Try it", `Try it: ${title}`, () => this.start(), { id: "try" }));
-    const onEmpty = button("Try it", title, () => this.start(), { id: "try-empty" });
-    onEmpty.onpointerdown = event => event.stopPropagation();
-    byId("empty").after(element("div", { id: "try-box" }, onEmpty));
-    page.editor.addEventListener("state", () => (byId("try-box").hidden = Boolean(page.editor.state.active)));
   }
 
   // The document of the example; null where it is not open here.
