@@ -13,10 +13,11 @@ from pathlib import Path
 HERE = Path(__file__).resolve().parent
 sys.path.insert(0, str(HERE.parent.parent / 'tests'))
 
-from page.bench import Bench, choose, take_tile  # noqa: E402
+from page.bench import Bench, choose  # noqa: E402
 from page.browser import browser  # noqa: E402
 
 WIDTH, HEIGHT = 1180, 760
+# Tiles of the town, by their columns and rows in the palette.
 PATH, ROOF, WALL, DOOR = (3, 0), (1, 3), (1, 1), (3, 1)
 SCREEN = {'width': WIDTH, 'height': HEIGHT, 'deviceScaleFactor': 1, 'mobile': False}
 LOOKS = [{'name': 'prefers-color-scheme', 'value': 'light'}, {'name': 'prefers-reduced-motion', 'value': 'reduce'}]
@@ -37,6 +38,13 @@ def picture(page, name, first=None, last=None, margin=0):
              '-define', 'png:compression-level=9', f'PNG8:{out}']
     subprocess.run(words, input=data, check=True)
     print(f'{out.name}: {out.stat().st_size} bytes')
+
+
+def take_tile(page, place):
+    """Clicks at a tile of the palette, whatever its scale."""
+    code = '''const {left, top} = document.getElementById("palette").getBoundingClientRect();
+              return arguments[0].map((at, axis) => Math.floor([left, top][axis] + (at + 0.5) * roskevad.palette.side))'''
+    page.drag_points([page.js(code, place)])
 
 
 def fit(page, has_log=False):
