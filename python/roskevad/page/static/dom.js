@@ -35,9 +35,18 @@ export function isTyping() {
   return isField(at);
 }
 
+// A reader names a dialog by its head.
+function nameDialog(dialog) {
+  const head = dialog.querySelector("h2");
+  if (!head) return;
+  head.id = "dialog-head";
+  dialog.setAttribute("aria-labelledby", head.id);
+}
+
 // Shows a dialog, and gives what its buttons return; "" where nothing was wanted.
 export function shown(dialog) {
   document.body.append(dialog);
+  nameDialog(dialog);
   dialog.showModal();
   dialog.querySelector("input:not([type=file], [type=checkbox])")?.select();
   return new Promise(resolve => {

@@ -1,5 +1,6 @@
 // The table of keys: Tiled's, where Tiled has one. The page's keys are bound from it, and it can be listed.
 import { isTyping } from "./dom.js";
+import { showKeys } from "./key_list.js";
 import { flippedToSide, flippedUpDown, turnedLeft, turnedRight } from "./stamps.js";
 
 const DIGITS = [1, 2, 3, 4, 5, 6, 7, 8, 9];
@@ -75,6 +76,13 @@ function mapRows({ documents }) {
   ];
 }
 
+function pageRows({ toolbar }) {
+  return [[["f1", "?"], "Lists the keys", () => toolbar.keys.list()]];
+}
+
+// The table, by what its rows are about.
+const GROUPS = [["Tools", toolRows], ["The stamp", stampRows], ["Cells, objects and steps", editRows], ["The view", viewRows], ["Maps", mapRows], ["The page", pageRows]];
+
 // The word of a key that was pressed: a digit or a sign is named without the Shift that it may need.
 function wordOf(event) {
   const digit = /^(?:Digit|Numpad)([1-9])$/.exec(event.code)?.[1];
@@ -87,9 +95,9 @@ export class Keys {
   // `parts` has the bench, the tools, the toolbar, the documents, the view, and the clips and kept stamps of cells.
   constructor(parts) {
     Object.assign(this, { tools: parts.tools });
-    this.rows = [toolRows, stampRows, editRows, viewRows, mapRows].flatMap(rows => rows(parts));
+    this.groups = GROUPS.map(([title, rowsOf]) => ({ title, rows: rowsOf(parts) }));
     this.calls = new Map(this.rows.flatMap(([keys, , call]) => keys.map(key => [key, call])));
-    this.inFields = new Set(mapRows(parts).flatMap(([keys]) => keys));
+    this.inFields = new Set(["f1", ...mapRows(parts).flatMap(([keys]) => keys)]);
     document.addEventListener("keydown", event => this.press(event));
     document.addEventListener("keyup", event => {
       if (event.code === "Space") this.tools.isSpace = false;
@@ -109,6 +117,14 @@ export class Keys {
     }
     if (event.code === "Space") this.holdSpace(event);
     else if (!event.altKey && this.calls.has(word) && !this.isText(word)) this.run(event, word);
+  }
+
+  get rows() {
+    return this.groups.flatMap(group => group.rows);
+  }
+
+  list() {
+    return showKeys(this.groups);
   }
 
   // A field takes what was typed before the map is saved.

@@ -5,9 +5,11 @@ import { byId } from "./dom.js";
 import { Editor } from "./editor.js";
 import { bindFieldKeys } from "./field_keys.js";
 import { recordSum } from "./journal.js";
+import { Example, isExample } from "./example.js";
 import { LayerPanel } from "./layer_panel.js";
 import { Layouts } from "./layouts.js";
 import { LinePanel } from "./line_panel.js";
+import { MapKeys, TileKeys } from "./map_keys.js";
 import { MapView } from "./map_view.js";
 import { Marks } from "./marks.js";
 import { MiniMap } from "./mini_map.js";
@@ -21,7 +23,9 @@ import { PlacePanel } from "./place_panel.js";
 import { ServedFiles } from "./places.js";
 import { Player } from "./player.js";
 import { PropertyPanel } from "./property_panel.js";
+import { Readers } from "./readers.js";
 import { Recovery } from "./recovery.js";
+import { bindRows } from "./row_keys.js";
 import { ScrollBars } from "./scroll_bars.js";
 import { StartPage } from "./start_page.js";
 import { StatusBar } from "./status_bar.js";
@@ -66,6 +70,11 @@ class Page {
     this.lines = new LinePanel(bench, { layer: id => this.steps.nameOf("layer", id), object: id => this.steps.nameOf("object", id) });
     this.player = new Player(bench);
     this.layouts = new Layouts(this);
+    this.example = new Example(this);
+    this.readers = new Readers(bench, this.layers);
+    this.rowKeys = bindRows(bench, this.documents, this.layers);
+    this.mapKeys = new MapKeys(this.tools, words => this.readers.say(words));
+    this.tileKeys = new TileKeys(this.palette);
     this.shownDocument = null;
     this.listen();
     bindFieldKeys(bench);
@@ -159,7 +168,7 @@ async function servedBy(key) {
 async function start() {
   const missing = Object.keys(NEEDED).filter(name => !NEEDED[name]());
   if (missing.length) return notice("needed", `This page cannot work here. It needs ${missing.join(", ")}.`);
-  const key = new URLSearchParams(location.search).get("key");
+  const key = isExample() ? null : new URLSearchParams(location.search).get("key");
   const [module, served] = await Promise.all([loadModule(), key === null ? null : servedBy(key)]);
   const editor = new Editor(module, served?.told.limit ?? 0);
   if (served) editor.place = served.place;
@@ -169,6 +178,7 @@ async function start() {
   page.toolbar.show();
   const isRestored = await page.recovery.start();
   if (!isRestored && served) for (const path of served.told.files) await page.documents.openPath(path);
+  if (!isRestored && isExample()) await page.example.open();
   editor.tellSoon();
   await editor.telling;
   // For the console, and for scripts that try the page.

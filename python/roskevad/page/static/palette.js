@@ -219,7 +219,11 @@ export class Palette {
   }
 
   drag(event) {
-    const [[x0, y0], [x1, y1]] = [this.from, this.placeOf(event)];
+    this.takeTiles(this.from, this.placeOf(event));
+  }
+
+  // Takes the tiles between two places of the palette as the stamp.
+  takeTiles([x0, y0], [x1, y1]) {
     const [left, top, width, height] = [Math.min(x0, x1), Math.min(y0, y1), Math.abs(x1 - x0) + 1, Math.abs(y1 - y0) + 1];
     const values = [];
     for (let at = 0; at < width * height; at++) {

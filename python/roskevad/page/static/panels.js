@@ -1,5 +1,6 @@
 // The panels around the map: a click at a head folds one, and the edges between them are dragged.
 import { byId, element } from "./dom.js";
+import { edgeByKeys } from "./edge_keys.js";
 import { icon } from "./icons.js";
 
 // The least width of a column and height of a panel or of the lines, and the most of the window that a column takes.
@@ -41,6 +42,10 @@ export class Panels {
 
   edge(id, title, drag, isFlat = false) {
     const edge = element("div", { className: `edge${isFlat ? " flat" : ""}`, id, title });
+    edgeByKeys(edge, isFlat, event => {
+      drag(event);
+      this.onChange();
+    });
     edge.onpointerdown = event => {
       event.preventDefault();
       edge.setPointerCapture(event.pointerId);

@@ -10,7 +10,7 @@ const MOST_MAPS = 200;
 const LARGEST_DRAWN = 4 * 1024 * 1024;
 const [WIDTH, HEIGHT] = [176, 120];
 // Where the browser or the server gives no such button, none stands here.
-const WAYS = [["new", "New map", "new"], ["folder", "Open folder", "open-folder"], ["files", "Open files", "open-files"]];
+const WAYS = [["new", "New map", "new"], ["folder", "Open folder", "open-folder"], ["files", "Open files", "open-files"], ["lesson", "Try it", "try"]];
 
 export class StartPage {
   constructor(bench, documents) {
@@ -51,7 +51,7 @@ export class StartPage {
     const ways = WAYS.filter(([, , id]) => byId(id));
     if (this.ways.children.length === ways.length) return;
     this.ways.replaceChildren(...ways.map(([picture, text, id]) => {
-      const way = element("button", { type: "button", textContent: text, onclick: () => byId(id).click() });
+      const way = element("button", { type: "button", textContent: text, title: byId(id).title, onclick: () => byId(id).click() });
       way.prepend(icon(picture));
       return way;
     }));

@@ -117,7 +117,8 @@ export class Tools {
     if (!name || this.held || (name !== "pan" && !this.isReady())) return;
     if (PAINTING.has(name) && this.bench.layer.isTiles && this.bench.barredLayer()) return;
     event.preventDefault();
-    this.bench.view.box.setPointerCapture(event.pointerId);
+    // A press by keys has no pointer.
+    if (event.isTrusted) this.bench.view.box.setPointerCapture(event.pointerId);
     this.held = name;
     this.bench.isHeld = true;
     this.drawnUpTo = -Infinity;
