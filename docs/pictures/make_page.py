@@ -57,7 +57,7 @@ def fit(page, has_log=False):
 def lesson(page):
     """The tasks of the example world, in the words of docs/page.md."""
     page.open()
-    picture(page, 'page-start', 'header', '#start-ways', 12)
+    picture(page, 'page-start', 'header', '#start-told')
     page.click('#try')
     page.wait(lambda: page.find('#lesson').is_displayed(), 'the lesson')
     fit(page)
