@@ -309,28 +309,6 @@ def test_keys_in_fields():
         assert page.js('return String(getSelection())') == ''
 
 
-def test_list_of_keys():
-    """F1, also in a field, `?` and a button list the keys from the table that binds them; Escape
-    closes the list."""
-    with Bench() as page:
-        page.keys(Keys.F1)
-        told = page.find('#keys').text
-        assert all(each in told for each in ('Ctrl+Shift+Z', 'Brush', 'Ctrl+1 to Ctrl+9', 'Esc')), told
-        page.keys('e')
-        ActionChains(page.driver).send_keys(Keys.ESCAPE).perform()
-        page.settle()
-        assert page.js('return roskevad.tools.name') == 'brush', 'no key goes past the list'
-        page.find('#macro-name').send_keys(Keys.F1)
-        ActionChains(page.driver).send_keys(Keys.ESCAPE).perform()
-        page.settle()
-        page.keys('?')
-        assert page.find('#keys').is_displayed()
-        ActionChains(page.driver).send_keys(Keys.ESCAPE).perform()
-        page.click('#list-keys')
-        bound = page.js('return roskevad.toolbar.keys.rows.length')
-        assert len(page.driver.find_elements(By.CSS_SELECTOR, '#keys tr')) == bound + 1
-
-
 def frame(page, css):
     return page.js(
         'const box = document.querySelector(arguments[0]).getBoundingClientRect();'

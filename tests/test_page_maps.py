@@ -149,6 +149,7 @@ def work_in_town(page):
     page.click('#layers li[data-layer="2"] .fold')
     x, y = edge(page, '#left-edge')
     page.drag_points([[x, y], [x + 40, y], [x + 70, y]])
+    page.unfold_log()
     x, y = edge(page, '#line-edge')
     page.drag_points([[x, y], [x, y - 20], [x, y - 60]])
     page.click('#panel-properties h2')

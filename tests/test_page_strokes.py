@@ -235,9 +235,8 @@ def test_tools_by_mouse():
             'select replace 2 20 3 3',
             f'fill {ground} 3 21 12',
         ], spelled(page)
-        assert [each.text for each in page.driver.find_elements(By.CSS_SELECTOR, '#tools .on')] == [
-            'Brush'
-        ]
+        held = page.driver.find_elements(By.CSS_SELECTOR, '#tools .on')
+        assert [each.get_attribute('aria-label') for each in held] == ['Brush']
         values = [cell(page, ground, x, y) for y in range(20, 23) for x in range(2, 5)]
         assert (
             page.js('return roskevad.bench.stamp') == {'width': 3, 'height': 3, 'values': values}

@@ -1,5 +1,6 @@
 #!/usr/bin/env bash
-# Makes the pictures of the README and of this folder anew. It needs Tiled's tmxrasterizer and ImageMagick:
+# Makes the pictures of maps of the README and of this folder anew; make_page.py makes those of the page. It needs Tiled's tmxrasterizer
+# and ImageMagick:
 #   apt-get install tiled imagemagick
 #
 #   docs/pictures/make.sh

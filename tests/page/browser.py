@@ -169,7 +169,7 @@ class Page:
     def wait_ready(self):
         self.wait(lambda: self.js('return document.body.dataset.isReady'), 'the page is ready')
         if self.has_log:
-            self.js('globalThis.roskevad?.panels.showLog(true)')
+            self.unfold_log()
         self.settle()
 
     def js(self, code, *words):
@@ -282,8 +282,12 @@ class Page:
     def ctrl(self, key, *more):
         self.keys(key, Keys.CONTROL, *more)
 
+    def unfold_log(self):
+        self.js('globalThis.roskevad?.panels.showLog(true)')
+
     def say(self, line):
         """Types a line into the box."""
+        self.unfold_log()
         self.find('#line').send_keys(line, Keys.ENTER)
         self.settle()
 

@@ -11,6 +11,10 @@ import { saidOf } from "./refusals.js";
 // What a document is called for the user: the name of its file, or its own name where it has none.
 const titleOf = ({ name, path }) => (path ? lastOf(path) : name);
 
+// Sizes of a new map, in cells, and of its tiles, in pixels.
+const SIZES = [["Room 20 × 15", 20, 15], ["Screen 40 × 30", 40, 30], ["World 100 × 100", 100, 100]];
+const SIDES = [8, 16, 32, 64];
+
 export class Documents {
   constructor(bench) {
     this.bench = bench;
@@ -60,8 +64,10 @@ export class Documents {
   async make() {
     await ask("A new map", [
       { name: "name", label: "Name", value: "map", kind: KINDS.document },
+      { label: "Size", presets: SIZES.map(([text, width, height]) => [text, { width, height }]) },
       { name: "width", label: "Columns", value: 40, kind: KINDS.cells },
       { name: "height", label: "Rows", value: 30, kind: KINDS.cells },
+      { label: "Tiles", presets: SIDES.map(side => [`${side} × ${side}`, { side, tall: side }]) },
       { name: "side", label: "Width of a tile in pixels", value: 16, kind: KINDS.side },
       { name: "tall", label: "Height of a tile in pixels", value: 16, kind: KINDS.side },
       { name: "source", label: "Its tileset", value: this.bench.map?.data.tilesets.find(set => set.source)?.source ?? "tiles.tsx", kind: KINDS.text },

@@ -75,6 +75,7 @@ export function mark(input, words) {
 
 // ---- dialogs with fields
 function fieldOf(field) {
+  if (field.presets) return presetsOf(field);
   const choices = field.choices?.map(choice => element("option", { value: choice }));
   const list = choices && element("datalist", { id: `choices-${field.name}` }, ...choices);
   const { name, type = "text", value = "", min = "" } = field;
@@ -86,6 +87,18 @@ function fieldOf(field) {
   };
   if (list) input.setAttribute("list", list.id);
   return element("label", {}, element("span", { textContent: field.label }), element("span", { className: "filled" }, input, seen?.box), list);
+}
+
+// Buttons that fill other fields: [text, the values of those by their names].
+function presetsOf({ label, presets }) {
+  const fill = (form, values) => Object.entries(values).forEach(([name, value]) => {
+    form.elements[name].value = value;
+    mark(form.elements[name], "");
+  });
+  const buttons = presets.map(([text, values]) => button(text, "", event => fill(event.target.form, values)));
+  const row = element("div", { className: "presets" }, element("span", { textContent: label }), ...buttons);
+  row.setAttribute("role", "group");
+  return row;
 }
 
 // A list below a field, whose rows go into it by a click: those that have what is typed.

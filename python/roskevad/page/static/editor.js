@@ -417,7 +417,7 @@ export class Editor extends EventTarget {
         await this.replayLine(session, entry);
         if (entry.file) names.take(entry.line.split(" ")[2], entry.file.path);
         notes.note(entry.line, entry.reply, entry.file);
-        const row = [listed.length + 1, cut(entry.line), entry.reply === SAVED ? "no 51 store failed" : entry.reply];
+        const row = [listed.length + 1, cut(entry.line), entry.reply === SAVED ? "no 51 store failed" : entry.reply, null, cellsIn(entry.line)];
         if (wordOf(entry.line) === "save") pending.set(notes.active, row);
         if (wordOf(entry.line) === "dirty") pending.delete(notes.active);
         listed.push(row);

@@ -1,5 +1,5 @@
 // The example world, which the page has in itself: the town with its tileset, and a lesson on it.
-import { button, byId, element } from "./dom.js";
+import { byId } from "./dom.js";
 import { iconButton } from "./icons.js";
 import { Lesson } from "./lesson.js";
 
@@ -23,10 +23,6 @@ export class Example {
     this.lesson = new Lesson(page, () => this.document);
     const title = "the example world, with three tasks of two minutes";
     byId("file-actions").append(iconButton("lesson", "Try it", `Try it: ${title}`, () => this.start(), { id: "try" }));
-    const onEmpty = button("Try it", title, () => this.start(), { id: "try-empty" });
-    onEmpty.onpointerdown = event => event.stopPropagation();
-    byId("empty").after(element("div", { id: "try-box" }, onEmpty));
-    page.editor.addEventListener("state", () => (byId("try-box").hidden = Boolean(page.editor.state.active)));
   }
 
   // The document of the example; null where it is not open here.
@@ -37,17 +33,17 @@ export class Example {
   // A window that has files of the user's own keeps them: the example has a window of its own then.
   async start() {
     const { editor } = this.page;
-    if (this.document || (editor.place.kind === "chosen" && !editor.place.files.size && !editor.documents().length)) return this.open();
+    if (this.document || isExample() || (editor.place.kind === "chosen" && !editor.place.files.size && !editor.documents().length)) return this.open();
     return open(`${location.pathname}${location.search}${WORD}`);
   }
 
-  // Opens it in this window, and begins the lesson.
+  // Opens it in this window, or goes to it, and begins the lesson.
   async open() {
     const { panel, editor, bench } = this.page;
-    if (!this.document) {
-      await panel.takeChosen(files());
-      this.name = editor.documents().find(each => each.path === MAP)?.name ?? null;
-    }
+    const found = () => editor.documents().find(each => each.path === MAP)?.name ?? null;
+    this.name = found();
+    if (!this.name) await panel.takeChosen(files());
+    this.name ??= found();
     if (!this.document) return;
     if (editor.notes.active !== this.name) await bench.act([`use ${this.name}`]);
     await this.lesson.begin();

@@ -16,7 +16,8 @@ export class Lesson {
     const again = button("Begin anew", "The town as it was, and the first task", () => this.begin(), { id: "lesson-again" });
     const leave = button("Leave", "Leave the tasks (Esc)", () => this.leave(), { id: "lesson-leave" });
     this.strip = element("section", { id: "lesson", hidden: true, ariaLabel: "First tasks" },
-      element("div", { className: "words" }, this.head, this.said), this.parts, element("div", { className: "group" }, this.next, again, leave));
+      element("div", { className: "words" }, element("div", { className: "parts" }, this.head, this.parts), this.said),
+      element("div", { className: "group" }, this.next, again, leave));
     this.ring = element("div", { id: "lesson-ring", hidden: true, ariaHidden: "true" });
     byId("view").before(this.strip);
     window.document.body.append(this.ring);

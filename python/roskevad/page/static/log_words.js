@@ -1,12 +1,12 @@
 // What a line has done, in words for those who draw: `Stamp on Ground: 12 cells`.
 import { wordOf } from "./line_kinds.js";
 
-// How many cells a line names that it stamps or empties; 0 of any other.
+// How many cells a line names that it stamps or empties; 0 of any other. (It may be spelled wrong.)
 export function cellsIn(line) {
-  const words = line.split(" ");
   const kind = wordOf(line);
-  if (kind === "erase") return words[4] * words[5];
-  return kind === "stamp" ? words[5].split(",").filter(value => value !== "0").length : 0;
+  if (kind !== "erase" && kind !== "stamp") return 0;
+  const [, , , , width, last = ""] = line.split(" ");
+  return kind === "erase" ? width * last : last.split(",").filter(value => value !== "0").length;
 }
 
 const counted = (count, one) => `${count.toLocaleString("en")} ${count === 1 ? one : `${one}s`}`;

@@ -27,6 +27,7 @@ import { Readers } from "./readers.js";
 import { Recovery } from "./recovery.js";
 import { bindRows } from "./row_keys.js";
 import { ScrollBars } from "./scroll_bars.js";
+import { StartPage } from "./start_page.js";
 import { StatusBar } from "./status_bar.js";
 import { StepPanel } from "./step_panel.js";
 import { TilesetPanel } from "./tileset_panel.js";
@@ -55,6 +56,7 @@ class Page {
     this.tools = new Tools(bench);
     this.documents = new Documents(bench);
     this.toolbar = new Toolbar(bench, this.tools, this.documents, this.miniMap);
+    this.startPage = new StartPage(bench, this.documents);
     this.miniMap.isBusy = () => bench.isHeld;
     this.palette = new Palette(bench, this.tilesets);
     this.tilesetPanel = new TilesetPanel(bench, this.tilesets, this.palette);

@@ -7,15 +7,16 @@ export class MapProbe {
     Object.assign(this, { place, module: null });
   }
 
-  // Words for a file: why it would be refused, and none where it would not.
-  async look(path) {
+  // Words for a file: why it would be refused, and none where it would not. Then `use` may look at the session that has it: what that
+  // gives is `found`.
+  async look(path, use = () => null) {
     const found = await this.place.read(path);
     if (!found) return { words: "no such file", isRefused: true };
     if (!this.module || this.module.isBroken) this.module = await loadModule();
     const session = new Session(this.module, { limit: 1 });
     try {
       await session.openMap("map", found.bytes);
-      return { words: "", isRefused: false };
+      return { words: "", isRefused: false, found: await use(session) };
     } catch (fault) {
       if (!(fault instanceof Refused)) throw fault;
       return { words: `${fault.words} (${fault.code})${fault.why ? `: ${fault.why}` : ""}`, isRefused: true };

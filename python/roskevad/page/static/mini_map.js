@@ -49,7 +49,7 @@ export class MiniMap {
     this.canvas.hidden = !this.map || !this.isWanted || this.isAllSeen();
     if (this.canvas.hidden) return;
     const { width, height } = this.map.projection;
-    const most = LONGEST * this.view.ratio / Math.max(width, height);
+    const most = Math.min(LONGEST, this.view.box.clientWidth / 4) * this.view.ratio / Math.max(width, height);
     const [wide, high] = [width, height].map(length => Math.max(1, Math.round(length * most)));
     if (this.isStale || this.picture?.width !== wide || this.picture?.height !== high) this.drawMap(wide, high);
     this.isStale = false;

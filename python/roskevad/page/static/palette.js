@@ -174,8 +174,18 @@ export class Palette {
     this.show();
   }
 
+  // At first all columns are seen, where that takes no more than a step down.
+  fitOnce() {
+    if (this.isFitted || !this.tileset) return;
+    this.isFitted = true;
+    const smaller = SIDES[SIDES.indexOf(this.side) - 1];
+    const fits = side => this.columns * side < this.box.clientWidth;
+    if (!fits(this.side) && fits(smaller)) this.side = smaller;
+  }
+
   // Draws the tiles and the stamp.
   show() {
+    this.fitOnce();
     this.draw();
     this.drawStamp();
   }

@@ -58,12 +58,13 @@ export class Readers {
     document.addEventListener("keydown", event => this.press(event));
   }
 
-  // What has come or has other marks.
+  // What has come or has other marks; and the row that it stands in, whose name is of all its parts.
   changed(records) {
     const found = new Set();
     for (const { type, target, addedNodes } of records) {
       const roots = type === "attributes" ? [] : [...addedNodes].filter(node => node instanceof Element);
-      for (const each of [target, ...roots, ...roots.flatMap(root => [...root.querySelectorAll("*")])]) found.add(each);
+      const row = target.closest("li, .tab, tr");
+      for (const each of [target, row ?? target, ...roots, ...roots.flatMap(root => [...root.querySelectorAll("*")])]) found.add(each);
     }
     return found;
   }
@@ -111,6 +112,8 @@ export class Readers {
     put(at, { role: "treeitem", "aria-level": layer.depth + 1, "aria-selected": at.classList.contains("now"), "aria-label": words,
       "aria-expanded": isGroup ? !this.layers.folded.has(layer.id) : null });
     for (const each of at.querySelectorAll("button")) each.tabIndex = -1;
+    // That a group is folded is a state of its row.
+    put(at.querySelector(".fold"), { "aria-hidden": "true" });
   }
 
   tellStep(at) {

@@ -1,0 +1,318 @@
+"""Looks at how the page is laid out: how much of the window the map has, contrasts and targets in light
+and dark, pictures on buttons, the log in words, the page where no map is open, objects' outlines and names."""
+from lib.cases import passed
+from lib.maps import layers_in
+from page.bench import Bench, Tiles, choose, colours_now, middle_of, take_tile, wanted_colour
+from page.browser import Keys, browser
+
+NEEDS_BROWSER = True
+IS_LONG = True
+# The least share of the window that the map has where the screen has 1280 by 720 at 150 %.
+LEAST_SHARE = 0.4
+LEAST_CONTRAST, LEAST_OF_PICTURES = 4.5, 3
+LEAST_TARGET = 24
+# Widths and heights in pixels of the page, and how many of the screen each is.
+SMALL, USUAL, LARGE = (853, 480, 1.5), (1280, 720, 1), (1920, 1080, 1)
+THEMES = ('light', 'dark')
+
+# The texts and pictures that are seen, each with its contrast to what is behind it; what is behind is
+# the colours of the elements around it, one over the other.
+CONTRASTS = '''
+const parts = text => { const [r, g, b, a = 1] = text.match(/[\\d.]+/g).map(Number); return [r, g, b, a]; };
+const over = ([r, g, b, a], under) => [r, g, b].map((each, at) => each * a + under[at] * (1 - a));
+const behind = at => at === null ? [255, 255, 255] : over(parts(getComputedStyle(at).backgroundColor), behind(at.parentElement));
+const light = colour => { const [r, g, b] = colour.map(each => (each /= 255) <= 0.04045 ? each / 12.92 : ((each + 0.055) / 1.055) ** 2.4);
+                          return 0.2126 * r + 0.7152 * g + 0.0722 * b; };
+const faded = at => at === null ? 1 : Number(getComputedStyle(at).opacity) * faded(at.parentElement);
+const contrast = (colour, at) => {
+  const ground = behind(at), [r, g, b, a] = parts(colour), [one, other] = [light(over([r, g, b, a * faded(at)], ground)), light(ground)];
+  return (Math.max(one, other) + 0.05) / (Math.min(one, other) + 0.05);
+};
+const isSeen = at => at.checkVisibility({visibilityProperty: true}) && at.getBoundingClientRect().width > 1;
+const found = [];
+const walker = document.createTreeWalker(document.body, NodeFilter.SHOW_TEXT);
+while (walker.nextNode()) {
+  const at = walker.currentNode.parentElement;
+  if (walker.currentNode.data.trim() && at.tagName !== "SCRIPT" && at.tagName !== "OPTION" && isSeen(at))
+    found.push(["text", walker.currentNode.data.slice(0, 40), contrast(getComputedStyle(at).color, at)]);
+}
+for (const at of document.querySelectorAll("input:not([type=checkbox], [type=color]), select, textarea")) {
+  if (!isSeen(at)) continue;
+  found.push(["text", at.value.slice(0, 40), contrast(getComputedStyle(at).color, at)]);
+  if (at.placeholder) found.push(["text", at.placeholder, contrast(getComputedStyle(at, "::placeholder").color, at)]);
+}
+for (const at of document.querySelectorAll(".icon")) {
+  if (isSeen(at) && !at.closest(":disabled")) found.push(["picture", at.closest("button").title, contrast(getComputedStyle(at).color, at.closest("button"))]);
+}
+return found;'''
+# What is clicked at: all that is seen of it, with its width and height.
+TARGETS = '''
+const css = "button, input, select, textarea, a, summary, .tab, aside li, #file-list li, .panel > h2";
+return [...document.querySelectorAll(css)].filter(at => at.checkVisibility({visibilityProperty: true})).map(at => {
+  const {width, height} = at.getBoundingClientRect();
+  return [`${at.tagName} ${at.id} ${at.className} ${at.title || at.textContent}`.slice(0, 80), width, height];
+}).filter(([, width]) => width > 0);'''
+
+
+def look(size=USUAL, theme='light'):
+    """Has the browser show the page in a window of this size, and by this choice of the system."""
+    width, height, ratio = size
+    told = {'width': width, 'height': height, 'deviceScaleFactor': ratio, 'mobile': False}
+    browser().execute_cdp_cmd('Emulation.setDeviceMetricsOverride', told)
+    features = [{'name': 'prefers-color-scheme', 'value': theme}]
+    browser().execute_cdp_cmd('Emulation.setEmulatedMedia', {'features': features})
+
+
+def look_as_before():
+    browser().execute_cdp_cmd('Emulation.clearDeviceMetricsOverride', {})
+    browser().execute_cdp_cmd('Emulation.setEmulatedMedia', {'features': []})
+
+
+def see_all(page, where):
+    """Each text and each target that is seen is large and plain enough: how many they are."""
+    contrasts = page.js(CONTRASTS)
+    least = {'text': LEAST_CONTRAST, 'picture': LEAST_OF_PICTURES}
+    weak = [each for each in contrasts if each[2] < least[each[0]]]
+    targets = page.js(TARGETS)
+    small = [each for each in targets if min(each[1:]) < LEAST_TARGET - 0.01]
+    assert not weak and not small, (where, weak, small)
+    return len(contrasts) + len(targets)
+
+
+def work(page):
+    """Has something of all panels: a stroke, an undone step, an object, a refused line."""
+    choose(page, 'Ground')
+    take_tile(page, (3, 1))
+    page.stroke([(3, 20), (5, 20)])
+    page.say('layer show 2 no')
+    page.ctrl('z')
+    page.say('stamp 1 a')
+    page.click('#show-objects')
+    page.click('#objects li:nth-child(3)')
+
+
+def test_contrasts_and_targets():
+    """Texts have a contrast of 4.5 at least, pictures of 3, and what is clicked at has 24 pixels at
+    least: in light and dark, on each panel, in dialogs, and where no map is open."""
+    seen = 0
+    try:
+        for theme in THEMES:
+            look(USUAL, theme)
+            with Bench() as page:
+                seen += see_all(page, (theme, 'at first'))
+                work(page)
+                page.js('roskevad.bench.say("Nothing was drawn.")')
+                assert page.texts('#lines .refused') and page.find('#bubble').is_displayed()
+                seen += see_all(page, (theme, 'at work'))
+                page.js('roskevad.bench.bubble.hide()')
+                for css in ('#new', '#open', '#resize'):
+                    page.find(css).click()
+                    page.wait(lambda: page.texts('dialog[open]'), 'a dialog')
+                    seen += see_all(page, (theme, css))
+                    page.fill_in('Cancel')
+                # A notice, and a field that is refused.
+                page.js('roskevad.panel.showMissing.call({tilesets: {missing: ["a.png"]}, editor: roskevad.editor})')
+                page.click('#of-map')
+                page.find('#new-value').send_keys('rain', Keys.ENTER)
+                page.settle()
+                assert page.texts('#properties .fault')
+                seen += see_all(page, (theme, 'a notice'))
+            with Bench(empty=True, has_log=False) as page:
+                page.wait(lambda: page.texts('#start-maps .told'), 'the maps are listed')
+                seen += see_all(page, (theme, 'no map'))
+        passed(seen)
+    finally:
+        look_as_before()
+
+
+SHARE = '''
+const {width, height} = document.getElementById("view").getBoundingClientRect();
+return width * height / innerWidth / innerHeight;'''
+OUTSIDE = '''
+return [...document.querySelectorAll("header button, header select, header input, footer button")].filter(at => at.checkVisibility()).filter(at => {
+  const {left, top, right, bottom} = at.getBoundingClientRect();
+  return left < 0 || top < 0 || right > innerWidth || bottom > innerHeight;
+}).map(at => at.id);'''
+
+
+def test_sizes():
+    """At 1280 by 720 and 150 % the map has 40 percent of the window; no button lies outside of it, the
+    tools stand in one row, and all columns of the palette are seen."""
+    try:
+        for size in (SMALL, USUAL, LARGE):
+            look(size)
+            with Bench(has_log=False) as page:
+                share = page.js(SHARE)
+                assert share >= LEAST_SHARE, (size, share)
+                assert page.js(OUTSIDE) == [], size
+                rows = page.js('return [...document.querySelectorAll("header .row")].map(row => row.offsetHeight)')
+                assert len(rows) == 2 and max(rows) < 40, (size, rows)
+                assert page.js('const box = document.getElementById("palette-box"); return box.scrollWidth <= box.clientWidth'), size
+                see_all(page, size)
+        passed(3)
+    finally:
+        look_as_before()
+
+
+def test_pictures_on_buttons():
+    """Each button without words has a picture, a name for readers of the screen, and a title, which
+    names the key of each tool."""
+    with Bench(has_log=False) as page:
+        told = page.js(
+            'return [...document.querySelectorAll("button")].filter(at => at.checkVisibility() && !at.textContent.trim())'
+            '.map(at => [at.id || at.className, at.querySelectorAll("svg path").length, at.getAttribute("aria-label"), at.title])'
+        )
+        told = [each for each in told if each[0] != 'fold']
+        assert len(told) > 30
+        for button, lines, name, title in told:
+            assert lines and name and title, button
+        tools = {name: title for button, _, name, title in told if button.startswith('tool-')}
+        keys = {'Brush': 'B', 'Eraser': 'E', 'Fill': 'F', 'Rectangle': 'P', 'Select': 'R', 'Objects': 'S', 'Insert': 'I'}
+        assert set(tools) == set(keys)
+        for name, key in keys.items():
+            assert tools[name].startswith(f'{name} ({key})'), tools[name]
+        assert [name for _, _, name, _ in told if name == 'Undo'] and 'Ctrl+Z' in page.find('#undo').get_attribute('title')
+        passed(len(told))
+
+
+def log(page):
+    """The rows of the log: their words and their lines."""
+    return page.js(
+        'return [...document.querySelectorAll("#lines li")].map(row => [row.querySelector(".words").textContent, row.querySelector("code").textContent])'
+    )
+
+
+def test_log():
+    """The log is folded until it is wanted, and tells in words what each line did, a stroke as a whole;
+    what a line is about has its name, also where it is removed or has another one then."""
+    with Bench(has_log=False) as page:
+        assert not page.find('#line-box').is_displayed() and not page.find('#line-edge').is_displayed()
+        assert page.find('#turn-log').get_attribute('aria-expanded') == 'false'
+        ground = choose(page, 'Ground')
+        take_tile(page, (3, 1))
+        page.stroke([(3, 20), (14, 20)])
+        page.click('#turn-log')
+        assert page.find('#line').is_displayed() and page.find('#turn-log').get_attribute('aria-expanded') == 'true'
+        rows = log(page)[1:]
+        assert rows[0] == ['Stamp on Ground: 12 cells', f'stamp {ground} 3 20 1 12'], rows
+        assert len(rows) == 12 and all(words == '' and line.startswith('stamp+ ') for words, line in rows[1:]), rows
+        said = {
+            f'erase {ground} 3 20 5 2': 'Erase on Ground: 10 cells',
+            f'stamp {ground} 3 20 2 12,0,0,13': 'Stamp on Ground: 2 cells',
+            f'stamp {ground} 3 20 1 12': 'Stamp on Ground: 1 cell',
+            f'fill {ground} 4 21 12': 'Fill on Ground from 4, 21',
+            f'layer rename {ground} Meadow': 'Rename Ground to Meadow',
+            f'layer show {ground} no': 'Hide Meadow',
+            'undo': 'Undo',
+            f'layer remove {ground}': 'Remove layer Meadow',
+            'layer add tile Fog': 'Add tile layer Fog',
+            'object move 4 10 20': 'Move Lake' if name_of(page, 4) == 'Lake' else f'Move {name_of(page, 4)}',
+            'prop set map weather string rain': 'Set weather of the map',
+            'select replace 1 2 3 4': 'Select (replace): 3 × 4',
+            'status': '',
+            'layer remove 999': 'Not done',
+        }
+        for line, words in said.items():
+            page.say(line)
+            assert log(page)[-1] == [words, line], (words, log(page)[-1])
+        page.click('#turn-log')
+        assert not page.find('#line-box').is_displayed()
+        passed(len(said) + 2)
+
+
+def name_of(page, number):
+    return page.js('return roskevad.editor.map.object(arguments[0]).object.name', number)
+
+
+def test_themes():
+    """The page is light or dark as the system is, at once where that changes, and so is what stands
+    beside the map."""
+    try:
+        look(USUAL, 'light')
+        with Bench(has_log=False) as page:
+            beside = page.js('const {left, top} = document.getElementById("view").getBoundingClientRect(); return [left + 4, top + 4]')
+            points = [[4, 30], [int(each) for each in beside]]
+            seen = []
+            for theme in ('light', 'dark', 'light'):
+                look(USUAL, theme)
+                page.settle()
+                seen.append(page.colours(points))
+            assert seen[0] == seen[2], seen
+            assert all(sum(light) > 3 * 170 and sum(dark) < 3 * 85 for light, dark in zip(*seen[:2])), seen
+            passed(3)
+    finally:
+        look_as_before()
+
+
+CARDS = 'return [...document.querySelectorAll("#start-maps li")].map(card => [card.dataset.path, card.dataset.drawn ?? ""])'
+CELL = '''
+const [path, wide, high, x, y] = arguments;
+const canvas = document.querySelector(`#start-maps li[data-path="${path}"] canvas`);
+const side = Math.min(canvas.width / wide, canvas.height / high);
+const [left, top] = [(canvas.width - wide * side) / 2 + x * side, (canvas.height - high * side) / 2 + y * side].map(Math.round);
+const {data} = canvas.getContext("2d").getImageData(left + 1, top + 1, side - 2, side - 2);
+return [0, 1, 2].map(part => data.filter((_, at) => at % 4 === part).reduce((sum, each) => sum + each, 0) / (data.length / 4));'''
+
+
+def test_no_map():
+    """Where no map is open, the maps of the folder are shown with their sizes and with pictures, which
+    are made once they are seen; a click opens one, and they come back behind the last one."""
+    with Bench(empty=True, has_log=False) as page:
+        page.wait(lambda: dict(page.js(CARDS)).get('house.tmj') == 'yes', 'the house is drawn')
+        cards = dict(page.js(CARDS))
+        assert 'town.tmj' in cards and page.find('#empty').is_displayed()
+        assert '8 × 6' in page.find('#start-maps li[data-path="house.tmj"] .told').text
+        assert page.texts('#start-ways button')[0] == 'New map'
+        look((700, 480, 1))
+        shown = page.js('return roskevad.startPage.waiting.length')
+        assert shown < len(cards)
+        page.js('document.querySelector(\'#start-maps li[data-path="town.tmj"]\').scrollIntoView()')
+        page.wait(lambda: dict(page.js(CARDS))['town.tmj'] == 'yes', 'the town is drawn once it is seen')
+        look_as_before()
+        pictures = {(x, y): page.js(CELL, 'house.tmj', 8, 6, x, y) for x in range(8) for y in range(6)}
+        page.click('#start-maps li[data-path="house.tmj"] button')
+        assert not page.find('#empty').is_displayed() and page.editor.state()['active'] == 'house'
+        house = page.editor.map()
+        tiles = Tiles(page, house)
+        things = [each for layer in layers_in(house['layers']) for each in layer.get('objects', ()) if each.get('gid')]
+        covered = {(each['x'] // 16, each['y'] // 16 - 1) for each in things}
+        assert len(covered) == 1
+        for place in set(pictures) - covered:
+            shown = pictures[place]
+            wanted = [wanted_colour(house, place, (x, y), tiles) for x in range(1, 15) for y in range(1, 15)]
+            means = [sum(each[part] for each in wanted) / len(wanted) for part in range(3)]
+            assert all(abs(one - other) < 24 for one, other in zip(means, shown)), (place, means, shown)
+        page.click('.tab .close')
+        assert page.find('#empty').is_displayed()
+        page.click('#start-ways button')
+        page.find('dialog .presets button').click()
+        page.fill_in(name='room')
+        assert (page.editor.map()['width'], page.editor.map()['height']) == (20, 15)
+        passed(len(pictures) + 5)
+
+
+def test_outlines_and_names():
+    """The outline of an object has a dark edge on both sides, and N hides the names of objects and
+    shows them again."""
+    with Bench(has_log=False) as page:
+        page.ctrl('g')
+        number = next(
+            each['id'] for layer in layers_in(page.editor.map()['layers']) for each in layer.get('objects', ())
+            if each['width'] and not each.get('gid') and not {'ellipse', 'polygon', 'polyline', 'point'} & set(each)
+        )
+        told = page.js('const {object} = roskevad.editor.map.object(arguments[0]); return [object.width, object.height]', number)
+        scale = page.js('return roskevad.view.scale')
+        x, y = middle_of(page, number)
+        left = int(x - told[0] * scale / 2)
+        page.picture()
+        shown = [sum(each) for each in colours_now(page, [(at, y) for at in range(left - 5, left + 6)])]
+        brightest = shown.index(max(shown[2:9]))
+        assert shown[brightest] > 3 * 150 and max(min(shown[:brightest]), min(shown[brightest:])) < 3 * 100, shown
+        name = (left + 2, int(y - told[1] * scale / 2) - 9)
+        with_name = page.colours([name])
+        page.keys('n')
+        without = page.colours([name])
+        assert with_name != without and page.find('#turn-names').get_attribute('class') == ''
+        page.click('#turn-names')
+        assert page.colours([name]) == with_name
+        passed(3)
