@@ -9,7 +9,7 @@ from page.browser import ActionChains, Keys
 NEEDS_BROWSER = True
 IS_LONG = True
 # The line that shows where a layer would go.
-DROP = (0xFF, 0xD3, 0x4D)
+DROP = (0x8A, 0x5A, 0x00)
 
 
 def row_of(page, number):
