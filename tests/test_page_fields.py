@@ -265,6 +265,17 @@ def test_new_property():
         assert page.find('#new-name').get_attribute('value') == ''
 
 
+
+def test_double_click():
+    """A double click at '+' sets one property, and leaves it: the button that comes below the hand
+    removes nothing by the second press."""
+    with Bench() as page:
+        page.find('#new-name').send_keys('gold')
+        page.find('#new-value').send_keys('x')
+        ActionChains(page.driver).double_click(page.find('#add-property')).perform()
+        page.settle()
+        assert spelled(page) == ['prop set map gold string x']
+
 def test_dialogs():
     """A dialog selects its text, stays open on a refusal, and marks the field at fault; what was
     typed stays."""
@@ -289,6 +300,10 @@ def test_dialogs():
         page.fill_in(width='5000')
         assert '4,096' in page.find('dialog .fault').text
         assert page.find('dialog [name=width]').get_attribute('value') == '5000'
+        page.fill_in('Cancel')
+        page.find('#save-as').click()
+        page.fill_in(file='field.tmx')
+        assert '.tmj' in page.find('dialog .fault').text
         page.fill_in('Cancel')
         page.click('#macro')
         assert 'End the macro first' in page.find('#undo').get_attribute('title')

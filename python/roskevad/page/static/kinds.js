@@ -51,7 +51,7 @@ export const KINDS = {
   cells: whole(1, 4_096),
   bool: matched(/^(true|false)$/, "true or false"),
   colour: matched(/^#([0-9a-f]{6}|[0-9a-f]{8})$/, "#rrggbb or #aarrggbb, in digits of 0-9 and a-f", text => text.trim().toLowerCase()),
-  path: matched(/[^/]$/, "the name of a file"),
+  path: matched(/^(?!.*\.(tmx|tsx|xml)$).*[^/]$/i, "the name of a file that is not .tmx: maps are saved as JSON, as .tmj"),
   document: matched(/^[A-Za-z0-9_][A-Za-z0-9_.-]{0,63}$/, `1 to 64 ${NAME_SIGNS}`),
   file: matched(/^[A-Za-z0-9_][A-Za-z0-9_.-]{0,99}$/, `1 to 100 ${NAME_SIGNS}`),
 };

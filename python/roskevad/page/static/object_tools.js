@@ -176,7 +176,7 @@ export async function insertObject(bench, [x, y, width, height]) {
   const { map, layer } = bench;
   if (layer?.type !== "objectgroup") {
     const isNone = !map.layers.some(each => each.type === "objectgroup");
-    return bench.say(isNone ? "Add an object layer first: '+ Objects'." : "Choose an object layer first.");
+    return bench.say(isNone ? "Add an object layer first, by 'Add an object layer' below the layers." : "Choose an object layer first.");
   }
   if (bench.barsObjects(layer, "added")) return null;
   const [left, top, ...size] = map.projection.objectBox([x, y, x + width, y + height]);

@@ -143,7 +143,8 @@ export class PropertyPanel {
   propertyRow(word, name, type, box) {
     const isSpelled = KINDS.key.fault(name) === "";
     const title = isSpelled ? "Remove this property" : "No line can say this name";
-    const remove = button("×", title, () => this.bench.act([`prop remove ${word} ${name}`]), { disabled: !isSpelled });
+    // The second press of a double click at '+' comes to where this button is then.
+    const remove = button("×", title, event => event.detail < 2 && this.bench.act([`prop remove ${word} ${name}`]), { disabled: !isSpelled });
     const row = rowOf(name, type, `${name}: ${type}`, element("td", {}, box), element("td", {}, remove));
     row.dataset.property = name;
     return row;
