@@ -20,9 +20,9 @@ export { Selection } from "./selection.js";
 export { Tileset, Tilesets } from "./tilesets.js";
 export { Layer, Layers, MapObject, Objects } from "./views.js";
 
-// What `show` begins with, and two refusals.
 // Bytes that are taken beside a file: where it was copied, a text that is a little longer finds room later.
 const SPARE = 65536;
+// What `show` begins with, and two refusals.
 const MAP = "map ";
 const STORE_FAILED = 51;
 const COMPRESSED = 65;
