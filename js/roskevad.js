@@ -20,6 +20,8 @@ export { Selection } from "./selection.js";
 export { Tileset, Tilesets } from "./tilesets.js";
 export { Layer, Layers, MapObject, Objects } from "./views.js";
 
+// Bytes that are taken beside a file: where it was copied, a text that is a little longer finds room later.
+const SPARE = 65536;
 // What `show` begins with, and two refusals.
 const MAP = "map ";
 const STORE_FAILED = 51;
@@ -206,7 +208,7 @@ export class Editor {
     const module = this._module;
     const bytes = bytesOf(data);
     const answer = module.given(name, (at, size) =>
-      module.holding(bytes.length, (from) => {
+      module.holding(bytes.length + SPARE, (from) => {
         module.bytes().set(bytes, from);
         return this._call("put_file", at, size, from, bytes.length);
       }),

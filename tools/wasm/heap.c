@@ -191,11 +191,12 @@ static void release(block *b)
     put_in(b);
 }
 
-/* Leaves a block that is not free this size, and frees the rest of it. */
+/* Leaves a block that is not free this size, and frees the rest of it. A rest of less than a 256th
+ * stays with it, so that the place of a file has room for a text that is a little longer. */
 static void cut(block *b, u32 size)
 {
     u32 rest = size_of(b) - size;
-    if (rest) {
+    if (rest > size / 256) {
         set_size(b, size);
         behind(b)->size = rest;
         release(behind(b));
