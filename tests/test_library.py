@@ -11,7 +11,7 @@ import tempfile
 import threading
 from pathlib import Path
 
-from lib.cases import passed, unlike
+from lib.cases import passed, raised, unlike
 from lib.forms import HELP, spread
 from lib.maps import layers_in
 from lib.native import c_program
@@ -24,25 +24,17 @@ from roskevad.forms import FORMS  # noqa: E402
 SANITIZED = ['-fsanitize=address,undefined', '-fno-sanitize-recover=all', '-g']
 
 
-def raises(kind, call, *words):
-    try:
-        call(*words)
-    except kind as fault:
-        return fault
-    raise AssertionError(f'{call} has not raised {kind}')
-
-
 def test_editors_that_are_closed_or_forked():
     """An editor can't be copied or pickled; a closed one, and one in a forked process, hears
     nothing."""
     editor = Editor(limit=5)
-    raises(TypeError, copy.copy, editor)
-    raises(TypeError, copy.deepcopy, editor)
-    raises(TypeError, pickle.dumps, editor)
+    raised(TypeError, copy.copy, editor)
+    raised(TypeError, copy.deepcopy, editor)
+    raised(TypeError, pickle.dumps, editor)
     child = os.fork()
     if child == 0:
         try:
-            raises(Closed, editor.step, 'status')
+            raised(Closed, editor.step, 'status')
             os._exit(0)
         except BaseException:
             os._exit(1)
@@ -50,8 +42,8 @@ def test_editors_that_are_closed_or_forked():
     assert editor.step('status') == 'ok none clean'
     editor.close()
     editor.close()
-    raises(Closed, editor.step, 'status')
-    raises(ValueError, Editor, 1_000_001)
+    raised(Closed, editor.step, 'status')
+    raised(ValueError, Editor, 1_000_001)
 
 
 def filled(top):
@@ -64,22 +56,22 @@ def test_files_that_are_not_opened():
     with tempfile.TemporaryDirectory() as top, Editor(folder=top) as editor:
         filled(top)
         for name, code in (('none', 50), ('folder', 51)):
-            refusal = raises(Refused, editor.open_file, f'{name}.tmj')
+            refusal = raised(Refused, editor.open_file, f'{name}.tmj')
             fault = unlike((code, f"open_file('{name}.tmj')"), (refusal.code, refusal.line))
             assert not fault, fault
             passed()
-        assert raises(Refused, editor.open_file, 'pipe.tmj').code == 51
+        assert raised(Refused, editor.open_file, 'pipe.tmj').code == 51
 
 
 def test_files_that_are_saved():
     """What is refused leaves the clean index, and nothing stays in the store."""
     with tempfile.TemporaryDirectory() as top, Editor(folder=top) as editor:
         filled(top)
-        assert raises(Refused, editor.save_file, 'a.tmj').code == 10
+        assert raised(Refused, editor.save_file, 'a.tmj').code == 10
         editor.step('new a 2 2 16 16 a.tsj')
         editor.step('stamp 1 0 0 1 1')
-        assert raises(Refused, editor.save_file, 'none/a.tmj').code == 51
-        assert raises(Refused, editor.save_file, 'folder.tmj').code == 51
+        assert raised(Refused, editor.save_file, 'none/a.tmj').code == 51
+        assert raised(Refused, editor.save_file, 'folder.tmj').code == 51
         assert editor.step('status').split(' ')[2] == 'dirty'
         assert editor.save_file('a.tmj').startswith('saved a.tmj ')
         assert editor.step('status').split(' ')[2] == 'clean'
@@ -89,14 +81,14 @@ def test_files_that_are_saved():
             editor.save_file('a.tmj').startswith('saved a.tmj ')
             and file.stat().st_mode & 0o777 == 0o640
         )
-        assert raises(Refused, editor.open_file, 'a.tmj').code == 11
+        assert raised(Refused, editor.open_file, 'a.tmj').code == 11
         assert editor.open_file('a.tmj', 'b').startswith('ok')
         assert (
             sorted(os.listdir(top)) == ['a.tmj', 'folder.tmj', 'pipe.tmj'] and editor.files() == []
         )
         editor.step('begin M')
-        assert raises(Refused, editor.save_file, 'a.tmj').code == 20
-        assert raises(Refused, editor.step, 'stamp').forms == FORMS['stamp']
+        assert raised(Refused, editor.save_file, 'a.tmj').code == 20
+        assert raised(Refused, editor.step, 'stamp').forms == FORMS['stamp']
 
 
 def test_what_no_line_tells():
@@ -107,7 +99,7 @@ def test_what_no_line_tells():
         assert editor.layer_id('Doors') == editor.last_layer_id() == 2
         editor.step('object add 2 0 0 8 8 door')
         assert editor.object_id('door') == editor.last_object_id() == 1
-        raises(KeyError, editor.layer_id, 'Walls')
+        raised(KeyError, editor.layer_id, 'Walls')
         editor.open_map('groups', (EXAMPLE_MAPS / 'groups.tmj').read_bytes())
         drawn = list(layers_in(editor.map()['layers']))
         assert any('layers' in layer for layer in drawn) and len(drawn) > len(
@@ -130,7 +122,7 @@ def test_what_no_line_tells():
             and editor.is_macro(0) is False
             and editor.is_macro(99) is None
         )
-        raises(ValueError, editor.put_file, '../a', b'')
+        raised(ValueError, editor.put_file, '../a', b'')
 
 
 def test_many_lines():
@@ -139,19 +131,19 @@ def test_many_lines():
         assert editor.run_lines([]) == []
         opened = ['new a 4 3 16 16 a.tsj', '# a note', '', 'stamp 1 0 0 1 5']
         assert editor.run_lines(opened) == ['ok 0/0 clean 0', 'ok 1/1 dirty 0']
-        refusal = raises(Refused, editor.run_lines, ['undo', '', 'stamp 9 0 0 1 5', 'redo'])
+        refusal = raised(Refused, editor.run_lines, ['undo', '', 'stamp 9 0 0 1 5', 'redo'])
         fault = unlike(
             (30, 'no such layer', 'stamp 9 0 0 1 5', 2, ['ok 0/1 clean 0']),
             (refusal.code, refusal.words, refusal.line, refusal.place, refusal.replies),
         )
         assert not fault, fault
-        raises(ValueError, editor.run_lines, ['redo', 'redo\nredo'])
+        raised(ValueError, editor.run_lines, ['redo', 'redo\nredo'])
         assert editor.step('status') == 'ok 0/1 clean 0'
         replies = editor.run_lines([*['layer add object Doors'] * 60, 'show', 'status', 'show'])
         assert replies[60:] == [editor.step('show'), 'ok 60/60 dirty 0', editor.step('show')]
-        refusal = raises(Refused, editor.run_lines, ['show', 'show', 'x'])
+        refusal = raised(Refused, editor.run_lines, ['show', 'show', 'x'])
         assert (refusal.place, len(refusal.replies)) == (2, 2)
-        refusal = raises(Refused, editor.run_lines, ['x' * 70_000])
+        refusal = raised(Refused, editor.run_lines, ['x' * 70_000])
         assert (refusal.code, refusal.place, refusal.replies) == (1, 0, [])
 
 
@@ -191,7 +183,7 @@ def test_threads_in_turn():
     last = threading.Thread(target=editor.close)
     last.start()
     last.join()
-    raises(Closed, editor.step, 'status')
+    raised(Closed, editor.step, 'status')
 
 
 def test_threads():

@@ -26,8 +26,24 @@ function boxOver(projection, cells) {
   return [left, top, right - left, bottom - top];
 }
 
-class Orthogonal {
+// What maps share whose objects count as the picture does: all but isometric ones.
+class InPixels {
+  place(x, y) {
+    return [x, y];
+  }
+
+  named(left, top) {
+    return [left, top];
+  }
+
+  objectBox(cells) {
+    return boxOver(this, cells);
+  }
+}
+
+class Orthogonal extends InPixels {
   constructor(map) {
+    super();
     this.side = [map.tileWidth, map.tileHeight];
     Object.assign(this, { tileWidth: map.tileWidth, tileHeight: map.tileHeight, order: map.data.renderorder ?? "right-down" });
     Object.assign(this, { width: map.width * map.tileWidth, height: map.height * map.tileHeight, isPlain: true, matrix: PLAIN });
@@ -60,18 +76,6 @@ class Orthogonal {
       const y = isUp ? y0 + y1 - 1 - row : row;
       for (let column = x0; column < x1; column++) call(isLeft ? x0 + x1 - 1 - column : column, y);
     }
-  }
-
-  place(x, y) {
-    return [x, y];
-  }
-
-  named(left, top) {
-    return [left, top];
-  }
-
-  objectBox(cells) {
-    return boxOver(this, cells);
   }
 }
 
@@ -143,8 +147,9 @@ class Isometric {
 }
 
 // Staggered and hexagonal maps: every other row or column is moved by half a cell.
-class Staggered {
+class Staggered extends InPixels {
   constructor(map) {
+    super();
     const { data, width, height } = map;
     const even = length => length - length % 2;
     const [tileWidth, tileHeight] = [even(map.tileWidth), even(map.tileHeight)];
@@ -221,18 +226,6 @@ class Staggered {
   // A row of cells: all, or those of its columns that are moved, or the others.
   walkRow(x0, x1, y, isMoved, call) {
     for (let x = x0; x < x1; x++) if (isMoved === null || this.isMoved(x) === isMoved) call(x, y);
-  }
-
-  place(x, y) {
-    return [x, y];
-  }
-
-  named(left, top) {
-    return [left, top];
-  }
-
-  objectBox(cells) {
-    return boxOver(this, cells);
   }
 }
 
