@@ -157,7 +157,7 @@ impl LineReader {
         ensures { IfOk result (λ r. r ≡ fresh) }
     {
         Ok(LineReader {
-            buffer: vec![in alloc; 0; CAPACITY]?,
+            buffer: Vec::from_slice(alloc, &[0; CAPACITY])?,
             start: 0,
             end: 0,
             line_start: 0,
