@@ -15,5 +15,4 @@ pub mod ReadFields
 pub mod Lengths
 pub mod Forms
 pub mod Laws
-pub mod HotLines
 pub mod LastDigits

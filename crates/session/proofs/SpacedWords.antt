@@ -70,7 +70,7 @@ no_space (b ∷ word) h = (ne_eqb b 32 (λ e. omega (arith, h.0.0, e)), no_space
 pub clean : (word : List ℕ) → Plain word → Clean word
 clean word h = record { no_space = no_space word h.bytes; utf8 = IsUtf8-from_ascii word (IsAscii-from_all word (λ k d l. (All-from_recursion IsPlain word h.bytes k d l).1)) }
 
-pub space : IsUtf8 (32 ∷ [])
+space : IsUtf8 (32 ∷ [])
 space = IsUtf8-from_ascii (32 ∷ []) (IsAscii-from_all (32 ∷ []) (All-from_recursion (λ b. b < 128) (32 ∷ []) (lit< tt, tt)))
 
 plain_tested : (word : List ℕ) → list_all (λ b. ltb 32 b && ltb b 128) word ≡ true → AllByRecursion IsPlain word

@@ -3,7 +3,6 @@
 
 mod fields;
 mod gids;
-mod hot_lines;
 mod layer_lines;
 pub mod limits;
 mod line;
@@ -19,7 +18,6 @@ mod typed_value;
 mod words;
 
 pub use gids::{Gids, Values};
-pub use hot_lines::{HotLine, StampLine, TileLine, hot_line};
 pub use line::{Line, LineFault};
 pub use parse::parse_line;
 pub use reply::{LocalTile, Refusal, Reply};

@@ -7,7 +7,6 @@ ghost use Rattle.std.specs.List.{list_all};
 ghost use Rattle.session.specs.Words.{words_left};
 
 use crate::fields::Fields;
-use crate::hot_lines::{TileLine, stamp_fields, tile_fields};
 use crate::layer_lines::layer;
 use crate::limits::MAX_LINE;
 use crate::line::{Line, LineFault};
@@ -81,14 +80,18 @@ fn choose_document<'a>(fields: &mut Fields<'a>) -> Result<Line<'a>, LineFault>
 fn stamp<'a>(follows: bool, fields: &mut Fields<'a>) -> Result<Line<'a>, LineFault>
     ensures { Gives (λ x. x) result (read (stamp_form follows) (words_left fields.old.rest)) }
 {
-    let stamp = stamp_fields(follows, fields)?;
+    let layer = fields.number()?;
+    let x = fields.coordinate()?;
+    let y = fields.coordinate()?;
+    let (width, values) = fields.block()?;
+    fields.end()?;
     Ok(Line::Stamp {
-        layer: stamp.layer,
-        x: stamp.x,
-        y: stamp.y,
-        width: stamp.width,
-        values: stamp.values,
-        follows: stamp.follows,
+        layer,
+        x,
+        y,
+        width,
+        values,
+        follows,
     })
 }
 
@@ -130,7 +133,10 @@ fn fill<'a>(fields: &mut Fields<'a>) -> Result<Line<'a>, LineFault>
 fn tile<'a>(fields: &mut Fields<'a>) -> Result<Line<'a>, LineFault>
     ensures { Gives (λ x. x) result (read tile_form (words_left fields.old.rest)) }
 {
-    let TileLine { layer, x, y } = tile_fields(fields)?;
+    let layer = fields.number()?;
+    let x = fields.coordinate()?;
+    let y = fields.coordinate()?;
+    fields.end()?;
     Ok(Line::Tile { layer, x, y })
 }
 
@@ -260,7 +266,7 @@ fn is_quiet_line(bytes: &[u8]) -> bool
 }
 
 // The bytes as text. Nearly all lines are ASCII, and that is seen eight bytes at a time.
-pub fn text_of(bytes: &[u8]) -> Option<&str>
+fn text_of(bytes: &[u8]) -> Option<&str>
     ensures some { IfSome result (λ text. (text.now ≡ bytes.now) × IsUtf8 bytes.now) }
     ensures none { IfNone result (IsUtf8 bytes.now → ⊥) }
 {
