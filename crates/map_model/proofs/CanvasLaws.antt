@@ -105,7 +105,7 @@ objects-on : (right down : ℤ) (level : ℕ) (os : List Object) → Each (IsObj
     → Each (IsObject level) (map (object_moved right down) os)
 objects-on right down level [] h may = tt
 objects-on right down level (o ∷ os) h may =
-    (record { placing = may.0; gid = h.0.gid; properties = h.0.properties; kept = h.0.kept }, objects-on right down level os h.1 may.1)
+    (record { placing = may.0; name = h.0.name; gid = h.0.gid; properties = h.0.properties; kept = h.0.kept }, objects-on right down level os h.1 may.1)
 
 IsBody-on : (c : Canvas) (number level old size : ℕ) (b : Body) → IsBody level old b → BodyMayBeMoved c.right c.down b → Each (AreCells size) (lists_in (body_on c number b))
     → IsBody level size (body_on c number b)
@@ -122,7 +122,7 @@ layers-on c number old size (d ∷ ds) h may cells =
     let l = d.1 in
     let own = Each-prefix (AreCells size) (lists_in (body_on c number l.body)) (flat_map lists_of (drawn_on c (number + length (lists_of d)) ds)) cells in
     let rest = Each-rest (AreCells size) (lists_in (body_on c number l.body)) (flat_map lists_of (drawn_on c (number + length (lists_of d)) ds)) cells in (
-      record { properties = h.0.properties; kept = rw (body_names-on c number l.body) h.0.kept; body = IsBody-on c number d.0 old size l.body h.0.body may.0 own },
+      record { name = h.0.name; properties = h.0.properties; kept = rw (body_names-on c number l.body) h.0.kept; body = IsBody-on c number d.0 old size l.body h.0.body may.0 own },
       layers-on c (number + length (lists_of d)) old size ds h.1 may.1 rest,
     )
 

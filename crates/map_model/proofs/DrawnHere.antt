@@ -1,8 +1,8 @@
 -- Layers that stand where the layers were last changed or gone to.
-use Rattle.std.proofs.Common.{◌≡◌, ◌≢◌, ℕ, zero, suc, ◌-◌, ◌<◌, List, [], ◌∷◌, length, true, Option, None, Some, IfSome, is_some, option_and_then, refl, sym, ap, ◌∙◌, arith}
-use Rattle.std.specs.List.{flat_map, position, slice_get, slice_set}
+use Rattle.std.proofs.Common.{◌≡◌, ◌≢◌, ℕ, zero, suc, ◌-◌, ◌<◌, List, [], ◌∷◌, true, Option, None, Some, IfSome, is_some, refl, ap, ◌∙◌, arith}
+use Rattle.std.specs.List.{flat_map, slice_get, slice_set}
 use Rattle.map_model.specs.declared.parts.Layer.{Layer}
-use Rattle.map_model.specs.Groups.{drawn, find_one, group_of, holds, inside, layer_among, tree}
+use Rattle.map_model.specs.Groups.{drawn, find_one, group_of, holds, inside, layer_among}
 use Rattle.map_model.specs.Keeping.{inner_level}
 use Rattle.map_model.specs.Lists.{Distinct, or_empty}
 use Rattle.map_model.specs.Ways.{IsDrawnIn}

@@ -109,6 +109,7 @@ module _ (f : List Layer → List Layer) where
   -- a layer is one of a map with other layers in it too
   pub IsLayer-with : (level size : ℕ) (l : Layer) → IsLayer level size l → IsLayer level size (layer_with_layers f l)
   IsLayer-with level size l h = record {
+    name = h.name;
     properties = h.properties;
     kept = rw (body_names-with l.body) h.kept;
     body = rw (IsBody-with level size l.body) h.body;
@@ -116,6 +117,7 @@ module _ (f : List Layer → List Layer) where
 
   pub IsLayer-without : (level size : ℕ) (l : Layer) → IsLayer level size (layer_with_layers f l) → IsLayer level size l
   IsLayer-without level size l h = record {
+    name = h.name;
     properties = h.properties;
     kept = rw (← body_names-with l.body) h.kept;
     body = rw (← IsBody-with level size l.body) h.body;

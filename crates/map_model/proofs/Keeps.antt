@@ -1,5 +1,5 @@
 -- Changes that keep a map well formed, and where its cells stand.
-use Rattle.std.proofs.Common.{◌≡◌, ◌≢◌, ℕ, zero, suc, ◌+◌, ◌*◌, ◌^◌, ◌<◌, ◌≤◌, List, [], ◌∷◌, ◌++◌, append-nil, append_assoc, length, length-append, take, drop, Bool, true, false, cond, find, Option, Some, None, IsSome, IsSomeAnd, option_and_then, refl, sym, ap, ◌∙◌, subst, arith}
+use Rattle.std.proofs.Common.{◌≡◌, ◌≢◌, IsUtf8, ℕ, zero, suc, ◌+◌, ◌*◌, ◌^◌, ◌<◌, ◌≤◌, List, [], ◌∷◌, ◌++◌, append-nil, append_assoc, length, length-append, take, drop, Bool, true, false, cond, find, Option, Some, None, IsSome, IsSomeAnd, option_and_then, refl, sym, ap, ◌∙◌, subst, arith}
 use Rattle.std.specs.List.{flat_map, slice_get, insert, remove}
 use Rattle.std.proofs.lemmas.Nat.{mul-add-lt}
 use Rattle.std.proofs.lemmas.Grind.{flat_map-append}
@@ -180,15 +180,15 @@ layer_with_visible-keeps visible = record {
   ids = λ l. refl;
   inside = λ l. refl;
   object_ids = λ l. refl;
-  layers = λ level size l h. record { properties = h.properties; kept = h.kept; body = h.body };
+  layers = λ level size l h. record { name = h.name; properties = h.properties; kept = h.kept; body = h.body };
 }
 
-pub layer_with_name-keeps : (name : List ℕ) → KeepsLayers (layer_with_name name)
-layer_with_name-keeps name = record {
+pub layer_with_name-keeps : (name : List ℕ) → IsUtf8 name → KeepsLayers (layer_with_name name)
+layer_with_name-keeps name utf8 = record {
   ids = λ l. refl;
   inside = λ l. refl;
   object_ids = λ l. refl;
-  layers = λ level size l h. record { properties = h.properties; kept = h.kept; body = h.body };
+  layers = λ level size l h. record { name = utf8; properties = h.properties; kept = h.kept; body = h.body };
 }
 
 -- ---- the values of a layer
@@ -227,6 +227,7 @@ layer_with_tiles-keeps f k = record {
   inside = λ l. ap or_empty (group_in-tiles f l.body);
   object_ids = λ l. object_ids-tiles f l.body;
   layers = λ level size l h. record {
+    name = h.name;
     properties = h.properties;
     kept = rw (body_names-tiles f l.body) h.kept;
     body = IsBody-tiles f k level size l.body h.body;

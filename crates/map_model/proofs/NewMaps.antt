@@ -1,8 +1,11 @@
 -- New layers, objects, tilesets and maps are well formed.
-use Rattle.std.proofs.Common.{◌≡◌, ℕ, zero, suc, ◌≤◌, ◌*◌, List, [], ◌∷◌, true, not, ◌&&◌, Option, Some, None, is_some, append-nil, refl, ◌∙◌, arith}
+use Rattle.std.proofs.Common.{◌≡◌, IsUtf8, ℕ, zero, suc, ◌≤◌, ◌*◌, List, [], ◌∷◌, true, not, ◌&&◌, Option, Some, None, is_some, append-nil, refl, ◌∙◌, arith}
 use Rattle.std.specs.Prelude.{replicate, codes}
 use Rattle.std.specs.List.{list_all}
 use Rattle.std.proofs.lemmas.List.{length-replicate}
+use Rattle.std.proofs.lemmas.Str.{IsUtf8-from_is_utf8}
+use Rattle.std.specs.Str.{chars, is_utf8}
+use lib.Utf8.{encode}
 use Rattle.serde_json.specs.Data.{Data, Members, no_members}
 use Rattle.serde_json.specs.Find.{get_member}
 use Rattle.map_model.specs.declared.limits.TheConstants.{MAX_FIRST_ID, MAX_GROUPS}
@@ -15,6 +18,7 @@ use Rattle.map_model.specs.declared.parts.Placing.{Placing}
 use Rattle.map_model.specs.Keeping.{deepest_level, layer_level, object_level, map_level, map_names, layer_names, object_names, tileset_names}
 use Rattle.map_model.specs.Groups.{all_drawn, bare, inside, tree}
 use Rattle.map_model.specs.Lists.{Each}
+use Rattle.map_model.specs.Readable.{AreReadableMembers}
 use Rattle.map_model.specs.NewMap.{empty_layer, external_tileset, new_layer, new_map, tile_layer_members, object_layer_members, map_members, new_object, object_members}
 use Rattle.map_model.specs.WellFormed.{IsTileset, IsTileValue, IsLayer, IsSize, IsTileSize, IsWellFormed, AreProperties, IsPlacing, IsObject}
 use Rattle.map_model.proofs.GroupBodies.{IsLayer-with}
@@ -37,52 +41,96 @@ unread-test ms (name ∷ names) e = by_member (get_member name ms) e (unread-tes
     by_member None q rest = (refl, rest q)
     by_member (Some d) q rest = cc
 
+-- ---- what is kept can be read
+pub utf8-test : (text : List ℕ) → is_utf8 text ≡ true → IsUtf8 text
+utf8-test text e = IsUtf8-from_is_utf8 text e
+
+tile_layer_readable : AreReadableMembers tile_layer_members
+unfolding is_utf8 chars encode
+tile_layer_readable = (
+  utf8-test (codes "opacity") refl,
+  (refl, (refl, tt)),
+  omega arith,
+  (utf8-test (codes "x") refl, (refl, tt), omega arith, (utf8-test (codes "y") refl, tt, omega arith, tt)),
+)
+
+object_layer_readable : AreReadableMembers object_layer_members
+unfolding is_utf8 chars encode
+object_layer_readable =
+    (utf8-test (codes "draworder") refl, (refl, (refl, (refl, tt))), utf8-test (codes "topdown") refl, tile_layer_readable)
+
+object_readable : AreReadableMembers object_members
+unfolding is_utf8 chars encode
+object_readable =
+    (utf8-test (codes "rotation") refl, (refl, tt), omega arith, (utf8-test (codes "type") refl, tt, utf8-test [] refl, tt))
+
+map_readable : AreReadableMembers map_members
+unfolding is_utf8 chars encode
+map_readable = (
+  utf8-test (codes "orientation") refl,
+  (refl, tt),
+  utf8-test (codes "orthogonal") refl,
+  (utf8-test (codes "renderorder") refl, tt, utf8-test (codes "right-down") refl, tt),
+)
+
 -- a new layer is one of a map of so many cells
-pub new_layer-IsLayer : (kind : LayerKind) (id : ℕ) (name : List ℕ) (size : ℕ) → IsLayer layer_level size (new_layer kind id name size)
-new_layer-IsLayer kinds.Tile id name size = record {
+pub new_layer-IsLayer : (kind : LayerKind) (id : ℕ) (name : List ℕ) (size : ℕ) → IsUtf8 name → IsLayer layer_level size (new_layer kind id name size)
+new_layer-IsLayer kinds.Tile id name size utf8 = record {
+  name = utf8;
   properties = no_properties layer_level;
-  kept = record { unread = unread-test tile_layer_members (layer_names (Tiles Array [])) refl; whole = refl; shallow = omega arith };
+  kept = record { unread = unread-test tile_layer_members (layer_names (Tiles Array [])) refl; whole = refl; shallow = omega arith; readable = tile_layer_readable };
   body = (length-replicate size 0, Each-replicate IsTileValue size 0 (omega arith));
 }
-new_layer-IsLayer kinds.Object id name size = record {
+new_layer-IsLayer kinds.Object id name size utf8 = record {
+  name = utf8;
   properties = no_properties layer_level;
-  kept = record { unread = unread-test object_layer_members (layer_names (Objects [])) refl; whole = refl; shallow = omega arith };
+  kept = record { unread = unread-test object_layer_members (layer_names (Objects [])) refl; whole = refl; shallow = omega arith; readable = object_layer_readable };
   body = (omega arith, tt);
 }
 
-pub external_tileset-IsTileset : (first_id : ℕ) (source : List ℕ) → 1 ≤ first_id → first_id ≤ MAX_FIRST_ID → IsTileset (external_tileset first_id source)
-external_tileset-IsTileset first_id source low high = record { low = low; high = high; kept = record { unread = unread-test no_members tileset_names refl; whole = refl; shallow = omega arith } }
+pub external_tileset-IsTileset : (first_id : ℕ) (source : List ℕ) → IsUtf8 source → 1 ≤ first_id → first_id ≤ MAX_FIRST_ID → IsTileset (external_tileset first_id source)
+external_tileset-IsTileset first_id source utf8 low high = record {
+  low = low;
+  high = high;
+  source = utf8;
+  kept = record { unread = unread-test no_members tileset_names refl; whole = refl; shallow = omega arith; readable = tt };
+}
 
 -- a new object is one of a layer
-pub new_object-IsObject : (level id : ℕ) (placing : Placing) (name : List ℕ) → level ≤ deepest_level → IsPlacing placing → IsObject (object_level level) (new_object id placing name)
-new_object-IsObject level id placing name low h = record {
+pub new_object-IsObject : (level id : ℕ) (placing : Placing) (name : List ℕ) → IsUtf8 name → level ≤ deepest_level → IsPlacing placing → IsObject (object_level level) (new_object id placing name)
+new_object-IsObject level id placing name utf8 low h = record {
   placing = h;
+  name = utf8;
   gid = tt;
   properties = no_properties (object_level level);
-  kept = record { unread = unread-test object_members object_names refl; whole = refl; shallow = omega (arith, low) };
+  kept = record { unread = unread-test object_members object_names refl; whole = refl; shallow = omega (arith, low); readable = object_readable };
 }
 
 -- one layer, in which none stands
 alone : (l : Layer) → inside l ≡ [] → all_drawn (l ∷ []) ≡ (layer_level, bare l) ∷ []
 alone l none = append-nil (tree MAX_GROUPS layer_level l) ∙ tree-alone MAX_GROUPS layer_level l none
 
+first_name : IsUtf8 (codes "Tile Layer 1")
+unfolding is_utf8 chars encode
+first_name = utf8-test (codes "Tile Layer 1") refl
+
 -- the map of the line `new`
-pub new_map-IsWellFormed : (width height tile_width tile_height : ℕ) (source : List ℕ) → IsSize width height → IsTileSize tile_width tile_height
+pub new_map-IsWellFormed : (width height tile_width tile_height : ℕ) (source : List ℕ) → IsUtf8 source → IsSize width height → IsTileSize tile_width tile_height
     → IsWellFormed (new_map width height tile_width tile_height source)
-new_map-IsWellFormed width height tile_width tile_height source size tile_size = record {
+new_map-IsWellFormed width height tile_width tile_height source utf8 size tile_size = record {
   size = size;
   tile_size = tile_size;
   layers = rw (alone (empty_layer 1 (codes "Tile Layer 1") (width * height)) refl) (record {
     few = omega arith;
-    each = (IsLayer-with (λ ls. []) layer_level (width * height) (empty_layer 1 (codes "Tile Layer 1") (width * height)) (new_layer-IsLayer kinds.Tile 1 (codes "Tile Layer 1") (width * height)), tt);
+    each = (IsLayer-with (λ ls. []) layer_level (width * height) (empty_layer 1 (codes "Tile Layer 1") (width * height)) (new_layer-IsLayer kinds.Tile 1 (codes "Tile Layer 1") (width * height) first_name), tt);
     layer_ids = record { next_low = omega arith; next_high = omega arith; each = (record { low = omega arith; high = omega arith }, tt); distinct = (tt, tt) };
     object_ids = record { next_low = omega arith; next_high = omega arith; each = tt; distinct = tt };
   });
   tilesets = record {
     few = omega arith;
-    each = (external_tileset-IsTileset 1 source (omega arith) (omega arith), tt);
+    each = (external_tileset-IsTileset 1 source utf8 (omega arith) (omega arith), tt);
     distinct = (tt, tt);
   };
   properties = no_properties map_level;
-  kept = record { unread = unread-test map_members map_names refl; whole = refl; shallow = omega arith };
+  kept = record { unread = unread-test map_members map_names refl; whole = refl; shallow = omega arith; readable = map_readable };
 }

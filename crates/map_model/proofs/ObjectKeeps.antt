@@ -77,6 +77,7 @@ layer_with_object-keeps k f keeps = record {
   inside = λ l. ap or_empty (group_in-objects (change_at k f) l.body);
   object_ids = λ l. object_ids-change_at k f keeps.ids l.body;
   layers = λ level size l h. record {
+    name = h.name;
     properties = h.properties;
     kept = rw (body_names-objects (change_at k f) l.body) h.kept;
     body = IsBody-change_at k f keeps level size l.body h.body;
@@ -90,13 +91,14 @@ with_object-keeps place f m keeps h =
 pub object_with_placing-keeps : (placing : Placing) → IsPlacing placing → KeepsObjects (object_with_placing placing)
 object_with_placing-keeps placing is = record {
   ids = λ o. refl;
-  objects = λ level o h. record { placing = is; gid = h.gid; properties = h.properties; kept = h.kept };
+  objects = λ level o h. record { placing = is; name = h.name; gid = h.gid; properties = h.properties; kept = h.kept };
 }
 
 -- ---- the objects of one layer
 IsLayer-objects : (g : List Object → List Object) (os : List Object) (level size : ℕ) (l : Layer) → objects_of l ≡ Some os → length (g os) ≤ MAX_OBJECTS → Each (IsObject (object_level level)) (g os)
     → IsLayer level size l → IsLayer level size (layer_with_objects g l)
 IsLayer-objects g os level size l e few each h = record {
+  name = h.name;
   properties = h.properties;
   kept = rw (body_names-objects g l.body) h.kept;
   body = by_body l.body e h.body;

@@ -14,7 +14,7 @@ use Rattle.map_model.specs.declared.place.ObjectPlace.{ObjectPlace}
 use Rattle.map_model.specs.Lists.{Each, Distinct, first_some, or_else}
 use Rattle.map_model.specs.NewMap.{new_object}
 use Rattle.map_model.specs.Objects.{objects_in, objects_of, has_object_id, place_of_layer, place_in_layer, found_at, found_in_layer, object_place, object_at}
-use Rattle.map_model.specs.Groups.{all_drawn, bare, drawn, tree}
+use Rattle.map_model.specs.Groups.{all_drawn, bare, tree}
 use Rattle.map_model.specs.Keeping.{layer_level}
 use Rattle.map_model.specs.Lookups.{layer_of}
 use Rattle.map_model.specs.Properties.{is_drawn_with}

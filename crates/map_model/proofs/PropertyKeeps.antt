@@ -1,5 +1,5 @@
 -- Changes of properties that keep a map well formed.
-use Rattle.std.proofs.Common.{◌≡◌, ◌≢◌, ℕ, zero, suc, ◌+◌, ◌<◌, ◌≤◌, List, [], ◌∷◌, length, Bool, true, false, true≢false, cond, Option, Some, None, IsSome, IsSomeAnd, option_map, option_and_then, refl, sym, ap, ◌∙◌, subst, arith}
+use Rattle.std.proofs.Common.{◌≡◌, ◌≢◌, IsUtf8, ℕ, zero, suc, ◌+◌, ◌<◌, ◌≤◌, List, [], ◌∷◌, length, Bool, true, false, true≢false, cond, Option, Some, None, IsSome, IsSomeAnd, option_map, option_and_then, refl, sym, ap, ◌∙◌, subst, arith}
 use Rattle.std.specs.Bool.{Decides}
 use Rattle.std.specs.List.{slice_get, slice_set, insert, remove, flat_map, position, position_from}
 use Rattle.std.specs.Str.{bytes_eq}
@@ -84,13 +84,13 @@ with_properties-keeps (places.Layer id) f ps m e are h =
     let old = layer_of-IsLayer m id l found.1.0 h in
     let r = object_ids-IsReplaced id (layer_with_properties f) l m found.1.0 refl in
     changed-keeps id (layer_with_properties f) l m found.1.0 refl refl
-    (record { properties = rw found.1.1 are; kept = old.kept; body = old.body })
+    (record { name = old.name; properties = rw found.1.1 are; kept = old.kept; body = old.body })
     (rw (r.1.1.now ∙ sym r.1.1.was) h.layers.object_ids) h
 with_properties-keeps (places.Object place) f ps m e are h =
     let found = mapped object_properties (object_at m place) ps e in
     let old = object_at-IsObject m place found.0 found.1.0 h in
     with_object-keeps_there place (object_with_properties f) found.0 m found.1.0 (λ p. refl)
-    (record { placing = old.placing; gid = old.gid; properties = rw found.1.1 are; kept = old.kept }) h
+    (record { placing = old.placing; name = old.name; gid = old.gid; properties = rw found.1.1 are; kept = old.kept }) h
 
 -- ---- names
 abbrev names : List Property → List (List ℕ)
@@ -155,17 +155,22 @@ AreProperties-remove level ps k h = record {
   distinct = rw (names-remove ps k) (Distinct-remove (names ps) k h.distinct);
 }
 
-pub AreProperties-change_at : (level : ℕ) (ps : List Property) (k : ℕ) (s : Setting) → IsValue (property_level level) s.value → AreProperties level ps
+pub AreProperties-change_at : (level : ℕ) (ps : List Property) (k : ℕ) (s : Setting) → IsUtf8 s.kind → IsValue (property_level level) s.value → AreProperties level ps
     → AreProperties level (change_at k (property_with_setting s) ps)
-AreProperties-change_at level ps k s is h = record {
+AreProperties-change_at level ps k s kind value h = record {
   few = rw (length-change_at k (property_with_setting s) ps) h.few;
-  each = Each-change_at (IsProperty (property_level level)) k (property_with_setting s) ps (λ p e q. record { value = is; kept = q.kept }) h.each;
+  each = Each-change_at (IsProperty (property_level level)) k (property_with_setting s) ps (λ p e q. record { name = q.name; kind = kind; value = value; kept = q.kept }) h.each;
   distinct = rw (names-change_at k s ps) h.distinct;
 }
 
 -- a new property is one of its owner
-pub new_property-IsProperty : (m : MapParts) (owner : OwnerPlace) (name : List ℕ) (s : Setting) → IsSetting m owner s → IsProperty (property_level (owner_level m owner)) (new_property name s)
-new_property-IsProperty m owner name s is = record { value = is; kept = record { unread = unread-test no_members property_names refl; whole = refl; shallow = by_owner owner } }
+pub new_property-IsProperty : (m : MapParts) (owner : OwnerPlace) (name : List ℕ) (s : Setting) → IsUtf8 name → IsSetting m owner s → IsProperty (property_level (owner_level m owner)) (new_property name s)
+new_property-IsProperty m owner name s utf8 is = record {
+  name = utf8;
+  kind = is.kind;
+  value = is.value;
+  kept = record { unread = unread-test no_members property_names refl; whole = refl; shallow = by_owner owner; readable = tt };
+}
   where
     by_owner : (o : OwnerPlace) → property_level (owner_level m o) + 0 ≤ 127
     by_owner places.Map = omega arith
@@ -187,14 +192,15 @@ pub with_setting-keeps : (owner : OwnerPlace) (at : ℕ) (s : Setting) (m : MapP
 with_setting-keeps owner at s m there is h =
     let found = some_properties (properties_of m owner) at there in
     with_properties-keeps owner (change_at at (property_with_setting s)) found.0 m found.1
-    (AreProperties-change_at (owner_level m owner) found.0 at s is (AreProperties-of owner found.0 m found.1 h)) h
+    (AreProperties-change_at (owner_level m owner) found.0 at s is.kind is.value (AreProperties-of owner found.0 m found.1 h)) h
 
 -- a property that is there has a setting of its owner's
 pub property_at-IsSetting : (owner : OwnerPlace) (at : ℕ) (s : Setting) (m : MapParts) → option_map setting_of (property_at m owner at) ≡ Some s → IsWellFormed m → IsSetting m owner s
 property_at-IsSetting owner at s m e h =
     let p = mapped setting_of (property_at m owner at) s e in
     let ps = placed (λ qs. slice_get qs at) (properties_of m owner) p.0 p.1.0 in
-    subst (IsSetting m owner) p.1.1 (Each-at (IsProperty (property_level (owner_level m owner))) ps.0 at p.0 ps.1.1 (AreProperties-of owner ps.0 m ps.1.0 h).each).value
+    let is = Each-at (IsProperty (property_level (owner_level m owner))) ps.0 at p.0 ps.1.1 (AreProperties-of owner ps.0 m ps.1.0 h).each in
+    subst (IsSetting m owner) p.1.1 (record { kind = is.kind; value = is.value })
 
 -- a property with a new name, put in
 pub with_property_at-keeps : (owner : OwnerPlace) (at : ℕ) (p : Property) (ps : List Property) (m : MapParts) → properties_of m owner ≡ Some ps → length ps < MAX_PROPERTIES

@@ -12,6 +12,7 @@ use Rattle.map_model.specs.declared.limits.TheConstants.{MAX_DEPTH, MAX_GROUPS}
 use Rattle.map_model.specs.declared.parts.Body.{Body}
 use Rattle.map_model.specs.declared.parts.Body.TheVariants.{Tiles, Objects, Other, Group'}
 use Rattle.map_model.specs.Lists.{Each}
+use Rattle.map_model.specs.Readable.{IsReadable, AreReadableMembers}
 
 -- ---- how deep the object of an owner stands
 abbrev pub map_level : ℕ
@@ -71,11 +72,13 @@ abbrev pub property_names : List (List ℕ)
 property_names = NAME.now ∷ TYPE.now ∷ VALUE.now ∷ []
 
 -- ---- kept members and values
--- members that an owner at this level keeps: they have none of its names, each number is whole, and no value is too deep
+-- members that an owner at this level keeps: they have none of its names, each number is whole, no value is too deep, and a
+-- file can say them
 pub record AreKept (level : ℕ) (names : List (List ℕ)) (ms : Members) : Type 0 where
   pub unread : Each (λ name. get_member name ms ≡ None) names
   pub whole : members_have_float ms ≡ false
   pub shallow : level + members_depth ms ≤ MAX_DEPTH
+  pub readable : AreReadableMembers ms
 
 -- a value that is no text, no truth value and no whole number from -2^63 to 2^63 - 1
 abbrev pub IsOfAnotherKind : Data → Type 0
@@ -91,3 +94,4 @@ pub record IsKeptValue (level : ℕ) (d : Data) : Type 0 where
   pub kind : IsOfAnotherKind d
   pub whole : has_float d ≡ false
   pub shallow : level + depth d ≤ MAX_DEPTH
+  pub readable : IsReadable d

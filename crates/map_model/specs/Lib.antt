@@ -18,6 +18,7 @@ pub mod Uses
 pub mod WellFormed
 pub mod Sizes
 pub mod Properties
+pub mod Readable
 pub mod PropertyLenses
 pub mod Lending
 pub mod Steps

@@ -1,5 +1,5 @@
 -- Properties: whose they are, where they stand, and maps with others.
-use Rattle.std.specs.Prelude.{ℕ, List, Bool, Option, Some, None, option_and_then, find, slice_get, position}
+use Rattle.std.specs.Prelude.{IsUtf8, ℕ, List, Bool, Option, Some, None, option_and_then, find, slice_get, position}
 use Rattle.std.specs.Option.{option_map}
 use Rattle.std.specs.List.{insert, remove}
 use Rattle.std.specs.Str.{bytes_eq}
@@ -77,8 +77,9 @@ owner_level m (places.Layer id) = level_of m id
 owner_level m (places.Object place) = object_level (level_of m place.layer)
 
 -- a setting that a property of the owner may have
-abbrev pub IsSetting : MapParts → OwnerPlace → Setting → Type 0
-IsSetting m owner s = IsValue (property_level (owner_level m owner)) s.value
+pub record IsSetting (m : MapParts) (owner : OwnerPlace) (s : Setting) : Type 0 where
+  pub kind : IsUtf8 s.kind
+  pub value : IsValue (property_level (owner_level m owner)) s.value
 
 -- ---- the properties of an owner
 abbrev pub layer_properties : Layer → List Property

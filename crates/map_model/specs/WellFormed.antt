@@ -1,5 +1,5 @@
 -- When a map is well formed.
-use Rattle.std.specs.Prelude.{◌≡◌, ℕ, ◌-◌, ◌*◌, ◌^◌, ◌<◌, ◌≤◌, ℤ, pos, neg_ℤ, ◌≤ℤ◌, List, [], ◌∷◌, length, IfSome}
+use Rattle.std.specs.Prelude.{◌≡◌, IsUtf8, ℕ, ◌-◌, ◌*◌, ◌^◌, ◌<◌, ◌≤◌, ℤ, pos, neg_ℤ, ◌≤ℤ◌, List, [], ◌∷◌, length, IfSome}
 use Rattle.std.specs.List.{flat_map}
 use Rattle.map_model.specs.declared.limits.TheConstants.{MAX_SIDE, MAX_CELLS, MAX_TILE_SIDE, MAX_LAYERS, MAX_OBJECTS, MAX_PROPERTIES, MAX_TILESETS, MAX_NEXT_ID, MAX_FIRST_ID, MAX_PIXELS}
 use Rattle.map_model.specs.declared.parts.PropValue.{PropValue}
@@ -77,12 +77,14 @@ pub record IsWhole (z : ℤ) : Type 0 where
 
 -- a value that a text, a whole number or a truth value can hold is held so
 abbrev pub IsValue : ℕ → PropValue → Type 0
-IsValue level (values.Text s) = Unit {0}
+IsValue level (values.Text s) = IsUtf8 s
 IsValue level (values.Whole z) = IsWhole z
 IsValue level (values.Truth b) = Unit {0}
 IsValue level (values.Other d) = IsKeptValue level d
 
 pub record IsProperty (level : ℕ) (p : Property) : Type 0 where
+  pub name : IsUtf8 p.name
+  pub kind : IsUtf8 p.kind
   pub value : IsValue level p.value
   pub kept : AreKept level property_names p.kept
 
@@ -115,6 +117,7 @@ IsTileValue value = value < 2 ^ 32
 -- an object at this level
 pub record IsObject (level : ℕ) (o : Object) : Type 0 where
   pub placing : IsPlacing o.placing
+  pub name : IfSome o.name IsUtf8
   pub gid : IfSome o.gid IsTileValue
   pub properties : AreProperties level o.properties
   pub kept : AreKept level object_names o.kept
@@ -129,6 +132,7 @@ IsBody level size (Group' s r) = level < deepest_level
 
 -- a layer at this level, of a map of so many cells
 pub record IsLayer (level size : ℕ) (l : Layer) : Type 0 where
+  pub name : IsUtf8 l.name
   pub properties : AreProperties level l.properties
   pub kept : AreKept level (layer_names l.body) l.kept
   pub body : IsBody level size l.body
@@ -152,6 +156,7 @@ AreLayers size next_layer next_object ls = AreDrawn size next_layer next_object 
 pub record IsTileset (t : Tileset) : Type 0 where
   pub low : 1 ≤ t.first_id
   pub high : t.first_id ≤ MAX_FIRST_ID
+  pub source : IfSome t.source IsUtf8
   pub kept : AreKept tileset_level tileset_names t.kept
 
 -- the first ids of a tileset

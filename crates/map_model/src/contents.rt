@@ -1,5 +1,5 @@
 // What a map's records hold, each seen by contracts as plain data.
-ghost use Rattle.std.specs.Prelude.{◌≡◌, [], ◌+◌, ◌*◌, ◌<◌, length, slice_set, string_bytes};
+ghost use Rattle.std.specs.Prelude.{◌≡◌, IsUtf8, [], ◌+◌, ◌*◌, ◌<◌, length, slice_set, string_bytes};
 ghost use Rattle.serde_json.specs.View.{view as data_of, members_view};
 ghost use Rattle.map_model.specs.Lists.{Each};
 ghost use Rattle.map_model.specs.CellEdits.{HaveRange, IsBelow, cell_number, put_values, side_value, with_value};
@@ -38,6 +38,13 @@ impl MapText {
         ensures { result.now ≡ self.now }
     {
         self.text.as_str()
+    }
+
+    // The law that a text is UTF-8, for callers whose proof needs it. It does nothing.
+    pub(crate) fn is_utf8_by_type(&self)
+        ensures { IsUtf8 self.now }
+    {
+        let _text = self.text.as_str();
     }
 
     /// Takes the text out, and leaves an empty one. It takes no memory.

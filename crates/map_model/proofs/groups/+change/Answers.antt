@@ -1,4 +1,4 @@
-use Rattle.std.proofs.Common.{is_some, sym, ap, ◌∙◌, ◌-◌, arith}
+use Rattle.std.proofs.Common.{sym, ap, ◌∙◌, arith}
 use mathlib.Core.List.{reverse}
 use Rattle.map_model.specs.declared.parts.Body.TheVariants.{Group}
 use Rattle.map_model.specs.declared.parts.Body.TheViews.{outs-Group}

@@ -1,6 +1,5 @@
-use Rattle.std.proofs.Common.{rules, ◌≡◌, [], IsTrue, Some, List, ℕ, sym, ap, ◌∙◌}
+use Rattle.std.proofs.Common.{sym, ap, ◌∙◌}
 use mathlib.Core.List.{reverse}
-use Rattle.std.specs.List.{slice_get}
 use Rattle.std.specs.Option.{option_copied}
 use Rattle.map_model.specs.Ways.{ArrivesAt}
 use Rattle.map_model.proofs.Ways.{arrives-group, arrives-own, arrives-pushed}

@@ -1,5 +1,4 @@
-use Rattle.std.proofs.Common.{sym, ap, ◌∙◌}
-use Rattle.std.specs.Option.{option_copied}
+use Rattle.std.proofs.Common.{sym}
 use Rattle.map_model.proofs.DrawnHere.{IsDrawnIn-own, IsDrawnIn-inside}
 use Rattle.map_model.proofs.here.+find_here.Goals as goal
 

@@ -31,7 +31,10 @@ returns-clause-back c =
     let m = c.self-inside.inside.0.0.parts in
     let level = owner_level-with_properties c.args.owner (change_at c.args.at (property_with_setting c.args.setting.now)) m c.args.owner in
     let old = property_at-IsSetting c.args.owner c.args.at c.swap_in.new.setting m c.swap_in.ensures.given c.self-inside.invariant in
-    rw c.swap_in.ensures.parts (subst (λ n. IsValue (property_level n) c.swap_in.new.setting.value) (sym level) old)
+    rw c.swap_in.ensures.parts (record {
+      kind = old.kind;
+      value = subst (λ n. IsValue (property_level n) c.swap_in.new.setting.value) (sym level) old.value;
+    })
 
 pub returns-clause-well_formed : goal.returns-clause-well_formed
 returns-clause-well_formed c = invariant_of-self c
