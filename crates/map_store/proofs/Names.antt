@@ -1,5 +1,5 @@
 -- The paths of the files of a store.
-use Rattle.std.proofs.Common.{◌≡◌, ◌≢◌, ℕ, List, [], ◌∷◌, ◌++◌, codes, length, length-append, append_assoc, ap, ◌∙◌, arith}
+use Rattle.std.proofs.Common.{◌≡◌, ℕ, List, [], ◌∷◌, ◌++◌, codes, length, length-append, append_assoc, ap, ◌∙◌, arith}
 use Rattle.std.proofs.lemmas.List.{append_cancel_left}
 use Rattle.atomic_save.specs.Saving.{IsBeside}
 use Rattle.map_store.specs.Paths.{path_to, front_of, IsName}

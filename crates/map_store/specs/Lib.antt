@@ -3,3 +3,5 @@ pub mod Storing
 pub mod Stored
 pub mod Paths
 pub mod Fuse
+pub mod Asking
+pub mod Answers

@@ -1,12 +1,15 @@
-ghost use Rattle.std.specs.Prelude.{◌≡◌, ℕ, List, ◌+◌, ◌-◌, ◌^◌, ◌<◌, ◌≤◌, ◌⊎◌, IfOk, IfSome, IfNone, IsErrOf, IsTrue, OnOk, [], vec_len, length, take, slice_range, string_bytes};
+ghost use Rattle.std.specs.Prelude.{◌≡◌, ℕ, List, ◌+◌, ◌-◌, ◌^◌, ◌<◌, ◌≤◌, ◌⊎◌, ◌∷◌, IfOk, IfSome, IfNone, IsErrOf, IsTrue, OnOk, [], vec_len, length, take, slice_range, string_bytes};
 ghost use Rattle.std.specs.Io.KnownBytes.{Consumes, IsAtEnd};
 ghost use Rattle.atomic_save.specs.Saving.{IsBeside};
+ghost use Rattle.map_store.specs.Asking.{loading};
+ghost use Rattle.map_store.specs.Answers.{IsAnswered};
 ghost use Rattle.map_store.specs.Files.{HasFailed};
 ghost use Rattle.map_store.specs.Paths.{path_to, front_of, IsName};
 ghost use Rattle.map_store.specs.Storing.{Loads};
 
 use crate::map_store::{MapStore, StoreFault};
 use crate::reason::Reason;
+use crate::store_log::{StoreCall, StoreLog};
 use atomic_save::{LockFile, SaveError, SystemFolder, save};
 use std::alloc::{AllocError, Global};
 use std::fmt::Display;
@@ -26,16 +29,17 @@ const MAX_CALLS: u64 = 4_294_967_296;
 
 /// The files of a folder of the system. Nothing is claimed of them, since other programs reach them too.
 ///
-/// A file's path is the folder's, a slash and its name. The name has no slash and no dot at its front. Where a file can't be
-/// loaded or saved, a line on standard error says why: the program's name, the path and the system's reason.
+/// A file's path is the folder's, a slash and its name. The name has no slash and no dot at its front. Nothing is told of a file
+/// that can't be loaded or saved, but by a store that is `telling`.
 #[derive(Drop)]
 pub struct FolderStore<'a, R: Files> {
     rt: &'a R,
-    // What stands before each reason.
-    program: &'a str,
+    // What stands before each reason on standard error, if anything is told.
+    program: Option<&'a str>,
     folder: &'a str,
     saves: SystemFolder<'a, R>,
     failures: u64,
+    log: StoreLog,
 }
 
 // Why a file could not be loaded.
@@ -54,8 +58,10 @@ enum LoadError {
 }
 
 impl LoadError {
-    // What the store answers.
-    fn fault(&self) -> StoreFault {
+    // What the store answers: a file that is too long, as one that is no file, is a fault of the device.
+    fn fault(&self) -> StoreFault
+        ensures { IsAnswered self.now result }
+    {
         match self {
             LoadError::Open(reason) if reason.kind() == ErrorKind::NotFound => StoreFault::Missing,
             LoadError::Memory => StoreFault::Memory,
@@ -151,18 +157,29 @@ where
     ghost use Rattle.std.specs.Prelude.{false};
     ghost use Rattle.std.specs.FinMap.{empty};
 
-    /// The files of a folder, which is not looked at yet. Its path is not empty. The program's name stands before each reason
-    /// on standard error.
-    pub fn new(rt: &'a R, program: &'a str, folder: &'a str) -> FolderStore<'a, R>
-        ensures { ⟦<FolderStore<'a, R> as MapStore>⟧.stored result ≡ record { files = empty; failures = 0; honest = false } }
+    /// The files of a folder, which is not looked at yet. Its path is not empty. Nothing is told on standard error.
+    pub fn new(rt: &'a R, folder: &'a str) -> FolderStore<'a, R>
+        ensures stored { ⟦<FolderStore<'a, R> as MapStore>⟧.stored result ≡ record { files = empty; failures = 0; honest = false } }
+        ensures asked { ⟦<FolderStore<'a, R> as MapStore>⟧.asked result ≡ [] }
     {
         FolderStore {
             rt,
-            program,
+            program: None,
             folder,
             saves: SystemFolder::new(rt, folder),
             failures: 0,
+            log: StoreLog::new(),
         }
+    }
+
+    /// The store that tells, where a file can't be loaded or saved, why: by a line on standard error with the program's name,
+    /// the path and the system's reason.
+    pub fn telling(mut self, program: &'a str) -> FolderStore<'a, R>
+        ensures stored { ⟦<FolderStore<'a, R> as MapStore>⟧.stored result ≡ ⟦<FolderStore<'a, R> as MapStore>⟧.stored self.entry }
+        ensures asked { ⟦<FolderStore<'a, R> as MapStore>⟧.asked result ≡ ⟦<FolderStore<'a, R> as MapStore>⟧.asked self.entry }
+    {
+        self.program = Some(program);
+        self
     }
 
     fn path_of(&self, alloc: Global, name: &str) -> Result<String, AllocError>
@@ -181,10 +198,11 @@ where
         format!(in alloc; "{folder}/.{name}.")
     }
 
-    // Says on standard error what went wrong with a file.
+    // Says on standard error what went wrong with a file, if anything is told.
     fn report(&self, path: &str, reason: impl Display + Drop) {
-        let program = self.program;
-        let _ = eprintln!(self.rt; "{program}: {path}: {reason}");
+        if let Some(program) = self.program {
+            let _ = eprintln!(self.rt; "{program}: {path}: {reason}");
+        }
     }
 
     fn read_file(&self, alloc: Global, path: &str) -> Result<Vec<u8>, LoadError>
@@ -210,6 +228,7 @@ where
         ensures value { result ≡ fault }
         ensures raised { result ≡ StoreFault.Device → (self.old.failures < self.new.failures) ⊎ (self.old.failures ≡ 2 ^ 64 - 1) }
         ensures count { self.old.failures ≤ self.new.failures }
+        ensures asked { self.new.log.asked ≡ self.old.log.asked }
     {
         if fault == StoreFault::Device {
             self.failures = self.failures.saturating_add(1);
@@ -227,6 +246,8 @@ where
 
     ghost stored = { λ s. record { files = empty; failures = s.failures; honest = false } };
 
+    ghost asked = { λ s. s.log.asked };
+
     /// A file of more than 67,108,864 bytes is a fault of the device.
     fn load(&mut self, alloc: Global, name: &str) -> Result<Vec<u8>, StoreFault>
         ensures short { IfOk result (λ bytes. vec_len bytes ≤ LONGEST) }
@@ -241,7 +262,10 @@ where
             → HasFailed (⟦<FolderStore<'a, R> as MapStore>⟧.stored self.old) (⟦<FolderStore<'a, R> as MapStore>⟧.stored self.new) }
         ensures count { (⟦<FolderStore<'a, R> as MapStore>⟧.stored self.old).failures
             ≤ (⟦<FolderStore<'a, R> as MapStore>⟧.stored self.new).failures }
+        ensures asked { ⟦<FolderStore<'a, R> as MapStore>⟧.asked self.new
+            ≡ loading name.now ∷ ⟦<FolderStore<'a, R> as MapStore>⟧.asked self.old }
     {
+        self.log.note(&StoreCall::Load(name));
         let Ok(path) = self.path_of(alloc, name) else {
             return Err(StoreFault::Memory);
         };
@@ -257,6 +281,7 @@ where
 
     #[tactic(auto, using(crate::proofs::Names::path_apart))]
     fn store(&mut self, alloc: Global, name: &str, bytes: &[u8]) -> Result<(), StoreFault> {
+        self.log.note(&StoreCall::Store(name));
         let (Ok(path), Ok(front)) = (self.path_of(alloc, name), self.front(alloc, name)) else {
             return Err(StoreFault::Memory);
         };

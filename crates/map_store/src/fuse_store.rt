@@ -4,6 +4,7 @@ ghost use Rattle.map_store.specs.Stored.{files_of};
 
 use crate::map_store::{MapStore, StoreFault};
 use crate::memory_store::MemoryStore;
+use crate::store_log::{StoreCall, StoreLog};
 use std::alloc::Global;
 use std::marker::Model;
 
@@ -14,6 +15,7 @@ pub struct FuseStore {
     // The calls up to the one that fails, and 0 where none will.
     left: u64,
     failures: u64,
+    log: StoreLog,
 }
 
 impl Model for FuseStore {
@@ -21,21 +23,22 @@ impl Model for FuseStore {
 
     ghost coded = { fuse_code };
 
-    ghost view = { λ s. record { files = files_of s.store.files; failures = s.failures; left = s.left } };
+    ghost view = { λ s. record { files = files_of s.store.files; failures = s.failures; left = s.left; asked = s.log.asked } };
 }
 
 impl FuseStore {
-    ghost use Rattle.std.specs.Prelude.{◌≡◌, ◌-◌, ◌^◌, ◌<◌, ◌≤◌, ◌⊎◌, ◌↔◌, IsTrue};
+    ghost use Rattle.std.specs.Prelude.{◌≡◌, ◌-◌, ◌^◌, ◌<◌, ◌≤◌, ◌⊎◌, ◌↔◌, IsTrue, []};
 
     /// The files of a store. Of the calls of `load` and `store`, the one with this number, counted from 1, will fail with
     /// `Device` and change no file. Number 0 stands for none.
     pub fn new(store: MemoryStore, number: u64) -> FuseStore
-        ensures { result ≡ record { files = (⟦<MemoryStore as MapStore>⟧.stored store).files; failures = 0; left = number } }
+        ensures { result ≡ record { files = (⟦<MemoryStore as MapStore>⟧.stored store).files; failures = 0; left = number; asked = [] } }
     {
         FuseStore {
             store,
             left: number,
             failures: 0,
+            log: StoreLog::new(),
         }
     }
 
@@ -53,6 +56,7 @@ impl FuseStore {
         ensures burned { HasBurned self.old self.new }
         ensures raised { IsTrue result → (self.old.failures < self.new.failures) ⊎ (self.old.failures ≡ 2 ^ 64 - 1) }
         ensures count { self.old.failures ≤ self.new.failures }
+        ensures asked { self.new.asked ≡ self.old.asked }
     {
         if self.left == 0 {
             return false;
@@ -67,10 +71,13 @@ impl FuseStore {
 }
 
 impl MapStore for FuseStore {
-    ghost use Rattle.std.specs.Prelude.{◌≡◌, ◌≤◌, ◌↔◌, IsErrOf, true};
+    ghost use Rattle.std.specs.Prelude.{◌≡◌, ◌≤◌, ◌↔◌, ◌∷◌, IsErrOf, true};
+    ghost use Rattle.map_store.specs.Asking.{loading, storing};
     ghost use Rattle.map_store.specs.Storing.{Loads, Stores};
 
     ghost stored = { λ s. record { files = s.files; failures = s.failures; honest = true } };
+
+    ghost asked = { λ s. s.asked };
 
     fn load(&mut self, alloc: Global, name: &str) -> Result<Vec<u8>, StoreFault>
         ensures fails { IsErrOf result StoreFault.Device ↔ (self.old.left ≡ 1) }
@@ -81,7 +88,9 @@ impl MapStore for FuseStore {
         ensures device { IsErrOf result StoreFault.Device
             → HasFailed (⟦<FuseStore as MapStore>⟧.stored self.old) (⟦<FuseStore as MapStore>⟧.stored self.new) }
         ensures count { self.old.failures ≤ self.new.failures }
+        ensures asked { self.new.asked ≡ loading name.now ∷ self.old.asked }
     {
+        self.log.note(&StoreCall::Load(name));
         if self.burns() {
             return Err(StoreFault::Device);
         }
@@ -98,7 +107,9 @@ impl MapStore for FuseStore {
         ensures device { IsErrOf result StoreFault.Device
             → HasFailed (⟦<FuseStore as MapStore>⟧.stored self.old) (⟦<FuseStore as MapStore>⟧.stored self.new) }
         ensures count { self.old.failures ≤ self.new.failures }
+        ensures asked { self.new.asked ≡ storing name.now ∷ self.old.asked }
     {
+        self.log.note(&StoreCall::Store(name));
         if self.burns() {
             return Err(StoreFault::Device);
         }

@@ -1,4 +1,5 @@
-ghost use Rattle.std.specs.Prelude.{◌≤◌, IsErrOf, IsTrue};
+ghost use Rattle.std.specs.Prelude.{◌≡◌, ◌≤◌, ◌∷◌, List, IsErrOf, IsTrue};
+ghost use Rattle.map_store.specs.Asking.{Asked, loading, storing};
 ghost use Rattle.map_store.specs.Files.{StoreParts, HasFailed};
 
 use std::alloc::Global;
@@ -24,6 +25,9 @@ pub trait MapStore {
     /// Its files, how often it has failed, and whether it does with its files what it says.
     ghost stored: { Self → StoreParts };
 
+    /// What it was asked so far, the newest first.
+    ghost asked: { Self → List Asked };
+
     /// The bytes of a file. No file changes.
     ///
     /// `Missing` where there is no file of that name, `Device` where the device failed and `Memory` where there was no
@@ -32,7 +36,8 @@ pub trait MapStore {
         ensures honest { IsTrue (stored self.old).honest → IsTrue (stored self.new).honest }
         ensures loads { IsTrue (stored self.old).honest → Loads name.now (stored self.old).files result (stored self.new).files }
         ensures device { IsErrOf result StoreFault.Device → HasFailed (stored self.old) (stored self.new) }
-        ensures count { (stored self.old).failures ≤ (stored self.new).failures };
+        ensures count { (stored self.old).failures ≤ (stored self.new).failures }
+        ensures asked { asked self.new ≡ loading name.now ∷ asked self.old };
 
     /// Puts bytes under a name, in place of those that are there. No other file changes.
     ///
@@ -43,5 +48,6 @@ pub trait MapStore {
         ensures stores { IsTrue (stored self.old).honest → Stores name.now bytes.now (stored self.old).files result (stored self.new).files }
         ensures found { IsErrOf result StoreFault.Missing → ⊥ }
         ensures device { IsErrOf result StoreFault.Device → HasFailed (stored self.old) (stored self.new) }
-        ensures count { (stored self.old).failures ≤ (stored self.new).failures };
+        ensures count { (stored self.old).failures ≤ (stored self.new).failures }
+        ensures asked { asked self.new ≡ storing name.now ∷ asked self.old };
 }

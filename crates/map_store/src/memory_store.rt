@@ -1,4 +1,5 @@
 use crate::map_store::{MapStore, StoreFault};
+use crate::store_log::{StoreCall, StoreLog};
 use std::alloc::Global;
 use std::collections::BTreeMap;
 
@@ -6,20 +7,23 @@ use std::collections::BTreeMap;
 #[derive(Drop)]
 pub struct MemoryStore {
     files: BTreeMap<String, Vec<u8>>,
+    log: StoreLog,
 }
 
 impl MemoryStore {
-    ghost use Rattle.std.specs.Prelude.{◌≡◌, true, slice_get};
+    ghost use Rattle.std.specs.Prelude.{◌≡◌, true, slice_get, []};
     ghost use Rattle.std.specs.Option.{option_copied};
     ghost use Rattle.std.specs.FinMap.{contains_key, empty, get, keys, len, remove};
     ghost use Rattle.map_store.specs.Stored.{files_of};
 
     /// No files.
     pub fn new(alloc: Global) -> MemoryStore
-        ensures { ⟦<MemoryStore as MapStore>⟧.stored result ≡ record { files = empty; failures = 0; honest = true } }
+        ensures stored { ⟦<MemoryStore as MapStore>⟧.stored result ≡ record { files = empty; failures = 0; honest = true } }
+        ensures asked { ⟦<MemoryStore as MapStore>⟧.asked result ≡ [] }
     {
         MemoryStore {
             files: BTreeMap::new(alloc),
+            log: StoreLog::new(),
         }
     }
 
@@ -37,6 +41,7 @@ impl MemoryStore {
     pub fn remove(&mut self, name: &str) -> bool
         ensures found { result ≡ contains_key (files_of self.old.files) name.now }
         ensures removed { files_of self.new.files ≡ remove (files_of self.old.files) name.now }
+        ensures asked { ⟦<MemoryStore as MapStore>⟧.asked self.new ≡ ⟦<MemoryStore as MapStore>⟧.asked self.old }
     {
         self.files.remove(name).is_some()
     }
@@ -65,7 +70,10 @@ impl MapStore for MemoryStore {
 
     ghost stored = { λ s. record { files = files_of s.files; failures = 0; honest = true } };
 
+    ghost asked = { λ s. s.log.asked };
+
     fn load(&mut self, alloc: Global, name: &str) -> Result<Vec<u8>, StoreFault> {
+        self.log.note(&StoreCall::Load(name));
         match self.files.get(name) {
             None => Err(StoreFault::Missing),
             Some(bytes) => match Vec::from_slice(alloc, bytes.as_slice()) {
@@ -76,6 +84,7 @@ impl MapStore for MemoryStore {
     }
 
     fn store(&mut self, alloc: Global, name: &str, bytes: &[u8]) -> Result<(), StoreFault> {
+        self.log.note(&StoreCall::Store(name));
         let Ok(copy) = Vec::from_slice(alloc, bytes) else {
             return Err(StoreFault::Memory);
         };

@@ -79,7 +79,7 @@ fn main(rt: HostRuntime) -> ExitCode {
         return ends(&rt, RunFault::Memory, FAILED);
     };
     look_at_folder(&rt, options.folder);
-    let files = FolderStore::new(&rt, "tile_editor", options.folder);
+    let files = FolderStore::new(&rt, options.folder).telling("tile_editor");
     let faults = FolderFaults::new(&rt, options.folder);
     // One type of store with and without the option: the compiler folds what `run` calls once into it.
     let mut store = TiledStore::new(files, faults, options.opens_all_maps);

@@ -1,7 +1,8 @@
 -- What is loaded from a store below and stored to it, if that is honest.
-use Rattle.std.specs.Prelude.{◌≡◌, ◌⊎◌, ◌≤◌, ◌<◌, ℕ, List, length, Bool, true, false, Option, Result, Ok, Err, Some, None, Vec}
+use Rattle.std.specs.Prelude.{◌≡◌, ◌⊎◌, ◌≤◌, ◌<◌, ℕ, List, ◌∷◌, length, Bool, true, false, Option, Result, Ok, Err, Some, None, Vec}
 use Rattle.std.specs.Global.{Global}
 use Rattle.std.specs.FinMap.{get, insert}
+use Rattle.map_store.specs.Asking.{Asked, storing}
 use Rattle.map_store.specs.Files.{StoreParts, HasFailed, SameOthers}
 use Rattle.map_store.specs.declared.map_store.StoreFault.{StoreFault}
 use Rattle.map_store.specs.declared.map_store.StoreFault.TheVariants.{Missing, Device, Memory}
@@ -64,3 +65,7 @@ StoresTo has_set_aside name bytes old (Ok done) new = (file : List ℕ) × PutsF
 StoresTo has_set_aside name bytes old (Err Missing) new = ⊥
 StoresTo has_set_aside name bytes old (Err Device) new = (HasFailed old new × SameOthers name old.files new.files) ⊎ (IsNotPut has_set_aside bytes × (new.files ≡ old.files))
 StoresTo has_set_aside name bytes old (Err Memory) new = new.files ≡ old.files
+
+-- the store below was asked once to store the file of this name, or not at all
+abbrev pub AtMostOnce : List ℕ → List Asked → List Asked → Type 0
+AtMostOnce name old new = (new ≡ storing name ∷ old) ⊎ (new ≡ old)

@@ -1,10 +1,11 @@
-ghost use Rattle.std.specs.Prelude.{◌≡◌, ◌-◌, ◌^◌, ◌<◌, ◌≤◌, ◌⊎◌, IsErrOf, IsTrue, Bool, true, false};
+ghost use Rattle.std.specs.Prelude.{◌≡◌, ◌-◌, ◌^◌, ◌<◌, ◌≤◌, ◌⊎◌, ◌∷◌, [], IsErrOf, IsOk, IsTrue, Bool, true, false};
+ghost use Rattle.map_store.specs.Asking.{loading, storing};
 ghost use Rattle.map_store.specs.Files.{HasFailed};
 ghost use Rattle.map_store.specs.Storing.{Loads, Stores};
-ghost use Rattle.tiled_store.specs.Stored.{GivesFor, PutsFor, LoadsFrom, StoresTo};
+ghost use Rattle.tiled_store.specs.Stored.{AtMostOnce, GivesFor, PutsFor, LoadsFrom, StoresTo};
 
 use crate::fault_report::FaultReport;
-use map_store::{MapStore, StoreFault};
+use map_store::{MapStore, StoreCall, StoreFault, StoreLog};
 use std::alloc::Global;
 use tiled_maps::{Fault, LONGEST, needs_nothing, put_back, set_aside};
 
@@ -33,6 +34,8 @@ pub struct TiledStore<S, T> {
     report: T,
     // How often this store has answered `Device`.
     failures: u64,
+    // What this store was asked.
+    log: StoreLog,
 }
 
 impl<S: MapStore, T: FaultReport> TiledStore<S, T> {
@@ -41,6 +44,7 @@ impl<S: MapStore, T: FaultReport> TiledStore<S, T> {
         ensures store { result.store ≡ store }
         ensures sets { result.sets_aside ≡ sets_aside }
         ensures none { result.has_set_aside ≡ false }
+        ensures asked { result.log.asked ≡ [] }
     {
         TiledStore {
             store,
@@ -48,6 +52,7 @@ impl<S: MapStore, T: FaultReport> TiledStore<S, T> {
             has_set_aside: false,
             report,
             failures: 0,
+            log: StoreLog::new(),
         }
     }
 
@@ -75,6 +80,7 @@ impl<S: MapStore, T: FaultReport> TiledStore<S, T> {
         ensures store { self.new.store ≡ self.old.store }
         ensures sets { self.new.sets_aside ≡ self.old.sets_aside }
         ensures aside { self.new.has_set_aside ≡ self.old.has_set_aside }
+        ensures asked { self.new.log ≡ self.old.log }
     {
         if fault == StoreFault::Device {
             self.failures = self.failures.saturating_add(1);
@@ -91,6 +97,8 @@ impl<S: MapStore, T: FaultReport> TiledStore<S, T> {
         ensures sets { self.new.sets_aside ≡ self.old.sets_aside }
         ensures aside { IsTrue self.old.has_set_aside → IsTrue self.new.has_set_aside }
         ensures failures { self.new.failures ≡ self.old.failures }
+        ensures asked { self.new.log ≡ self.old.log }
+        ensures below { S.asked self.new.store ≡ loading name.now ∷ S.asked self.old.store }
     {
         let bytes = self.store.load(alloc, name)?;
         if !self.sets_aside || stays(bytes.as_slice()) {
@@ -119,6 +127,9 @@ impl<S: MapStore, T: FaultReport> TiledStore<S, T> {
         ensures sets { self.new.sets_aside ≡ self.old.sets_aside }
         ensures aside { self.new.has_set_aside ≡ self.old.has_set_aside }
         ensures failures { self.new.failures ≡ self.old.failures }
+        ensures asked { self.new.log ≡ self.old.log }
+        ensures below { AtMostOnce name.now (S.asked self.old.store) (S.asked self.new.store) }
+        ensures stored { IsOk result → S.asked self.new.store ≡ storing name.now ∷ S.asked self.old.store }
     {
         if !self.sets_aside || !self.has_set_aside || stays(bytes) {
             return self.store.store(alloc, name, bytes);
@@ -139,6 +150,8 @@ impl<S: MapStore, T: FaultReport> MapStore for TiledStore<S, T> {
 
     ghost stored = { λ s. record { files = (S.stored s.store).files; failures = s.failures; honest = false } };
 
+    ghost asked = { λ s. s.log.asked };
+
     fn load(&mut self, alloc: Global, name: &str) -> Result<Vec<u8>, StoreFault>
         ensures loads_from { IsTrue (S.stored self.old.store).honest → IsTrue self.old.sets_aside
             → LoadsFrom name.now (S.stored self.old.store) result (S.stored self.new.store) self.new.has_set_aside }
@@ -146,12 +159,15 @@ impl<S: MapStore, T: FaultReport> MapStore for TiledStore<S, T> {
             → Loads name.now (S.stored self.old.store).files result (S.stored self.new.store).files }
         ensures sets { self.new.sets_aside ≡ self.old.sets_aside }
         ensures aside { IsTrue self.old.has_set_aside → IsTrue self.new.has_set_aside }
+        ensures below { S.asked self.new.store ≡ loading name.now ∷ S.asked self.old.store }
 
         // The clauses of the trait.
         ensures device { IsErrOf result StoreFault.Device
             → HasFailed (⟦<TiledStore<S, T> as MapStore>⟧.stored self.old) (⟦<TiledStore<S, T> as MapStore>⟧.stored self.new) }
         ensures count { (⟦<TiledStore<S, T> as MapStore>⟧.stored self.old).failures ≤ (⟦<TiledStore<S, T> as MapStore>⟧.stored self.new).failures }
+        ensures asked { self.new.log.asked ≡ loading name.now ∷ self.old.log.asked }
     {
+        self.log.note(&StoreCall::Load(name));
         match self.loaded(alloc, name) {
             Ok(bytes) => Ok(bytes),
             Err(fault) => Err(self.counted(fault)),
@@ -165,13 +181,17 @@ impl<S: MapStore, T: FaultReport> MapStore for TiledStore<S, T> {
             → Stores name.now bytes.now (S.stored self.old.store).files result (S.stored self.new.store).files }
         ensures sets { self.new.sets_aside ≡ self.old.sets_aside }
         ensures aside { self.new.has_set_aside ≡ self.old.has_set_aside }
+        ensures below { AtMostOnce name.now (S.asked self.old.store) (S.asked self.new.store) }
+        ensures stored { IsOk result → S.asked self.new.store ≡ storing name.now ∷ S.asked self.old.store }
 
         // The clauses of the trait.
         ensures found { IsErrOf result StoreFault.Missing → ⊥ }
         ensures device { IsErrOf result StoreFault.Device
             → HasFailed (⟦<TiledStore<S, T> as MapStore>⟧.stored self.old) (⟦<TiledStore<S, T> as MapStore>⟧.stored self.new) }
         ensures count { (⟦<TiledStore<S, T> as MapStore>⟧.stored self.old).failures ≤ (⟦<TiledStore<S, T> as MapStore>⟧.stored self.new).failures }
+        ensures asked { self.new.log.asked ≡ storing name.now ∷ self.old.log.asked }
     {
+        self.log.note(&StoreCall::Store(name));
         match self.put(alloc, name, bytes) {
             Ok(()) => Ok(()),
             Err(fault) => Err(self.counted(fault)),
