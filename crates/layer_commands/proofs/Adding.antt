@@ -1,5 +1,5 @@
 -- A layer that is added.
-use Rattle.std.proofs.Common.{◌≡◌, ℕ, ◌*◌, ◌<◌, List, [], length, Option, Some, refl}
+use Rattle.std.proofs.Common.{◌≡◌, IsUtf8, ℕ, ◌*◌, ◌<◌, List, [], length, Option, Some, refl}
 use Rattle.std.proofs.lemmas.Bool.{lt-ltb}
 use Rattle.map_model.specs.declared.limits.TheConstants.{MAX_LAYERS, MAX_NEXT_ID}
 use Rattle.map_model.specs.declared.parts.Layer.{Layer}
@@ -30,18 +30,20 @@ new_layer-inside : (kind : LayerKind) (id : ℕ) (name : List ℕ) (size : ℕ) 
 new_layer-inside kinds.Tile id name size = refl
 new_layer-inside kinds.Object id name size = refl
 
-with_next-IsWellFormed : (kind : LayerKind) (name : List ℕ) (m : MapParts) → length (all_drawn m.layers) < MAX_LAYERS → m.next_layer_id < MAX_NEXT_ID → IsWellFormed m
+with_next-IsWellFormed : (kind : LayerKind) (name : List ℕ) (m : MapParts) → IsUtf8 name → length (all_drawn m.layers) < MAX_LAYERS
+    → m.next_layer_id < MAX_NEXT_ID → IsWellFormed m
     → IsWellFormed (with_last (next_layer kind name m) m)
-with_next-IsWellFormed kind name m few below h =
-    numbered-keeps m (length m.layers) (next_layer kind name m) few below (new_layer-IsLayer kind m.next_layer_id name (m.width * m.height))
+with_next-IsWellFormed kind name m utf8 few below h =
+    numbered-keeps m (length m.layers) (next_layer kind name m) few below (new_layer-IsLayer kind m.next_layer_id name (m.width * m.height) utf8)
     (new_layer-id kind m.next_layer_id name (m.width * m.height)) (new_layer-objects kind m.next_layer_id name (m.width * m.height))
     (new_layer-inside kind m.next_layer_id name (m.width * m.height)) h
 
-pub add_made : (d : DocumentParts) (kind : LayerKind) (name : List ℕ) (loose : Option Layer) → loose ≡ Some (next_layer kind name d.map) → length (all_drawn d.map.layers) < MAX_LAYERS
+pub add_made : (d : DocumentParts) (kind : LayerKind) (name : List ℕ) (loose : Option Layer) → IsUtf8 name → loose ≡ Some (next_layer kind name d.map)
+    → length (all_drawn d.map.layers) < MAX_LAYERS
     → d.map.next_layer_id < MAX_NEXT_ID → IsWellFormed d.map
     → Makes add_names d (after_add d kind name) (add_change (record { id = d.map.next_layer_id; layer = Some loose }))
-add_made d kind name loose is few below h =
+add_made d kind name loose utf8 is few below h =
     rw is (
-    link_made refl (record { ready = (refl, refl); before = h; after = with_next-IsWellFormed kind name d.map few below h })
+    link_made refl (record { ready = (refl, refl); before = h; after = with_next-IsWellFormed kind name d.map utf8 few below h })
     (rw (lt-ltb (length (all_drawn d.map.layers)) MAX_LAYERS few, lt-ltb d.map.next_layer_id MAX_NEXT_ID below) refl)
     )

@@ -1,12 +1,12 @@
--- Trees that a map can hold: nested at most n deep, each number whole and of 64 bits.
-use Rattle.std.specs.Prelude.{ℕ, zero, suc, ◌^◌, ◌<◌, pos, negsuc}
+-- Trees that a map can hold: a file can say them, each number is whole, and they nest at most n deep.
+use Rattle.std.specs.Prelude.{IsUtf8, ℕ, zero, suc, ◌^◌, ◌<◌, pos, neg_ℤ, ◌≤ℤ◌, ◌<ℤ◌}
 use Rattle.serde_json.specs.Data.{Num, unsigned, negative, float, Data, null, boolean, number, string, array, object, Items, no_items, item, Members, no_members, member}
+use Rattle.map_model.specs.Readable.{IsBefore}
 
 -- a whole number of 64 bits, with or without a sign
 abbrev pub IsFineNum : Num → Type 0
 IsFineNum (unsigned n) = n < 2 ^ 64
-IsFineNum (negative (pos n)) = ⊥
-IsFineNum (negative (negsuc n)) = n < 2 ^ 63
+IsFineNum (negative z) = (neg_ℤ (pos (2 ^ 63)) ≤ℤ z) × (z <ℤ pos 0)
 IsFineNum (float x) = ⊥
 
 abbrev mutual
@@ -14,7 +14,7 @@ abbrev mutual
   IsFine n null = Unit {0}
   IsFine n (boolean b) = Unit {0}
   IsFine n (number x) = IsFineNum x
-  IsFine n (string s) = Unit {0}
+  IsFine n (string s) = IsUtf8 s
   IsFine zero (array ds) = ⊥
   IsFine (suc n) (array ds) = AreFineItems n ds
   IsFine zero (object ms) = ⊥
@@ -26,28 +26,4 @@ abbrev mutual
 
   pub AreFineMembers : ℕ → Members → Type 0
   AreFineMembers n no_members = Unit {0}
-  AreFineMembers n (member k d ms) = IsFine n d × AreFineMembers n ms
-
--- what is known of each number that was read
-abbrev pub IsReadNum : Num → Type 0
-IsReadNum (unsigned n) = n < 2 ^ 64
-IsReadNum (negative (pos n)) = ⊥
-IsReadNum (negative (negsuc n)) = n < 2 ^ 63
-IsReadNum (float x) = Unit {0}
-
-abbrev mutual
-  pub IsReadTree : Data → Type 0
-  IsReadTree null = Unit {0}
-  IsReadTree (boolean b) = Unit {0}
-  IsReadTree (number x) = IsReadNum x
-  IsReadTree (string s) = Unit {0}
-  IsReadTree (array ds) = AreReadItems ds
-  IsReadTree (object ms) = AreReadMembers ms
-
-  pub AreReadItems : Items → Type 0
-  AreReadItems no_items = Unit {0}
-  AreReadItems (item d ds) = IsReadTree d × AreReadItems ds
-
-  pub AreReadMembers : Members → Type 0
-  AreReadMembers no_members = Unit {0}
-  AreReadMembers (member k d ms) = IsReadTree d × AreReadMembers ms
+  AreFineMembers n (member k d ms) = IsUtf8 k × IsBefore k ms × IsFine n d × AreFineMembers n ms

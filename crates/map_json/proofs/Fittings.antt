@@ -30,8 +30,9 @@ use Rattle.map_json.specs.Elements.{elements_at}
 use Rattle.map_json.specs.Reading.{property_at, properties_of, tileset_at, map_layers_at}
 use Rattle.map_json.specs.Distinctness.{are_distinct, lists_in, lists_of_drawn, lists_of_layer, property_lists, are_named_apart, has_no_double, are_below_next}
 use Rattle.map_json.specs.Maps.{version_has_fraction, has_fraction, is_map_type, parts_of, consistent, map_of}
-use Rattle.map_json.proofs.Fine.{AreFineMembers, IsReadTree}
-use Rattle.map_json.proofs.FineLemmas.{IsFine-get_member, members_have_float-fine, members_depth-fine, AreFineMembers-read, AreReadMembers-without, members_depth-without}
+use Rattle.map_model.specs.Readable.{IsReadable}
+use Rattle.map_json.proofs.Fine.{AreFineMembers}
+use Rattle.map_json.proofs.FineLemmas.{IsFine-get_member, members_have_float-fine, members_depth-fine, AreFineMembers-read, AreFineMembers-without, AreReadableMembers-fine, AreReadableMembers-without, members_depth-without}
 use Rattle.map_json.proofs.MembersLemmas.{get_member-without, LacksAll-without_all, without-absent}
 use Rattle.map_json.proofs.Words.{both}
 use Rattle.map_json.proofs.Sound.{by_bind, by_check, ok_is, ok_or_ok, required_ok, required_whole_sound, elements_sound, WereRead, properties_sound}
@@ -47,7 +48,7 @@ Each-IsObject : (level : ℕ) (os : List Object) → Each (WasReadObject level) 
 Each-IsObject level [] h e = tt
 Each-IsObject level (o ∷ os) h e =
     let f = both (are_named_apart o.properties) (list_all are_named_apart (map (λ (p : Object). p.properties) os)) e in
-    (record { placing = h.0.placing; gid = h.0.gid; properties = AreProperties-read level o.properties h.0.properties f.0; kept = h.0.kept }, Each-IsObject level os h.1 f.1)
+    (record { placing = h.0.placing; name = h.0.name; gid = h.0.gid; properties = AreProperties-read level o.properties h.0.properties f.0; kept = h.0.kept }, Each-IsObject level os h.1 f.1)
 
 IsBody-read : (level size : ℕ) (b : Body) → WasReadBody level size b → list_all are_named_apart (lists_in b) ≡ true → IsBody level size b
 IsBody-read level size (Tiles e cells) h f = h
@@ -58,7 +59,7 @@ IsBody-read level size (Group' s r) h f = h
 IsLayer-read : (level size : ℕ) (l : Layer) → WasReadLayer level size l → list_all are_named_apart (lists_of_layer l) ≡ true → IsLayer level size l
 IsLayer-read level size l h e =
     let f = both (are_named_apart l.properties) (list_all are_named_apart (lists_in l.body)) e in
-    record { properties = AreProperties-read level l.properties h.properties f.0; kept = h.kept; body = IsBody-read level size l.body h.body f.1 }
+    record { name = h.name; properties = AreProperties-read level l.properties h.properties f.0; kept = h.kept; body = IsBody-read level size l.body h.body f.1 }
 
 Each-IsDrawn : (size : ℕ) (ds : List (ℕ × Layer)) → Each (WasReadDrawn size) ds → list_all are_named_apart (flat_map lists_of_drawn ds) ≡ true → Each (IsDrawn size) ds
 Each-IsDrawn size [] h e = tt
@@ -74,28 +75,38 @@ low_in level size Other h = tt
 low_in level size (Group' s r) h = tt
 
 -- ---- the members but the version
-without_less : (o : Ordering) (n : ℕ) (l : List ℕ) (d : Data) (rest : Members) → AreFineMembers n (match_ordering o (member l d rest) rest (member l d rest)) → AreFineMembers n rest
-without_less Less n l d rest h = h.1
-without_less Equal n l d rest h = h
-without_less Greater n l d rest h = h.1
+-- a member left out before others, or behind them
+left_out_first : (o : Ordering) (v l : List ℕ) (d : Data) (rest : Members) → without v (match_ordering o (member l d rest) rest (member l d rest))
+    ≡ match_ordering o (without v (member l d rest)) (without v rest) (without v (member l d rest))
+left_out_first Less v l d rest = refl
+left_out_first Equal v l d rest = refl
+left_out_first Greater v l d rest = refl
 
-without_other : (o : Ordering) (n : ℕ) (l : List ℕ) (d : Data) (rest new : Members) → AreFineMembers n (match_ordering o (member l d rest) rest (member l d rest)) → AreFineMembers n new
-    → AreFineMembers n (match_ordering o (member l d new) new (member l d new))
-without_other Less n l d rest new h g = (h.0, g)
-without_other Equal n l d rest new h g = g
-without_other Greater n l d rest new h g = (h.0, g)
+either_first : (o p : Ordering) (l : List ℕ) (d : Data) (rest : Members)
+    → match_ordering o (match_ordering p (member l d rest) rest (member l d rest)) rest (match_ordering p (member l d rest) rest (member l d rest))
+    ≡ match_ordering p (match_ordering o (member l d rest) rest (member l d rest)) rest (match_ordering o (member l d rest) rest (member l d rest))
+either_first Less Less l d rest = refl
+either_first Less Equal l d rest = refl
+either_first Less Greater l d rest = refl
+either_first Equal Less l d rest = refl
+either_first Equal Equal l d rest = refl
+either_first Equal Greater l d rest = refl
+either_first Greater Less l d rest = refl
+either_first Greater Equal l d rest = refl
+either_first Greater Greater l d rest = refl
 
-without_stays : (o : Ordering) (n : ℕ) (v l : List ℕ) (d : Data) (rest : Members) → AreFineMembers n (without v rest) → AreFineMembers n (without v (member l d rest))
-    → AreFineMembers n (without v (match_ordering o (member l d rest) rest (member l d rest)))
-without_stays Less n v l d rest h g = g
-without_stays Equal n v l d rest h g = h
-without_stays Greater n v l d rest h g = g
+-- two names are left out in either order
+without-without : (v k : List ℕ) (ms : Members) → without v (without k ms) ≡ without k (without v ms)
+without-without v k no_members = refl
+without-without v k (member l d ms) =
+    let p = slice_cmp nat_cmp k l in
+    let o = slice_cmp nat_cmp v l in
+    let new = λ (x : Members). match_ordering o (member l d x) x (member l d x) in
+    let middle = ap (λ (x : Members). match_ordering p (new x) x (new x)) (without-without v k ms) ∙ either_first p o l d (without k (without v ms)) in
+    left_out_first p v l d (without k ms) ∙ middle ∙ sym (left_out_first o k l d (without v ms))
 
 fine_without : (n : ℕ) (v k : List ℕ) (ms : Members) → AreFineMembers n (without v ms) → AreFineMembers n (without v (without k ms))
-fine_without n v k no_members h = tt
-fine_without n v k (member l d ms) h =
-    let more = fine_without n v k ms (without_less (slice_cmp nat_cmp v l) n l d (without v ms) h) in
-    without_stays (slice_cmp nat_cmp k l) n v l d (without k ms) more (without_other (slice_cmp nat_cmp v l) n l d (without v ms) (without v (without k ms)) h more)
+fine_without n v k ms h = subst (λ (x : Members). AreFineMembers n x) (sym (without-without v k ms)) (AreFineMembers-without n k (without v ms) h)
 
 fine_without_all : (n : ℕ) (v : List ℕ) (ks : List (List ℕ)) (ms : Members) → AreFineMembers n (without v ms) → AreFineMembers n (without v (without_all ks ms))
 fine_without_all n v [] ms h = h
@@ -106,7 +117,12 @@ kept_of_map ms h =
     let lacks = LacksAll-without_all map_names ms in
     let fine = subst (λ (x : Members). AreFineMembers 126 x) (without-absent VERSION.now (without_all map_names ms) lacks.1.1.1.1.1.1.1.1.1.1.1.0) (fine_without_all 126 VERSION.now map_names ms h) in
     let deep = members_depth-fine 126 (without_all map_names ms) fine in
-    record { unread = lacks; whole = members_have_float-fine 126 (without_all map_names ms) fine; shallow = omega arith }
+    record {
+      unread = lacks;
+      whole = members_have_float-fine 126 (without_all map_names ms) fine;
+      shallow = omega arith;
+      readable = AreReadableMembers-fine 126 (without_all map_names ms) fine;
+    }
 
 -- ---- maps
 -- a map that was read, but for what must differ over all of it
@@ -209,7 +225,7 @@ not_true : (b : Bool) → not b ≡ true → b ≡ false
 not_true true e = absurd (true≢false (sym e))
 not_true false e = refl
 
-root_fine : (d : Data) (ms : Members) → as_object d ≡ Some ms → has_fraction d ≡ false → IsReadTree d → depth d ≤ 127 → AreFineMembers 126 (without VERSION.now ms)
+root_fine : (d : Data) (ms : Members) → as_object d ≡ Some ms → has_fraction d ≡ false → IsReadable d → depth d ≤ 127 → AreFineMembers 126 (without VERSION.now ms)
 root_fine null ms is e h le = absurd cc
 root_fine (boolean b) ms is e h le = absurd cc
 root_fine (number x) ms is e h le = absurd cc
@@ -220,10 +236,10 @@ root_fine (object ks) ms is e h le =
     let f = either_false (members_have_float (without VERSION.now ks)) (version_has_fraction (get_member VERSION.now ks)) e in
     let less = members_depth-without VERSION.now ks in
     subst (λ (x : Members). AreFineMembers 126 (without VERSION.now x)) same
-    (AreFineMembers-read 126 (without VERSION.now ks) (AreReadMembers-without VERSION.now ks h) f.0 (omega arith))
+    (AreFineMembers-read 126 (without VERSION.now ks) (AreReadableMembers-without VERSION.now ks h) f.0 (omega arith))
 
 -- what a tree says is well formed
-pub IsWellFormed-map_of : (d : Data) (m : MapParts) → IsReadTree d → depth d ≤ 127 → map_of d ≡ Ok m → IsWellFormed m
+pub IsWellFormed-map_of : (d : Data) (m : MapParts) → IsReadable d → depth d ≤ 127 → map_of d ≡ Ok m → IsWellFormed m
 unfolding map_of
 IsWellFormed-map_of d m h le e =
     by_check (not (has_fraction d)) Fraction _ m e (λ no_fraction e1.

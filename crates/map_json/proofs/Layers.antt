@@ -1,8 +1,9 @@
 -- What was read is well formed: layers and what they hold, but for what must differ over the whole map.
-use Rattle.std.proofs.Common.{◌≡◌, ℕ, zero, suc, ◌+◌, ◌-◌, ◌*◌, ◌<◌, ◌≤◌, List, [], ◌∷◌, length, true, None, Ok, refl, sym, ap, ◌∙◌, subst, arith}
+use Rattle.std.proofs.Common.{◌≡◌, IsUtf8, ℕ, zero, suc, ◌+◌, ◌-◌, ◌*◌, ◌<◌, ◌≤◌, List, [], ◌∷◌, length, true, None, Ok, refl, sym, ap, ◌∙◌, subst, arith}
 use Rattle.std.specs.Prelude.{nat_le}
 use Rattle.std.specs.Option.{ok_or}
 use Rattle.std.proofs.lemmas.Bool.{leb-true}
+use Rattle.std.proofs.lemmas.Str.{IsUtf8-nil}
 use Rattle.serde_json.specs.Data.{Data, Items, no_items, item, Members}
 use Rattle.serde_json.specs.Events.{items_len}
 use Rattle.serde_json.specs.Find.{get_member, as_object, as_array}
@@ -29,7 +30,7 @@ use Rattle.map_json.specs.Reading.{id_at, properties_of, object_at, type_at, enc
 use Rattle.map_json.proofs.DrawnLayers.{Each-both, Each-tree, length-drawn, drawn_in, below-drawn_in, drawn_in-none, drawn_in-Group}
 use Rattle.map_json.proofs.Fine.{IsFine, AreFineItems, AreFineMembers}
 use Rattle.map_json.proofs.FineLemmas.{IsFine-get_member}
-use Rattle.map_json.proofs.Sound.{by_bind, by_check, by_step, ok_is, ok_or_ok, required_ok, array_fine, object_fine, kept_sound, required_whole_sound, elements_sound, cells_tree_sound, WereRead, properties_sound}
+use Rattle.map_json.proofs.Sound.{text_or_sound, by_bind, by_check, by_step, ok_is, ok_or_ok, required_ok, array_fine, object_fine, kept_sound, required_whole_sound, elements_sound, cells_tree_sound, WereRead, properties_sound}
 use Rattle.map_json.proofs.Owners.{WasReadObject, object_sound}
 
 -- what a layer at this level holds itself, on a map of so many cells; whether names of properties differ is told apart
@@ -41,6 +42,7 @@ WasReadBody level size (Group' s r) = level < deepest_level
 
 pub record WasReadLayer (level size : ℕ) (l : Layer) : Type 0 where
   pub low : 1 ≤ l.id
+  pub name : IsUtf8 l.name
   pub properties : WereRead level l.properties
   pub kept : AreKept level (layer_names l.body) l.kept
   pub body : WasReadBody level size l.body
@@ -75,6 +77,7 @@ module _ (f : List Layer → List Layer) where
 WasReadLayer-bare : (level size : ℕ) (l : Layer) → WasReadLayer level size l → WasReadLayer level size (bare l)
 WasReadLayer-bare level size l h = record {
   low = h.low;
+  name = h.name;
   properties = h.properties;
   kept = rw (body_names-with (λ ls. []) l.body) h.kept;
   body = rw (WasReadBody-with (λ ls. []) level size l.body) h.body;
@@ -177,6 +180,7 @@ one_sound room level n deep inner width height count d r sound fine e =
     let l : Layer = record { id = id; name = name; visible = visible; properties = properties; kept = without_all (layer_names body.1) ms; body = body.1 } in
     let made : WasReadLayer level (width * height) l = record {
       low = range.0;
+      name = text_or_sound (suc (suc (suc (suc n)))) NAME.now ms members [] name IsUtf8-nil name_is;
       properties = properties_sound level (suc (suc n)) (omega arith) ms properties members properties_is;
       kept = kept_sound level (suc (suc (suc (suc n)))) (layer_names body.1) ms (omega arith) members;
       body = held.0;

@@ -11,7 +11,12 @@ pub mod Parts
 pub mod Meetings
 pub mod Fine
 pub mod FineLemmas
+pub mod Orders
 pub mod ReadTrees
+pub mod TextLaw
+pub mod Told
+pub mod ValueTexts
+pub mod WrittenTrees
 pub mod Sound
 pub mod Owners
 pub mod Layers

@@ -14,7 +14,7 @@ use Rattle.map_json.specs.Trees.{array_by, items_by, whole_tree}
 use Rattle.map_json.proofs.Returning.{ItemsReturn, ItemsReturn-item, ItemsReturn-none, Returns-array}
 
 -- ---- they are read
-whole_returns : (n : ℕ) → n < 2 ^ 64 → Returns (whole_tree n)
+pub whole_returns : (n : ℕ) → n < 2 ^ 64 → Returns (whole_tree n)
 whole_returns n small = record {
   utf8 = IsUtf8-from_ascii (decimal n) (IsAscii-decimal n small);
   numbers = IsNumber-decimal n small;

@@ -1,5 +1,5 @@
 -- What was read is well formed: tilesets, objects and layers, but for what must differ over the whole map.
-use Rattle.std.proofs.Common.{◌≡◌, ℕ, suc, ◌+◌, ◌-◌, ◌≤◌, ℤ, true, ◌&&◌, Option, Some, None, Result, Ok, subst, arith}
+use Rattle.std.proofs.Common.{◌≡◌, IsUtf8, ℕ, suc, ◌+◌, ◌-◌, ◌≤◌, ℤ, true, ◌&&◌, Option, Some, None, Result, Ok, subst, arith}
 use Rattle.std.specs.Prelude.{int_le, neg_ℤ, ◌≤ℤ◌, IfSome}
 use Rattle.std.specs.Int.Signed.{le_z_yes}
 use Rattle.std.specs.Option.{ok_or}
@@ -19,7 +19,7 @@ use Rattle.map_json.specs.Steps.{required, optional}
 use Rattle.map_json.specs.Scalars.{whole_at, signed_at, text_at, truth_at}
 use Rattle.map_json.specs.Reading.{id_at, pixels_at, placing_of, object_at, properties_of, tileset_at}
 use Rattle.map_json.proofs.Fine.{IsFine}
-use Rattle.map_json.proofs.Sound.{from_true, by_bind, ok_is, chosen, ok_or_ok, object_fine, kept_sound, required_whole_sound, whole_sound, WereRead, properties_sound}
+use Rattle.map_json.proofs.Sound.{from_true, by_bind, ok_is, chosen, ok_or_ok, object_fine, kept_sound, required_whole_sound, whole_sound, optional_text_sound, WereRead, properties_sound}
 use Rattle.map_json.proofs.Words.{both}
 
 -- ---- tilesets
@@ -31,7 +31,12 @@ tileset_sound n room d t fine e =
     by_bind (optional text_at (get_member SOURCE.now ms)) _ t e2 (λ source source_is e3.
     let members = object_fine n d ms fine (ok_or_ok (as_object d) MemberOfAnotherKind ms object) in
     let range = required_whole_sound 1 MAX_FIRST_ID (get_member FIRST_ID.now ms) first_id first_id_is in
-    let made : IsTileset (record { first_id = first_id; source = source; kept = without_all tileset_names ms }) = record { low = range.0; high = range.1; kept = kept_sound tileset_level n tileset_names ms room members } in
+    let made : IsTileset (record { first_id = first_id; source = source; kept = without_all tileset_names ms }) = record {
+      low = range.0;
+      high = range.1;
+      source = optional_text_sound n SOURCE.now ms members source source_is;
+      kept = kept_sound tileset_level n tileset_names ms room members;
+    } in
     subst IsTileset (ok_is (record { first_id = first_id; source = source; kept = without_all tileset_names ms }) t e3) made)))
 
 -- ---- objects
@@ -39,6 +44,7 @@ tileset_sound n room d t fine e =
 pub record WasReadObject (level : ℕ) (o : Object) : Type 0 where
   pub low : 1 ≤ o.id
   pub placing : IsPlacing o.placing
+  pub name : IfSome o.name IsUtf8
   pub gid : IfSome o.gid IsTileValue
   pub properties : WereRead level o.properties
   pub kept : AreKept level object_names o.kept
@@ -95,6 +101,7 @@ object_sound level n room d o fine e =
     let made : WasReadObject level (record { id = id; placing = placing; name = name; visible = visible; gid = gid; properties = properties; kept = without_all object_names ms }) = record {
       low = range.0;
       placing = placing_sound ms placing placing_is;
+      name = optional_text_sound (suc (suc n)) NAME.now ms members name name_is;
       gid = optional_sound IsTileValue (whole_at 0 4294967295) gid_sound (get_member GID.now ms) gid gid_is;
       properties = properties_sound level n room ms properties members properties_is;
       kept = kept_sound level (suc (suc n)) object_names ms (omega arith) members;

@@ -5,8 +5,8 @@ use Rattle.map_model.specs.declared.parts.MapParts.{MapParts}
 use Rattle.map_json.specs.declared.fault.MapRefusal.{MapRefusal}
 use Rattle.map_json.specs.declared.fault.MapFault.TheVariants.{Memory, Refused}
 use Rattle.map_json.specs.Maps.{IsTreeOf, IsRefusedAs, map_of}
-use Rattle.map_json.specs.RoundTrip.{WrittenIsRead}
-use Rattle.map_json.specs.Trees.{tree_of}
+use Rattle.map_json.specs.RoundTrip.{SavedIsOpened, WrittenIsRead}
+use Rattle.map_json.specs.Trees.{text_of, tree_of}
 
 -- bytes have one tree
 one_tree : (bytes : List ℕ) (d e : Data) → IsTreeOf bytes d → IsTreeOf bytes e → d ≡ e
@@ -24,3 +24,6 @@ read_from m again bytes (Ok n) is (d, found, read_as) =
     inl cc
 read_from m again bytes (Err Memory) is said = inr refl
 read_from m again bytes (Err (Refused f)) is said = absurd (not_refused m bytes f again is said)
+
+pub opened_from : (m : MapParts) → map_of (tree_of m) ≡ Ok m → IsTreeOf (text_of m) (tree_of m) → SavedIsOpened m
+opened_from m again is answer said = read_from m again (text_of m) answer is said

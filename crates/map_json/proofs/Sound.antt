@@ -1,12 +1,14 @@
 -- What was read is well formed, as far as one owner tells: values, properties, elements, numbers and cells.
-use Rattle.std.proofs.Common.{◌≡◌, ℕ, suc, ◌+◌, ◌-◌, ◌*◌, ◌^◌, ◌<◌, ◌≤◌, ℤ, pos, negsuc, eqb, Bool, true, false, cond, ◌&&◌, List, [], ◌∷◌, length, Option, Some, None, Result, Ok, Err, refl, sym, ap, subst, arith}
-use Rattle.std.specs.Prelude.{codes, nat_le, nat_lt, option_and_then, option_map, if◌then◌else◌}
+use Rattle.std.proofs.Common.{◌≡◌, IsUtf8, ℕ, suc, ◌+◌, ◌-◌, ◌*◌, ◌^◌, ◌<◌, ◌≤◌, ℤ, pos, negsuc, eqb, Bool, true, false, cond, ◌&&◌, List, [], ◌∷◌, length, Option, Some, None, Result, Ok, Err, refl, sym, ap, subst, arith}
+use Rattle.std.specs.Prelude.{codes, IfSome, nat_le, nat_lt, option_and_then, option_map, if◌then◌else◌}
 use Rattle.std.specs.List.{list_all}
 use Rattle.std.specs.Result.{result_ok}
 use Rattle.std.specs.Int.Signed.{le_z_yes}
 use Rattle.std.proofs.Math.Dec.{T}
+use Rattle.std.proofs.lemmas.Int.{ints}
 use Rattle.std.proofs.lemmas.Bool.{eqb-true, leb-true, ltb-true, le-leb}
 use Rattle.std.specs.Option.{ok_or}
+use Rattle.json.proofs.Printed.Utf8.{IsUtf8-are_ascii}
 use Rattle.base64.specs.Engines.{standard}
 use Rattle.base64.specs.GeneralPurpose.{decode_of}
 use Rattle.serde_json.specs.Events.{items_len}
@@ -24,13 +26,13 @@ use Rattle.map_model.specs.Steps.{◌>>=◌, ◌>>◌, check}
 use Rattle.map_json.specs.Members.{without_all}
 use Rattle.map_json.specs.declared.fault.MapRefusal.{MapRefusal}
 use Rattle.map_json.specs.declared.fault.MapRefusal.TheVariants.{MemberOfAnotherKind, OverLimit, BadData}
-use Rattle.map_json.specs.Steps.{required, absent_means}
+use Rattle.map_json.specs.Steps.{required, absent_means, optional}
 use Rattle.map_json.specs.Scalars.{whole_at, text_at}
 use Rattle.map_json.specs.Elements.{each, elements_at}
 use Rattle.map_json.specs.Cells.{cell_of, cells_of, packed, words_of, is_byte, array_cells_at, base64_cells_at}
 use Rattle.map_json.specs.Reading.{value_of, value_at, property_at, properties_of, cells_at}
 use Rattle.map_json.proofs.Fine.{IsFineNum, IsFine, AreFineItems, AreFineMembers}
-use Rattle.map_json.proofs.FineLemmas.{IsFine-get_member, AreFineMembers-without_all, has_float-fine, members_have_float-fine, depth-fine, members_depth-fine}
+use Rattle.map_json.proofs.FineLemmas.{IsFine-get_member, AreFineMembers-without_all, has_float-fine, members_have_float-fine, depth-fine, members_depth-fine, IsReadable-fine, AreReadableMembers-fine}
 use Rattle.map_json.proofs.MembersLemmas.{LacksAll-without_all}
 use Rattle.map_json.proofs.Words.{both, words_sound}
 
@@ -73,15 +75,11 @@ from_true true e = tt
 from_true false e = absurd cc
 
 negative_whole : (z w : ℤ) → IsFineNum (negative z) → z ≡ w → IsWhole w
-negative_whole (pos m) w h e = absurd h
-negative_whole (negsuc m) w h e =
-    let lt : m < 2 ^ 63 = h in
-    let le : m ≤ 2 ^ 63 - 1 = omega arith in
-    subst IsWhole e (record { low = le_z_yes (from_true (nat_le m (2 ^ 63 - 1)) (le-leb m (2 ^ 63 - 1) le)); high = le_z_yes tt })
+negative_whole z w h e = subst IsWhole e (record { low = h.0; high = let below = h.1 in omega (arith, ints) })
 
 -- a value that is kept, with room for its levels
 kept_value : (level n : ℕ) (d : Data) → level + n ≤ MAX_DEPTH → IsFine n d → IsOfAnotherKind d → IsKeptValue level d
-kept_value level n d room h kind = let deep = depth-fine n d h in record { kind = kind; whole = has_float-fine n d h; shallow = omega arith }
+kept_value level n d room h kind = let deep = depth-fine n d h in record { kind = kind; whole = has_float-fine n d h; shallow = omega arith; readable = IsReadable-fine n d h }
 
 unsigned_held : (b : Bool) (level n m : ℕ) → level + n ≤ MAX_DEPTH → nat_lt m (2 ^ 63) ≡ b → m < 2 ^ 64 → IsValue level (value_of (number (unsigned m)))
 unsigned_held true level n m room e h = let lt : m < 2 ^ 63 = ltb-true m (2 ^ 63) e in
@@ -95,7 +93,7 @@ value_sound level n (boolean b) room h = tt
 value_sound level n (number (unsigned m)) room h = unsigned_held (nat_lt m (2 ^ 63)) level n m room refl h
 value_sound level n (number (negative z)) room h = negative_whole z z h refl
 value_sound level n (number (float x)) room h = absurd h
-value_sound level n (string s) room h = tt
+value_sound level n (string s) room h = h
 value_sound level n (array ds) room h = kept_value level n (array ds) room h tt
 value_sound level n (object ms) room h = kept_value level n (object ms) room h tt
 
@@ -103,7 +101,44 @@ pub kept_sound : (level n : ℕ) (names : List (List ℕ)) (ms : Members) → le
 kept_sound level n names ms room h =
     let fine = AreFineMembers-without_all n names ms h in
     let deep = members_depth-fine n (without_all names ms) fine in
-    record { unread = LacksAll-without_all names ms; whole = members_have_float-fine n (without_all names ms) fine; shallow = omega arith }
+    record {
+      unread = LacksAll-without_all names ms;
+      whole = members_have_float-fine n (without_all names ms) fine;
+      shallow = omega arith;
+      readable = AreReadableMembers-fine n (without_all names ms) fine;
+    }
+
+-- ---- texts
+text_sound : (n : ℕ) (d : Data) (s : List ℕ) → IsFine n d → text_at d ≡ Ok s → IsUtf8 s
+unfolding text_at
+text_sound n (string t) s h e = subst IsUtf8 (ok_is t s e) h
+text_sound n null s h e = absurd cc
+text_sound n (boolean b) s h e = absurd cc
+text_sound n (number x) s h e = absurd cc
+text_sound n (array x) s h e = absurd cc
+text_sound n (object x) s h e = absurd cc
+
+module _ (n : ℕ) (name : List ℕ) (ms : Members) (fine : AreFineMembers n ms) where
+  pub required_text_sound : (s : List ℕ) → required text_at (get_member name ms) ≡ Ok s → IsUtf8 s
+  required_text_sound s e =
+      let r = required_ok text_at (get_member name ms) s e in
+      text_sound n r.0 s (IsFine-get_member n name ms r.0 fine r.1) r.2
+
+  pub text_or_sound : (t s : List ℕ) → IsUtf8 t → absent_means t text_at (get_member name ms) ≡ Ok s → IsUtf8 s
+  text_or_sound t s utf8 e = by_member (get_member name ms) refl e
+    where
+      by_member : (o : Option Data) → get_member name ms ≡ o → absent_means t text_at o ≡ Ok s → IsUtf8 s
+      by_member None is f = subst IsUtf8 (ok_is t s f) utf8
+      by_member (Some d) is f = text_sound n d s (IsFine-get_member n name ms d fine is) f
+
+  pub optional_text_sound : (s : Option (List ℕ)) → optional text_at (get_member name ms) ≡ Ok s → IfSome s IsUtf8
+  optional_text_sound s e = by_member (get_member name ms) refl e
+    where
+      by_member : (o : Option Data) → get_member name ms ≡ o → optional text_at o ≡ Ok s → IfSome s IsUtf8
+      by_member None is f = subst (λ t. IfSome t IsUtf8) (ok_is None s f) tt
+      by_member (Some d) is f =
+          by_bind (text_at d) _ s f (λ t t_is f1.
+          subst (λ u. IfSome u IsUtf8) (ok_is (Some t) s f1) (text_sound n d t (IsFine-get_member n name ms d fine is) t_is))
 
 pub object_fine : (n : ℕ) (d : Data) (ms : Members) → IsFine (suc n) d → as_object d ≡ Some ms → AreFineMembers n ms
 object_fine n (object ks) ms h e = let s : ks ≡ ms = cc in subst (λ (x : Members). AreFineMembers n x) s h
@@ -123,7 +158,12 @@ property_sound level n room d p fine e =
     let members = object_fine n d ms fine (ok_or_ok (as_object d) MemberOfAnotherKind ms object) in
     let found = required_ok value_at (get_member VALUE.now ms) value value_is in
     let held : IsValue level value = subst (IsValue level) (ok_is (value_of found.0) value found.2) (value_sound level n found.0 room (IsFine-get_member n VALUE.now ms found.0 members found.1)) in
-    let made : IsProperty level (record { name = name; kind = kind; value = value; kept = without_all property_names ms }) = record { value = held; kept = kept_sound level n property_names ms room members } in
+    let made : IsProperty level (record { name = name; kind = kind; value = value; kept = without_all property_names ms }) = record {
+      name = required_text_sound n NAME.now ms members name name_is;
+      kind = text_or_sound n TYPE.now ms members (codes "string") kind (IsUtf8-are_ascii (codes "string") refl) kind_is;
+      value = held;
+      kept = kept_sound level n property_names ms room members;
+    } in
     subst (IsProperty level) (ok_is (record { name = name; kind = kind; value = value; kept = without_all property_names ms }) p e4) made))))
 
 -- a test that did not refuse

@@ -22,6 +22,6 @@ mod trail;
 mod writing;
 
 pub use fault::{MapFault, MapRefusal};
-pub use map_text::{write_map, write_outline, written_is_read};
+pub use map_text::{saved_is_opened, write_map, write_outline, written_is_read};
 pub use reading::{read_map, read_map_along};
 pub use trail::{NoTrail, Step, Trail};

@@ -13,7 +13,7 @@ ghost use Rattle.map_json.specs.Appending.{Appends, AreWritten, instead, replace
 ghost use Rattle.map_json.specs.Details.{layer_in, layers_in, map_in};
 ghost use Rattle.map_json.specs.Maps.{IsTreeOf, map_of};
 ghost use Rattle.map_json.specs.Outlines.{outline_text};
-ghost use Rattle.map_json.specs.RoundTrip.{WrittenIsRead};
+ghost use Rattle.map_json.specs.RoundTrip.{SavedIsOpened, WrittenIsRead};
 ghost use Rattle.map_json.specs.Trees.{array_by, text_of, tree_of, whole_tree};
 
 use crate::detail::{Detail, Writing};
@@ -254,6 +254,14 @@ pub fn write_outline(alloc: Global, map: &Map) -> Result<Vec<u8>, AllocError>
 /// What was written is read: bytes that have the tree of a map give that map, unless memory runs out.
 pub fn written_is_read(map: &Map)
     ensures { WrittenIsRead map.now }
+{
+    let _parts = map.parts();
+}
+
+/// What is saved, then opened, is the same map: its text has its tree, and gives that map, unless memory runs out.
+pub fn saved_is_opened(map: &Map)
+    ensures tree { IsTreeOf (text_of map.now) (tree_of map.now) }
+    ensures opened { SavedIsOpened map.now }
 {
     let _parts = map.parts();
 }

@@ -88,7 +88,8 @@ new_layer-IsLayer kinds.Object id name size utf8 = record {
   body = (omega arith, tt);
 }
 
-pub external_tileset-IsTileset : (first_id : ℕ) (source : List ℕ) → IsUtf8 source → 1 ≤ first_id → first_id ≤ MAX_FIRST_ID → IsTileset (external_tileset first_id source)
+pub external_tileset-IsTileset : (first_id : ℕ) (source : List ℕ) → IsUtf8 source → 1 ≤ first_id → first_id ≤ MAX_FIRST_ID
+    → IsTileset (external_tileset first_id source)
 external_tileset-IsTileset first_id source utf8 low high = record {
   low = low;
   high = high;
@@ -97,7 +98,8 @@ external_tileset-IsTileset first_id source utf8 low high = record {
 }
 
 -- a new object is one of a layer
-pub new_object-IsObject : (level id : ℕ) (placing : Placing) (name : List ℕ) → IsUtf8 name → level ≤ deepest_level → IsPlacing placing → IsObject (object_level level) (new_object id placing name)
+pub new_object-IsObject : (level id : ℕ) (placing : Placing) (name : List ℕ) → IsUtf8 name → level ≤ deepest_level → IsPlacing placing
+    → IsObject (object_level level) (new_object id placing name)
 new_object-IsObject level id placing name utf8 low h = record {
   placing = h;
   name = utf8;

@@ -155,8 +155,8 @@ AreProperties-remove level ps k h = record {
   distinct = rw (names-remove ps k) (Distinct-remove (names ps) k h.distinct);
 }
 
-pub AreProperties-change_at : (level : ℕ) (ps : List Property) (k : ℕ) (s : Setting) → IsUtf8 s.kind → IsValue (property_level level) s.value → AreProperties level ps
-    → AreProperties level (change_at k (property_with_setting s) ps)
+pub AreProperties-change_at : (level : ℕ) (ps : List Property) (k : ℕ) (s : Setting) → IsUtf8 s.kind → IsValue (property_level level) s.value
+    → AreProperties level ps → AreProperties level (change_at k (property_with_setting s) ps)
 AreProperties-change_at level ps k s kind value h = record {
   few = rw (length-change_at k (property_with_setting s) ps) h.few;
   each = Each-change_at (IsProperty (property_level level)) k (property_with_setting s) ps (λ p e q. record { name = q.name; kind = kind; value = value; kept = q.kept }) h.each;
@@ -164,7 +164,8 @@ AreProperties-change_at level ps k s kind value h = record {
 }
 
 -- a new property is one of its owner
-pub new_property-IsProperty : (m : MapParts) (owner : OwnerPlace) (name : List ℕ) (s : Setting) → IsUtf8 name → IsSetting m owner s → IsProperty (property_level (owner_level m owner)) (new_property name s)
+pub new_property-IsProperty : (m : MapParts) (owner : OwnerPlace) (name : List ℕ) (s : Setting) → IsUtf8 name → IsSetting m owner s
+    → IsProperty (property_level (owner_level m owner)) (new_property name s)
 new_property-IsProperty m owner name s utf8 is = record {
   name = utf8;
   kind = is.kind;

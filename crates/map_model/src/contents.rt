@@ -41,7 +41,7 @@ impl MapText {
     }
 
     // The law that a text is UTF-8, for callers whose proof needs it. It does nothing.
-    pub(crate) fn is_utf8_by_type(&self)
+    pub(crate) fn text_is_utf8(&self)
         ensures { IsUtf8 self.now }
     {
         let _text = self.text.as_str();

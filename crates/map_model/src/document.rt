@@ -144,7 +144,7 @@ impl Document {
         ensures document { self.new ≡ with_map (with_layer layer (layer_with_name name.old)) self.old }
         ensures well_formed { IsDocument self.new }
     {
-        name.is_utf8_by_type();
+        name.text_is_utf8();
         rename_in(&mut self.map.parts.layers, layer, name);
     }
 

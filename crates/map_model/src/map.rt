@@ -152,7 +152,7 @@ impl Map {
         requires tile_size { IsTileSize tile_width tile_height }
         ensures { IfOk result (λ m. m ≡ new_map width height tile_width tile_height source) }
     {
-        source.is_utf8_by_type();
+        source.text_is_utf8();
         let layer = first_layer(alloc, width as usize * height as usize)?;
         let tileset = Tileset::external(alloc, 1, source);
         Ok(Map {

@@ -1,5 +1,5 @@
 -- An object that is added.
-use Rattle.std.proofs.Common.{◌≡◌, ℕ, ◌+◌, ◌-◌, ◌<◌, ℤ, List, length, true, Ok, Option, Some, None, IsSome, IsSomeAnd, option_map, option_and_then, refl, ap, ◌∙◌}
+use Rattle.std.proofs.Common.{◌≡◌, IsUtf8, ℕ, ◌+◌, ◌-◌, ◌<◌, ℤ, List, length, true, Ok, Option, Some, None, IsSome, IsSomeAnd, option_map, option_and_then, refl, ap, ◌∙◌}
 use Rattle.std.specs.List.{slice_get, insert, remove}
 use Rattle.std.specs.Option.{ok_or}
 use Rattle.std.proofs.lemmas.Bool.{lt-ltb}
@@ -94,14 +94,16 @@ listed (Some l) os e = by_objects (objects_of l) e
     by_objects None q = cc
     by_objects (Some own) q = let is : own ≡ os = cc in ap Some is
 
-pub add_made : (d : DocumentParts) (layer : ℕ) (x y : ℤ) (width height : ℕ) (name : List ℕ) (os : List Object) (loose : Option Object) → objects_or_fault (layer_of d.map layer) ≡ Ok os
+pub add_made : (d : DocumentParts) (layer : ℕ) (x y : ℤ) (width height : ℕ) (name : List ℕ) (os : List Object) (loose : Option Object) → IsUtf8 name
+    → objects_or_fault (layer_of d.map layer) ≡ Ok os
     → IsPixels x → IsPixels y → is_object_size width height ≡ true → length os < MAX_OBJECTS → d.map.next_object_id < MAX_NEXT_ID → IsWellFormed d.map
     → loose ≡ Some (new_object d.map.next_object_id (placing_of x y width height) name)
     → Makes add_object_names d (after_add_object d layer x y width height name) (add_object_change (record { layer = layer; id = d.map.next_object_id; object = Some loose }))
-add_made d layer x y width height name os loose objects left top size few below h is =
+add_made d layer x y width height name os loose utf8 objects left top size few below h is =
     let there = listed (layer_of d.map layer) os objects in
     let o = new_object d.map.next_object_id (placing_of x y width height) name in
-    let object = new_object-IsObject (level_of d.map layer) d.map.next_object_id (placing_of x y width height) name (level_of-low d.map layer) (placing_of-IsPlacing x y width height left top size) in
+    let object = new_object-IsObject (level_of d.map layer) d.map.next_object_id (placing_of x y width height) name utf8 (level_of-low d.map layer)
+    (placing_of-IsPlacing x y width height left top size) in
     rw is (
     link_made refl (record {
       ready = (refl, rw there refl);

@@ -19,6 +19,7 @@ returns-in-Ok-clause-command c =
     let made : c.in-Ok.object ≡ Some (new_object d.map.next_object_id (placing_of c.args.x c.args.y c.args.width c.args.height) c.args.name.now) = rw (same, given.1) at c.in-Ok.ensures in
     let few : length c.in_ok-objects.objects.now < MAX_OBJECTS = rw c.len.ensures.value at c.if-len-ge-MAX_OBJECTS.false in
     rw same (
-    add_made d c.args.layer c.args.x c.args.y c.args.width c.args.height c.args.name.now c.in_ok-objects.objects.now c.in-Ok.object objects c.requires.x c.requires.y given.0 few
+    add_made d c.args.layer c.args.x c.args.y c.args.width c.args.height c.args.name.now c.in_ok-objects.objects.now
+    c.in-Ok.object c.utf8.name objects c.requires.x c.requires.y given.0 few
     (rw same at c.if-id-ge-MAX_NEXT_ID.false) (rw c.map-map.ensures at c.parts.ensures.well_formed) made
     )
