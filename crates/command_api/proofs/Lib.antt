@@ -1,3 +1,4 @@
 pub mod Links
+pub mod Offering
 pub mod Swaps
 pub mod Tags

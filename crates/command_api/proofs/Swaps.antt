@@ -3,11 +3,10 @@ use Rattle.std.proofs.Common.{◌≡◌, Bool, true, false, not, IsSome, Some, R
 use Rattle.map_model.specs.Document.{DocumentParts}
 use Rattle.map_model.specs.Lens.{Lens, IsLawfulLens, put}
 use Rattle.map_model.specs.WellFormed.{IsWellFormed}
-use Rattle.command_api.specs.declared.offer.Offer.{Offer}
 use Rattle.command_api.specs.Names.{Names, Vanishing, WhenEqual, IsSettled}
 use Rattle.command_api.specs.Making.{Makes}
 use Rattle.command_api.specs.Exchange.{FitsTurn, IsExchanged, change_of}
-use Rattle.command_api.specs.Offers.{FitsPut, IsMerged, offer_undone}
+use Rattle.command_api.specs.Offers.{FitsPut, IsMerged, Shown, offer_undone}
 use Rattle.command_api.specs.Swap.{swap, swap_where, swap_shown, FitsShown, IsGiven}
 
 some-eq : {V : Type 0} (v w : V) → Some v ≡ Some w → v ≡ w
@@ -102,7 +101,7 @@ shown_offered false Allows fits = absurd (fits.0 refl)
 shown_offered true Allows fits = record { well_formed = fits.1.fits.here; holds = fits.1.fits.given; back = fits.1.fits.there }
 
 -- one that is made takes a newer value of its part in, and a test has told whether that is the value from before both
-pub shown_merged : {V : Type 0} {names : Names} {p : Lens DocumentParts V} {same told : Bool} (made : Bool) {after held before newer : V} {d : DocumentParts} {o : Offer} (Allows : DocumentParts → V → Type 0)
+pub shown_merged : {V : Type 0} {names : Names} {p : Lens DocumentParts V} {same told : Bool} (made : Bool) {after held before newer : V} {d : DocumentParts} {o : Shown} (Allows : DocumentParts → V → Type 0)
     → IsLawfulLens p → names.vanishing ≡ WhenEqual → (told ≡ true → held ≡ newer) → (held ≡ newer → told ≡ true) → FitsPut p before newer d → offer_undone o d ≡ put p before d
     → FitsTurn false (swap_shown names p Allows same made after held) (offer_undone o d) → (Allows (put p before d) held → Allows d held)
     → IsMerged (change_of (swap_shown names p Allows same made after held)) (change_of (swap_shown names p Allows told made newer held)) o d

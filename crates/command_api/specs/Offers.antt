@@ -1,12 +1,13 @@
 -- Offers, and the law of a merge.
 --
--- A command shows its change to the one before it, or nothing, where it does not follow. One with the same tag takes an
--- offer in: it then fits the document for undo, and its undo gives what both undos in turn give.
+-- A command shows its change to the one before it, or nothing, where it does not follow. What it shows is a plain value. One
+-- with the same tag takes it in: it then fits the document for undo, and its undo gives what both undos in turn give.
 use Rattle.std.specs.Prelude.{◌≡◌, ◌↔◌, ℕ, ◌+◌, List, length, Option, Some, None, IsSomeAnd, true, false}
 use Rattle.std.specs.Option.{option_copied}
 use Rattle.map_model.specs.declared.edit.CellEdit.{CellEdit}
 use Rattle.map_model.specs.declared.edit.Side.TheVariants.{Before}
 use Rattle.map_model.specs.declared.owner.Owner.{Owner}
+use Rattle.map_model.specs.declared.parts.Placing.{Placing}
 use Rattle.map_model.specs.declared.setting.Setting.{Setting}
 use Rattle.map_model.specs.Difference.{difference_in}
 use Rattle.map_model.specs.Document.{DocumentParts, painted}
@@ -20,26 +21,41 @@ use Rattle.command_api.specs.Names.{Names, is_free}
 use Rattle.command_api.specs.Tag.{Tag, OfLayer, OfObject, OfName}
 use Rattle.command_api.specs.declared.ids.TheConstants.{MOVE_ID, SET_ID}
 use Rattle.command_api.specs.declared.offer.Offer.{Offer}
-use Rattle.command_api.specs.declared.offer.Offer.TheVariants.{Nothing, Cells, Place, Value}
+use Rattle.command_api.specs.declared.offer.Offer.TheVariants as offers
 
--- the tag that an offer shows
-abbrev pub offer_tag : Offer → Option Tag
+-- what is shown: nothing; the cells that a paint with this id changes on a layer; an object, and its placing before and
+-- after; or an owner, a name, and the setting of that property before, where there was one, and after
+pub data Shown : Type 0 where
+  Nothing : Shown
+  Cells : ℕ → ℕ → List CellEdit → Shown
+  Place : ℕ → Placing → Placing → Shown
+  Value : Owner → List ℕ → Option Setting → Setting → Shown
+
+-- what an offer shows
+abbrev pub shown_of : Offer → Shown
+shown_of offers.Nothing = Nothing
+shown_of (offers.Cells id layer cells) = Cells id layer cells.now
+shown_of (offers.Place object before after) = Place object before after
+shown_of (offers.Value owner name before kind value) = Value owner name.now (option_copied before) (setting_with kind.now (scalar_value value))
+
+-- the tag that is shown
+abbrev pub offer_tag : Shown → Option Tag
 offer_tag Nothing = None
 offer_tag (Cells id layer cells) = Some (record { kind = id; subject = OfLayer layer })
 offer_tag (Place object before after) = Some (record { kind = MOVE_ID; subject = OfObject object })
-offer_tag (Value owner name before kind value) = Some (record { kind = SET_ID; subject = OfName owner name.now })
+offer_tag (Value owner name before after) = Some (record { kind = SET_ID; subject = OfName owner name })
 
 -- the document before the property of an owner with this name got a setting
 abbrev pub setting_undone : Owner → List ℕ → Option Setting → DocumentParts → DocumentParts
 setting_undone owner name None d = without_setting owner name d
 setting_undone owner name (Some before) d = put (setting_named owner name) before d
 
--- the document before what is offered
-abbrev pub offer_undone : Offer → DocumentParts → DocumentParts
+-- the document before what is shown
+abbrev pub offer_undone : Shown → DocumentParts → DocumentParts
 offer_undone Nothing d = d
-offer_undone (Cells id layer cells) d = painted layer cells.now Before d
+offer_undone (Cells id layer cells) d = painted layer cells Before d
 offer_undone (Place object before after) d = put (placing_with_id object) before d
-offer_undone (Value owner name before kind value) d = setting_undone owner name.now (option_copied before) d
+offer_undone (Value owner name before after) d = setting_undone owner name before d
 
 -- the well-formed document has the tile layer, the cells are the difference to it of the document before them, and that
 -- one is well formed too
@@ -71,32 +87,32 @@ abbrev pub FitsSetting : Owner → List ℕ → Option Setting → Setting → D
 FitsSetting owner name None after d = FitsNew owner name after d
 FitsSetting owner name (Some before) after d = FitsPut (setting_named owner name) before after d
 
--- the offer fits the document for undo: the document holds its new values, and is well formed with the old ones put back
-abbrev pub FitsOffer : Offer → DocumentParts → Type 0
+-- what is shown fits the document for undo: the document holds the new values, and is well formed with the old ones put back
+abbrev pub FitsOffer : Shown → DocumentParts → Type 0
 FitsOffer Nothing d = Unit {0}
-FitsOffer (Cells id layer cells) d = FitsCells layer cells.now d
+FitsOffer (Cells id layer cells) d = FitsCells layer cells d
 FitsOffer (Place object before after) d = FitsPut (placing_with_id object) before after d
-FitsOffer (Value owner name before kind value) d = FitsSetting owner name.now (option_copied before) (setting_with kind.now (scalar_value value)) d
+FitsOffer (Value owner name before after) d = FitsSetting owner name before after d
 
--- what a command offers: nothing exactly where it does not follow, else its tag and its undo
-pub record IsOfferOf (c : Change) (o : Offer) : Type 0 where
+-- what a command shows: nothing exactly where it does not follow, else its tag and its undo
+pub record IsOfferOf (c : Change) (o : Shown) : Type 0 where
   pub nothing : (c.names.follows ≡ false) ↔ (offer_tag o ≡ None)
   pub tag : c.names.follows ≡ true → offer_tag o ≡ c.names.tag
   pub fits : (d : DocumentParts) → c.names.follows ≡ true → c.fits_undo d → FitsOffer o d
   pub undone : (d : DocumentParts) → c.names.follows ≡ true → c.fits_undo d → offer_undone o d ≡ c.undone d
 
--- what a merge asks: the offer fits the document for undo, and the older command the document before it
-abbrev pub AsksMerge : Change → Offer → DocumentParts → Type 0
+-- what a merge asks: what is shown fits the document for undo, and the older command the document before it
+abbrev pub AsksMerge : Change → Shown → DocumentParts → Type 0
 AsksMerge v Nothing d = Unit {0}
 AsksMerge v o d = FitsOffer o d × v.fits_undo (offer_undone o d)
 
--- a command with this tag takes the offer in
-pub record Takes (t : Option Tag) (o : Offer) : Type 0 where
+-- a command with this tag takes in what is shown
+pub record Takes (t : Option Tag) (o : Shown) : Type 0 where
   pub some : offer_tag o ≡ None → ⊥
   pub same : offer_tag o ≡ t
 
 -- a merge made the command v the command w, which does both changes
-pub record IsMerged (v w : Change) (o : Offer) (d : DocumentParts) : Type 0 where
+pub record IsMerged (v w : Change) (o : Shown) (d : DocumentParts) : Type 0 where
   pub fits : w.fits_undo d
   pub undone : w.undone d ≡ v.undone (offer_undone o d)
   pub names : w.names ≡ v.names

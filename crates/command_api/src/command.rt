@@ -1,7 +1,7 @@
 ghost use Rattle.std.specs.Prelude.{◌≡◌, ◌↔◌, IfOk, IsTrue, Ok, true};
 ghost use Rattle.command_api.specs.Law.{Change, IsLawful, IsRedone, IsSame, IsUndone};
 ghost use Rattle.command_api.specs.Names.{is_free};
-ghost use Rattle.command_api.specs.Offers.{AsksMerge, IsMerged, IsOfferOf, Takes};
+ghost use Rattle.command_api.specs.Offers.{AsksMerge, IsMerged, IsOfferOf, Shown, Takes, shown_of};
 ghost use Rattle.command_api.specs.Tag.{id_of};
 
 use crate::offer::Offer;
@@ -15,6 +15,9 @@ use std::alloc::{AllocError, Global};
 pub trait Command: Drop {
     /// What the command is, and what its turns do to a document.
     ghost change: { Self → Change };
+
+    /// What the command shows to the one before it, made or not: a plain value.
+    ghost shown: { Self → Shown };
 
     /// The text that stands for the command in a list of steps. It stays the same for as long as the command lives.
     fn text(&self) -> &str
@@ -50,7 +53,8 @@ pub trait Command: Drop {
 
     /// What the command shows to the one before it: its change, where it follows, and else nothing.
     fn offer(&self) -> Offer<'_>
-        ensures { IsOfferOf (change self.now) result };
+        ensures answer { shown_of result ≡ shown self.now }
+        ensures law { IsOfferOf (change self.now) (shown self.now) };
 
     /// Takes a newer change in where it shows the command's own tag, and says whether it did. The document is the one after
     /// both changes, and this command stays the one that is made. Its texts, its tag and whether it follows stay.
@@ -62,15 +66,17 @@ pub trait Command: Drop {
         newer: &Offer<'_>,
         document: &Document,
     ) -> Result<bool, AllocError>
-        requires { AsksMerge (change self.old) newer.now document.now }
-        ensures answer { IfOk result (λ b. IsTrue b ↔ Takes (change self.old).names.tag newer.now) }
-        ensures merged { result ≡ Ok true → IsMerged (change self.old) (change self.new) newer.now document.now }
+        requires { AsksMerge (change self.old) (shown_of newer.now) document.now }
+        ensures answer { IfOk result (λ b. IsTrue b ↔ Takes (change self.old).names.tag (shown_of newer.now)) }
+        ensures merged { result ≡ Ok true → IsMerged (change self.old) (change self.new) (shown_of newer.now) document.now }
         ensures unchanged { (result ≡ Ok true → ⊥) → IsSame (change self.old) (change self.new) };
 }
 
 // A box is the command in it.
 impl Command for Box<dyn Command> {
     ghost change = { λ b. (Command-box b).change b.value };
+
+    ghost shown = { λ b. (Command-box b).shown b.value };
 
     fn text(&self) -> &str {
         (**self).text()

@@ -60,8 +60,11 @@ pub trait Lone: Exchange {
 
 impl<E: Lone> Command for E {
     ghost use Rattle.command_api.specs.Exchange.{change_of};
+    ghost use Rattle.command_api.specs.Offers.{Nothing};
 
     ghost change = { λ c. change_of (E.exchange_parts c) };
+
+    ghost shown = { λ c. Nothing };
 
     fn text(&self) -> &str {
         self.label().text

@@ -3,11 +3,12 @@ use Rattle.std.specs.Prelude.{◌≡◌, Option, None, Some, Result, Ok, Err, �
 use Rattle.map_model.specs.Document.{DocumentParts}
 use Rattle.command_api.specs.declared.fault.EditFault.{EditFault}
 use Rattle.command_api.specs.Law.{Change}
+use Rattle.command_api.specs.Offers.{Shown, Nothing}
 use Rattle.layer_commands.specs.Changes.{add_change, remove_change, rename_change, show_change, move_change, resize_change}
-use Rattle.object_commands.specs.Changes.{add_object_change, remove_object_change, place_object_change}
-use Rattle.property_commands.specs.PropertyChanges.{set_property_change, remove_property_change}
+use Rattle.object_commands.specs.Changes.{add_object_change, remove_object_change, place_object_change, place_object_shown}
+use Rattle.property_commands.specs.PropertyChanges.{set_property_change, set_property_shown, remove_property_change}
 use Rattle.property_commands.specs.TilesetChanges.{add_tileset_change, remove_tileset_change}
-use Rattle.paint_commands.specs.Painting.{paint_change}
+use Rattle.paint_commands.specs.Painting.{paint_change, paint_shown}
 use Rattle.paint_commands.specs.Selection.{select_change}
 use Rattle.undo_stack.specs.History.{History, current}
 use Rattle.undo_stack.specs.History as histories
@@ -45,6 +46,13 @@ edit_change (SetProperty command) = set_property_change command
 edit_change (RemoveProperty command) = remove_property_change command
 edit_change (AddTileset command) = add_tileset_change command
 edit_change (RemoveTileset command) = remove_tileset_change command
+
+-- what a planned edit shows to the step before it
+abbrev pub edit_shown : Edit → Shown
+edit_shown (Paint command) = paint_shown command
+edit_shown (PlaceObject command) = place_object_shown command
+edit_shown (SetProperty command) = set_property_shown command
+edit_shown edit = Nothing
 
 -- the command fits the active document
 abbrev pub FitsActive : Option History → Change → Type 0

@@ -28,9 +28,11 @@ macro_rules! with_command {
 }
 
 impl Command for Edit {
-    ghost use Rattle.editor.specs.Planning.{edit_change};
+    ghost use Rattle.editor.specs.Planning.{edit_change, edit_shown};
 
     ghost change = { edit_change };
+
+    ghost shown = { edit_shown };
 
     fn text(&self) -> &str {
         with_command!(self, command => command.text())

@@ -1,6 +1,6 @@
 // Paints on a stack: which of them are turned and dropped where one merges into the one before it.
 ghost use Rattle.std.specs.Prelude.{IfSome};
-ghost use Rattle.paint_commands.specs.Painting.{paint_change};
+ghost use Rattle.paint_commands.specs.Painting.{paint_change, paint_shown};
 ghost use Rattle.undo_stack.specs.Stacks.{Holds};
 
 use crate::paints::town;
@@ -33,6 +33,8 @@ impl Drop for CountedPaint {
 
 impl Command for CountedPaint {
     ghost change = { λ c. paint_change c.paint };
+
+    ghost shown = { λ c. paint_shown c.paint };
 
     fn text(&self) -> &str {
         self.paint.text()

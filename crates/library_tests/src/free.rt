@@ -1,5 +1,6 @@
 // Free commands: which of them go, what stands behind that, and which boxes were turned and dropped.
 ghost use Rattle.std.specs.Prelude.{◌≡◌};
+ghost use Rattle.command_api.specs.Offers.{Nothing};
 ghost use Rattle.library_tests.specs.Fading.{fading};
 ghost use Rattle.undo_stack.specs.Stacks.{Holds};
 
@@ -58,6 +59,8 @@ impl Fading {
 
 impl Command for Fading {
     ghost change = { λ c. fading c.turns_left };
+
+    ghost shown = { λ c. Nothing };
 
     fn text(&self) -> &str {
         ""

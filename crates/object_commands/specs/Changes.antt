@@ -1,5 +1,5 @@
 -- What each command is and does.
-use Rattle.std.specs.Prelude.{◌≡◌, ℕ, Bool, Some}
+use Rattle.std.specs.Prelude.{◌≡◌, ℕ, Bool, true, false, Some}
 use Rattle.map_model.specs.declared.parts.Placing.{Placing}
 use Rattle.map_model.specs.declared.place.ObjectPlace.{ObjectPlace}
 use Rattle.map_model.specs.Document.{DocumentParts}
@@ -9,6 +9,7 @@ use Rattle.map_model.specs.Slot.{object_slot, next_object_slot}
 use Rattle.map_model.specs.WellFormed.{IsPlacing}
 use Rattle.command_api.specs.Law.{Change}
 use Rattle.command_api.specs.Names.{Names}
+use Rattle.command_api.specs.Offers.{Shown, Nothing, Place}
 use Rattle.command_api.specs.Exchange.{Exchange, change_of}
 use Rattle.command_api.specs.Swap.{swap_shown}
 use Rattle.command_api.specs.Link.{link}
@@ -50,3 +51,12 @@ place_object_exchange c =
 
 abbrev pub place_object_change : PlaceObject → Change
 place_object_change c = change_of (place_object_exchange c)
+
+-- what a move that follows shows: the object, the placing that is held, and the one that it gives. A resize shows nothing
+abbrev pub shown_place : PlacingKind → Bool → ℕ → Placing → Placing → Shown
+shown_place Move false id held after = Nothing
+shown_place Move true id held after = Place id held after
+shown_place Resize follows id held after = Nothing
+
+abbrev pub place_object_shown : PlaceObject → Shown
+place_object_shown c = shown_place c.kind c.follows c.object c.placing c.after

@@ -4,7 +4,7 @@ ghost use Rattle.command_api.specs.declared.ids.TheConstants.{MOVE_ID};
 ghost use Rattle.command_api.specs.Making.{Makes};
 ghost use Rattle.command_api.specs.Tag.{OfObject};
 ghost use Rattle.edits.specs.ObjectEdits.{after_move_object, after_resize_object};
-ghost use Rattle.object_commands.specs.Changes.{place_object_change, place_object_exchange};
+ghost use Rattle.object_commands.specs.Changes.{place_object_change, place_object_exchange, place_object_shown};
 ghost use Rattle.object_commands.specs.Names.{move_object_names, resize_object_names};
 
 use crate::held_placing::HeldPlacing;
@@ -147,6 +147,8 @@ impl PlaceObject {
 
 impl Command for PlaceObject {
     ghost change = { place_object_change };
+
+    ghost shown = { place_object_shown };
 
     fn text(&self) -> &str {
         self.label().text

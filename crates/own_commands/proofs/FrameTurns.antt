@@ -15,15 +15,16 @@ use Rattle.edits.specs.Stamping.{IsBlock}
 use Rattle.command_api.specs.declared.fault.EditFault.{EditFault}
 use Rattle.command_api.specs.Exchange.{FitsTurn}
 use Rattle.command_api.specs.Making.{Makes}
-use Rattle.command_api.specs.Offers.{FitsCells}
+use Rattle.command_api.specs.Offers.{FitsCells, IsOfferOf}
+use Rattle.command_api.proofs.Offering.{follower-offered, nothing-offered}
 use Rattle.command_api.specs.Tag.{Subject, OfLayer, OfObject, OfName, Tag}
 use Rattle.paint_commands.specs.declared.paint.PaintKind.TheVariants.{Stamp}
 use Rattle.paint_commands.specs.Painting.{side_of}
 use Rattle.paint_commands.specs.Names.{stamp_names}
 use Rattle.paint_commands.proofs.Paints.{difference-settled, paint_made}
-use Rattle.paint_commands.proofs.Merges.{merged-undone, merged-IsDifference, merged-AreInRowOrder}
+use Rattle.paint_commands.proofs.Merges.{cells-offered, merged-undone, merged-IsDifference, merged-AreInRowOrder}
 use Rattle.own_commands.specs.declared.frame.Frame.{Frame}
-use Rattle.own_commands.specs.Framing.{frame_block, frame_change, frame_exchange, frame_names, frame_value}
+use Rattle.own_commands.specs.Framing.{frame_block, frame_change, frame_exchange, frame_names, frame_value, shown_frame}
 
 abbrev frame : ℕ → Bool → Bool → List CellEdit → Frame
 frame layer follows made cells = record { layer = layer; follows = follows; is_made = made; cells = cells }
@@ -50,7 +51,12 @@ frame_made d id after change follows is =
       names = ap (λ layer. frame_names layer follows) is.exact.layer;
     }
 
--- ---- a frame that takes a newer one in
+-- ---- what a frame shows, and a frame that takes a newer one in
+-- what a frame shows is a lawful offer
+pub frame-offered : (layer : ℕ) (follows made : Bool) (cells : List CellEdit) → IsOfferOf (frame_change (frame layer follows made cells)) (shown_frame follows layer cells)
+frame-offered layer false made cells = nothing-offered _ refl
+frame-offered layer true made cells = follower-offered _ _ refl refl (λ e. cc) (λ d f. cells-offered made layer cells d f.0 f.1.fits)
+
 -- the id that a tag names
 abbrev of_subject : Subject → ℕ
 of_subject (OfLayer id) = id

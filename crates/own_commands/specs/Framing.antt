@@ -1,12 +1,14 @@
 -- What a frame is and does. Like a paint, it holds the cells that differ between the documents on its two sides.
-use Rattle.std.specs.Prelude.{ℕ, ◌*◌, ◌/◌, ◌%◌, ◌-◌, Some, Bool, ◌||◌, codes, length, map, nat_eq, if◌then◌else◌}
+use Rattle.std.specs.Prelude.{ℕ, ◌*◌, ◌/◌, ◌%◌, ◌-◌, List, Some, Bool, true, false, ◌||◌, codes, length, map, nat_eq, if◌then◌else◌}
 use Rattle.std.specs.List.{range_with_len}
+use Rattle.map_model.specs.declared.edit.CellEdit.{CellEdit}
 use Rattle.map_model.specs.Document.{painted}
 use Rattle.edits.specs.declared.area.Area.{Area}
 use Rattle.edits.specs.Blocks.{ValueBlock}
 use Rattle.command_api.specs.Exchange.{Exchange, change_of}
 use Rattle.command_api.specs.Law.{Change}
 use Rattle.command_api.specs.Names.{Names, WhenEqual}
+use Rattle.command_api.specs.Offers.{Shown, Nothing, Cells}
 use Rattle.command_api.specs.Tag.{OfLayer}
 use Rattle.paint_commands.specs.Painting.{IsDifference, side_of}
 use Rattle.own_commands.specs.declared.frame.TheConstants.{FRAME_ID}
@@ -47,3 +49,11 @@ frame_exchange f = record {
 
 abbrev pub frame_change : Frame → Change
 frame_change f = change_of (frame_exchange f)
+
+-- it shows its cells where it follows
+abbrev pub shown_frame : Bool → ℕ → List CellEdit → Shown
+shown_frame false layer cells = Nothing
+shown_frame true layer cells = Cells FRAME_ID layer cells
+
+abbrev pub frame_shown : Frame → Shown
+frame_shown f = shown_frame f.follows f.layer f.cells

@@ -5,7 +5,7 @@ ghost use Rattle.edits.specs.Stamping.{after_stamp};
 ghost use Rattle.command_api.specs.Making.{IsRefusalOf, Makes};
 ghost use Rattle.command_api.specs.Tag.{OfLayer};
 ghost use Rattle.paint_commands.specs.Painting.{side_of};
-ghost use Rattle.own_commands.specs.Framing.{frame_block, frame_change, frame_exchange, frame_names, frame_value, is_end};
+ghost use Rattle.own_commands.specs.Framing.{frame_block, frame_change, frame_exchange, frame_names, frame_shown, frame_value, is_end};
 
 use command_api::{Command, Exchange, Label, Offer};
 use edits::{Area, Block, CellEdits, EditFault, joined_cells, stamp_change};
@@ -140,6 +140,8 @@ impl Exchange for Frame {
 
 impl Command for Frame {
     ghost change = { frame_change };
+
+    ghost shown = { frame_shown };
 
     fn text(&self) -> &str {
         self.label().text

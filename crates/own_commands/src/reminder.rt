@@ -1,4 +1,5 @@
 ghost use Rattle.std.specs.Prelude.{◌≡◌, ◌-◌};
+ghost use Rattle.command_api.specs.Offers.{Nothing};
 ghost use Rattle.own_commands.specs.Reminding.{reminder_change};
 
 use command_api::{Command, Offer};
@@ -38,6 +39,8 @@ impl Reminder {
 
 impl Command for Reminder {
     ghost change = { reminder_change };
+
+    ghost shown = { λ c. Nothing };
 
     fn text(&self) -> &str {
         self.text.as_str()

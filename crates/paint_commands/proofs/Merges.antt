@@ -1,4 +1,4 @@
--- A paint that takes a newer one in.
+-- What a paint shows, and a paint that takes a newer one in.
 use Rattle.std.proofs.Common.{◌≡◌, ℕ, ◌*◌, List, length, Bool, true, false, Option, None, Some, refl, sym, ap, ◌∙◌, subst, arith}
 use Rattle.map_model.specs.declared.edit.CellEdit.{CellEdit}
 use Rattle.map_model.specs.declared.edit.Side.TheVariants.{Before}
@@ -15,12 +15,13 @@ use Rattle.edits.proofs.RowOrder.{difference-AreInRowOrder}
 use Rattle.edits.proofs.Turns.{with_edits-back}
 use Rattle.command_api.specs.Exchange.{FitsTurn}
 use Rattle.command_api.specs.Names.{WhenEqual}
-use Rattle.command_api.specs.Offers.{FitsCells}
+use Rattle.command_api.specs.Offers.{FitsCells, IsOfferOf}
+use Rattle.command_api.proofs.Offering.{follower-offered, nothing-offered}
 use Rattle.command_api.specs.Tag.{Subject, OfLayer, OfObject, OfName, Tag}
 use Rattle.paint_commands.specs.declared.paint.PaintCommand.{PaintCommand}
 use Rattle.paint_commands.specs.declared.paint.PaintKind.{PaintKind}
 use Rattle.paint_commands.specs.declared.paint.PaintKind.TheVariants.{Stamp, Erase, Fill}
-use Rattle.paint_commands.specs.Painting.{IsDifference, paint_exchange, paint_names, side_of}
+use Rattle.paint_commands.specs.Painting.{IsDifference, paint_change, paint_exchange, paint_names, shown_cells, side_of}
 use Rattle.paint_commands.proofs.Paints.{difference-settled}
 
 module _ (layer : ℕ) (older newer : List CellEdit) (d : DocumentParts) (n : FitsCells layer newer d) (o : IsDifference true layer older (painted layer newer Before d)) where
@@ -95,6 +96,20 @@ paint-WhenEqual Fill layer follows = refl
 
 abbrev paint : PaintKind → ℕ → Bool → Bool → List CellEdit → PaintCommand
 paint k layer follows made cells = record { kind = k; layer = layer; follows = follows; is_made = made; cells = cells }
+
+-- cells that are made are the difference to the document before them
+pub cells-offered : (made : Bool) (layer : ℕ) (cells : List CellEdit) (d : DocumentParts) → (Some made ≡ Some false → ⊥) → IsDifference made layer cells d
+    → FitsCells layer cells d × (painted layer cells Before d ≡ painted layer cells (side_of made) d)
+cells-offered false layer cells d turn h = absurd (turn refl)
+cells-offered true layer cells d turn h = (record { well_formed = h.well_formed; tiles = h.tiles; exact = h.exact; back = h.back refl }, refl)
+
+-- what a paint shows is a lawful offer
+pub paint-offered : (k : PaintKind) (layer : ℕ) (follows made : Bool) (cells : List CellEdit) → IsOfferOf (paint_change (paint k layer follows made cells)) (shown_cells k follows layer cells)
+paint-offered Stamp layer false made cells = nothing-offered _ refl
+paint-offered Stamp layer true made cells = follower-offered _ _ refl refl (λ e. cc) (λ d f. cells-offered made layer cells d f.0 f.1.fits)
+paint-offered Erase layer false made cells = nothing-offered _ refl
+paint-offered Erase layer true made cells = follower-offered _ _ refl refl (λ e. cc) (λ d f. cells-offered made layer cells d f.0 f.1.fits)
+paint-offered Fill layer follows made cells = nothing-offered _ refl
 
 pub paint_merged : (k : PaintKind) (layer : ℕ) (follows made : Bool) (older newer : List CellEdit) (d : DocumentParts) → FitsCells layer newer d
     → FitsTurn false (paint_exchange (paint k layer follows made older)) (painted layer newer Before d)

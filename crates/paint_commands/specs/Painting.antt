@@ -12,6 +12,8 @@ use Rattle.map_model.specs.Difference.{difference_in}
 use Rattle.command_api.specs.Exchange.{Exchange, change_of}
 use Rattle.command_api.specs.Law.{Change}
 use Rattle.command_api.specs.Names.{Names}
+use Rattle.command_api.specs.Offers.{Shown, Nothing, Cells}
+use Rattle.command_api.specs.declared.ids.TheConstants.{STAMP_ID, ERASE_ID}
 use Rattle.paint_commands.specs.declared.paint.PaintCommand.{PaintCommand}
 use Rattle.paint_commands.specs.declared.paint.PaintKind.{PaintKind}
 use Rattle.paint_commands.specs.declared.paint.PaintKind.TheVariants.{Stamp, Erase, Fill}
@@ -53,6 +55,17 @@ paint_exchange c = record {
 
 abbrev pub paint_change : PaintCommand → Change
 paint_change c = change_of (paint_exchange c)
+
+-- what a paint of this kind shows: its cells where it follows, and a fill nothing
+abbrev pub shown_cells : PaintKind → Bool → ℕ → List CellEdit → Shown
+shown_cells Stamp false layer cells = Nothing
+shown_cells Stamp true layer cells = Cells STAMP_ID layer cells
+shown_cells Erase false layer cells = Nothing
+shown_cells Erase true layer cells = Cells ERASE_ID layer cells
+shown_cells Fill follows layer cells = Nothing
+
+abbrev pub paint_shown : PaintCommand → Shown
+paint_shown c = shown_cells c.kind c.follows c.layer c.cells
 
 -- the layer that a command paints
 abbrev pub painted_layer : PaintCommand → ℕ

@@ -7,7 +7,7 @@ ghost use Rattle.edits.specs.Filling.{after_fill};
 ghost use Rattle.edits.specs.Stamping.{after_erase, after_stamp, IsBlock};
 ghost use Rattle.command_api.specs.Tag.{OfLayer};
 ghost use Rattle.command_api.specs.Making.{IsRefusalOf, Makes};
-ghost use Rattle.paint_commands.specs.Painting.{new_paint, paint_change, paint_exchange, painted_layer, side_of};
+ghost use Rattle.paint_commands.specs.Painting.{new_paint, paint_change, paint_exchange, paint_shown, painted_layer, side_of};
 ghost use Rattle.paint_commands.specs.Names.{erase_names, fill_names, stamp_names};
 
 use command_api::ids::{ERASE_ID, STAMP_ID};
@@ -184,6 +184,8 @@ impl PaintCommand {
 
 impl Command for PaintCommand {
     ghost change = { paint_change };
+
+    ghost shown = { paint_shown };
 
     fn text(&self) -> &str {
         self.label().text

@@ -1,5 +1,5 @@
 -- Settings of properties, as they are turned, offered and merged.
-use Rattle.std.proofs.Common.{◌≡◌, ℕ, ◌+◌, ◌≤◌, List, length, Bool, true, false, true≢false, Bor, Option, Some, None, IsSome, IsSomeAnd, option_and_then, refl, sym, ap, ◌∙◌, subst, arith}
+use Rattle.std.proofs.Common.{◌≡◌, ℕ, ◌+◌, ◌≤◌, List, length, Bool, true, false, Bor, Option, Some, None, IsSome, IsSomeAnd, option_and_then, refl, sym, ap, ◌∙◌, subst, arith}
 use Rattle.std.specs.List.{slice_get, insert, position}
 use Rattle.std.specs.Option.{option_copied}
 use Rattle.map_model.specs.declared.owner.Owner.{Owner}
@@ -21,20 +21,19 @@ use Rattle.map_model.proofs.PropertyKeeps.{owner_level-with_properties}
 use Rattle.map_model.proofs.PropertyLaws.{properties-laws, property_slot-laws}
 use Rattle.map_model.proofs.StayPut.{setting_place-added, setting_named-keeps, setting_named-laws, without_setting-none, without-put, new_property-put}
 use Rattle.command_api.specs.declared.ids.TheConstants.{SET_ID}
-use Rattle.command_api.specs.declared.offer.Offer.{Offer}
-use Rattle.command_api.specs.declared.offer.Offer.TheVariants.{Value}
 use Rattle.command_api.specs.Exchange.{FitsTurn, IsExchanged, change_of}
 use Rattle.command_api.specs.Names.{Names, WhenEqual}
 use Rattle.command_api.specs.Link.{link, turned_link}
-use Rattle.command_api.specs.Offers.{FitsNew, FitsPut, FitsSetting, IsMerged, IsOfferOf, offer_undone, setting_undone}
+use Rattle.command_api.specs.Offers.{FitsNew, FitsPut, FitsSetting, IsMerged, IsOfferOf, Shown, Value, offer_undone, setting_undone}
 use Rattle.command_api.specs.Swap.{FitsShown}
 use Rattle.command_api.specs.Tag.{OfName}
 use Rattle.command_api.proofs.Links.{place_in-differs}
+use Rattle.command_api.proofs.Offering.{follower-offered, nothing-offered}
 use Rattle.command_api.proofs.Swaps.{shown_merged, shown_offered}
 use Rattle.property_commands.specs.declared.set.PropertySet.{PropertySet}
 use Rattle.property_commands.specs.declared.set.SetKind.{SetKind}
 use Rattle.property_commands.specs.declared.set.SetKind.TheVariants.{Replace, Add}
-use Rattle.property_commands.specs.PropertyChanges.{AllowsSetting, FitsNewLink, IsKindFor, IsNewAt, before_of, new_link, property_set_change, set_kind_exchange}
+use Rattle.property_commands.specs.PropertyChanges.{AllowsSetting, FitsNewLink, IsKindFor, IsNewAt, before_of, new_link, property_set_change, property_set_shown, set_kind_exchange, shown_setting}
 use Rattle.property_commands.specs.Names.{set_property_names}
 
 -- ---- a property that is there
@@ -171,7 +170,7 @@ module _ (owner : Owner) (name : List ℕ) (place : OwnerPlace) (at : ℕ) where
         place_in-differs (properties place) (properties-laws place) at (new_property name s) e free (sym put_in-is ∙ sym same)
 
   -- a newer setting of the property is taken in
-  pub new_link-merged : (names : Names) (s before newer : Setting) (d : DocumentParts) (o : Offer) → names.vanishing ≡ WhenEqual → FitsPut (setting_named owner name) before newer d
+  pub new_link-merged : (names : Names) (s before newer : Setting) (d : DocumentParts) (o : Shown) → names.vanishing ≡ WhenEqual → FitsPut (setting_named owner name) before newer d
       → offer_undone o d ≡ put (setting_named owner name) before d → FitsTurn false (new_link names owner name place at s None) (offer_undone o d)
       → IsMerged (change_of (new_link names owner name place at s None)) (change_of (new_link names owner name place at newer None)) o d
   new_link-merged names s before newer d o vanishes fits is older =
@@ -216,7 +215,7 @@ module _ (names : Names) (owner : Owner) (name : List ℕ) (place : OwnerPlace) 
           let there = made-stands s kind (without_setting owner name d) older in
           cc
 
-  pub kind-merged : (s newer : Setting) (kind next : SetKind) (before : Option Setting) (d : DocumentParts) (o : Offer) → names.vanishing ≡ WhenEqual → IsKindFor newer kind next
+  pub kind-merged : (s newer : Setting) (kind next : SetKind) (before : Option Setting) (d : DocumentParts) (o : Shown) → names.vanishing ≡ WhenEqual → IsKindFor newer kind next
       → FitsSetting owner name before newer d → offer_undone o d ≡ setting_undone owner name before d → FitsTurn false (set_kind_exchange names owner name place at s kind) (offer_undone o d)
       → IsMerged (change_of (set_kind_exchange names owner name place at s kind)) (change_of (set_kind_exchange names owner name place at newer next)) o d
   kind-merged s newer kind next None d o vanishes kin fits is older = absurd (new-clash s newer kind d fits (rw is at older))
@@ -235,24 +234,32 @@ kind-names names owner name place at s (Add held) = refl
 pub set-names : (s : PropertySet) → (property_set_change s).names ≡ set_property_names s.owner s.name s.follows
 set-names s = kind-names (set_property_names s.owner s.name s.follows) s.owner s.name s.place s.at (given_setting s.shown) s.kind
 
--- what is set is offered, where it follows
-pub set-offered : (s : PropertySet) (name kind : Bor (List ℕ)) (before : Option (Bor Setting)) (value : Scalar) → s.follows ≡ true → name.now ≡ s.name → option_copied before ≡ before_of s.kind
-    → kind.now ≡ (given_setting s.shown).kind → scalar_value value ≡ (given_setting s.shown).value → IsOfferOf (property_set_change s) (Value s.owner name before kind value)
-set-offered s name kind before value follows is_name is_before is_kind is_value =
-    let names = set_property_names s.owner s.name s.follows in
-    let does : (property_set_change s).names.follows ≡ true = ap (λ (n : Names). n.follows) (set-names s) ∙ follows in
+-- what is set, where it follows, is what an offer of it shows
+pub set-shown : (s : PropertySet) (name kind : Bor (List ℕ)) (held : Option (Bor Setting)) (value : Scalar) → s.follows ≡ true → name.now ≡ s.name → option_copied held ≡ before_of s.kind
+    → kind.now ≡ (given_setting s.shown).kind → scalar_value value ≡ (given_setting s.shown).value
+    → Value s.owner name.now (option_copied held) (setting_with kind.now (scalar_value value)) ≡ property_set_shown s
+set-shown s name kind held value follows is_name is_before is_kind is_value =
     let setting : setting_with kind.now (scalar_value value) ≡ given_setting s.shown = λ i. record { kind = is_kind i; value = is_value i } in
-    record {
-      nothing = (λ e. absurd (true≢false (sym does ∙ e)), λ e. cc);
-      tag = λ e. ap (λ (n : List ℕ). Some (record { kind = SET_ID; subject = OfName s.owner n })) is_name ∙ sym (ap (λ (n : Names). n.tag) (set-names s));
-      fits = λ d e f.
-          let own = (kind-offered names s.owner s.name s.place s.at (given_setting s.shown) s.kind d f).0 in
-          rw (is_name, is_before) (subst (λ (g : Setting). FitsSetting s.owner s.name (before_of s.kind) g d) (sym setting) own);
-      undone = λ d e f. rw (is_name, is_before) (kind-offered names s.owner s.name s.place s.at (given_setting s.shown) s.kind d f).1;
-    }
+    (λ i. Value s.owner (is_name i) (is_before i) (setting i)) ∙ sym (ap (λ b. shown_setting b s.owner s.name (before_of s.kind) (given_setting s.shown)) follows)
+
+-- it is a lawful offer
+pub set-offered : (s : PropertySet) → IsOfferOf (property_set_change s) (property_set_shown s)
+set-offered s = by_follows s.follows refl
+  where
+    names : Names
+    names = set_property_names s.owner s.name s.follows
+
+    does : (property_set_change s).names.follows ≡ s.follows
+    does = ap (λ (n : Names). n.follows) (set-names s)
+
+    by_follows : (follows : Bool) → s.follows ≡ follows → IsOfferOf (property_set_change s) (shown_setting follows s.owner s.name (before_of s.kind) (given_setting s.shown))
+    by_follows false alone = nothing-offered (property_set_change s) (does ∙ alone)
+    by_follows true after =
+        follower-offered (property_set_change s) (Value s.owner s.name (before_of s.kind) (given_setting s.shown)) (does ∙ after) (sym (ap (λ (n : Names). n.tag) (set-names s))) (λ e. cc)
+        (kind-offered names s.owner s.name s.place s.at (given_setting s.shown) s.kind)
 
 -- what is set takes a newer setting in
-pub set-merged : (s t : PropertySet) (shown : GivenSetting) (kind : SetKind) (before : Option Setting) (d : DocumentParts) (o : Offer) → t ≡ record s { shown = shown; kind = kind }
+pub set-merged : (s t : PropertySet) (shown : GivenSetting) (kind : SetKind) (before : Option Setting) (d : DocumentParts) (o : Shown) → t ≡ record s { shown = shown; kind = kind }
     → IsKindFor (given_setting shown) s.kind kind → FitsSetting s.owner s.name before (given_setting shown) d → offer_undone o d ≡ setting_undone s.owner s.name before d
     → (property_set_change s).fits_undo (offer_undone o d) → IsMerged (property_set_change s) (property_set_change t) o d
 set-merged s t shown kind before d o is kin fits undone older =

@@ -1,5 +1,5 @@
 -- What each command of properties is and does.
-use Rattle.std.specs.Prelude.{◌≡◌, ◌↔◌, ℕ, List, length, Bool, false, Option, Some, None, is_none, IsSomeAnd, IsTrue}
+use Rattle.std.specs.Prelude.{◌≡◌, ◌↔◌, ℕ, List, length, Bool, true, false, Option, Some, None, is_none, IsSomeAnd, IsTrue}
 use Rattle.map_model.specs.declared.owner.Owner.{Owner}
 use Rattle.map_model.specs.declared.parts.Property.{Property}
 use Rattle.map_model.specs.declared.place.OwnerPlace.{OwnerPlace}
@@ -10,6 +10,7 @@ use Rattle.map_model.specs.Properties.{IsSetting, new_property, owner_place, pro
 use Rattle.map_model.specs.PropertyLenses.{property_slot, setting_named, setting_place}
 use Rattle.command_api.specs.Law.{Change}
 use Rattle.command_api.specs.Names.{Names}
+use Rattle.command_api.specs.Offers.{Shown, Nothing, Value}
 use Rattle.command_api.specs.Exchange.{Exchange, change_of}
 use Rattle.command_api.specs.Swap.{swap_shown}
 use Rattle.command_api.specs.Link.{link, linked, FitsLink}
@@ -73,6 +74,17 @@ set_property_change c = change_of (set_property_exchange c)
 abbrev pub before_of : SetKind → Option Setting
 before_of (Replace setting is_made is_same) = Some setting
 before_of (Add property) = None
+
+-- what is shown where the command follows: the property, the setting that is held, where it was there, and the one that it gets
+abbrev pub shown_setting : Bool → Owner → List ℕ → Option Setting → Setting → Shown
+shown_setting false owner name held after = Nothing
+shown_setting true owner name held after = Value owner name held after
+
+abbrev pub property_set_shown : PropertySet → Shown
+property_set_shown s = shown_setting s.follows s.owner s.name (before_of s.kind) (given_setting s.shown)
+
+abbrev pub set_property_shown : SetProperty → Shown
+set_property_shown c = property_set_shown c.set.value
 
 -- a kind of setting as it is for another setting that is given: one that replaces is the same where it holds that one
 abbrev pub IsKindFor : Setting → SetKind → SetKind → Type 0

@@ -7,10 +7,10 @@ ghost use Rattle.map_model.specs.Properties.{new_property, scalar_value, setting
 ghost use Rattle.command_api.specs.declared.ids.TheConstants.{SET_ID};
 ghost use Rattle.command_api.specs.Exchange.{FitsExchange, IsExchanged};
 ghost use Rattle.command_api.specs.Making.{IsRefusalOf, Makes};
-ghost use Rattle.command_api.specs.Offers.{IsOfferOf};
+ghost use Rattle.command_api.specs.Offers.{IsOfferOf, shown_of};
 ghost use Rattle.command_api.specs.Tag.{OfName};
 ghost use Rattle.edits.specs.PropertyEdits.{after_set_property};
-ghost use Rattle.property_commands.specs.PropertyChanges.{IsKindFor, before_of, property_set_change, property_set_exchange, set_property_change, set_property_exchange};
+ghost use Rattle.property_commands.specs.PropertyChanges.{IsKindFor, before_of, property_set_change, property_set_exchange, property_set_shown, set_property_change, set_property_exchange, set_property_shown};
 ghost use Rattle.property_commands.specs.Names.{set_property_names};
 
 use crate::link::exchange_property;
@@ -215,6 +215,8 @@ impl Exchange for SetProperty {
 impl Command for SetProperty {
     ghost change = { set_property_change };
 
+    ghost shown = { set_property_shown };
+
     fn text(&self) -> &str {
         self.label().text
     }
@@ -311,7 +313,8 @@ impl PropertySet {
 
     // What is shown to the step before: the type and the value, and those of before, where there were some.
     fn offer(&self) -> Offer<'_>
-        ensures { IsOfferOf (property_set_change self.now) result }
+        ensures answer { shown_of result ≡ property_set_shown self.now }
+        ensures law { IsOfferOf (property_set_change self.now) (property_set_shown self.now) }
     {
         if !self.follows {
             return Offer::Nothing;

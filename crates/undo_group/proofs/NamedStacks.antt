@@ -1,5 +1,5 @@
 -- The stacks of a group by name, as documents: what a look-up, a number and each change of them say of the group.
-use Rattle.std.proofs.Common.{◌≡◌, ℕ, zero, suc, ◌++◌, List, [], ◌∷◌, map, take, drop, remove, slice_get, position, Bool, false, Option, Some, is_some, All, refl, ◌∙◌, ap, arith, ◌<◌, ◌-◌, length}
+use Rattle.std.proofs.Common.{◌≡◌, ℕ, zero, suc, ◌++◌, List, [], ◌∷◌, map, take, drop, remove, slice_get, position, Bool, false, Option, Some, None, is_some, All, refl, ◌∙◌, ap, arith, ◌<◌, ◌-◌, length}
 use Rattle.std.proofs.lemmas.Bool.Decides.{nat_tests}
 use Rattle.std.proofs.lemmas.Grind.{common_steps, elements}
 use Rattle.std.proofs.lemmas.List.{length-map, map-append}
@@ -23,7 +23,7 @@ use Rattle.undo_stack.specs.Stacks.{history, Holds}
 use Rattle.undo_stack.specs.declared.stack.Stack.{Stack}
 use Rattle.undo_stack.specs.History.{History}
 use Rattle.undo_group.specs.Groups.{IsNew, AreDistinct, history_named, with_history, removed, GroupParts, added, chosen}
-use Rattle.undo_group.specs.Stacks.{document_of, documents_of, name_at, group_at, number_without, group_of, AreHeld}
+use Rattle.undo_group.specs.Stacks.{document_of, documents_of, name_at, group_at, named, number_without, group_of, stacks_of, AreHeld, IsReplacedAt, IsTakenOut, NamedStack}
 use Rattle.undo_group.specs.declared.group.Group.{Group}
 use Rattle.undo_group.specs.Lending.{IsLeft}
 use Rattle.undo_group.proofs.Documents.{history_named-at, with_history-new, group_at-remove}
@@ -80,6 +80,42 @@ module _ {C : Type 0} (f : C → Change) {Y : Type 0} where
       let distinct = AreDistinct-documents_of es unique in
       grind (arith, map-remove (document_of f) es i, group_at-remove (documents_of f es) i (document_of f e) number distinct, slice_get-map (document_of f) es i, name_at-found name es i found)
 
+-- ---- the stacks themselves
+module _ {C : Type 0} {Y : Type 0} where
+  -- a key and its stack, as a stack that is open under a name
+  abbrev named_of : String Y × Stack C → NamedStack C
+  named_of e = named (string_bytes e.0) e.1
+
+  -- the entry at a number stands between those before it and those behind it
+  between : (es : List (String Y × Stack C)) (i : ℕ) (e : String Y × Stack C) → slice_get es i ≡ Some e → es ≡ take i es ++ e ∷ drop (suc i) es
+  between [] i e at = absurd cc
+  between (x ∷ es) zero e at = ap (λ y. y ∷ es) (some-eq x e at)
+    where
+      some-eq : (v w : String Y × Stack C) → Some v ≡ Some w → v ≡ w
+      some-eq v w q = cc
+  between (x ∷ es) (suc i) e at = ap (λ ys. x ∷ ys) (between es i e at)
+
+  set_value_at-between : (es : List (String Y × Stack C)) (i : ℕ) (e : String Y × Stack C) (w : Stack C) → slice_get es i ≡ Some e
+      → set_value_at es i w ≡ take i es ++ (e.0, w) ∷ drop (suc i) es
+  set_value_at-between [] i e w at = absurd cc
+  set_value_at-between (x ∷ es) zero e w at = ap (λ (y : String Y × Stack C). (y.0, w) ∷ es) (some-eq x e at)
+    where
+      some-eq : (v u : String Y × Stack C) → Some v ≡ Some u → v ≡ u
+      some-eq v u q = cc
+  set_value_at-between (x ∷ es) (suc i) e w at = ap (λ ys. x ∷ ys) (set_value_at-between es i e w at)
+
+  -- the stack that was found by a name is taken out
+  pub taken-found : (name : List ℕ) (es : List (String Y × Stack C)) (i : ℕ) (e : String Y × Stack C) → position (is_name name) (keys_of es) ≡ Some i
+      → slice_get es i ≡ Some e → IsTakenOut name (map named_of es) e.1 (map named_of (remove es i))
+  taken-found name es i e found at =
+      let same : string_bytes e.0 ≡ name = grind (arith, gets, slice_get-map, bytes_eq-Decides, position-Some (is_name name) (keys_of es) i e.0 found) in
+      record {
+        first = map named_of (take i es);
+        rest = map named_of (drop (suc i) es);
+        was = ap (map named_of) (between es i e at) ∙ map-append named_of (take i es) (e ∷ drop (suc i) es) ∙ ap (λ n. map named_of (take i es) ++ named n e.1 ∷ map named_of (drop (suc i) es)) same;
+        left = map-append named_of (take i es) (drop (suc i) es);
+      }
+
 module _ {C : Type 0} (f : C → Change) (g : Group C) where
   -- the stack at the active number is written
   pub IsLeft-set_value_at : (i : ℕ) (w : Stack C) → IsDistinct string_eq (keys_of g.stacks.entries) → g.active ≡ Some i → AreHeld f g → Holds f w
@@ -89,15 +125,33 @@ module _ {C : Type 0} (f : C → Change) (g : Group C) where
       record {
         sound = record { stacks = All-set_value_at f es i w holds held.stacks; within = rw (length-set_value_at es i w) held.within };
         group = grind (arith, gets, documents_of-set_value_at f es i, AreDistinct-documents_of f es unique, slice_get-map, held.within);
+        stacks = by_entry (slice_get es i) refl;
       }
+    where
+      -- the active name is that of the entry at the number
+      by_entry : (o : Option (String Global × Stack C)) → slice_get g.stacks.entries i ≡ o
+          → IsReplacedAt (group_of f g).active (stacks_of g) w (map named_of (set_value_at g.stacks.entries i w))
+      by_entry None none = absurd (grind (arith, gets, held.within))
+      by_entry (Some e) at =
+          let es = g.stacks.entries in
+          let name : (group_of f g).active ≡ Some (string_bytes e.0) = grind (arith, gets, slice_get-map) in
+          rw name (
+          record {
+            stack = e.1;
+            first = map named_of (take i es);
+            rest = map named_of (drop (suc i) es);
+            was = ap (map named_of) (between es i e at) ∙ map-append named_of (take i es) (e ∷ drop (suc i) es);
+            is = ap (map named_of) (set_value_at-between es i e w at) ∙ map-append named_of (take i es) ((e.0, w) ∷ drop (suc i) es);
+          }
+          )
 
   -- a stack of a new name goes last
   module _ (new : Group C) (name : List ℕ) (key : String Global) (stack : Stack C)
-      (named : string_bytes key ≡ name) (absent : is_some (lookup (is_name name) g.stacks.entries) ≡ false)
+      (named_so : string_bytes key ≡ name) (absent : is_some (lookup (is_name name) g.stacks.entries) ≡ false)
       (inserted : new.stacks.entries ≡ insert_entry string_eq g.stacks.entries key stack) (active : new.active ≡ g.active) (held : AreHeld f g) where
     stacks-added : new.stacks.entries ≡ g.stacks.entries ++ (key, stack) ∷ []
     stacks-added =
-        let none : is_some (lookup (string_eq key) g.stacks.entries) ≡ false = ap (λ n. is_some (lookup (is_name n) g.stacks.entries)) named ∙ absent in
+        let none : is_some (lookup (string_eq key) g.stacks.entries) ≡ false = ap (λ n. is_some (lookup (is_name n) g.stacks.entries)) named_so ∙ absent in
         grind (arith, insert_entry-new string_eq g.stacks key stack)
 
     pub AreHeld-added : Holds f stack → AreHeld f new
@@ -105,6 +159,12 @@ module _ {C : Type 0} (f : C → Change) (g : Group C) where
       stacks = rw stacks-added (All-push (λ e. Holds f e.1) g.stacks.entries (key, stack) held.stacks holds);
       within = grind (arith, common_steps, stacks-added, held.within);
     }
+
+    pub stacks_of-added : stacks_of new ≡ stacks_of g ++ named name stack ∷ []
+    stacks_of-added =
+        ap (map named_of) stacks-added
+        ∙ map-append named_of g.stacks.entries ((key, stack) ∷ [])
+        ∙ ap (λ n. stacks_of g ++ named n stack ∷ []) named_so
 
     pub group_of-added : group_of f new ≡ added name (history f stack) (group_of f g)
     group_of-added = grind (arith, common_steps, gets, stacks-added, map-append (document_of f) g.stacks.entries, length-map, held.within)

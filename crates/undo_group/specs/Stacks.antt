@@ -1,5 +1,5 @@
 -- A group of stacks, seen as a group of histories, where f says what their commands do.
-use Rattle.std.specs.Prelude.{ℕ, ◌-◌, ◌<◌, ◌==◌, nat_lt, if◌then◌else◌, List, map, length, Option, Some, None, IsSome, IfSome, All, slice_get}
+use Rattle.std.specs.Prelude.{◌≡◌, ℕ, ◌-◌, ◌<◌, ◌==◌, nat_lt, if◌then◌else◌, List, ◌∷◌, ◌++◌, map, length, Option, Some, None, IsSome, IfSome, All, slice_get}
 use Rattle.std.specs.Option.{option_map}
 use Rattle.std.specs.String.{string_bytes}
 use Rattle.std.specs.declared.string.String.{String}
@@ -32,6 +32,39 @@ group_at ds number = record { documents = ds; active = name_at ds number }
 -- the group that it stands for
 abbrev pub group_of : {C : Type 0} → (C → Change) → Group C → GroupParts
 group_of f g = group_at (documents_of f g.stacks.entries) g.active
+
+-- ---- the stacks themselves
+-- a stack that is open under a name
+pub record NamedStack (C : Type 0) : Type 0 where
+  pub name : List ℕ
+  pub stack : Stack C
+
+abbrev pub named : {C : Type 0} → List ℕ → Stack C → NamedStack C
+named name s = record { name = name; stack = s }
+
+-- the stacks of a group, in order of opening
+abbrev pub stacks_of : {C : Type 0} → Group C → List (NamedStack C)
+stacks_of g = map (λ e. named (string_bytes e.0) e.1) g.stacks.entries
+
+-- taking the stack s of this name out of the stacks old leaves new
+pub record IsTakenOut {C : Type 0} (name : List ℕ) (old : List (NamedStack C)) (s : Stack C) (new : List (NamedStack C)) : Type 0 where
+  pub first : List (NamedStack C)
+  pub rest : List (NamedStack C)
+  pub was : old ≡ first ++ named name s ∷ rest
+  pub left : new ≡ first ++ rest
+
+-- the stack of this name is s in new, and all others are as in old
+pub record IsReplaced {C : Type 0} (name : List ℕ) (old : List (NamedStack C)) (s : Stack C) (new : List (NamedStack C)) : Type 0 where
+  pub stack : Stack C
+  pub first : List (NamedStack C)
+  pub rest : List (NamedStack C)
+  pub was : old ≡ first ++ named name stack ∷ rest
+  pub is : new ≡ first ++ named name s ∷ rest
+
+-- so it is with the stack of the active name, where there is one
+abbrev pub IsReplacedAt : {C : Type 0} → Option (List ℕ) → List (NamedStack C) → Stack C → List (NamedStack C) → Type 0
+IsReplacedAt None old s new = new ≡ old
+IsReplacedAt (Some name) old s new = IsReplaced name old s new
 
 -- the stacks hold, and the number of the active one is among them
 pub record AreHeld {C : Type 0} (f : C → Change) (g : Group C) : Type 0 where

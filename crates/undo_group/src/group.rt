@@ -1,4 +1,4 @@
-ghost use Rattle.std.specs.Prelude.{◌≡◌, map, IsSome, IfOk, IfErr, IfSome, IsSomeAnd, OnSome, OnOk, Some};
+ghost use Rattle.std.specs.Prelude.{◌≡◌, [], ◌∷◌, ◌++◌, map, IsSome, IfOk, IfErr, IfSome, IsSomeAnd, OnSome, OnOk, Some};
 ghost use Rattle.std.specs.Borrow.{sem};
 ghost use Rattle.std.specs.Option.{option_map, option_copied};
 ghost use Rattle.undo_stack.specs.History.{is_clean};
@@ -6,7 +6,7 @@ ghost use Rattle.undo_stack.specs.Reading.{undo_text_of, redo_text_of};
 ghost use Rattle.undo_stack.specs.Stacks.{history, Holds};
 ghost use Rattle.undo_group.specs.Groups.{history_named, active_history, text_of_active, is_clean_active, IsNew, IsGroup, empty_group, added, removed, chosen};
 ghost use Rattle.undo_group.specs.Lending.{LendsActive};
-ghost use Rattle.undo_group.specs.Stacks.{group_of, number_without, AreHeld, IsNotAdded};
+ghost use Rattle.undo_group.specs.Stacks.{group_of, named, number_without, stacks_of, AreHeld, IsNotAdded, IsTakenOut};
 
 use crate::names::Names;
 use command_api::Command;
@@ -47,6 +47,7 @@ impl<C: Command> Group<C> {
     pub fn new(alloc: Global) -> Group<C>
         ensures sound { AreHeld C.change result }
         ensures group { group_of C.change result ≡ empty_group }
+        ensures stacks { stacks_of result ≡ [] }
     {
         Group {
             stacks: IndexMap::new(alloc),
@@ -64,7 +65,9 @@ impl<C: Command> Group<C> {
         ensures sound { AreHeld C.change self.new }
         ensures new { OnOk result (IsNew name.now (group_of C.change self.old).documents) }
         ensures added { OnOk result (group_of C.change self.new ≡ added name.now (history C.change stack) (group_of C.change self.old)) }
+        ensures last { OnOk result (stacks_of self.new ≡ stacks_of self.old ++ named name.now stack ∷ []) }
         ensures unchanged { IfErr result (λ _. group_of C.change self.new ≡ group_of C.change self.old) }
+        ensures stacks { IfErr result (λ _. stacks_of self.new ≡ stacks_of self.old) }
         ensures stack { IfErr result (λ refused. refused.stack ≡ stack) }
         ensures fault { IfErr result (λ refused. IsNotAdded name.now (group_of C.change self.old).documents refused.fault) }
     {
@@ -104,7 +107,9 @@ impl<C: Command> Group<C> {
         ensures sound { AreHeld C.change self.new }
         ensures new { OnOk result (IsNew name.now (group_of C.change self.old).documents) }
         ensures added { OnOk result (group_of C.change self.new ≡ chosen (Some name.now) (added name.now (history C.change stack) (group_of C.change self.old))) }
+        ensures last { OnOk result (stacks_of self.new ≡ stacks_of self.old ++ named name.now stack ∷ []) }
         ensures unchanged { IfErr result (λ _. group_of C.change self.new ≡ group_of C.change self.old) }
+        ensures stacks { IfErr result (λ _. stacks_of self.new ≡ stacks_of self.old) }
         ensures stack { IfErr result (λ refused. refused.stack ≡ stack) }
         ensures fault { IfErr result (λ refused. IsNotAdded name.now (group_of C.change self.old).documents refused.fault) }
     {
@@ -115,8 +120,8 @@ impl<C: Command> Group<C> {
         Ok(())
     }
 
-    /// Takes a document out, and leaves the others in their order. Where it was the active one, none is active. Takes no
-    /// memory.
+    /// Takes a document out, gives its stack, and leaves the others in their order. Where it was the active one, none is
+    /// active. Takes no memory.
     ///
     /// The answer is `NoSuchDocument` where no document of that name is open, and the group is then as it was.
     pub fn remove(&mut self, name: &str) -> Result<Stack<C>, GroupFault>
@@ -124,10 +129,12 @@ impl<C: Command> Group<C> {
         ensures sound { AreHeld C.change self.new }
         ensures held { IfOk result (λ stack. Holds C.change stack) }
         ensures stack { IfOk result (λ stack. history_named name.now (group_of C.change self.old).documents ≡ Some (history C.change stack)) }
+        ensures taken { IfOk result (λ stack. IsTakenOut name.now (stacks_of self.old) stack (stacks_of self.new)) }
         ensures removed { IfOk result (λ _. group_of C.change self.new ≡ removed name.now (group_of C.change self.old)) }
         ensures fault { IfErr result (λ fault. fault ≡ GroupFault.NoSuchDocument) }
         ensures none { IfErr result (λ _. IsNew name.now (group_of C.change self.old).documents) }
         ensures unchanged { IfErr result (λ _. group_of C.change self.new ≡ group_of C.change self.old) }
+        ensures stacks { IfErr result (λ _. stacks_of self.new ≡ stacks_of self.old) }
     {
         let Some(at) = self.stacks.get_index_of(name) else {
             return Err(GroupFault::NoSuchDocument);
@@ -148,6 +155,7 @@ impl<C: Command> Group<C> {
         ensures fault { IfErr result (λ fault. fault ≡ GroupFault.NoSuchDocument) }
         ensures none { IfErr result (λ _. IsSomeAnd name.entry (λ n. IsNew n.now (group_of C.change self.old).documents)) }
         ensures unchanged { IfErr result (λ _. group_of C.change self.new ≡ group_of C.change self.old) }
+        ensures stacks { stacks_of self.new ≡ stacks_of self.old }
     {
         let Some(name) = name else {
             self.active = None;

@@ -1,7 +1,7 @@
 ghost use Rattle.std.specs.Prelude.{◌≡◌, ◌≤◌, [], true, false, length, take, drop, map};
 ghost use Rattle.command_api.specs.Law.{IsRedone, IsUndone, IsLawful};
 ghost use Rattle.command_api.specs.Names.{is_free};
-ghost use Rattle.command_api.specs.Offers.{IsOfferOf};
+ghost use Rattle.command_api.specs.Offers.{IsOfferOf, shown_of};
 ghost use Rattle.undo_stack.specs.Calm.{is_gone, IsGone, IsLive};
 ghost use Rattle.undo_stack.specs.Entries.{entry_change, is_macro, nesting};
 ghost use Rattle.undo_stack.specs.Merging.{MergesChange};
@@ -133,7 +133,7 @@ impl<C: Command> Entry<C> {
         offer: &Offer<'_>,
         document: &Document,
     ) -> Result<bool, AllocError>
-        requires offer { IsOfferOf (C.change newer.now) offer.now }
+        requires offer { IsOfferOf (C.change newer.now) (shown_of offer.now) }
         requires newer { (C.change newer.now).fits_undo document.now }
         requires older { (entry_change C.change self.old).fits_undo ((C.change newer.now).undone document.now) }
         ensures merged { MergesChange (entry_change C.change self.old) (C.change newer.now) document.now result (entry_change C.change self.new) }
@@ -154,7 +154,7 @@ fn merge_commands<C: Command>(
     offer: &Offer<'_>,
     document: &Document,
 ) -> Result<bool, AllocError>
-    requires offer { IsOfferOf (C.change newer.now) offer.now }
+    requires offer { IsOfferOf (C.change newer.now) (shown_of offer.now) }
     requires newer { (C.change newer.now).fits_undo document.now }
     requires older { (C.change older.old).fits_undo ((C.change newer.now).undone document.now) }
     ensures { MergesChange (C.change older.old) (C.change newer.now) document.now result (C.change older.new) }

@@ -2,7 +2,7 @@ ghost use Rattle.std.specs.Prelude.{◌≡◌, ◌≤◌, ◌<◌, ◌+◌, ◌-
 ghost use Rattle.std.specs.VecDeque.{deque_capacity};
 ghost use Rattle.map_model.specs.Document.{DocumentParts};
 ghost use Rattle.command_api.specs.Names.{is_free};
-ghost use Rattle.command_api.specs.Offers.{IsOfferOf};
+ghost use Rattle.command_api.specs.Offers.{IsOfferOf, shown_of};
 ghost use Rattle.undo_stack.specs.History.{current, step_named};
 ghost use Rattle.undo_stack.specs.Pushing.{IsPushed, step_of, up_to, lowered, with_added};
 ghost use Rattle.undo_stack.specs.Calm.{IsLive};
@@ -132,7 +132,7 @@ impl<C: Command> Sequence<C> {
         offer: &Offer<'_>,
         document: &Document,
     ) -> Result<bool, AllocError>
-        requires offer { IsOfferOf (C.change command.now) offer.now }
+        requires offer { IsOfferOf (C.change command.now) (shown_of offer.now) }
         requires held { IsHeld C.change ((C.change command.now).undone document.now) self.old }
         requires fits { (C.change command.now).fits_undo document.now }
         ensures merged { MergesInto C.change command.now document.now self.old result self.new }
@@ -153,7 +153,7 @@ impl<C: Command> Sequence<C> {
         offer: &Offer<'_>,
         document: &Document,
     ) -> Result<bool, AllocError>
-        requires offer { IsOfferOf (C.change command.now) offer.now }
+        requires offer { IsOfferOf (C.change command.now) (shown_of offer.now) }
         requires held { IsHeld C.change ((C.change command.now).undone document.now) self.old }
         requires fits { (C.change command.now).fits_undo document.now }
         ensures merged { MergesInto C.change command.now document.now self.old result self.new }

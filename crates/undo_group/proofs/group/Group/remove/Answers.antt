@@ -1,8 +1,9 @@
-use Rattle.std.proofs.Common.{sym, ◌∙◌, arith}
+use Rattle.std.proofs.Common.{◌≡◌, sym, ◌∙◌, arith, position, Some}
 use Rattle.std.proofs.lemmas.Option.{slice_get-map, gets}
+use Rattle.std.specs.Map.{keys_of}
 use Rattle.undo_stack.specs.Stacks.{Holds}
 use Rattle.undo_group.proofs.Lookups.{All-at}
-use Rattle.undo_group.proofs.NamedStacks.{history_named-documents_of, AreHeld-removed, removed-found}
+use Rattle.undo_group.proofs.NamedStacks.{history_named-documents_of, AreHeld-removed, is_name, removed-found, taken-found}
 use Rattle.undo_group.proofs.group.Group.remove.Goals as goal
 
 pub returns-in_default-clause-none : goal.returns-in_default-clause-none
@@ -27,3 +28,10 @@ pub returns-clause-removed : goal.returns-clause-removed
 returns-clause-removed g c =
     let old = c.args.self.now in
     grind (arith, removed-found g.C.Command.change c.args.name.now old.stacks.entries c.in-Some.at c.unwrap-stack.result old.active, c.get_index_of.ensures.unique)
+
+pub returns-clause-taken : goal.returns-clause-taken
+returns-clause-taken g c =
+    let at = sym c.shift_remove_index.ensures.entry ∙ c.unwrap-stack.ensures in
+    let es = c.args.self.now.stacks.entries in
+    let found : position (is_name c.args.name.now) (keys_of es) ≡ Some c.in-Some.at = grind arith in
+    rw c.shift_remove_index.ensures.entries (taken-found c.args.name.now es c.in-Some.at c.unwrap-stack.result found at)
