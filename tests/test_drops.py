@@ -61,7 +61,10 @@ WAYS = {
         ['begin A', 'begin B', 'begin C', '{}', 'end', 'end', 'end', 'clear'],
         ['{}', 'clear'],
     ),
-    'in macros above a push': (['begin A', 'begin B', '{}', 'end', 'end', 'undo', PUSHED], [PUSHED]),
+    'in macros above a push': (
+        ['begin A', 'begin B', '{}', 'end', 'end', 'undo', PUSHED],
+        [PUSHED],
+    ),
     'closed': (['{}', CLOSED], [CLOSED]),
     'cleared and closed': (['{}', 'clear', CLOSED], [CLOSED]),
     'undone and closed': (['{}', 'undo', CLOSED], [CLOSED]),
@@ -104,8 +107,8 @@ VANISHED = [
 
 @functools.cache
 def counted(*lines):
-    """How many blocks there are behind lines on the document, none of which may be refused. What the
-    editor keeps for itself, as room for names, is there from the first document on."""
+    """How many blocks there are behind lines on the document, none of which may be refused. What
+    the editor keeps for itself, as room for names, is there from the first document on."""
     session = ''.join(f'{line}\n' for line in [*BEGUN, CLOSED, *BEGUN, *lines])
     done, _ = heard(session.encode(), env={'LD_PRELOAD': interposed('blocks.c')})
     refused = [reply for reply in done.stdout.splitlines() if reply.startswith(b'no ')]
@@ -144,7 +147,8 @@ def test_what_merges():
 def test_what_vanishes():
     cases = [Case(edit, [edit], ['status']) for edit in VANISHED]
     cases += [
-        Case(f'{edit} in a macro', ['begin M', edit, 'end'], ['begin M', 'end']) for edit in VANISHED
+        Case(f'{edit} in a macro', ['begin M', edit, 'end'], ['begin M', 'end'])
+        for edit in VANISHED
     ]
     cases += [Case(f'{older}, {newer}', [older, newer], ['dirty']) for older, newer in TURNED]
     check_each(cases, fault_of, CORES)
@@ -155,6 +159,7 @@ def test_that_steps_are_seen():
 
     def fault_of_step(case):
         standing, cleared = counted(case.given), counted(case.given, 'clear')
-        return None if standing > cleared else f'{standing} blocks, and {cleared} once it is cleared'
+        told = f'{standing} blocks, and {cleared} once it is cleared'
+        return None if standing > cleared else told
 
     check_each([Case(edit, edit, None) for edit in EDITS], fault_of_step, CORES)

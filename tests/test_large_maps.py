@@ -1,9 +1,10 @@
 """Runs the program on the largest maps that it takes: each cell of 1,048,576 set, the map saved,
 opened, resized and turned back; each cell painted by one step of many lines; a layer in base64; a
-selection of many runs; and each list filled to its limit and past it. No contract refuses a program that gives up above some size, so none of
-these may meet want of memory or leave anything out. The maps, the replies and the files are
-computed here, by the rules of docs/session-lines.md and docs/map-files.md. Each save must be synced
-before it takes the old file's place, which native/interpose.c sees."""
+selection of many runs; and each list filled to its limit and past it. No contract refuses a program
+that gives up above some size, so none of these may meet want of memory or leave anything out. The
+maps, the replies and the files are computed here, by the rules of docs/session-lines.md and
+docs/map-files.md. Each save must be synced before it takes the old file's place, which
+native/interpose.c sees."""
 import itertools
 import json
 import random
@@ -126,8 +127,8 @@ def all_cells():
 
 
 def strokes():
-    """Lines with a plus paint each cell, paint it anew, and erase it: each kind of them is one step,
-    of 1,048,576 cells."""
+    """Lines with a plus paint each cell, paint it anew, and erase it: each kind of them is one
+    step, of 1,048,576 cells."""
     run, rows = LargeRun('strokes'), range(0, SIDE, ROWS_OF_STAMP)
     first = Grid(SIDE, SIDE, [(x + y) % 9 + 1 for y in range(SIDE) for x in range(SIDE)])
     second = Grid(SIDE, SIDE, [(3 * x + y) % 9 + 1 for y in range(SIDE) for x in range(SIDE)])
