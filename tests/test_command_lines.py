@@ -3,12 +3,14 @@ on each output. The launchers at the top are tried too: by their names and by li
 what is in `bin/`. Besides, the program is run where its replies, its help and its version have
 nowhere to go."""
 import os
+import subprocess
 import tempfile
 from pathlib import Path
 
 from lib.cases import CORES, Case, check_each, unlike
 from lib.commands import first_lines
-from lib.places import BIN, EXAMPLES, TILE_EDITOR, TOP
+from lib.maps import map_of, text_of, tiles
+from lib.places import BIN, EXAMPLES, TILE_EDITOR, TOP, files_in
 
 ABOUT = (
     'Edits tile maps by session lines: '
@@ -74,6 +76,36 @@ def fault_of_words(case):
 
 def test_words():
     check_each(COMMAND_LINES, fault_of_words, CORES)
+
+
+def test_what_a_limit_and_a_folder_say():
+    """A document keeps so many steps, and a map is saved into that folder."""
+    row = tiles(1, 4, 3, name='Tile Layer 1', data=[5] * 4 + [0] * 8)
+    text = text_of(map_of(row, width=4, height=3, nextlayerid=2, nextobjectid=1))
+    rows = [
+        ('new town 4 3 16 16 t.tsj', 'ok 0/0 clean 0'),
+        ('stamp 1 0 0 1 5', 'ok 1/1 dirty 0'),
+        ('stamp 1 1 0 1 5', 'ok 2/2 dirty 0'),
+        ('stamp 1 2 0 1 5', 'ok 3/3 dirty 0'),
+        ('stamp 1 3 0 1 5', 'ok 3/3 dirty 0'),
+        ('save a.tmj', f'saved a.tmj {len(text)}'),
+    ]
+    with tempfile.TemporaryDirectory() as folder:
+        (Path(folder) / 'maps').mkdir()
+        done = subprocess.run(
+            [TILE_EDITOR, '--limit', '3', '--folder', 'maps'],
+            input=''.join(f'{line}\n' for line, _ in rows),
+            capture_output=True,
+            text=True,
+            cwd=folder,
+            timeout=60,
+        )
+        came = (done.returncode, done.stderr, done.stdout.split('\n')[:-1])
+        files = (os.listdir(folder), files_in(Path(folder) / 'maps'))
+    fault = unlike((0, '', [reply for _, reply in rows]), came) or unlike(
+        (['maps'], {'a.tmj': text}), files
+    )
+    assert not fault, fault
 
 
 def test_input_that_is_a_folder():

@@ -1,9 +1,10 @@
 """Runs the program on the largest maps that it takes: each cell of 1,048,576 set, the map saved,
-opened, resized and turned back; a layer in base64; a selection of many runs; and each list filled
-to its limit and past it. No contract refuses a program that gives up above some size, so none of
-these may meet want of memory or leave anything out. The maps, the replies and the files are
-computed here, by the rules of docs/session-lines.md and docs/map-files.md. Each save must be synced
-before it takes the old file's place, which native/interpose.c sees."""
+opened, resized and turned back; each cell painted by one step of many lines; a layer in base64; a
+selection of many runs; and each list filled to its limit and past it. No contract refuses a program
+that gives up above some size, so none of these may meet want of memory or leave anything out. The
+maps, the replies and the files are computed here, by the rules of docs/session-lines.md and
+docs/map-files.md. Each save must be synced before it takes the old file's place, which
+native/interpose.c sees."""
 import itertools
 import json
 import random
@@ -122,6 +123,36 @@ def all_cells():
     run.say('use big', f'ok {count}/{count} clean 0')
     run.say('goto 0', f'ok 0/{count} dirty 0')
     run.look(Grid(SIDE, SIDE, [0] * SIDE * SIDE))
+    return run
+
+
+def strokes():
+    """Lines with a plus paint each cell, paint it anew, and erase it: each kind of them is one
+    step, of 1,048,576 cells."""
+    run, rows = LargeRun('strokes'), range(0, SIDE, ROWS_OF_STAMP)
+    first = Grid(SIDE, SIDE, [(x + y) % 9 + 1 for y in range(SIDE) for x in range(SIDE)])
+    second = Grid(SIDE, SIDE, [(3 * x + y) % 9 + 1 for y in range(SIDE) for x in range(SIDE)])
+    empty = Grid(SIDE, SIDE, [0] * SIDE * SIDE)
+    run.say(f'new big {SIDE} {SIDE} 16 16 t.tsj', 'ok 0/0 clean 0')
+    for grid in (first, second):
+        for y in rows:
+            values = grid.values[y * SIDE : (y + ROWS_OF_STAMP) * SIDE]
+            run.say(f'stamp+ 1 0 {y} {SIDE} {",".join(map(str, values))}', 'ok 1/1 dirty 0')
+        run.look(grid)
+    run.save('painted.tmj', text_of(map_with(second)))
+    half = SIDE // 2
+    for y in (0, half):
+        run.say(f'erase+ 1 0 {y} {SIDE} {half}', 'ok 2/2 dirty 0')
+    run.look(empty)
+    for line, reply, grid in [
+        ('undo', 'ok 1/2 clean 0', second),
+        ('undo', 'ok 0/2 dirty 0', empty),
+        ('redo', 'ok 1/2 clean 0', second),
+        ('redo', 'ok 2/2 dirty 0', empty),
+    ]:
+        run.say(line, reply)
+        run.look(grid)
+    run.save('erased.tmj', text_of(map_with(empty)))
     return run
 
 
@@ -323,6 +354,10 @@ def fault_of(run):
 
 def test_each_cell_set():
     check_each([all_cells()], fault_of)
+
+
+def test_strokes_over_each_cell():
+    check_each([strokes()], fault_of)
 
 
 def test_cells_in_base64():

@@ -13,7 +13,7 @@ from pathlib import Path
 
 from lib.cases import passed, raised, unlike
 from lib.forms import HELP, spread
-from lib.maps import layers_in
+from lib.maps import layers_in, map_of, text_of, tiles
 from lib.native import c_program
 from lib.places import EXAMPLES, EXAMPLE_MAPS, NATIVE, TOP
 
@@ -163,6 +163,58 @@ def test_work_while_a_file_is_written():
         editor.step('redo')
         assert editor.step('dirty') == 'ok 2/2 dirty 0' and editor.clean_index() is None
         assert editor.step('undo') == 'ok 1/2 dirty 0'
+
+
+def test_large_files():
+    """A file of any size is kept as it is, and a map of 90,000 cells is opened from one."""
+    numbers = random.Random(67)
+    grid = [numbers.randrange(1, 100) for _ in range(300 * 300)]
+    layer = tiles(1, 300, 300, name='Tile Layer 1', data=grid)
+    text = text_of(map_of(layer, width=300, height=300, nextlayerid=2, nextobjectid=1))
+    files = {
+        **{f'f{size}': numbers.randbytes(size) for size in (65_535, 65_536, 65_537, 5_000_000)},
+        'm.tmj': text,
+    }
+    with Editor() as editor:
+        for name, data in files.items():
+            editor.put_file(name, data)
+        assert {name: editor.file(name) for name in editor.files()} == files, 'the files differ'
+        assert editor.step('open m m.tmj') == 'ok 0/0 clean 0'
+        fault = unlike(f'map {text.decode()}', editor.step('show'))
+        assert not fault, fault
+        assert editor.step('save n.tmj') == f'saved n.tmj {len(text)}'
+        assert editor.file('n.tmj') == text, 'the saved file differs'
+
+
+def test_large_limits():
+    """A document keeps as many steps as its editor's limit says, and no more."""
+    for limit in (1_000, 1_001, 70_000):
+        with Editor(limit=limit) as editor:
+            editor.step('new a 4 3 16 16 a.tsj')
+            stamps = [f'stamp 1 {at % 4} 0 1 {at % 99 + 1}' for at in range(limit + 5)]
+            kept = [min(at, limit) for at in range(1, limit + 6)]
+            replies = editor.run_lines(stamps)
+            assert replies == [f'ok {count}/{count} dirty 0' for count in kept], replies[-9:]
+            assert editor.step('goto 0') == f'ok 0/{limit} dirty 0'
+            assert raised(Refused, editor.step, 'undo').code == 21
+            # The fifth stamp was the last to go.
+            assert editor.step('tile 1 0 0') == 'tile 5 ---- 1 4'
+            assert editor.step(f'goto {limit}') == f'ok {limit}/{limit} dirty 0'
+    with Editor(limit=1_000_000) as editor:
+        assert editor.step('new a 4 3 16 16 a.tsj') == 'ok 0/0 clean 0'
+
+
+def test_runs_of_a_large_selection():
+    """A row of it is one run, and two where a column within it is taken out."""
+    with Editor() as editor:
+        editor.step('new big 4096 256 1 1 s')
+        editor.step('select replace 0 0 4096 256')
+        fault = unlike([(y, 0, 4096) for y in range(256)], editor.selection())
+        assert not fault, fault
+        editor.step('select subtract 2048 0 1 256')
+        runs = [run for y in range(256) for run in ((y, 0, 2048), (y, 2049, 2047))]
+        fault = unlike(runs, editor.selection())
+        assert not fault, fault
 
 
 def test_threads_in_turn():

@@ -5,7 +5,7 @@ The box: an edit whose command takes no memory when it is made, in a list with r
 once. The place: behind some numbers of steps, the same for each edit, the list has no room, and the
 line grows memory once more; a push takes its place last. The merge: a line with a plus takes no
 place, and still grows memory more often than the same line without the plus, which finds room; the
-merge is last there.
+merge is last there. A merge of moves grows none.
 
 10,000 stamps must ask for as many bytes on a large map as on a small one, and their replies take
 few writes; neither the end of a macro nor a refused beginning may grow memory."""
@@ -109,6 +109,15 @@ def test_the_growths_of_merges():
         befores = (BEGUN + [first] + UNDONE, BEGUN + LEVELS + [first])
         cases += cases_of(befores, [line], most)
     check_each(cases, see_merge, CORES)
+
+
+def test_the_growths_of_a_merge_of_moves():
+    """It takes none beside the box."""
+    for before in (BEGUN, BEGUN + LEVELS):
+        lines = before + [b'object move 1 5 5']
+        count = REFUSER.more(b'growths', lines, [b'object move+ 1 6 6'])
+        assert count == 1, f'it grows memory {count} times, and not once'
+        passed()
 
 
 def check_places(before):

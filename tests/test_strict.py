@@ -79,9 +79,9 @@ SESSIONS = [
         ['maps/x.tmj: No such file or directory', f'line 1: open x x.tmj: {refusal(50)}'],
     ),
     (
-        [NEW] + [STAMP, b'undo'] * 20_000 + [b'redo', b'redo'],
-        40_003,
-        [f'line 40003: redo: {refusal(22)}'],
+        [NEW] + [STAMP, b'undo'] * 35_000 + [b'redo', b'redo'],
+        70_003,
+        [f'line 70003: redo: {refusal(22)}'],
     ),
 ]
 

@@ -10,8 +10,8 @@ use std::alloc::{AllocError, Global};
 
 /// A change of a document, which is made by `redo` and undone by `undo`.
 ///
-/// A new command has not been made yet. No call but `merge` takes memory or fails: a command holds from its construction on
-/// all that its turns need.
+/// A new command has not been made yet. It holds from its construction on all that its turns need: no call but `merge` can
+/// fail, and none but `merge` takes memory. The second is not checked.
 pub trait Command: Drop {
     /// What the command is, and what its turns do to a document.
     ghost change: { Self → Change };
