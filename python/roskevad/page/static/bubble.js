@@ -6,7 +6,7 @@ const SHOWN_FOR = 5000;
 const ASIDE = 14;
 const EDGE = 8;
 // What it never covers.
-const KEPT_FREE = ["copy", "play"];
+const KEPT_FREE = ["copy", "play", "bars"];
 
 const isApart = (one, other) => one.right <= other.left || other.right <= one.left || one.bottom <= other.top || other.bottom <= one.top;
 const boxAt = (left, top, width, height) => ({ left, top, right: left + width, bottom: top + height });

@@ -1,4 +1,5 @@
 // Puts the page together: the editor, the drawing of its map, the tools, and the panels.
+import { Bars } from "./bars.js";
 import { Bench } from "./bench.js";
 import { Documents } from "./documents.js";
 import { byId } from "./dom.js";
@@ -9,6 +10,7 @@ import { Example, isExample } from "./example.js";
 import { LayerPanel } from "./layer_panel.js";
 import { Layouts } from "./layouts.js";
 import { LinePanel } from "./line_panel.js";
+import { Look } from "./look.js";
 import { MapKeys, TileKeys } from "./map_keys.js";
 import { MapView } from "./map_view.js";
 import { Marks } from "./marks.js";
@@ -53,9 +55,11 @@ class Page {
     this.scrollBars = new ScrollBars(this.view);
     this.miniMap = new MiniMap(this.view, editor);
     const bench = this.bench = new Bench(editor, this.view, this.marks, this.tilesets);
+    this.bars = new Bars(this);
     this.tools = new Tools(bench);
     this.documents = new Documents(bench);
     this.toolbar = new Toolbar(bench, this.tools, this.documents, this.miniMap);
+    this.look = new Look(() => this.view.takeLook());
     this.startPage = new StartPage(bench, this.documents);
     this.miniMap.isBusy = () => bench.isHeld;
     this.palette = new Palette(bench, this.tilesets);

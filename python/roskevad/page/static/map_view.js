@@ -39,7 +39,6 @@ export class MapView {
     // When the page began to work on the hand's last event.
     this.work = 0;
     this.takeLook();
-    matchMedia("(prefers-color-scheme: light)").addEventListener("change", () => this.takeLook());
     // Called behind each drawing that the view has moved for.
     this.onMove = () => {};
     this.resize();
