@@ -500,15 +500,21 @@ def test_a_lesson_is_left_and_begun_anew():
 
 
 def test_own_maps_stay_alone():
-    """Where maps of the user are open, the example opens in a window of its own."""
+    """Where maps of the user are open, the example opens in a window of its own, which is said before and then;
+    closed with nothing drawn, it is not offered again."""
     with Bench(served=True) as page:
         driver, own = page.driver, page.driver.current_window_handle
+        assert 'in a new tab' in page.find('#try').get_attribute('title')
         page.find('#try').click()
         page.wait(lambda: len(driver.window_handles) == 2, 'another window')
         driver.switch_to.window(next(each for each in driver.window_handles if each != own))
         page.wait_ready()
         page.wait(lambda: page.find('#lesson').is_displayed(), 'the lesson')
         assert page.js('return roskevad.editor.place.kind') == 'chosen' and page.editor.state()['active'] == 'town'
+        assert 'new tab' not in page.find('#try').get_attribute('title')
         driver.close()
         driver.switch_to.window(own)
+        assert 'in a new tab' in page.bubble()
         assert page.js('return roskevad.editor.place.kind') == 'served' and standing(page) == (0, 0)
+        page.reload()
+        assert page.notices() == [] and standing(page) == (0, 0)

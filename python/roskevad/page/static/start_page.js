@@ -49,7 +49,10 @@ export class StartPage {
 
   showWays() {
     const ways = WAYS.filter(([, , id]) => byId(id));
-    if (this.ways.children.length === ways.length) return;
+    if (this.ways.children.length === ways.length) {
+      ways.forEach(([, , id], at) => (this.ways.children[at].title = byId(id).title));
+      return;
+    }
     this.ways.replaceChildren(...ways.map(([picture, text, id]) => {
       const way = element("button", { type: "button", textContent: text, title: byId(id).title, onclick: () => byId(id).click() });
       way.prepend(icon(picture));
