@@ -47,7 +47,7 @@ for (const at of document.querySelectorAll(".icon")) {
 return found;'''
 # What is clicked at: all that is seen of it, with its width and height.
 TARGETS = '''
-const css = "button, input, select, textarea, a, summary, .tab, aside li, #file-list li, .panel > h2";
+const css = "button, input, select, textarea, a, summary, .tab, aside li, #file-list li, .panel > h2, .grip";
 return [...document.querySelectorAll(css)].filter(at => at.checkVisibility({visibilityProperty: true})).map(at => {
   const {width, height} = at.getBoundingClientRect();
   return [`${at.tagName} ${at.id} ${at.className} ${at.title || at.textContent}`.slice(0, 80), width, height];
@@ -304,6 +304,40 @@ def test_bars_over_the_map():
             assert page.notices() and is_apart(box(page, '#bars'), [x - 8, y - 8, x + 8, y + 8]), cell
             page.js('document.querySelector("#notices .notice").remove()')
         passed(10)
+
+
+PANELS = ('#left', '#right', '#panel-layers', '#panel-properties', '#panel-steps', '#line-box')
+
+
+def test_edges():
+    """Each edge between panels is dragged by something that is 24 pixels wide and high, too: a grip, the head of
+    the panel below, which a click still folds, or the bar below the map. All other panels stay as they are."""
+    # What is dragged, how far, and how much wider or higher which panel is then.
+    drags = {
+        '#left-grip': ((60, 0), {'#left': (60, 0)}),
+        '#right-grip': ((-50, 0), {'#right': (50, 0), '#panel-layers': (50, 0), '#panel-properties': (50, 0), '#panel-steps': (50, 0)}),
+        '#panel-properties h2': ((0, -40), {'#panel-layers': (0, -40), '#panel-properties': (0, 40)}),
+        '#panel-steps h2': ((0, 30), {'#panel-properties': (0, 30), '#panel-steps': (0, -30)}),
+        '#standing': ((0, -50), {'#line-box': (0, 50)}),
+    }
+    with Bench() as page:
+        for css, ((right, down), wanted) in drags.items():
+            left, top, *corner = box(page, css if css != '#standing' else 'footer')
+            assert corner[0] - left >= LEAST_TARGET and corner[1] - top >= LEAST_TARGET, css
+            x, y = [int(each) for each in page.js(
+                'const {left, top, width, height} = document.querySelector(arguments[0]).getBoundingClientRect(); return [left + width / 2, top + height / 2]', css
+            )]
+            before = {each: box(page, each) for each in PANELS}
+            page.drag_points([(x, y), (x + right // 2, y + down // 2), (x + right, y + down)])
+            for each, (one, other) in ((each, (before[each], box(page, each))) for each in PANELS):
+                more = (other[2] - other[0] - one[2] + one[0], other[3] - other[1] - one[3] + one[1])
+                most = wanted.get(each, (0, more[1]) if each == '#line-box' else (0, 0))
+                if each != '#line-box' or css == '#standing':
+                    assert all(abs(one - other) <= 4 for one, other in zip(more, most)), (css, each, more)
+            assert page.find('#steps').is_displayed(), 'a drag folds nothing'
+        page.click('#panel-steps h2')
+        assert not page.find('#steps').is_displayed()
+        passed(len(drags))
 
 
 def test_look_is_chosen():
