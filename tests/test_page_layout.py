@@ -289,9 +289,14 @@ def test_bars_over_the_map():
         page.settle()
         assert page.notices() and page.find('#lesson').is_displayed()
         assert [box(page, css) for css in parts] == before
-        for cell in ((1, 1), (38, 1), (20, 1), (1, 28), (38, 28), (20, 29)):
-            page.stroke([cell])
+        # A stroke is covered in none of its parts.
+        cells = ((1, 1), (38, 1), (20, 1), (1, 28), (38, 28), (20, 29))
+        for stroke in (*([cell] for cell in cells), [(20, 29), (20, 15)], [(20, 1), (20, 15)]):
+            page.stroke(stroke)
             page.settle()
+            cell = stroke[0]
+            drawn = page.js('return roskevad.view.drawn')
+            assert drawn == [stroke[0][0], min(y for _, y in stroke), stroke[0][0], max(y for _, y in stroke)], (stroke, drawn)
             drawn = page.js('const {left, top, right, bottom} = roskevad.view.drawnBox(); return [left, top, right, bottom]')
             assert is_apart(box(page, '#bars'), drawn), (cell, drawn, box(page, '#bars'))
         page.answer('OK')

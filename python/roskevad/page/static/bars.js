@@ -10,13 +10,13 @@ const NEAR = 24;
 const isApart = (one, other) => one.right <= other.left || other.right <= one.left || one.bottom <= other.top || other.bottom <= one.top;
 
 export class Bars {
-  constructor({ bench, editor, view }) {
+  constructor({ bench, view }) {
     Object.assign(this, { box: byId("bars"), pressed: null, free: [() => view.drawnBox(), () => this.pressed, () => this.said(bench)] });
     view.box.addEventListener("pointerdown", event => this.keepPress(event), true);
     const watcher = new ResizeObserver(() => this.place());
     for (const each of [this.box, byId("stage")]) watcher.observe(each);
     bench.addEventListener("free", () => this.place());
-    editor.addEventListener("done", () => requestAnimationFrame(() => bench.isHeld || this.place()));
+    view.onDrawn = () => bench.isHeld || this.place();
   }
 
   keepPress({ clientX, clientY }) {

@@ -140,7 +140,7 @@ export class Bench extends EventTarget {
   // Does lines for a dialog: gives null, or where one was refused what the dialog says, and the field that a code is about.
   async attempt(lines, fields = {}) {
     const done = await this.editor.send(lines);
-    if (done.isHeard) return null;
+    if (done.isHeard) return this.bubble.hide();
     return { words: saidOf(done), field: fields[/^no (\d+)/.exec(done.refusal ?? "")?.[1]] };
   }
 

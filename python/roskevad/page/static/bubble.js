@@ -49,5 +49,6 @@ export class Bubble {
   hide() {
     this.box.hidden = true;
     clearTimeout(this.timer);
+    return null;
   }
 }

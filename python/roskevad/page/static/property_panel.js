@@ -208,6 +208,7 @@ export class PropertyPanel {
     if (wrong) return wrong[0].focus();
     const done = await this.bench.editor.send([`prop set ${this.owner().word} ${name.value} ${type.value} ${value}`]);
     if (!done.isHeard) return mark(name, saidOf(done));
+    this.bench.bubble.hide();
     name.value = "";
     // The keys stay in the row, for the next property.
     if ([field.input, type].includes(document.activeElement)) name.focus();

@@ -121,6 +121,8 @@ export class Tools {
     if (event.isTrusted) this.bench.view.box.setPointerCapture(event.pointerId);
     this.held = name;
     this.bench.isHeld = true;
+    if (name !== "pan") this.bench.view.hold(true);
+    this.bench.view.box.classList.add("held");
     this.drawnUpTo = -Infinity;
     this.bench.view.work = performance.now();
     this.from = this.placeOf(event);
@@ -187,6 +189,8 @@ export class Tools {
   release() {
     this.held = null;
     this.bench.isHeld = false;
+    this.bench.view.hold(false);
+    this.bench.view.box.classList.remove("held");
   }
 
   // Ends what the hand is about, and says whether it was about something: a stroke stays as far as it came, another drag does nothing.
