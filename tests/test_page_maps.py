@@ -145,11 +145,12 @@ def test_files_that_are_no_maps():
         assert 'notes.txt, rules.json.' in told and 'set.json' not in told and active(page) == 'town', told
         page.choose_files(bench.folder / 'house.tmj', bench.folder / 'tiles.png')
         assert page.notices() == [] and active(page) == 'house'
-        for name in ('house', 'town'):
-            close(page, name)
-            page.settle()
+    bench = Bench(empty=True, has_log=False)
+    with bench as page:
+        page.open()
         page.choose_files(bench.folder / 'tiles.png')
-        assert 'No map is among these files' in page.bubble() and page.notices() == []
+        page.wait(lambda: 'No map is among the chosen files' in page.find('#start-told').text, 'that no map is there')
+        assert page.notices() == []
 
 
 def edge(page, css):

@@ -1,5 +1,6 @@
 // Where bars stand over the map: messages, and the tasks of the lesson. They push nothing aside, and cover neither what was drawn last nor
 // where the hand has pressed last, as long as one of their places is free.
+import { isApart } from "./bubble.js";
 import { byId } from "./dom.js";
 
 // Their places in the view, the best one first.
@@ -7,13 +8,14 @@ const PLACES = ["bottom", "top", "bottom-left", "bottom-right", "top-left", "top
 // How far from a press they stand, in pixels of the page.
 const NEAR = 24;
 
-const isApart = (one, other) => one.right <= other.left || other.right <= one.left || one.bottom <= other.top || other.bottom <= one.top;
-
 export class Bars {
   constructor({ bench, view }) {
     Object.assign(this, { box: byId("bars"), pressed: null, free: [() => view.drawnBox(), () => this.pressed, () => this.said(bench)] });
     view.box.addEventListener("pointerdown", event => this.keepPress(event), true);
-    const watcher = new ResizeObserver(() => this.place());
+    const watcher = new ResizeObserver(() => {
+      this.isShown = this.box.offsetHeight > 0;
+      this.place();
+    });
     for (const each of [this.box, byId("stage")]) watcher.observe(each);
     bench.addEventListener("free", () => this.place());
     view.onDrawn = () => bench.isHeld || this.place();
@@ -36,7 +38,7 @@ export class Bars {
   // They stay where they are as long as that is free.
   place() {
     const { box } = this;
-    if (!box.offsetHeight) return;
+    if (!this.isShown) return;
     const kept = this.free.map(call => call()).filter(each => each);
     const isFree = place => {
       box.dataset.at = place;

@@ -77,7 +77,6 @@ export class PlacePanel {
     const words = wordsOfOthers(taken);
     if (words) notice(OTHERS, words, [["OK", () => {}]], "mild");
     else endNotice(OTHERS);
-    if (!words && !this.editor.notes.sessions.size && taken.length) this.bench.say("No map is among these files: choose one, too. They are kept for it.");
   }
 
   take(place) {

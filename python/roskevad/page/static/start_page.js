@@ -63,7 +63,9 @@ export class StartPage {
   put(maps) {
     this.seen.disconnect();
     this.waiting = [];
-    const none = "Make a new map, or open some: choose them, or drop files or a folder here.";
+    const hasOthers = this.editor.place.files?.size > 0;
+    const none = hasOthers ? "No map is among the chosen files: choose one, too, or make a new one."
+      : "Make a new map, or open some: choose them, or drop files or a folder here.";
     this.told.textContent = maps.length ? `Or go on with a map of ${this.editor.place.title || "this folder"}:` : none;
     this.list.replaceChildren(...maps.map(each => this.card(each)));
     for (const card of this.list.children) this.seen.observe(card);
