@@ -266,6 +266,41 @@ def test_new_property():
 
 
 
+def test_row_of_a_new_property():
+    """Tab goes from the name to the value, the type and the button; a value stays where the type is chosen
+    behind it; the type is the usual one again behind a property that was set. All of it is seen in a low,
+    narrow window."""
+    low = {'width': 853, 'height': 480, 'deviceScaleFactor': 1.5, 'mobile': False}
+    with Bench(has_log=False) as page:
+        page.driver.execute_cdp_cmd('Emulation.setDeviceMetricsOverride', low)
+        try:
+            page.click('#of-map')
+            code = '''const panel = document.getElementById("panel-properties").getBoundingClientRect();
+                      return ["new-name", "new-value", "new-type", "add-property"].map(id => document.getElementById(id)).filter(at => {
+                        const {left, top, right, bottom} = at.getBoundingClientRect();
+                        const over = document.elementFromPoint((left + right) / 2, (top + bottom) / 2);
+                        return left < panel.left || right > panel.right || top < panel.top || bottom > panel.bottom || over !== at;
+                      }).map(at => at.id)'''
+            assert page.js(code) == [], 'all is seen'
+            rows = 'const {clientWidth, clientHeight, scrollWidth} = document.getElementById("property-box"); return [clientHeight, scrollWidth - clientWidth]'
+            high, over = page.js(rows)
+            assert high >= 28 and over <= 0, (high, over)
+        finally:
+            page.driver.execute_cdp_cmd('Emulation.clearDeviceMetricsOverride', {})
+        page.find('#new-name').click()
+        order = []
+        type_keys(page, 'gold', Keys.TAB, '25', Keys.TAB)
+        order.append(page.js('return document.activeElement.id'))
+        Select(page.find('#new-type')).select_by_visible_text('int')
+        assert page.find('#new-value').get_attribute('value') == '25'
+        page.find('#new-type').send_keys(Keys.TAB)
+        order.append(page.js('return document.activeElement.id'))
+        assert order == ['new-type', 'add-property'], order
+        type_keys(page, Keys.ENTER)
+        assert spelled(page) == ['prop set map gold int 25']
+        assert page.find('#new-type').get_attribute('value') == 'string'
+
+
 def test_double_click():
     """A double click at '+' sets one property, and leaves it: the button that comes below the hand
     removes nothing by the second press."""

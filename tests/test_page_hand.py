@@ -169,10 +169,12 @@ def test_cut_and_paste():
 
 
 def test_stamp_of_all():
-    """A stamp of a whole map is one step of lines that each fit."""
+    """A stamp of a whole map is one step of lines that each fit, as few as they can be."""
+    # Flipped tiles, whose values have ten digits.
+    tiles = [0x80000005 + y for y in range(2)]
     with Bench(empty=True) as page:
         page.say('new wide 3000 4 16 16 tiles.tsx')
-        page.editor.lines(*(f'stamp 1 0 {y} 3000 {",".join(str(5 + y) * 3000)}' for y in range(2)))
+        page.editor.lines(*(f'stamp 1 0 {y} 3000 {",".join([str(tile)] * 3000)}' for y, tile in enumerate(tiles)))
         page.ctrl('a')
         page.ctrl('c')
         page.ctrl('v')
@@ -190,7 +192,11 @@ def test_stamp_of_all():
             ['stamp', '1', '1', '1', '3000'],
             ['stamp+', '1', '1', '2', '3000'],
         ], [line[:40] for line in spelled(page)[-4:]]
-        assert [cell(page, 1, 2999, y) for y in range(4)] == [5, 5, 6, 0]
+        assert [cell(page, 1, 2999, y) for y in range(4)] == [tiles[0], *tiles, 0]
+        page.js('roskevad.bench.takeStamp({width: 3000, height: 4, values: new Array(12000).fill(7)})')
+        page.drag([(1500, 2)])
+        assert [line[:24] for line in spelled(page)[-1:]] == ['stamp 1 0 0 3000 7,7,7,7'], spelled(page)[-1][:24]
+        assert [cell(page, 1, 2999, y) for y in range(4)] == [7] * 4
 
 
 def test_kept_stamps():

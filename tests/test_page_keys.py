@@ -46,9 +46,15 @@ def focused(page):
 # ---- the list of keys
 
 
+# What keys do in lists, on the map and on the tiles, by the tables that bind them there.
+PLACE_KEYS = '''
+const {rowKeys, mapKeys, tileKeys} = roskevad;
+return [...rowKeys, mapKeys, tileKeys].flatMap(({group}) => group.rows.map(([keys, text]) => [keys, text]));'''
+
+
 def test_list_of_keys():
     """F1, also in a field, `?` and a button list the keys, and the list has each key that is
-    bound; Escape closes it, and no other key goes past it."""
+    bound, also in lists, on the map and on the tiles; Escape closes it, and no other key goes past it."""
     with Bench() as page:
         bound = page.js('return [...roskevad.toolbar.keys.calls.keys()]')
         texts = page.js('return roskevad.toolbar.keys.rows.map(([, text]) => text)')
@@ -63,6 +69,12 @@ def test_list_of_keys():
         listed = {key for row in told for key in row.split(', ')}
         missing = [key for key in single if not listed & {names.get(key, key), key.title(), key.upper(), f'{key[:-1]}{key[-1].upper()}'}]
         assert not missing, missing
+        groups = page.texts('#keys h3')
+        assert {'A list, by Tab', 'The layers, by Tab', 'On the map, by Tab', 'On the tiles, by Tab', 'The edge of a panel, by Tab'} <= set(groups)
+        places = page.js(PLACE_KEYS)
+        assert len(places) > 20
+        unlisted = [(keys, text) for keys, text in places if not any(text == row and head for head, row in zip(told, rows))]
+        assert not unlisted, unlisted
         page.keys('e')
         assert page.js('return roskevad.tools.name') == 'brush', 'no key goes past the list'
         press(page, Keys.ESCAPE)
@@ -500,15 +512,21 @@ def test_a_lesson_is_left_and_begun_anew():
 
 
 def test_own_maps_stay_alone():
-    """Where maps of the user are open, the example opens in a window of its own."""
+    """Where maps of the user are open, the example opens in a window of its own, which is said before and then;
+    closed with nothing drawn, it is not offered again."""
     with Bench(served=True) as page:
         driver, own = page.driver, page.driver.current_window_handle
+        assert 'in a new tab' in page.find('#try').get_attribute('title')
         page.find('#try').click()
         page.wait(lambda: len(driver.window_handles) == 2, 'another window')
         driver.switch_to.window(next(each for each in driver.window_handles if each != own))
         page.wait_ready()
         page.wait(lambda: page.find('#lesson').is_displayed(), 'the lesson')
         assert page.js('return roskevad.editor.place.kind') == 'chosen' and page.editor.state()['active'] == 'town'
+        assert 'new tab' not in page.find('#try').get_attribute('title')
         driver.close()
         driver.switch_to.window(own)
+        assert 'in a new tab' in page.bubble()
         assert page.js('return roskevad.editor.place.kind') == 'served' and standing(page) == (0, 0)
+        page.reload()
+        assert page.notices() == [] and standing(page) == (0, 0)

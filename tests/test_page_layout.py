@@ -47,7 +47,7 @@ for (const at of document.querySelectorAll(".icon")) {
 return found;'''
 # What is clicked at: all that is seen of it, with its width and height.
 TARGETS = '''
-const css = "button, input, select, textarea, a, summary, .tab, aside li, #file-list li, .panel > h2";
+const css = "button, input, select, textarea, a, summary, .tab, aside li, #file-list li, .panel > h2, .grip";
 return [...document.querySelectorAll(css)].filter(at => at.checkVisibility({visibilityProperty: true})).map(at => {
   const {width, height} = at.getBoundingClientRect();
   return [`${at.tagName} ${at.id} ${at.className} ${at.title || at.textContent}`.slice(0, 80), width, height];
@@ -201,14 +201,16 @@ def test_log():
             f'stamp {ground} 3 20 2 12,0,0,13': 'Stamp on Ground: 2 cells',
             f'stamp {ground} 3 20 1 12': 'Stamp on Ground: 1 cell',
             f'fill {ground} 4 21 12': 'Fill on Ground from 4, 21',
-            f'layer rename {ground} Meadow': 'Rename Ground to Meadow',
-            f'layer show {ground} no': 'Hide Meadow',
+            f'layer rename {ground} Meadow': 'Rename layer Ground to Meadow',
+            f'layer show {ground} no': 'Hide layer Meadow',
             'undo': 'Undo',
             f'layer remove {ground}': 'Remove layer Meadow',
             'layer add tile Fog': 'Add tile layer Fog',
             'object move 4 10 20': 'Move Lake' if name_of(page, 4) == 'Lake' else f'Move {name_of(page, 4)}',
             'prop set map weather string rain': 'Set weather of the map',
-            'select replace 1 2 3 4': 'Select (replace): 3 × 4',
+            'select replace 1 2 3 4': 'Select 3 × 4 cells',
+            'select subtract 1 2 1 1': 'Take 1 × 1 cells from the selection',
+            'select none': 'Select nothing',
             'status': '',
             'layer remove 999': 'Not done',
         }
@@ -220,8 +222,153 @@ def test_log():
         passed(len(said) + 2)
 
 
+def test_gestures_in_the_log():
+    """What the hand did is told by the log and behind the texts of the steps, which are the editor's own: a
+    rectangle, a pattern, cut and empty cells, a selection that a paste drops; also behind a reload."""
+    with Bench(has_log=False) as page:
+        choose(page, 'Ground')
+        take_tile(page, (3, 1))
+        page.keys('p')
+        page.drag([(3, 20), (6, 22)])
+        page.js('roskevad.bench.takeStamp({width: 2, height: 1, values: [12, 4]})')
+        page.keys('f')
+        page.drag([(4, 21)])
+        page.keys('r')
+        page.drag([(3, 20), (4, 21)])
+        page.ctrl('x')
+        page.ctrl('z')
+        page.keys('r')
+        page.keys(Keys.DELETE)
+        page.ctrl('v')
+        page.click(f'#layers li[data-layer="{page.js("return roskevad.bench.layerId")}"] .eye')
+        said = [words for words, _ in log(page) if words][1:]
+        wanted = [
+            'Rectangle on Ground: 12 cells', 'Fill on Ground: 12 cells', 'Select 2 × 2 cells', 'Cut from Ground: 2 × 2', 'Undo',
+            'Empty the selected cells of Ground', 'Drop the selection, to paste', 'Hide layer Ground',
+        ]
+        assert said == wanted, said
+        steps = [
+            'Stamp · Ground: rectangle', 'Stamp · Ground: pattern', 'Select · 2 × 2', 'Erase · Ground: the selected cells',
+            'Select · none, to paste', 'Show Layer · Ground: hidden',
+        ]
+        assert page.texts('#steps li .name')[1:] == steps, page.texts('#steps li .name')
+        page.reload()
+        assert page.texts('#steps li .name')[1:] == steps
+        assert [words for words, _ in log(page) if words][1:] == said
+        passed(2)
+
+
 def name_of(page, number):
     return page.js('return roskevad.editor.map.object(arguments[0]).object.name', number)
+
+
+def box(page, css):
+    return page.js(
+        'const {left, top, right, bottom} = document.querySelector(arguments[0]).getBoundingClientRect(); return [left, top, right, bottom]', css
+    )
+
+
+def is_apart(one, other):
+    return one[2] <= other[0] or other[2] <= one[0] or one[3] <= other[1] or other[3] <= one[1]
+
+
+# A message, as the page says it of a tileset that it does not find.
+MISSING = 'roskevad.panel.showMissing.call({tilesets: {missing: ["a.png"]}, editor: roskevad.editor})'
+
+
+def test_bars_over_the_map():
+    """Messages and tasks push nothing aside, and cover neither what was drawn last, nor the press that they are
+    about, nor what the ring of the lesson is around."""
+    with Bench(has_log=False) as page:
+        choose(page, 'Ground')
+        take_tile(page, (3, 1))
+        parts = ('#view', '#left', '#right', 'header', 'footer')
+        before = [box(page, css) for css in parts]
+        page.js(MISSING)
+        page.js('roskevad.example.name = "town"; return roskevad.example.lesson.begin()')
+        page.settle()
+        assert page.notices() and page.find('#lesson').is_displayed()
+        assert [box(page, css) for css in parts] == before
+        # A stroke is covered in none of its parts.
+        cells = ((1, 1), (38, 1), (20, 1), (1, 28), (38, 28), (20, 29))
+        for stroke in (*([cell] for cell in cells), [(19, 29), (19, 15)], [(21, 1), (21, 15)]):
+            page.stroke(stroke)
+            page.settle()
+            cell = stroke[0]
+            drawn = page.js('return roskevad.view.drawn')
+            assert drawn == [stroke[0][0], min(y for _, y in stroke), stroke[0][0], max(y for _, y in stroke)], (stroke, drawn)
+            drawn = page.js('const {left, top, right, bottom} = roskevad.view.drawnBox(); return [left, top, right, bottom]')
+            assert is_apart(box(page, '#bars'), drawn), (cell, drawn, box(page, '#bars'))
+        page.answer('OK')
+        page.click('#lesson-leave')
+        ground = page.js('return roskevad.bench.layerId')
+        page.editor.lines(f'layer show {ground} no')
+        for cell in ((20, 29), (20, 0)):
+            page.drag([cell])
+            x, y = page.point(cell)
+            assert page.notices() and is_apart(box(page, '#bars'), [x - 8, y - 8, x + 8, y + 8]), cell
+            page.js('document.querySelector("#notices .notice").remove()')
+        passed(10)
+
+
+PANELS = ('#left', '#right', '#panel-layers', '#panel-properties', '#panel-steps', '#line-box')
+
+
+def test_edges():
+    """Each edge between panels is dragged by something that is 24 pixels wide and high, too: a grip, the head of
+    the panel below, which a click still folds, or the bar below the map. All other panels stay as they are."""
+    # What is dragged, how far, and how much wider or higher which panel is then.
+    drags = {
+        '#left-grip': ((60, 0), {'#left': (60, 0)}),
+        '#right-grip': ((-50, 0), {'#right': (50, 0), '#panel-layers': (50, 0), '#panel-properties': (50, 0), '#panel-steps': (50, 0)}),
+        '#panel-properties h2': ((0, -40), {'#panel-layers': (0, -40), '#panel-properties': (0, 40)}),
+        '#panel-steps h2': ((0, 30), {'#panel-properties': (0, 30), '#panel-steps': (0, -30)}),
+        '#standing': ((0, -50), {'#line-box': (0, 50)}),
+    }
+    with Bench() as page:
+        for css, ((right, down), wanted) in drags.items():
+            left, top, *corner = box(page, css if css != '#standing' else 'footer')
+            assert corner[0] - left >= LEAST_TARGET and corner[1] - top >= LEAST_TARGET, css
+            x, y = [int(each) for each in page.js(
+                'const {left, top, width, height} = document.querySelector(arguments[0]).getBoundingClientRect(); return [left + width / 2, top + height / 2]', css
+            )]
+            before = {each: box(page, each) for each in PANELS}
+            page.drag_points([(x, y), (x + right // 2, y + down // 2), (x + right, y + down)])
+            for each, (one, other) in ((each, (before[each], box(page, each))) for each in PANELS):
+                more = (other[2] - other[0] - one[2] + one[0], other[3] - other[1] - one[3] + one[1])
+                most = wanted.get(each, (0, more[1]) if each == '#line-box' else (0, 0))
+                if each != '#line-box' or css == '#standing':
+                    assert all(abs(one - other) <= 4 for one, other in zip(more, most)), (css, each, more)
+            assert page.find('#steps').is_displayed(), 'a drag folds nothing'
+        page.click('#panel-steps h2')
+        assert not page.find('#steps').is_displayed()
+        passed(len(drags))
+
+
+def test_look_is_chosen():
+    """A button takes the look of the system, the light or the dark one, whatever the system has; it stays for
+    the next visit."""
+    try:
+        look(USUAL, 'light')
+        with Bench(has_log=False) as page:
+            seen = []
+            for turn in range(4):
+                page.wait(lambda: page.find('#turn-look').get_attribute('title'), 'the button says what it does')
+                beside = box(page, '#view')
+                seen.append(page.colours([[4, 30], [int(beside[0]) + 4, int(beside[1]) + 4]]))
+                if turn == 2:
+                    page.reload()
+                    assert page.colours([[4, 30]]) == seen[-1][:1], 'the dark look is kept'
+                page.click('#turn-look')
+            assert seen[0] == seen[1] == seen[3] and all(sum(each) < 3 * 85 for each in seen[2]), seen
+            look(USUAL, 'dark')
+            page.settle()
+            assert page.js('return document.documentElement.dataset.look') == 'light'
+            assert all(sum(each) > 3 * 170 for each in page.colours([[4, 30]])), 'it is the user who chooses'
+            page.js('localStorage.clear()')
+            passed(5)
+    finally:
+        look_as_before()
 
 
 def test_themes():

@@ -127,6 +127,32 @@ return {view: [view.scale, view.originX, view.originY], layer: bench.layerId, to
         heads: [...document.querySelectorAll(".panel.folded")].map(panel => panel.id)};'''
 
 
+def test_files_that_are_no_maps():
+    """A chosen file that is no map is named, and what to do; tilesets and images are taken without a word
+    beside a map, and with a word where no map is there."""
+    bench = Bench(empty=True)
+    with bench as page:
+        for name, text in (('cave.tmx', '<map/>'), ('notes.txt', 'x'), ('rules.json', '{"a": 1}'), ('set.json', '{"tilewidth": 16}')):
+            (bench.folder / name).write_text(text)
+        page.choose_files(bench.folder / 'cave.tmx')
+        [told] = page.notices()
+        assert told.startswith('cave.tmx') and 'save it as JSON' in told, told
+        page.click('#open')
+        assert 'cave.tmx' in page.find('#in-xml').text and 'save it as JSON' in page.find('#in-xml').text
+        page.fill_in('Cancel')
+        page.choose_files(*(bench.folder / name for name in ('town.tmj', 'notes.txt', 'rules.json', 'set.json')))
+        [told] = page.notices()
+        assert 'notes.txt, rules.json.' in told and 'set.json' not in told and active(page) == 'town', told
+        page.choose_files(bench.folder / 'house.tmj', bench.folder / 'tiles.png')
+        assert page.notices() == [] and active(page) == 'house'
+    bench = Bench(empty=True, has_log=False)
+    with bench as page:
+        page.open()
+        page.choose_files(bench.folder / 'tiles.png')
+        page.wait(lambda: 'No map is among the chosen files' in page.find('#start-told').text, 'that no map is there')
+        assert page.notices() == []
+
+
 def edge(page, css):
     return page.js(
         'const box = document.querySelector(arguments[0]).getBoundingClientRect();'

@@ -169,7 +169,20 @@ def test_new():
         choose(page, 'Ground')
         page.keys('i')
         page.drag([(20, 5), (22, 6)])
-        assert 'object layer' in page.bubble() and len(spelled(page)) == 2
+        assert page.bubble() == 'Choose an object layer first: Things or Places.' and len(spelled(page)) == 2
+        things = layer_of(page, 'Things')['id']
+        page.say(f'layer remove {things}')
+        choose(page, 'Ground')
+        page.keys('i')
+        page.drag([(20, 5), (22, 6)])
+        wait_dialog(page)
+        type_keys(page, 'Camp', Keys.ENTER)
+        assert spelled(page)[-1] == f'object add {layer} 320 80 48 32 Camp', 'the only object layer takes it'
+        assert page.js('return roskevad.bench.layerId') == layer
+        page.js('roskevad.bench.bubble.hide()')
+        row = page.find('#objects li.now')
+        ActionChains(page.driver).double_click(row).perform()
+        assert 'stays as it is' in page.bubble() and 'Insert a new one' in page.bubble()
 
 
 def test_handles():

@@ -1,17 +1,17 @@
 """Measures how long the page takes in Chromium on a map of eight layers of 1,024 by 1,024 cells: from
-the hand, or from the key, to the picture, and how much of that is its work; a stamp of 10,000 tiles takes more than one line, and is
-one step. docs/speed.md has what it measures on a machine that does nothing else; here it may take
+the hand, or from the key, to the picture, and how much of that is its work; a stamp of a whole layer takes as few lines as have room for
+it, and is one step. docs/speed.md has what it measures on a machine that does nothing else; here it may take
 longer, and is tried several times."""
 import json
 
-from page.bench import Bench, spelled, standing, take_tile
+from page.bench import Bench, standing, take_tile
 from page.browser import Keys
 
 NEEDS_BROWSER = True
 ALONE = True
 # The most that the browser may measure, in milliseconds: docs/speed.md has what it measures on a
 # machine that does nothing else.
-STROKE, TURN = 16, 50
+STROKE, TURN, STAMP = 16, 50, 1500
 # How much longer it may take here, and how often it is tried: other steps may take the processors.
 SLACK, TRIES = 4, 5
 LAYERS, SIDE = 8, 1024
@@ -98,17 +98,17 @@ def test_large_map():
 
 
 def large_stamp(page):
-    """A stamp of 10,000 tiles takes more than one line, and is one step."""
-    page.js(
-        'const {view} = roskevad; view.zoomTo(1); view.originX = view.originY = 12; view.redraw()'
-    )
-    page.say('select replace 10 10 100 100')
-    page.ctrl('c')
-    page.say('select none')
+    """A stamp of all cells of a layer is one step of lines that are as long as they may be. Each line that
+    follows costs as much as what is there before it, so many would take some seconds."""
+    code = '''const {bench} = roskevad, {map} = bench;
+              bench.takeStamp({width: map.width, height: map.height, values: Array.from(map.cells(1, 0, 0, map.width, map.height)).reverse()})'''
+    page.js(code)
     index = standing(page)[0]
-    page.drag([(20, 20)])
-    assert standing(page)[0] == index + 1, spelled(page)[-2:]
-    assert [line.split(' ')[:5] for line in page.texts('#lines li code')[-2:]] == [
-        ['stamp', '1', '-30', '-30', '100'],
-        ['stamp+', '1', '-30', '25', '100'],
-    ]
+    page.js('performance.clearMeasures()')
+    page.drag([(SIDE // 2, SIDE // 2)])
+    time = measured(page, 'stroke')[1]
+    assert standing(page)[0] == index + 1 and time <= STAMP * SLACK, time
+    lines = page.js('return roskevad.editor.copied().trim().split("\\n").filter(line => line.startsWith("stamp")).map(line => [line.slice(0, 7), line.length])')
+    last = next(at for at in range(len(lines) - 1, -1, -1) if lines[at][0] == 'stamp 1')
+    lines = lines[last:]
+    assert all(line[0] == 'stamp+ ' and 60_000 < line[1] <= 65_535 for line in lines[1:-1]) and len(lines) < 60, lines

@@ -68,7 +68,9 @@ def test_layers():
     """Layers are added, renamed, moved, hidden and removed; the tree has them."""
     with Bench() as page:
         page.click('#add-tile-layer')
+        assert 'on top of all' in page.find('dialog h2').text
         page.fill_in(name='Clouds over all')
+        assert page.bubble().startswith('Clouds over all is on top of all layers.')
         number = layer_of(page, 'Clouds over all')['id']
         assert (
             page.js('return roskevad.bench.layerId') == number
@@ -119,7 +121,7 @@ def test_groups():
         assert 'out of range' in page.bubble(), 'it is the last one of its group'
         choose(page, 'Houses')
         page.drag([(2, 2)])
-        assert 'layer of another kind' in page.bubble()
+        assert page.bubble() == 'Houses is a group. Choose a tile layer in it to draw.'
         page.click('#layer-down')
         assert (
             page.editor.map()['layers'][0]['id'] == houses['id']

@@ -149,7 +149,7 @@ def test_status():
         for _ in range(3):
             page.ctrl('z')
         page.say('layer show 1 no')
-        assert page.texts('#steps li .name')[-1] == 'Show Layer · Ground'
+        assert page.texts('#steps li .name')[-1] == 'Show Layer · Ground: hidden'
 
 
 def add_and_remove(bench, source):

@@ -131,7 +131,8 @@ def test_files_of_a_folder():
 
 
 def test_refusals():
-    """A refusal is said in words where the hand is, and nothing changes."""
+    """A refusal is said in words where the hand is, and nothing changes. On a layer without tiles it is said
+    what is missing, and nothing is shown under the hand."""
     with Bench() as page:
         things = next(
             layer['name']
@@ -146,8 +147,9 @@ def test_refusals():
             'const box = document.getElementById("bubble").getBoundingClientRect(); return [box.left, box.top]'
         )
         hand = page.point((3, 20))
+        assert page.js('return roskevad.marks.hand') is None
         assert (
-            'layer of another kind' in page.bubble()
+            page.bubble() == f'{things} has objects and no tiles. Choose a tile layer to draw.'
             and abs(place[0] - hand[0]) < 160
             and abs(place[1] - hand[1]) < 60
         ), (place, hand)
@@ -158,7 +160,17 @@ def test_refusals():
         assert 'unknown command' in page.bubble()
         assert page.editor.map() == before and standing(page) == count and not spelled(page)
         refused = page.texts('#lines li.refused .reply')
-        assert refused == [refusal(31), refusal(3)], refused
+        assert refused == [refusal(3)], refused
+
+
+def test_never_saved():
+    """A new map is not saved yet until it is saved: not in the bar, and not in the steps."""
+    with Bench(empty=True) as page:
+        page.say('new cave 5 4 16 16 tiles.tsx')
+        assert page.find('#standing').text == '0/0 not saved yet' and page.texts('#steps li .clean') == ['']
+        page.ctrl('s')
+        page.fill_in(file='cave.tmj')
+        assert page.find('#standing').text == '0/0 saved' and page.texts('#steps li .clean') == ['saved']
 
 
 def test_box():

@@ -191,7 +191,7 @@ class Page:
         )
 
     def notices(self):
-        return self.texts('#notices .notice')
+        return self.js('return [...document.querySelectorAll("#notices .notice")].map(each => each.innerText)')
 
     def answer(self, text):
         """Clicks at a button of a notice."""
@@ -350,5 +350,7 @@ class Page:
         ]
 
     def log(self):
-        """What the browser has logged as errors since it was asked last."""
-        return [each for each in self.driver.get_log('browser') if each['level'] == 'SEVERE']
+        """What the browser has logged as errors since it was asked last. It asks for the picture of a
+        blank page, which has none."""
+        errors = [each for each in self.driver.get_log('browser') if each['level'] == 'SEVERE']
+        return [each for each in errors if '/favicon.ico' not in each['message']]

@@ -1,7 +1,7 @@
 // What the hand works with: the editor, the drawn map, the layer, the stamp, the object that was chosen, and words at the hand.
 import { Bubble } from "./bubble.js";
 import { isField } from "./dom.js";
-import { LayerBars, whyBarred } from "./layer_bars.js";
+import { LayerBars, whyBarred, whyNoTiles } from "./layer_bars.js";
 import { saidOf } from "./refusals.js";
 
 export class Bench extends EventTarget {
@@ -71,9 +71,11 @@ export class Bench extends EventTarget {
     return why !== "";
   }
 
-  // Whether the layer in hand takes no stroke, since it is hidden or locked. Then it says so.
+  // Whether the layer in hand takes no stroke, since it has no tiles, or is hidden or locked. Then it says so.
   barredLayer() {
-    return this.bars.bars();
+    const why = this.layer ? whyNoTiles(this.map, this.layer) : "";
+    if (why) this.say(why);
+    return why !== "" || this.bars.bars();
   }
 
   // The value of a fill: the first tile of the stamp. (Its first cell may be one that leaves the map as it is.)
@@ -138,7 +140,7 @@ export class Bench extends EventTarget {
   // Does lines for a dialog: gives null, or where one was refused what the dialog says, and the field that a code is about.
   async attempt(lines, fields = {}) {
     const done = await this.editor.send(lines);
-    if (done.isHeard) return null;
+    if (done.isHeard) return this.bubble.hide();
     return { words: saidOf(done), field: fields[/^no (\d+)/.exec(done.refusal ?? "")?.[1]] };
   }
 

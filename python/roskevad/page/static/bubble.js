@@ -6,9 +6,10 @@ const SHOWN_FOR = 5000;
 const ASIDE = 14;
 const EDGE = 8;
 // What it never covers.
-const KEPT_FREE = ["copy", "play"];
+const KEPT_FREE = ["copy", "play", "bars"];
 
-const isApart = (one, other) => one.right <= other.left || other.right <= one.left || one.bottom <= other.top || other.bottom <= one.top;
+// Whether two boxes have nothing in common.
+export const isApart = (one, other) => one.right <= other.left || other.right <= one.left || one.bottom <= other.top || other.bottom <= one.top;
 const boxAt = (left, top, width, height) => ({ left, top, right: left + width, bottom: top + height });
 const within = (place, length, most) => Math.max(EDGE, Math.min(place, most - length - EDGE));
 
@@ -49,5 +50,6 @@ export class Bubble {
   hide() {
     this.box.hidden = true;
     clearTimeout(this.timer);
+    return null;
   }
 }

@@ -22,21 +22,22 @@ export class Clips {
     const { bench } = this;
     if (bench.barredLayer() || !this.take()) return;
     const [x, y, width, height] = bench.selectedBox;
-    bench.act([`erase ${bench.layerId} ${x} ${y} ${width} ${height}`]);
+    bench.act([`erase ${bench.layerId} ${x} ${y} ${width} ${height}`], { gesture: "cut" });
   }
 
   // Puts what was copied into the hand. Else the selection would bar it.
   paste() {
     const { bench } = this;
     if (this.copied) bench.takeStamp(this.copied);
-    if (bench.map?.selected) bench.act(["select none"]);
+    if (bench.map?.selected) bench.act(["select none"], { gesture: "paste" });
     this.tools.choose("brush");
   }
 
   // Empties the cells that are selected.
   remove() {
     const { bench } = this;
-    if (bench.map?.selected && !bench.barredLayer()) bench.act([`erase ${bench.layerId} 0 0 ${bench.map.width} ${bench.map.height}`]);
+    if (!bench.map?.selected || bench.barredLayer()) return;
+    bench.act([`erase ${bench.layerId} 0 0 ${bench.map.width} ${bench.map.height}`], { gesture: "empty" });
   }
 
   duplicate() {

@@ -6,7 +6,9 @@ import { FileList } from "./file_list.js";
 import { MapProbe } from "./map_probe.js";
 import { lastOf } from "./names.js";
 import { endNotice, hasNotice, notice } from "./notices.js";
+import { IN_XML, isXmlMapName } from "./places.js";
 import { saidOf } from "./refusals.js";
+import { NEVER_SAVED } from "./status_bar.js";
 
 // What a document is called for the user: the name of its file, or its own name where it has none.
 const titleOf = ({ name, path }) => (path ? lastOf(path) : name);
@@ -47,7 +49,8 @@ export class Documents {
   }
 
   tab({ name, isActive, isClean, path }) {
-    const mark = element("span", { className: "mark", textContent: isClean ? "" : "•", title: isClean ? "saved" : "not saved" });
+    const saved = path === null ? NEVER_SAVED : isClean ? "saved" : "not saved";
+    const mark = element("span", { className: "mark", textContent: isClean ? "" : "•", title: saved });
     const close = iconButton("close", `Close ${titleOf({ name, path })}`, `Close ${titleOf({ name, path })}`, event => {
       event.stopPropagation();
       this.close(name);
@@ -80,8 +83,17 @@ export class Documents {
     const maps = await place.maps().catch(fault => this.bench.say(fault.message) ?? []);
     const known = new Map(this.editor.documents().map(each => [each.path, "open"]));
     const probe = new MapProbe(place);
-    const path = await new FileList("Open a map", maps, { known, look: path => probe.look(path), none: "There is no map here." }).ask();
+    const inXml = await this.namesInXml();
+    const more = inXml && element("p", { id: "in-xml", textContent: inXml });
+    const path = await new FileList("Open a map", maps, { known, look: path => probe.look(path), none: "There is no map here.", fields: more ? [more] : [] }).ask();
     if (path) await this.openPath(path);
+  }
+
+  // What is said of the maps in XML that the place has; "" where it has none.
+  async namesInXml() {
+    const names = (await this.editor.place.names().catch(() => [])).map(each => each.path).filter(isXmlMapName);
+    const [first, ...others] = names;
+    return first ? `Not listed: ${first}${others.length ? ` and ${others.length} more` : ""}, ${IN_XML}` : "";
   }
 
   // Opens a file, or shows the document that has it already.

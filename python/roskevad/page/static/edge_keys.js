@@ -1,22 +1,28 @@
 // The edges between panels by keys: an arrow key drags one.
+import { ARROW_KEYS, callsOf, pressed } from "./key_rows.js";
 
 const STEP = 16;
-const ARROWS = { ArrowLeft: [-STEP, 0], ArrowRight: [STEP, 0], ArrowUp: [0, -STEP], ArrowDown: [0, STEP] };
 
 // `drag` takes where the edge is to be, as an event of the mouse has it.
+function move(edge, isFlat, drag, [right, down]) {
+  if (!(isFlat ? down : right)) return false;
+  const frame = edge.getBoundingClientRect();
+  drag({ clientX: (frame.left + frame.right) / 2 + right * STEP, clientY: (frame.top + frame.bottom) / 2 + down * STEP });
+  edge.ariaValueNow = String(Math.round(isFlat ? edge.getBoundingClientRect().top : edge.getBoundingClientRect().left));
+  return true;
+}
+
+// The rows of the table for an edge.
+const rowsOf = (edge, isFlat, drag) => [[ARROW_KEYS, "Move the edge", to => move(edge, isFlat, drag, to)]];
+
+export const EDGE_KEYS = { title: "The edge of a panel, by Tab", rows: rowsOf() };
+
 export function edgeByKeys(edge, isFlat, drag) {
   edge.tabIndex = 0;
   edge.role = "separator";
   edge.ariaLabel = edge.title;
   edge.ariaOrientation = isFlat ? "horizontal" : "vertical";
-  edge.addEventListener("keydown", event => {
-    const [right, down] = ARROWS[event.key] ?? [0, 0];
-    if (!(isFlat ? down : right)) return;
-    event.preventDefault();
-    event.stopPropagation();
-    const frame = edge.getBoundingClientRect();
-    drag({ clientX: (frame.left + frame.right) / 2 + right, clientY: (frame.top + frame.bottom) / 2 + down });
-    edge.ariaValueNow = String(Math.round(isFlat ? edge.getBoundingClientRect().top : edge.getBoundingClientRect().left));
-  });
+  const calls = callsOf(rowsOf(edge, isFlat, drag));
+  edge.addEventListener("keydown", event => pressed(calls, event));
   edge.ariaValueNow = "0";
 }

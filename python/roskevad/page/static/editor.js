@@ -56,7 +56,7 @@ export class Otherwise extends Error {}
 //   cells      cells have changed otherwise than by a stroke of the hand; the detail is the part in which alone, or null
 //   selection  the selection has changed
 //   done       lines were done; the detail is the stroke whose edits they are, or null
-//   lines      the lines that were heard, each with its number, its reply, what is at fault in it, and how many cells it names
+//   lines      the lines that were heard, each with its number, its reply, what is at fault in it, how many cells it names, and its gesture
 //   state      how the documents and the steps stand, once the journal has it
 //   broken     the engine has ended the editor
 export class Editor extends EventTarget {
@@ -94,7 +94,7 @@ export class Editor extends EventTarget {
   // Why no edit is taken now; "" where edits are.
   get barred() {
     if (this.isBroken) return "The editor has ended: load the page anew.";
-    return this.journal.isFull ? "The journal is full: see above." : "";
+    return this.journal.isFull ? "The journal is full: see the message." : "";
   }
 
   isBarred(line) {
@@ -102,13 +102,14 @@ export class Editor extends EventTarget {
   }
 
   // Does lines at once, up to the first that is refused, or all of them. `stroke` is the stroke whose edits they are: it draws itself.
+  // `gesture` is a word for what the hand did, where the lines do not tell it: `rectangle`, `pattern`, `cut`, `empty`, `paste`.
   // Gives the replies, whether all were heard and accepted, and the first refusal with its line.
-  doLines(lines, { isFree = false, stroke = null } = {}) {
+  doLines(lines, { isFree = false, stroke = null, gesture = null } = {}) {
     const replies = [];
     let [refusal, refused] = [null, null];
     for (const line of lines) {
       if (this.isBarred(line)) return { ...UNHEARD, replies, barred: this.barred };
-      const reply = this.hear(line, stroke !== null);
+      const reply = this.hear(line, stroke !== null, gesture);
       if (reply !== null) replies.push(reply);
       if (isRefusal(reply) && refusal === null) [refusal, refused] = [reply, line];
       if (refusal && !isFree) break;
@@ -132,12 +133,12 @@ export class Editor extends EventTarget {
     }
   }
 
-  async sendAll(lines, { isFree = false }) {
+  async sendAll(lines, { isFree = false, gesture = null }) {
     const came = { replies: [], isHeard: true, refusal: null };
     for (let at = 0; at < lines.length && (came.isHeard || isFree);) {
       const last = lines.findIndex((line, place) => place >= at && (OPEN.test(line) || SAVE.test(line)));
       const end = Math.min(at + MOST_AT_ONCE, last < 0 ? lines.length : last);
-      const done = end > at ? this.doLines(lines.slice(at, end), { isFree }) : await this.hearFile(lines[at]);
+      const done = end > at ? this.doLines(lines.slice(at, end), { isFree, gesture }) : await this.hearFile(lines[at]);
       at = Math.max(end, at + 1);
       came.replies.push(...done.replies);
       came.isHeard &&= done.isHeard;
@@ -148,7 +149,7 @@ export class Editor extends EventTarget {
   }
 
   // Does one line, and gives its reply.
-  hear(line, isDrawn) {
+  hear(line, isDrawn, gesture) {
     let reply;
     let changes;
     try {
@@ -158,15 +159,16 @@ export class Editor extends EventTarget {
       this.break(fault);
       return "no 90 no memory";
     }
-    this.list(line, reply);
-    if (reply !== null && !isRefusal(reply) && !isLook(line)) this.take(line, reply, isDrawn ? NOTHING : changes);
+    this.list(line, reply, gesture);
+    if (reply !== null && !isRefusal(reply) && !isLook(line)) this.take(line, reply, isDrawn ? NOTHING : changes, { gesture });
     return reply;
   }
 
   // Takes an accepted line that does not only look. `file` is what an `open` has read.
-  take(line, reply, changes, file = null) {
-    this.notes.note(line, reply, file);
-    this.journal.add({ line, reply, ...(file && { file }) });
+  take(line, reply, changes, { file = null, gesture = null } = {}) {
+    const entry = { line, reply, ...(file && { file }), ...(gesture && { gesture }) };
+    this.notes.note(entry);
+    this.journal.add(entry);
     this.changed = bothChanges(this.changed, changes);
   }
 
@@ -182,8 +184,8 @@ export class Editor extends EventTarget {
     this.tell("broken", fault instanceof Broken ? fault.message : String(fault));
   }
 
-  list(line, reply) {
-    this.listed.push([++this.heard, cut(line), reply === null ? null : cut(reply), shortHintOf(reply, line), cellsIn(line)]);
+  list(line, reply, gesture = null) {
+    this.listed.push([++this.heard, cut(line), reply === null ? null : cut(reply), shortHintOf(reply, line), cellsIn(line), gesture]);
   }
 
   // Takes what the lines have changed.
@@ -233,7 +235,7 @@ export class Editor extends EventTarget {
     const { bytes, mark } = found;
     const [reply, why] = await opened(this.session, name, bytes);
     this.list(line, reply);
-    if (!isRefusal(reply)) this.take(line, reply, ALL, { path, bytes, ...mark });
+    if (!isRefusal(reply)) this.take(line, reply, ALL, { file: { path, bytes, ...mark } });
     this.settle();
     return { replies: [reply], isHeard: !isRefusal(reply), refusal: isRefusal(reply) ? reply : null, why };
   }
@@ -391,7 +393,8 @@ export class Editor extends EventTarget {
   // What the journal tells of the documents, for who finds it later.
   summary() {
     if (this.isBroken) return this.journal.row.documents;
-    return this.documents().map(({ name, path, count, isClean }) => ({ name, path, steps: count, isClean }));
+    const linesOf = name => this.notes.sessions.get(name)?.length ?? 0;
+    return this.documents().map(({ name, path, count, isClean }) => ({ name, path, steps: count, isClean, lines: linesOf(name) }));
   }
 
   // The session of the active document.
@@ -416,8 +419,8 @@ export class Editor extends EventTarget {
         }
         await this.replayLine(session, entry);
         if (entry.file) names.take(entry.line.split(" ")[2], entry.file.path);
-        notes.note(entry.line, entry.reply, entry.file);
-        const row = [listed.length + 1, cut(entry.line), entry.reply === SAVED ? "no 51 store failed" : entry.reply, null, cellsIn(entry.line)];
+        notes.note(entry);
+        const row = [listed.length + 1, cut(entry.line), entry.reply === SAVED ? "no 51 store failed" : entry.reply, null, cellsIn(entry.line), entry.gesture];
         if (wordOf(entry.line) === "save") pending.set(notes.active, row);
         if (wordOf(entry.line) === "dirty") pending.delete(notes.active);
         listed.push(row);
@@ -465,12 +468,12 @@ export class Editor extends EventTarget {
       const line = `open ${name} ${word}`;
       const [reply] = await opened(session, name, bytes);
       entries.push({ line, reply, file });
-      notes.note(line, reply, file);
+      notes.note({ line, reply, file });
     }
     const use = `use ${this.notes.active ?? "-"}`;
     const reply = replyOf(session, use);
     entries.push({ line: use, reply });
-    notes.note(use, reply);
+    notes.note({ line: use, reply });
     this.takeOver(session, notes, this.names, this.limit);
     await this.journal.restart(entries);
     this.changed = ALL;

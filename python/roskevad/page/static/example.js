@@ -21,8 +21,21 @@ export class Example {
   constructor(page) {
     this.page = page;
     this.lesson = new Lesson(page, () => this.document);
-    const title = "the example world, with three tasks of two minutes";
-    byId("file-actions").append(iconButton("lesson", "Try it", `Try it: ${title}`, () => this.start(), { id: "try" }));
+    this.button = iconButton("lesson", "Try it", "", () => this.start(), { id: "try" });
+    byId("file-actions").append(this.button);
+    page.editor.addEventListener("state", () => this.showTitle());
+    this.showTitle();
+  }
+
+  // Whether the example opens in this window. One that has files of the user's own keeps them.
+  get isHere() {
+    const { editor } = this.page;
+    return Boolean(this.document) || isExample() || (editor.place.kind === "chosen" && !editor.place.files.size && !editor.documents().length);
+  }
+
+  showTitle() {
+    const more = this.isHere ? "" : ". It opens in a new tab; your maps stay here";
+    this.button.title = `Try it: the example world, with three tasks of two minutes${more}`;
   }
 
   // The document of the example; null where it is not open here.
@@ -30,11 +43,10 @@ export class Example {
     return this.name && this.page.editor.documents().some(each => each.name === this.name) ? this.name : null;
   }
 
-  // A window that has files of the user's own keeps them: the example has a window of its own then.
   async start() {
-    const { editor } = this.page;
-    if (this.document || isExample() || (editor.place.kind === "chosen" && !editor.place.files.size && !editor.documents().length)) return this.open();
-    return open(`${location.pathname}${location.search}${WORD}`);
+    if (this.isHere) return this.open();
+    const opened = open(`${location.pathname}${location.search}${WORD}`);
+    return this.page.bench.say(opened ? "The example world is in a new tab. Your maps stay here." : "The browser opens no new tab: allow it for this page.");
   }
 
   // Opens it in this window, or goes to it, and begins the lesson.

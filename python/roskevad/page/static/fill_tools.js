@@ -1,5 +1,4 @@
 // The tools that fill: joined cells that are alike, or a rectangle.
-import { lineOf } from "./map_model.js";
 import { drawBlock, joinedCells, patternOver } from "./patterns.js";
 import { BARS } from "./stroke_tool.js";
 
@@ -15,16 +14,16 @@ export class FillTool {
 
   down(place) {
     const { bench } = this;
-    const { layer, layerId, map, stamp } = bench;
-    if (!layer.isTiles || !map.isInside(...place.cell) || stamp.values.length === 1) return this.fill(place.cell);
+    const { layerId, map, stamp } = bench;
+    if (!map.isInside(...place.cell) || stamp.values.length === 1) return this.fill(place.cell);
     const cells = joinedCells(map, layerId, ...place.cell);
-    return cells ? drawBlock(bench, patternOver(stamp, layerId, cells)) : bench.say(BARS.selection);
+    return cells ? drawBlock(bench, patternOver(stamp, layerId, cells), "pattern") : bench.say(BARS.selection);
   }
 
   // The editor says in its own words why it refuses a fill.
   fill([x, y]) {
     const { bench } = this;
-    if (bench.layer.isTiles && bench.map.isInside(x, y) && !bench.map.isReached(x, y)) return bench.say(BARS.selection);
+    if (bench.map.isInside(x, y) && !bench.map.isReached(x, y)) return bench.say(BARS.selection);
     return bench.act([`fill ${bench.layerId} ${x} ${y} ${bench.fillValue}`]);
   }
 
@@ -35,12 +34,10 @@ export class FillTool {
 
 // Fills a rectangle with the stamp, repeated from its upper left corner on.
 export function fillRectangle(bench, [x, y, width, height]) {
-  const { layer, layerId, map, stamp } = bench;
+  const { layerId, map, stamp } = bench;
   const [left, top, wide, high] = map.cut(x, y, width, height);
   if (!wide || !high) return bench.say(BARS.outside);
-  // The editor says in its own words why another layer takes no tiles.
-  if (!layer.isTiles) return bench.act([lineOf({ layer: layerId, x: left, y: top, width: 1, values: [bench.fillValue] })]);
   const block = patternOver(stamp, layerId, { x: left, y: top, width: wide, height: high }, [x, y]);
   const bar = map.barOf(block);
-  return bar ? bench.say(BARS[bar]) : drawBlock(bench, block);
+  return bar ? bench.say(BARS[bar]) : drawBlock(bench, block, "rectangle");
 }

@@ -36,7 +36,7 @@ export class Journal extends EventTarget {
     Object.assign(this, { version, limit, bound: BOUND, row: null, fault: null, isFlushing: null, work: Promise.resolve() });
     // The entries that are not written yet, how many were added and written, and who waits for how many: { count, resolve }.
     Object.assign(this, { queue: [], added: 0, written: 0, waiting: [] });
-    // What is told of this window's documents, and where its files are: [{ name, path, steps, isClean }] and { kind, title, folder }.
+    // What is told of this window's documents, and where its files are: [{ name, path, steps, isClean, lines }] and { kind, title, folder }.
     this.summary = () => [];
     this.source = () => ({});
   }

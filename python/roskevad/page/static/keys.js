@@ -1,15 +1,15 @@
 // The table of keys: Tiled's, where Tiled has one. The page's keys are bound from it, and it can be listed.
 import { isTyping } from "./dom.js";
 import { showKeys } from "./key_list.js";
+import { ARROWS, ARROW_KEYS, callsOf, keyOf, wordOf } from "./key_rows.js";
 import { flippedToSide, flippedUpDown, turnedLeft, turnedRight } from "./stamps.js";
 
 const DIGITS = [1, 2, 3, 4, 5, 6, 7, 8, 9];
 const all = prefix => DIGITS.map(digit => `${prefix}${digit}`);
 // How far an arrow key moves the view where the tool has no use for it: in pixels of the page.
 const STEP = 80;
-const ARROWS = { arrowleft: [-1, 0], arrowright: [1, 0], arrowup: [0, -1], arrowdown: [0, 1] };
 
-// The rows of the table: [keys, what they do, a call with the digit or the direction of the key and its event]. Keys are as `Ctrl+Shift+z`.
+// The rows of the table: [keys, what they do, a call with the digit or the direction of the key and its event].
 function toolRows({ tools }) {
   const tool = (key, name, text) => [[key], text, () => tools.choose(name)];
   return [
@@ -63,7 +63,8 @@ function viewRows({ toolbar, tools, view }) {
     [["Ctrl+g"], "Hides or shows the grid", () => toolbar.turnGrid()],
     [["n"], "Hides or shows the names of objects", () => toolbar.turnNames()],
     [["m"], "Hides or shows the whole map in small", () => toolbar.turnMiniMap()],
-    [Object.keys(ARROWS).flatMap(key => [key, `Shift+${key}`]), "Moves the chosen object or the view", move],
+    [ARROW_KEYS.flatMap(key => [key, `Shift+${key}`]), "Moves the chosen object or the view", move],
+    [["space"], "With a drag, moves the map", () => (tools.isSpace = true)],
   ];
 }
 
@@ -83,20 +84,14 @@ function pageRows({ toolbar }) {
 // The table, by what its rows are about.
 const GROUPS = [["Tools", toolRows], ["The stamp", stampRows], ["Cells, objects and steps", editRows], ["The view", viewRows], ["Maps", mapRows], ["The page", pageRows]];
 
-// The word of a key that was pressed: a digit or a sign is named without the Shift that it may need.
-function wordOf(event) {
-  const digit = /^(?:Digit|Numpad)([1-9])$/.exec(event.code)?.[1];
-  const key = event.shiftKey && digit ? digit : event.key.toLowerCase();
-  const isSign = ["+", "-", "=", "?", "/"].includes(key);
-  return `${event.ctrlKey || event.metaKey ? "Ctrl+" : ""}${event.shiftKey && !isSign ? "Shift+" : ""}${key}`;
-}
-
 export class Keys {
   // `parts` has the bench, the tools, the toolbar, the documents, the view, and the clips and kept stamps of cells.
   constructor(parts) {
     Object.assign(this, { tools: parts.tools });
     this.groups = GROUPS.map(([title, rowsOf]) => ({ title, rows: rowsOf(parts) }));
-    this.calls = new Map(this.rows.flatMap(([keys, , call]) => keys.map(key => [key, call])));
+    this.calls = callsOf(this.rows);
+    // What keys do where something has the focus: groups of rows, as those of the page.
+    this.places = [];
     this.inFields = new Set(["f1", ...mapRows(parts).flatMap(([keys]) => keys)]);
     document.addEventListener("keydown", event => this.press(event));
     document.addEventListener("keyup", event => {
@@ -115,8 +110,8 @@ export class Keys {
       if (this.inFields.has(word)) this.leaveField(event, word);
       return;
     }
-    if (event.code === "Space") this.holdSpace(event);
-    else if (!event.altKey && this.calls.has(word) && !this.isText(word)) this.run(event, word);
+    if (event.altKey || !this.calls.has(word) || this.isText(word) || (word === "space" && this.isForButton())) return;
+    this.run(event, word);
   }
 
   get rows() {
@@ -124,7 +119,7 @@ export class Keys {
   }
 
   list() {
-    return showKeys(this.groups);
+    return showKeys([...this.groups, ...this.places]);
   }
 
   // A field takes what was typed before the map is saved.
@@ -134,10 +129,8 @@ export class Keys {
   }
 
   // Over the map the space bar is for the hand; elsewhere it may press a button.
-  holdSpace(event) {
-    if (document.activeElement instanceof HTMLButtonElement && !this.tools.bench.place) return;
-    this.tools.isSpace = true;
-    event.preventDefault();
+  isForButton() {
+    return document.activeElement instanceof HTMLButtonElement && !this.tools.bench.place;
   }
 
   // Whether the key is for text that is marked on the page.
@@ -147,7 +140,7 @@ export class Keys {
 
   run(event, word) {
     event.preventDefault();
-    const key = word.slice(word.lastIndexOf("+", word.length - 2) + 1);
+    const key = keyOf(word);
     this.calls.get(word)(ARROWS[key] ?? Number(key), event);
   }
 }

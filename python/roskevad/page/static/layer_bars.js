@@ -22,6 +22,19 @@ export function whyBarred(layer) {
   return hidden ? `${nameOf(hidden)} is hidden.` : locked ? `${nameOf(locked)} is locked.` : "";
 }
 
+const OF_KINDS = { objectgroup: "has objects and no tiles", group: "is a group", imagelayer: "is an image" };
+
+// Why a layer takes no tiles, and what to choose or to add first; "" where it takes them.
+export function whyNoTiles(map, layer) {
+  if (layer.isTiles) return "";
+  const all = map.layers.filter(each => each.isTiles);
+  const inGroup = all.filter(each => withGroups(each).includes(layer));
+  const what = `${layer.data.name || "This layer"} ${OF_KINDS[layer.type] ?? "has no tiles"}.`;
+  if (!all.length) return `${what} Add a tile layer first, by 'Add a tile layer' below the layers.`;
+  if (all.length === 1) return `${what} Choose the tile layer ${all[0].data.name} to draw.`;
+  return `${what} Choose a tile layer ${inGroup.length ? "in it " : ""}to draw.`;
+}
+
 export class LayerBars {
   constructor(bench) {
     this.bench = bench;

@@ -19,8 +19,8 @@ export class LayerPanel {
     this.list.ondblclick = event => this.rowOf(event) && !event.target.closest("button") && this.rename();
     this.drag = new LayerDrag(this);
     byId("layer-actions").append(
-      iconButton("tileLayer", "Add a tile layer", "Add a tile layer", () => this.add("tile"), { id: "add-tile-layer" }),
-      iconButton("objectLayer", "Add an object layer", "Add an object layer", () => this.add("object"), { id: "add-object-layer" }),
+      iconButton("tileLayer", "Add a tile layer", "Add a tile layer, on top of all", () => this.add("tile"), { id: "add-tile-layer" }),
+      iconButton("objectLayer", "Add an object layer", "Add an object layer, on top of all", () => this.add("object"), { id: "add-object-layer" }),
       iconButton("up", "Up", "Up: draw this layer later", () => this.move(1), { id: "layer-up" }),
       iconButton("down", "Down", "Down: draw this layer earlier", () => this.move(-1), { id: "layer-down" }),
       iconButton("rename", "Rename this layer", "Rename this layer: a double click", () => this.rename(), { id: "rename-layer" }),
@@ -103,8 +103,11 @@ export class LayerPanel {
 
   async add(kind) {
     const field = { name: "name", label: "Name", value: kind === "tile" ? "Tiles" : "Objects", kind: KINDS.text };
-    const told = await ask(`A new ${kind} layer`, [field], ["OK"], ({ name }) => this.bench.attempt([`layer add ${kind} ${name}`]));
-    if (told) this.bench.chooseLayer(this.bench.map.data.nextlayerid - 1);
+    const title = `A new ${kind} layer, on top of all`;
+    const told = await ask(title, [field], ["OK"], ({ name }) => this.bench.attempt([`layer add ${kind} ${name}`]));
+    if (!told) return;
+    this.bench.chooseLayer(this.bench.map.data.nextlayerid - 1);
+    this.bench.say(`${told.name} is on top of all layers. 'Down' or a drag moves it.`);
   }
 
   async rename() {

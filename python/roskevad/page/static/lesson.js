@@ -1,4 +1,4 @@
-// Three tasks on the example world. A strip above the map tells what to do, a ring stands around where to do it, and each part is seen as done by
+// Three tasks on the example world. A bar over the map tells what to do, a ring stands around where to do it, and each part is seen as done by
 // what the map and the tools have.
 import { button, byId, element, isTyping } from "./dom.js";
 import { TASKS } from "./lesson_tasks.js";
@@ -19,7 +19,8 @@ export class Lesson {
       element("div", { className: "words" }, element("div", { className: "parts" }, this.head, this.parts), this.said),
       element("div", { className: "group" }, this.next, again, leave));
     this.ring = element("div", { id: "lesson-ring", hidden: true, ariaHidden: "true" });
-    byId("view").before(this.strip);
+    byId("bars").prepend(this.strip);
+    page.bars.keepFree(() => this.target);
     window.document.body.append(this.ring);
     window.document.addEventListener("keydown", event => event.key === "Escape" && this.mayLeave() && this.leave(), true);
   }
@@ -97,11 +98,21 @@ export class Lesson {
     this.showRing(at(this.page));
   }
 
+  // The bar stands beside what the ring is around.
+  keepTarget(box) {
+    const told = box && [box.left, box.top, box.right, box.bottom].join(" ");
+    if (told === this.told) return;
+    Object.assign(this, { told, target: box });
+    this.page.bars.place();
+  }
+
   // A ring around an element, or around a box of the window.
   showRing(found) {
-    const box = found instanceof Element ? found.getBoundingClientRect() : found;
+    const isElement = found instanceof Element;
+    const box = isElement ? found.getBoundingClientRect() : found;
     const isSeen = Boolean(box && box.right > box.left && !window.document.querySelector("dialog[open]"));
     this.ring.hidden = !isSeen;
+    this.keepTarget(isSeen && !(isElement && this.strip.contains(found)) ? box : null);
     if (!isSeen) return;
     const { style } = this.ring;
     [style.left, style.top] = [`${box.left - SIDE}px`, `${box.top - SIDE}px`];

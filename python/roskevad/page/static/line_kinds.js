@@ -23,6 +23,9 @@ export const isPaint = line => PAINTS.has(wordOf(line));
 export const isEdit = line => EDITS.has(wordOf(line));
 export const isAboutDocuments = line => DOCUMENTS.has(wordOf(line));
 
+// Whether a line follows the step before it.
+export const isFollowing = line => /^(?:\S+ )?\S+\+(?: |$)/.test(line);
+
 // Whether a line is quiet: it is blank or a comment.
 export const isQuiet = line => /^ *$|^#/.test(line);
 

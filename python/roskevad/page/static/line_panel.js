@@ -1,10 +1,9 @@
 // The log: what was done, in words, beside the lines that were sent, each with its reply; and a box for own ones, with a history and completion.
 import { byId, element } from "./dom.js";
+import { isFollowing } from "./line_kinds.js";
 import { LogWords } from "./log_words.js";
 
 const SHOWN = 1000;
-// A line that follows the step before it.
-const FOLLOWS = /^(?:\S+ )?\S+\+(?: |$)/;
 // The lines that have the name of a document, or of a file, as their word at a place.
 const DOCUMENT_WORDS = { close: 1, discard: 1, use: 1 };
 const FILE_WORDS = { open: 2, save: 1 };
@@ -14,7 +13,7 @@ export class LinePanel {
   constructor(bench, names) {
     this.bench = bench;
     this.words = new LogWords(names);
-    // The row of the last step, with the cells that its lines have named so far: { words, line, cells }.
+    // The row of the last step, with the cells that its lines have named so far: { words, line, cells, gesture }.
     this.step = null;
     this.editor = bench.editor;
     this.box = byId("line");
@@ -41,26 +40,26 @@ export class LinePanel {
     if (isAtEnd) list.scrollTop = list.scrollHeight;
   }
 
-  row([, line, reply, why, cells]) {
-    const words = this.wordsOf(line, reply, cells);
+  row([, line, reply, why, cells, gesture]) {
+    const words = this.wordsOf(line, reply, cells, gesture);
     const told = [element("span", { className: "reply", textContent: reply ?? "" }), why ? element("span", { className: "why", textContent: why }) : null];
     const row = element("li", { title: why ?? "" }, words, element("code", { textContent: line }), ...told);
     row.classList.toggle("refused", reply?.startsWith("no ") ?? false);
-    row.classList.toggle("follows", FOLLOWS.test(line));
+    row.classList.toggle("follows", isFollowing(line));
     return row;
   }
 
   // What a line has done. The cells of a line that follows are told where its step began.
-  wordsOf(line, reply, cells) {
+  wordsOf(line, reply, cells, gesture) {
     const words = element("span", { className: "words" });
     const isDone = !reply?.startsWith("no ");
-    if (isDone && FOLLOWS.test(line) && this.step) {
+    if (isDone && isFollowing(line) && this.step) {
       this.step.cells += cells;
-      this.step.words.textContent = this.step.words.title = this.words.of(this.step.line, this.step.cells);
+      this.step.words.textContent = this.step.words.title = this.words.of(this.step.line, this.step.cells, this.step.gesture);
       return words;
     }
-    words.textContent = words.title = isDone ? this.words.of(line, cells) : "Not done";
-    if (isDone && words.textContent) this.step = { words, line, cells };
+    words.textContent = words.title = isDone ? this.words.of(line, cells, gesture) : "Not done";
+    if (isDone && words.textContent) this.step = { words, line, cells, gesture };
     return words;
   }
 

@@ -18,18 +18,27 @@ export class LogWords {
     this.names = names;
   }
 
-  // `cells` are those of the line, or of its whole step. "" where a line only looks.
-  of(line, cells) {
+  // `cells` are those of the line, or of its whole step, and `gesture` is what the hand did, or null. "" where a line only looks.
+  of(line, cells, gesture) {
     const words = line.split(" ");
-    return OF_WORDS[wordOf(line)]?.(words, this.names, cells) ?? "";
+    return (OF_GESTURES[gesture] ?? OF_WORDS[wordOf(line)])?.(words, this.names, cells) ?? "";
   }
 }
+
+// What the hand did, where the line says less.
+const OF_GESTURES = {
+  rectangle: ([, layer], names, cells) => `Rectangle on ${names.layer(layer)}: ${counted(cells, "cell")}`,
+  pattern: ([, layer], names, cells) => `Fill on ${names.layer(layer)}: ${counted(cells, "cell")}`,
+  cut: ([, layer, , , width, height], names) => `Cut from ${names.layer(layer)}: ${width} × ${height}`,
+  empty: ([, layer], names) => `Empty the selected cells of ${names.layer(layer)}`,
+  paste: () => "Drop the selection, to paste",
+};
 
 const OF_WORDS = {
   stamp: ([, layer], names, cells) => `Stamp on ${names.layer(layer)}: ${counted(cells, "cell")}`,
   erase: ([, layer], names, cells) => `Erase on ${names.layer(layer)}: ${counted(cells, "cell")}`,
   fill: ([, layer, x, y], names) => `Fill on ${names.layer(layer)} from ${x}, ${y}`,
-  select: ([, kind, , , width, height]) => (width ? `Select (${kind}): ${width} × ${height}` : `Select ${kind}`),
+  select: ([, kind, , , width, height]) => OF_SELECT[kind]?.(`${width} × ${height} cells`) ?? "",
   new: ([, name, width, height]) => `New map ${name}: ${width} × ${height}`,
   open: ([, , file]) => `Open ${file}`,
   save: ([, file]) => `Save ${file}`,
@@ -39,7 +48,7 @@ const OF_WORDS = {
   undo: () => "Undo",
   redo: () => "Redo",
   goto: ([, step]) => `Go to step ${step}`,
-  begin: words => `Begin macro ${rest(words, 1)}`,
+  begin: words => `Begin macro ${rest(words, 1).split(" || ")[0]}`,
   end: () => "End macro",
   dirty: () => "Not saved",
   clear: () => "Forget the steps",
@@ -50,13 +59,21 @@ const OF_WORDS = {
   tileset: words => (words[1] === "add" ? `Add tileset ${rest(words, 3)}` : `${told(words[1])} tileset ${rest(words, 2)}`),
 };
 
+const OF_SELECT = {
+  none: () => "Select nothing",
+  replace: cells => `Select ${cells}`,
+  add: cells => `Add ${cells} to the selection`,
+  subtract: cells => `Take ${cells} from the selection`,
+  intersect: cells => `Keep the selection within ${cells}`,
+};
+
 const told = word => `${word.charAt(0).toUpperCase()}${word.slice(1).replace(/\+$/, "")}`;
 
 function ofLayer(words, names) {
   const [, what, id, value] = words;
   if (what === "add") return `Add ${id} layer ${rest(words, 3)}`;
-  if (what === "show") return `${value === "no" ? "Hide" : "Show"} ${names.layer(id)}`;
-  return what === "rename" ? `Rename ${names.layer(id)} to ${rest(words, 3)}` : `${told(what)} layer ${names.layer(id)}`;
+  if (wordOf(what) === "show") return `${value === "no" ? "Hide" : "Show"} layer ${names.layer(id)}`;
+  return wordOf(what) === "rename" ? `Rename layer ${names.layer(id)} to ${rest(words, 3)}` : `${told(what)} layer ${names.layer(id)}`;
 }
 
 function ofObject(words, names) {

@@ -1,7 +1,9 @@
 // Puts the page together: the editor, the drawing of its map, the tools, and the panels.
+import { Bars } from "./bars.js";
 import { Bench } from "./bench.js";
 import { Documents } from "./documents.js";
 import { byId } from "./dom.js";
+import { EDGE_KEYS } from "./edge_keys.js";
 import { Editor } from "./editor.js";
 import { bindFieldKeys } from "./field_keys.js";
 import { recordSum } from "./journal.js";
@@ -9,6 +11,7 @@ import { Example, isExample } from "./example.js";
 import { LayerPanel } from "./layer_panel.js";
 import { Layouts } from "./layouts.js";
 import { LinePanel } from "./line_panel.js";
+import { Look } from "./look.js";
 import { MapKeys, TileKeys } from "./map_keys.js";
 import { MapView } from "./map_view.js";
 import { Marks } from "./marks.js";
@@ -25,7 +28,7 @@ import { Player } from "./player.js";
 import { PropertyPanel } from "./property_panel.js";
 import { Readers } from "./readers.js";
 import { Recovery } from "./recovery.js";
-import { bindRows } from "./row_keys.js";
+import { bindRows, groupsOfLists } from "./row_keys.js";
 import { ScrollBars } from "./scroll_bars.js";
 import { StartPage } from "./start_page.js";
 import { StatusBar } from "./status_bar.js";
@@ -53,9 +56,11 @@ class Page {
     this.scrollBars = new ScrollBars(this.view);
     this.miniMap = new MiniMap(this.view, editor);
     const bench = this.bench = new Bench(editor, this.view, this.marks, this.tilesets);
+    this.bars = new Bars(this);
     this.tools = new Tools(bench);
     this.documents = new Documents(bench);
     this.toolbar = new Toolbar(bench, this.tools, this.documents, this.miniMap);
+    this.look = new Look(() => this.view.takeLook());
     this.startPage = new StartPage(bench, this.documents);
     this.miniMap.isBusy = () => bench.isHeld;
     this.palette = new Palette(bench, this.tilesets);
@@ -75,6 +80,7 @@ class Page {
     this.rowKeys = bindRows(bench, this.documents, this.layers);
     this.mapKeys = new MapKeys(this.tools, words => this.readers.say(words));
     this.tileKeys = new TileKeys(this.palette);
+    this.toolbar.keys.places = [...groupsOfLists(this.rowKeys), this.mapKeys.group, this.tileKeys.group, EDGE_KEYS];
     this.shownDocument = null;
     this.listen();
     bindFieldKeys(bench);

@@ -1,7 +1,8 @@
 // The map and the tiles by keys. Where Tab has reached the map, arrow keys move a cell of the keys, and Enter does there what a click does.
 import { byId } from "./dom.js";
+import { ARROW_KEYS, callsOf, pressed } from "./key_rows.js";
 
-const ARROWS = { ArrowLeft: [-1, 0], ArrowRight: [1, 0], ArrowUp: [0, -1], ArrowDown: [0, 1] };
+const WITH_SHIFT = ARROW_KEYS.map(key => `Shift+${key}`);
 // How many cells an arrow key goes with Shift, and how near to an edge of the view the cell may come, in pixels of the page.
 const FAR = 10;
 const EDGE = 24;
@@ -19,17 +20,17 @@ export class MapKeys {
     this.box.addEventListener("mousedown", event => event.target.closest("button, input, select, a") || event.preventDefault());
     this.box.addEventListener("focus", () => this.box.matches(":focus-visible") && this.bench.map && this.show());
     this.box.addEventListener("blur", () => tools.held || tools.showHand(null));
-    this.box.addEventListener("keydown", event => event.target === this.box && this.press(event));
+    this.group = { title: "On the map, by Tab", rows: this.rows() };
+    const calls = callsOf(this.group.rows);
+    this.box.addEventListener("keydown", event => event.target === this.box && this.bench.map && pressed(calls, event));
   }
 
-  press(event) {
-    if (!this.bench.map || event.ctrlKey || event.metaKey || event.altKey) return;
-    const isNudge = this.tools.name === "objects" && this.bench.objectId !== null;
-    if (event.key in ARROWS && !isNudge) this.move(ARROWS[event.key], event);
-    else if (event.key === "Enter") this.enter(event);
-    else return;
-    event.preventDefault();
-    event.stopPropagation();
+  rows() {
+    return [
+      [[...ARROW_KEYS, ...WITH_SHIFT], "Move the cell of the keys, with Shift by ten", (to, event) => this.move(to, event)],
+      [["enter"], "Does there what a click does; Rectangle, Select and Insert begin, and end by another Enter", (_, event) => this.enter(event)],
+      [["Shift+enter"], "Draws a line from the last cell; Select adds", (_, event) => this.enter(event)],
+    ];
   }
 
   // The cell of the keys, in the map: at first the one in the middle of the view.
@@ -41,12 +42,15 @@ export class MapKeys {
     return (this.cell = [within(x, map.width), within(y, map.height)]);
   }
 
+  // An object that is chosen takes the arrow keys.
   move([x, y], event) {
+    if (this.tools.name === "objects" && this.bench.objectId !== null) return false;
     const by = event.shiftKey ? FAR : 1;
     const { map } = this.bench;
     const [column, row] = this.place();
     this.cell = [within(column + x * by, map.width), within(row + y * by, map.height)];
     this.show(event);
+    return true;
   }
 
   // Moves the view to where the cell is seen, shows the tool there, and tells what is there.
@@ -83,19 +87,23 @@ export class TileKeys {
   constructor(palette) {
     this.palette = palette;
     this.at = this.from = [0, 0];
-    palette.canvas.addEventListener("keydown", event => this.press(event));
+    const rows = [
+      [ARROW_KEYS, "Take another tile", to => this.move(to, false)],
+      [WITH_SHIFT, "Take several tiles", to => this.move(to, true)],
+    ];
+    this.group = { title: "On the tiles, by Tab", rows };
+    const calls = callsOf(rows);
+    palette.canvas.addEventListener("keydown", event => pressed(calls, event));
     palette.canvas.addEventListener("mousedown", event => event.preventDefault());
   }
 
-  press(event) {
-    const step = ARROWS[event.key];
+  move([x, y], isMore) {
     const { palette } = this;
-    if (!step || !palette.tileset || event.ctrlKey || event.metaKey || event.altKey) return;
-    this.at = [within(this.at[0] + step[0], palette.columns), within(this.at[1] + step[1], palette.rows)];
-    if (!event.shiftKey) this.from = this.at;
+    if (!palette.tileset) return false;
+    this.at = [within(this.at[0] + x, palette.columns), within(this.at[1] + y, palette.rows)];
+    if (!isMore) this.from = this.at;
     palette.takeTiles(this.from, this.at);
     palette.tell(this.at);
-    event.preventDefault();
-    event.stopPropagation();
+    return true;
   }
 }

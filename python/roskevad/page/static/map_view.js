@@ -15,6 +15,12 @@ const LEAST_SEEN = 48;
 // The largest scale of a map that is fitted.
 const LARGEST_FIT = 4;
 
+// The least box of cells that has both; the first one may be null.
+function joined(one, other) {
+  if (!one) return other;
+  return [Math.min(one[0], other[0]), Math.min(one[1], other[1]), Math.max(one[2], other[2]), Math.max(one[3], other[3])];
+}
+
 export class MapView {
   constructor(box, editor, tilesets) {
     this.box = box;
@@ -28,8 +34,10 @@ export class MapView {
     this.scale = 2;
     this.originX = this.originY = 16;
     this.changed = null;
-    // What was drawn last of a stroke: the cells from x0, y0 to x1, y1.
+    // What was drawn last, of a stroke all of it: the cells from x0, y0 to x1, y1.
     this.drawn = null;
+    // How many strokes were begun, and whether the last one goes on.
+    Object.assign(this, { strokes: 0, isHeld: false });
     // The object that is not drawn, since it is shown elsewhere while it is dragged.
     this.hidden = null;
     this.isWhole = true;
@@ -39,9 +47,9 @@ export class MapView {
     // When the page began to work on the hand's last event.
     this.work = 0;
     this.takeLook();
-    matchMedia("(prefers-color-scheme: light)").addEventListener("change", () => this.takeLook());
-    // Called behind each drawing that the view has moved for.
+    // Called behind each drawing that the view has moved for, and behind each one of cells that have changed.
     this.onMove = () => {};
+    this.onDrawn = () => {};
     this.resize();
     this.watch();
   }
@@ -230,6 +238,13 @@ export class MapView {
     this.redraw();
   }
 
+  // A stroke begins or ends. The frame of the screen that follows belongs to it.
+  hold(isHeld) {
+    if (isHeld) Object.assign(this, { drawn: null, isHeld, strokes: this.strokes + 1 });
+    const { strokes } = this;
+    if (!isHeld) requestAnimationFrame(() => strokes === this.strokes && (this.isHeld = false));
+  }
+
   // The box of the window in which a stroke has drawn last, or null.
   drawnBox() {
     if (!this.drawn || !this.map) return null;
@@ -244,8 +259,7 @@ export class MapView {
   }
 
   widen(x, y) {
-    const old = this.changed ?? [x, y, x, y];
-    this.changed = [Math.min(old[0], x), Math.min(old[1], y), Math.max(old[2], x), Math.max(old[3], y)];
+    this.changed = joined(this.changed, [x, y, x, y]);
   }
 
   // Has the browser note how long it took from a moment until the next drawing stood.
@@ -288,9 +302,10 @@ export class MapView {
     if (isWhole || !this.map) this.painter.paint([0, 0, this.canvas.width, this.canvas.height]);
     else if (isMoved) this.drawMoved(...moved);
     if (changed && this.map && !isWhole) this.painter.paint(this.boxOfChanged(changed));
-    if (changed) this.drawn = changed;
+    if (changed) this.drawn = joined(this.isHeld ? this.drawn : null, changed);
     this.endMeasures();
     if (isWhole || isMoved) this.onMove();
+    if (changed) this.onDrawn();
   }
 
   // Moves what is drawn, and draws what has come into view.

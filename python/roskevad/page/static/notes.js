@@ -28,13 +28,13 @@ export class Notes {
     return this.painted.get(this.active) ?? null;
   }
 
-  // Keeps what an accepted line does that does not only look, and its reply. `file` is what an `open` has read.
-  note(line, reply, file = null) {
+  // Keeps what an accepted line does that does not only look, and its reply. `file` is what an `open` has read, and `gesture` what the hand did.
+  note({ line, reply, file = null, gesture = null }) {
     const [word, name, source] = [wordOf(line), ...line.split(" ").slice(1)];
     if (isAboutDocuments(line)) this.noteDocument(word, name, line);
     else if (this.active !== null) this.sessions.get(this.active).push(line);
     this.paintedNow?.note(line, reply);
-    this.subjects.get(this.active)?.note(line, reply);
+    this.subjects.get(this.active)?.note(line, reply, gesture);
     if (file) this.files.set(name, { path: file.path, word: source, mark: { hash: file.hash, size: file.size, time: file.time } });
   }
 

@@ -1,4 +1,4 @@
-// Bars above the page that stay until they are answered, one for each thing that they are about.
+// Bars over the map that stay until they are answered, one for each thing that they are about.
 import { button, byId, element } from "./dom.js";
 
 const all = new Map();

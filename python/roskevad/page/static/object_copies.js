@@ -6,7 +6,7 @@ import { unsaidOf } from "./unsaid.js";
 
 const ABOUT = "copy";
 
-const listed = words => (words.length < 2 ? words.join("") : `${words.slice(0, -1).join(", ")} and ${words[words.length - 1]}`);
+export const listed = (words, last = "and") => (words.length < 2 ? words.join("") : `${words.slice(0, -1).join(", ")} ${last} ${words[words.length - 1]}`);
 export const nameOf = object => object.name || `Object ${object.id}`;
 
 // The lines that make a copy with an id in a layer.

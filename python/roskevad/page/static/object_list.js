@@ -1,6 +1,7 @@
 // The objects of the map in a list, by their layers, with a search. It stands in the place of the tiles while a tool for objects is in hand.
 import { byId, element } from "./dom.js";
 import { boxOf } from "./object_shapes.js";
+import { NO_NAME } from "./unsaid.js";
 
 // How many rows the list has at most: others are found by the search.
 const MOST_ROWS = 1000;
@@ -26,7 +27,7 @@ export class ObjectList {
     this.search.oninput = () => this.show();
     this.search.onkeydown = event => this.key(event);
     this.list.onclick = event => this.click(event);
-    this.list.ondblclick = event => event.target.closest("[data-object]") && bench.say("No line changes the name of an object.");
+    this.list.ondblclick = event => event.target.closest("[data-object]") && bench.say(NO_NAME);
     bench.addEventListener("chosen", () => this.show());
     bench.addEventListener("object chosen", () => this.list.querySelector(".now")?.scrollIntoView({ block: "nearest" }));
     bench.addEventListener("tool", () => this.turnTo(SIDES[tools.name]));

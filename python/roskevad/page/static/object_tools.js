@@ -1,7 +1,7 @@
 // The tools of the hand for objects: one that chooses, drags and resizes them, and one that adds them.
 import { ask } from "./dom.js";
 import { KINDS } from "./kinds.js";
-import { ObjectCopies, nameOf } from "./object_copies.js";
+import { ObjectCopies, listed, nameOf } from "./object_copies.js";
 import { handleAt, resized } from "./object_shapes.js";
 
 // How far the hand moves before a press is a drag, in pixels of the screen.
@@ -171,14 +171,21 @@ export class ObjectTool {
   }
 }
 
+// The layer that takes a new object: the one in hand, or else the only one of the map. null where there is none, or several: it is said.
+export function layerForObjects(bench) {
+  const all = bench.map.layers.filter(each => each.type === "objectgroup");
+  if (bench.layer?.type === "objectgroup") return bench.layer;
+  if (all.length === 1) return all[0];
+  const names = all.map(each => each.data.name || "(no name)");
+  const words = all.length ? `Choose an object layer first: ${listed(names, "or")}.` : "Add an object layer first, by 'Add an object layer' below the layers.";
+  return bench.say(words);
+}
+
 // Adds an object over a rectangle of cells, under a name that is asked for, and chooses it.
 export async function insertObject(bench, [x, y, width, height]) {
-  const { map, layer } = bench;
-  if (layer?.type !== "objectgroup") {
-    const isNone = !map.layers.some(each => each.type === "objectgroup");
-    return bench.say(isNone ? "Add an object layer first, by 'Add an object layer' below the layers." : "Choose an object layer first.");
-  }
-  if (bench.barsObjects(layer, "added")) return null;
+  const { map } = bench;
+  const layer = layerForObjects(bench);
+  if (!layer || bench.barsObjects(layer, "added")) return null;
   const [left, top, ...size] = map.projection.objectBox([x, y, x + width, y + height]);
   const box = [...bench.marks.inLayer(layer, left, top).map(Math.round), ...size];
   const field = { name: "name", label: "Name", value: "object", kind: KINDS.text };

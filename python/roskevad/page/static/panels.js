@@ -1,4 +1,5 @@
-// The panels around the map: a click at a head folds one, and the edges between them are dragged.
+// The panels around the map: a click at a head folds one, and the edges between them are dragged. An edge is thin, so that it covers nothing;
+// so grips below it, the bar below the map, or the head of the panel below it are dragged, too.
 import { byId, element } from "./dom.js";
 import { edgeByKeys } from "./edge_keys.js";
 import { icon } from "./icons.js";
@@ -7,6 +8,8 @@ import { icon } from "./icons.js";
 const LEAST_WIDTH = 150;
 const LEAST_HEIGHT = 34;
 const MOST = 0.6;
+// How far the hand moves before a press is a drag, in pixels of the page.
+const SHORTEST_DRAG = 4;
 
 export class Panels {
   // `onChange` is called where something is another size, or folded.
@@ -15,6 +18,10 @@ export class Panels {
     this.parts = this.wrapped(byId("right"));
     byId("left").after(this.edge("left-edge", "Drag: the width of the tiles", event => this.widen("left", event.clientX)));
     byId("right").before(this.edge("right-edge", "Drag: the width of the layers", event => this.widen("right", innerWidth - event.clientX)));
+    const footer = document.querySelector("footer");
+    footer.prepend(this.grip("left-grip", "left", byId("left-edge"), aside => this.widen("left", aside)));
+    footer.append(this.grip("right-grip", "right", byId("right-edge"), aside => this.widen("right", innerWidth - aside)));
+    this.bindFooter(footer);
     byId("line-box").before(this.edge("line-edge", "Drag: the height of the lines", event => this.heighten(event.clientY), true));
     byId("turn-log").prepend(icon("log"));
     byId("turn-log").onclick = () => {
@@ -22,7 +29,10 @@ export class Panels {
       this.onChange();
     };
     this.showLog(false);
-    for (const [at, part] of this.parts.slice(1).entries()) part.before(this.edge(`edge-${at}`, "Drag: the heights", event => this.share(at, event.clientY), true));
+    for (const [at, part] of this.parts.slice(1).entries()) {
+      part.before(this.edge(`edge-${at}`, "Drag: the heights", event => this.share(at, event.clientY), true));
+      this.bindHead(part.querySelector("h2"), at);
+    }
   }
 
   // Makes a panel of each head of a column and of what is below it.
@@ -46,16 +56,60 @@ export class Panels {
       drag(event);
       this.onChange();
     });
-    edge.onpointerdown = event => {
+    this.bindDrag(edge, () => drag);
+    return edge;
+  }
+
+  // `start` takes the press, and gives what a move of the hand does, or null where the press is not for it.
+  bindDrag(at, start) {
+    at.onpointerdown = event => {
+      const drag = event.button === 0 ? start(event) : null;
+      if (!drag) return;
       event.preventDefault();
-      edge.setPointerCapture(event.pointerId);
-      edge.onpointermove = drag;
+      at.setPointerCapture(event.pointerId);
+      at.onpointermove = drag;
     };
-    edge.onpointerup = edge.onpointercancel = () => {
-      edge.onpointermove = null;
+    at.onpointerup = at.onpointercancel = () => {
+      if (!at.onpointermove) return;
+      at.onpointermove = null;
       this.onChange();
     };
-    return edge;
+  }
+
+  // What drags an edge at an end of the bar below the map. `move` takes where that side of the edge is to be.
+  grip(id, side, edge, move) {
+    const made = element("span", { className: "grip", id, title: edge.title, ariaHidden: "true" });
+    this.bindDrag(made, event => {
+      const aside = edge.getBoundingClientRect()[side] - event.clientX;
+      return ({ clientX }) => move(clientX + aside);
+    });
+    return made;
+  }
+
+  // The bar below the map drags the edge of the log.
+  bindFooter(footer) {
+    this.bindDrag(footer, event => {
+      if (byId("line-box").hidden || event.target.closest("button, .grip")) return null;
+      const down = byId("line-edge").getBoundingClientRect().bottom - event.clientY;
+      return ({ clientY }) => this.heighten(clientY + down);
+    });
+  }
+
+  // The head of a panel drags the edge above it; a press that does not move is a click.
+  bindHead(head, at) {
+    this.bindDrag(head, event => {
+      const [from, down] = [event.clientY, byId(`edge-${at}`).getBoundingClientRect().top - event.clientY];
+      this.isDragged = false;
+      return ({ clientY }) => {
+        this.isDragged ||= Math.abs(clientY - from) >= SHORTEST_DRAG;
+        if (this.isDragged) this.share(at, clientY + down);
+      };
+    });
+    head.title = "Fold or unfold; a drag moves the edge above";
+    head.addEventListener("click", event => {
+      if (this.isDragged) event.stopImmediatePropagation();
+      this.isDragged = false;
+    }, true);
   }
 
   fold(part) {
@@ -67,6 +121,7 @@ export class Panels {
   showLog(isShown) {
     byId("line-box").hidden = byId("line-edge").hidden = !isShown;
     byId("turn-log").setAttribute("aria-expanded", String(isShown));
+    document.querySelector("footer").classList.toggle("drags", isShown);
     byId("lines").scrollTop = byId("lines").scrollHeight;
   }
 
@@ -85,7 +140,8 @@ export class Panels {
   share(at, y) {
     const [upper, lower] = [this.parts[at], this.parts[at + 1]];
     if ([upper, lower].some(part => part.classList.contains("folded"))) return;
-    for (const part of this.parts) part.style.flexGrow = part.getBoundingClientRect().height;
+    const heights = this.parts.map(part => part.getBoundingClientRect().height);
+    this.parts.forEach((part, place) => (part.style.flexGrow = heights[place]));
     const [top, bottom] = [upper.getBoundingClientRect().top, lower.getBoundingClientRect().bottom];
     const edge = Math.max(top + LEAST_HEIGHT, Math.min(bottom - LEAST_HEIGHT, y));
     upper.style.flexGrow = Math.round(edge - top);

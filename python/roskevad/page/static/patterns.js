@@ -49,9 +49,10 @@ export function patternOver(stamp, layer, { x, y, width, height, isIn = () => tr
   return { layer, x, y, width, height, values };
 }
 
-// Draws a block of any size as one step, or as none where it changes nothing; gives whether it has changed something.
-export function drawBlock(bench, block) {
-  const hear = line => bench.sayRefusal(bench.editor.doLines([line], { stroke })).isHeard;
+// Draws a block of any size as one step, or as none where it changes nothing; gives whether it has changed something. `gesture` is what the
+// hand did.
+export function drawBlock(bench, block, gesture) {
+  const hear = line => bench.sayRefusal(bench.editor.doLines([line], { stroke, gesture })).isHeard;
   const stroke = new Stroke(bench.map, () => block, hear);
   const edits = stroke.put(block);
   bench.view.redrawCells(edits);

@@ -2,7 +2,12 @@
 import { byId, element } from "./dom.js";
 import { iconButton } from "./icons.js";
 import { endNotice, notice } from "./notices.js";
-import { ChosenFiles, FolderFiles, chosen, isMapName } from "./places.js";
+import { ChosenFiles, FolderFiles, IN_XML, chosen, isMapName, isTilesetName, isXmlMapName } from "./places.js";
+
+// What a notice is about; how many files it names.
+const OTHERS = "other files";
+const MOST_NAMED = 3;
+const IMAGE = /\.(png|jpe?g|gif|webp|bmp|svg|avif)$/i;
 
 export class PlacePanel {
   constructor(bench, documents, tilesets) {
@@ -64,6 +69,14 @@ export class PlacePanel {
     this.take(place);
     this.editor.journal.keepSource(taken);
     for (const { path, bytes } of taken) if (isMap(path, bytes)) await this.documents.openPath(path);
+    this.sayOthers(taken);
+  }
+
+  // Says which of the files are passed over, and what to do.
+  sayOthers(taken) {
+    const words = wordsOfOthers(taken);
+    if (words) notice(OTHERS, words, [["OK", () => {}]], "mild");
+    else endNotice(OTHERS);
   }
 
   take(place) {
@@ -95,7 +108,31 @@ export class PlacePanel {
   }
 }
 
+const textOf = bytes => new TextDecoder().decode(bytes);
+
 // Whether a chosen file is opened: a map, and no tileset in JSON.
 function isMap(path, bytes) {
-  return isMapName(path) && (!/\.json$/i.test(path) || new TextDecoder().decode(bytes).includes('"layers"'));
+  return isMapName(path) && (!/\.json$/i.test(path) || textOf(bytes).includes('"layers"'));
+}
+
+// Whether a chosen file is for a map: a tileset, an image, or whatever a browser shows as one.
+function isForMaps({ path, bytes, file }) {
+  if (/\.json$/i.test(path)) return textOf(bytes).includes('"tilewidth"');
+  return isTilesetName(path) || IMAGE.test(path) || (file?.type ?? "").startsWith("image/");
+}
+
+// What is said of chosen files that are neither maps nor for maps; "" where there is none.
+function wordsOfOthers(taken) {
+  const others = taken.filter(each => !isMap(each.path, each.bytes) && !isForMaps(each)).map(each => each.path);
+  const [inXml, unknown] = [others.filter(isXmlMapName), others.filter(path => !isXmlMapName(path))];
+  const told = [];
+  if (inXml.length) told.push(`${listOf(inXml)}: ${IN_XML}`);
+  if (unknown.length) told.push(`Passed over: ${listOf(unknown)}. The page opens maps that are saved as JSON (.tmj or .json), with their tilesets and images.`);
+  return told.join(" ");
+}
+
+// The first of some names, and how many more there are.
+function listOf(names) {
+  const more = names.length - MOST_NAMED;
+  return `${names.slice(0, MOST_NAMED).join(", ")}${more > 0 ? ` and ${more} more` : ""}`;
 }

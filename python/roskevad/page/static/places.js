@@ -17,7 +17,11 @@ import { joined, lastOf } from "./names.js";
 export const LONGEST_FILE = 64 * 1024 * 1024;
 
 export const isMapName = name => /\.(tmj|json)$/i.test(name);
-const isTilesetName = name => /\.(tsx|tsj)$/i.test(name);
+export const isXmlMapName = name => /\.tmx$/i.test(name);
+export const isTilesetName = name => /\.(tsx|tsj)$/i.test(name);
+
+// What is said of maps in XML.
+export const IN_XML = "a map in XML, which the page does not open. In Tiled save it as JSON: 'Save As', with the name .tmj; then choose that.";
 
 // The file is not what it must be: it was changed by another program, or a file has come.
 export class Changed extends Error {}

@@ -4,11 +4,14 @@ import { fieldFor, numberField } from "./fields.js";
 import { KINDS, TYPES } from "./kinds.js";
 import { folderOf } from "./names.js";
 import { saidOf } from "./refusals.js";
-import { whyNotSet } from "./unsaid.js";
+import { NO_NAME, whyNotSet } from "./unsaid.js";
 
 const OWNERS = ["map", "layer", "object"];
 // What a field has where a new property is made, and nothing was typed.
 const FIRST = { int: "0", bool: "false", object: "0" };
+// The type of a new property, unless another one is chosen.
+const USUAL = "string";
+const isChoice = type => type === "bool" || type === "object";
 const PARTS = [["x", KINDS.coordinate, "x"], ["y", KINDS.coordinate, "y"], ["width", KINDS.size, "w"], ["height", KINDS.size, "h"]];
 
 export class PropertyPanel {
@@ -24,7 +27,8 @@ export class PropertyPanel {
     };
     this.last = this.newRow();
     const columns = Array.from({ length: 3 }, () => element("col"));
-    byId("properties").append(element("colgroup", {}, ...columns), this.body, element("tfoot", {}, this.last));
+    byId("properties").querySelector("table").append(element("colgroup", {}, ...columns), this.body);
+    byId("properties").append(this.last);
     // The panel follows what is chosen.
     bench.addEventListener("layer chosen", () => this.choose("layer"));
     bench.addEventListener("object chosen", () => this.choose(bench.objectId !== null ? "object" : this.kind === "object" ? "layer" : this.kind));
@@ -54,7 +58,7 @@ export class PropertyPanel {
     for (const kind of OWNERS) byId(`of-${kind}`).classList.toggle("on", kind === this.kind);
     const none = this.kind === "object" ? "No object is chosen: click at one with the tool Objects." : "Nothing is open.";
     byId("owner").textContent = owner?.title ?? none;
-    byId("owner").title = owner && this.kind === "object" ? "No line changes an object's name" : "";
+    byId("owner").title = owner && this.kind === "object" ? NO_NAME : "";
     this.last.hidden = !owner;
     if (owner?.word !== this.shownOwner) this.unmark();
     this.shownOwner = owner?.word;
@@ -151,25 +155,32 @@ export class PropertyPanel {
   }
 
   // ---- a new property
+  // It stands below the table, which scrolls: its name, its value and its type, in the order of Tab.
   newRow() {
     const name = element("input", { placeholder: "name", id: "new-name", autocomplete: "off", oninput: () => mark(name, "") });
     const types = Object.keys(TYPES).map(each => element("option", { textContent: each }));
-    const type = element("select", { id: "new-type", onchange: () => this.newField() }, ...types);
-    const box = element("td", { className: "new-value" });
+    const type = element("select", { id: "new-type", title: "The type of the new property", onchange: () => this.newField(this.typed()) }, ...types);
+    type.ariaLabel = "type";
+    const box = element("div", { className: "new-value" });
     Object.assign(this, { name, type, box });
     const add = button("+", "Set this property", () => this.add(), { id: "add-property" });
-    name.onkeydown = event => this.newKey(event);
+    for (const field of [name, type]) field.onkeydown = event => this.newKey(event);
     this.newField();
-    return element("tr", { className: "new" }, element("td", {}, element("div", {}, name), type), box, element("td", {}, add));
+    return element("div", { className: "new" }, element("div", {}, name), box, type, add);
   }
 
-  // The field for a value of the type that is chosen.
-  newField() {
-    const type = this.type.value;
-    const isTyped = type !== "bool" && type !== "object";
-    this.field = fieldFor(type, isTyped ? "" : FIRST[type], () => null, this.around);
+  // What was typed as the value; a choice is nothing typed.
+  typed() {
+    return isChoice(this.fieldType) ? "" : this.field.input.value;
+  }
+
+  // The field for a value of the type that is chosen, with what was typed for another one.
+  newField(typed = "") {
+    const type = this.fieldType = this.type.value;
+    this.field = fieldFor(type, isChoice(type) ? FIRST[type] : "", () => null, this.around);
     const { input } = this.field;
     Object.assign(input, { id: "new-value", placeholder: FIRST[type] ?? "value", onkeydown: event => this.newKey(event), onchange: null });
+    if (!isChoice(type)) input.value = typed;
     this.box.replaceChildren(this.field.box);
   }
 
@@ -197,9 +208,11 @@ export class PropertyPanel {
     if (wrong) return wrong[0].focus();
     const done = await this.bench.editor.send([`prop set ${this.owner().word} ${name.value} ${type.value} ${value}`]);
     if (!done.isHeard) return mark(name, saidOf(done));
+    this.bench.bubble.hide();
     name.value = "";
     // The keys stay in the row, for the next property.
-    if (document.activeElement === field.input) name.focus();
+    if ([field.input, type].includes(document.activeElement)) name.focus();
+    type.value = USUAL;
     return this.newField();
   }
 }

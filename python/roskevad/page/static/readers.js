@@ -10,6 +10,7 @@ const PARTS = [
   ["#looks", { role: "toolbar", "aria-label": "The view" }],
   ["#layer-actions", { role: "toolbar", "aria-label": "What is done with layers" }],
   ["#tileset-actions", { role: "toolbar", "aria-label": "What is done with tilesets" }],
+  ["#page-actions", { role: "toolbar", "aria-label": "The page" }],
   ["#tabs", { role: "tablist", "aria-label": "Maps" }],
   ["#layers", { role: "tree", "aria-label": "Layers" }],
   ["#steps", { role: "listbox", "aria-label": "Steps" }],

@@ -6,11 +6,16 @@ import { endNotice, notice } from "./notices.js";
 import { ChosenFiles, FolderFiles, download } from "./places.js";
 
 const MEGABYTE = 1024 * 1024;
+const DAY = 24 * 60 * 60 * 1000;
 const SAID = "roskevad-said-that-nothing-is-kept";
 // The word behind `#` of a window that is opened for a journal.
 const RESTORE = "restore=";
 
 const nameOf = ({ name, path, steps, isClean }) => `${path ? lastOf(path) : name} (${steps} ${steps === 1 ? "step" : "steps"}${isClean ? "" : ", not saved"})`;
+// Whether a journal has nothing but maps that were opened, and no other line. It is for its own window alone, which may come back, and is
+// not offered.
+const isUntouched = row => row.documents.every(({ path, lines }) => path !== null && lines === 1);
+const isOld = row => isUntouched(row) && Date.now() - row.changed > DAY;
 const namesOf = row => row.documents.map(nameOf).join(", ");
 const timeOf = row => new Date(row.changed).toLocaleString();
 
@@ -30,16 +35,15 @@ export class Recovery {
 
   // Takes up what this tab had before it was loaded anew, and offers what others have left. Gives whether something was taken up.
   async start() {
-    const rows = [];
-    for (const row of await this.journal.left()) {
-      if (row.documents.length) rows.push(row);
-      else await this.journal.forget(row.id);
-    }
+    const left = await this.journal.left();
+    const mine = this.journal.ownOf(left);
+    const rows = left.filter(row => row.documents.length && (row === mine || !isOld(row)));
+    for (const row of left) if (!rows.includes(row)) await this.journal.forget(row.id);
     const wanted = location.hash.startsWith(`#${RESTORE}`) && rows.find(row => row.id === location.hash.slice(1 + RESTORE.length));
     if (wanted) history.replaceState(null, "", location.pathname + location.search);
-    const own = wanted || this.journal.ownOf(rows);
+    const own = wanted || rows.find(row => row === mine);
     const isTaken = own ? await this.restore(own) : false;
-    for (const row of rows) if (row !== own) this.offer(row);
+    for (const row of rows) if (row !== own && !isUntouched(row)) this.offer(row);
     return isTaken;
   }
 

@@ -49,7 +49,10 @@ export class StartPage {
 
   showWays() {
     const ways = WAYS.filter(([, , id]) => byId(id));
-    if (this.ways.children.length === ways.length) return;
+    if (this.ways.children.length === ways.length) {
+      ways.forEach(([, , id], at) => (this.ways.children[at].title = byId(id).title));
+      return;
+    }
     this.ways.replaceChildren(...ways.map(([picture, text, id]) => {
       const way = element("button", { type: "button", textContent: text, title: byId(id).title, onclick: () => byId(id).click() });
       way.prepend(icon(picture));
@@ -60,7 +63,9 @@ export class StartPage {
   put(maps) {
     this.seen.disconnect();
     this.waiting = [];
-    const none = "Make a new map, or open some: choose them, or drop files or a folder here.";
+    const hasOthers = this.editor.place.files?.size > 0;
+    const none = hasOthers ? "No map is among the chosen files: choose one, too, or make a new one."
+      : "Make a new map, or open some: choose them, or drop files or a folder here.";
     this.told.textContent = maps.length ? `Or go on with a map of ${this.editor.place.title || "this folder"}:` : none;
     this.list.replaceChildren(...maps.map(each => this.card(each)));
     for (const card of this.list.children) this.seen.observe(card);

@@ -2,14 +2,17 @@
 import { byId } from "./dom.js";
 import { wordsOf } from "./tile_words.js";
 
+// What is said of a map that has no file.
+export const NEVER_SAVED = "not saved yet";
+
 export class StatusBar {
   constructor(bench, tilesets) {
     Object.assign(this, { bench, tilesets });
     bench.addEventListener("hand", () => this.showHand());
   }
 
-  showState({ active, index, count, isClean, isWriting, depth }) {
-    const saved = isWriting ? "is being saved" : isClean ? "saved" : "not saved";
+  showState({ active, file, index, count, isClean, isWriting, depth }) {
+    const saved = isWriting ? "is being saved" : file === null ? NEVER_SAVED : isClean ? "saved" : "not saved";
     byId("standing").textContent = active ? `${index}/${count} ${saved}${depth ? `, ${depth} open` : ""}` : "";
   }
 

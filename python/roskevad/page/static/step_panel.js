@@ -49,22 +49,28 @@ export class StepPanel {
     }
   }
 
-  // A step and what it is about: `Stamp · Ground`.
+  // A step, what it is about, and how it was done: `Show Layer · Roof: hidden`.
   wordsOf({ text, subject }) {
     const { layers, objects } = this.names.get(this.editor.state.active) ?? {};
-    const named = subject && (subject.name ?? (subject.layer ? layers?.get(subject.layer) || `layer ${subject.layer}`
-      : objects?.get(subject.object) || `object ${subject.object}`));
-    return named ? `${text} · ${named}` : text;
+    const named = subject && this.nameIn(subject, layers, objects);
+    const told = [named, subject?.how].filter(each => each).join(": ");
+    return told ? `${text} · ${told}` : text;
+  }
+
+  nameIn({ name = "", layer, object }, layers, objects) {
+    if (layer) return layers?.get(layer) || `layer ${layer}`;
+    return object ? objects?.get(object) || `object ${object}` : name;
   }
 
   row(place, text, isMacro) {
-    const { index, cleanIndex, count, depth } = this.editor.state;
+    const { index, cleanIndex, count, depth, file } = this.editor.state;
+    const isSaved = place === cleanIndex && file !== null;
     const isOpen = depth > 0 && place === count;
     const row = element("li", { data: { place }, onclick: () => this.bench.act([`goto ${place}`]) },
       element("span", { className: "number", textContent: place }),
       element("span", { className: "name", textContent: text, title: text }),
       element("span", { className: "kind", textContent: isOpen ? "open macro" : isMacro ? "macro" : "" }),
-      element("span", { className: "clean", textContent: place === cleanIndex ? "saved" : "" }));
+      element("span", { className: "clean", textContent: isSaved ? "saved" : "" }));
     row.classList.toggle("now", place === index);
     row.classList.toggle("undone", place > index && !isOpen);
     return row;

@@ -1,7 +1,20 @@
 // What each step of a document is about, as far as its line tells: a layer, an object, or something that has a name.
-import { isEdit, wordOf } from "./line_kinds.js";
+import { isEdit, isFollowing, wordOf } from "./line_kinds.js";
 
 const STANDING = /^ok (\d+)\/\d+ \w+ (\d+)$/;
+
+// How a gesture is told behind what a step is about.
+const GESTURES = { rectangle: "rectangle", pattern: "pattern", cut: "cut", empty: "the selected cells", paste: "none, to paste" };
+const SIGNS = { replace: "", add: "+ ", subtract: "− ", intersect: "within " };
+
+// How a line does it, where the step's own text does not tell; undefined where it does.
+function howOf(line, gesture) {
+  const [word, what, , value, width, height] = line.split(" ");
+  if (GESTURES[gesture]) return GESTURES[gesture];
+  if (wordOf(word) === "layer" && wordOf(what) === "show") return value === "no" ? "hidden" : "shown";
+  if (wordOf(word) !== "select") return undefined;
+  return what === "none" ? "none" : `${SIGNS[what] ?? ""}${width} × ${height}`;
+}
 
 // What a line is about: { layer }, { object }, each an id, or { name }; null where it is about nothing of these.
 function subjectOf(line) {
@@ -17,8 +30,16 @@ function subjectOf(line) {
   return kind === "tileset" && words[0] === "add" ? { name: rest(2) } : null;
 }
 
+// What a line is about, and how it does that.
+function toldOf(line, gesture) {
+  const how = howOf(line, gesture);
+  return how === undefined ? subjectOf(line) : { ...subjectOf(line), how };
+}
+
+const isSame = (one, other) => JSON.stringify(one) === JSON.stringify(other);
+
 // What two lines are about together.
-const common = (one, other) => (JSON.stringify(one) === JSON.stringify(other) ? one : null);
+const common = (one, other) => (isSame(one, other) ? one : null);
 
 export class StepSubjects {
   // With an undo limit the steps change their places, and nothing is kept.
@@ -31,8 +52,8 @@ export class StepSubjects {
     return this.all[at] ?? null;
   }
 
-  // Keeps what an accepted line was about, by its reply.
-  note(line, reply) {
+  // Keeps what an accepted line was about, by its reply; `gesture` is what the hand did.
+  note(line, reply, gesture = null) {
     const stands = STANDING.exec(reply);
     if (!stands) return;
     const [index, depth, before, wasIn] = [Number(stands[1]), Number(stands[2]), this.index, this.depth];
@@ -42,7 +63,7 @@ export class StepSubjects {
     if (this.hasLimit || word === "clear") this.all = [];
     else if (word === "begin" && wasIn === 0) this.beginMacro(before);
     else if (word === "end" && depth === 0) this.all[before] = this.inside ?? null;
-    else if (isEdit(line) && depth === 0) this.step(line, before, index);
+    else if (isEdit(line) && depth === 0) this.step(line, before, index, gesture);
     else if (isEdit(line)) this.inside = this.inside === undefined ? subjectOf(line) : common(this.inside, subjectOf(line));
   }
 
@@ -52,8 +73,10 @@ export class StepSubjects {
   }
 
   // A step was added behind those below the index; or the line was joined to the last one, or has changed nothing; or the last one is gone.
-  step(line, before, index) {
+  step(line, before, index, gesture) {
     this.all.length = Math.min(this.all.length, before, index);
-    if (index > before) this.all[before] = subjectOf(line);
+    const told = toldOf(line, gesture);
+    if (index > before) this.all[before] = told;
+    else if (isFollowing(line) && !isSame(this.all[index - 1], told)) this.all[index - 1] = subjectOf(line);
   }
 }

@@ -1,19 +1,43 @@
 // A stroke of the brush or of the eraser: one step, however many lines it takes.
 import { lineOf } from "./map_model.js";
 
-// How many values a line may have, each of up to ten digits and its comma: a line has at most 65,535 bytes.
-const MOST_VALUES = 5500;
+// The longest text of the values of a line, which has at most 65,535 bytes.
+const LONGEST = 65_000;
+// From which values on a value has one more digit.
+const TENS = [10, 100, 1000, 10_000, 100_000, 1_000_000, 10_000_000, 100_000_000, 1_000_000_000];
 
-// A block in parts, each of some of its rows, that a line has room for. (No map is wider than a row of a line may be.)
+// The length of a value and its comma.
+function lengthOf(value) {
+  let digits = 0;
+  while (digits < TENS.length && value >= TENS[digits]) digits++;
+  return digits + 2;
+}
+
+function rowLength({ values, width }, row) {
+  let length = 0;
+  for (let at = row * width; at < (row + 1) * width; at++) length += lengthOf(values[at]);
+  return length;
+}
+
+// A block in parts, each of as many of its rows as a line has room for: each line that follows costs as much as what is there before it. (No
+// map is wider than a row of a line may be.)
 export function partsOf(block) {
-  const rows = Math.max(1, Math.floor(MOST_VALUES / block.width));
-  if (!block.values || block.height <= rows) return [block];
-  const parts = [];
-  for (let row = 0; row < block.height; row += rows) {
-    const values = block.values.slice(row * block.width, (row + rows) * block.width);
-    parts.push({ ...block, y: block.y + row, height: values.length / block.width, values });
+  if (!block.values) return [block];
+  const starts = [0];
+  let length = 0;
+  for (let row = 0; row < block.height; row++) {
+    const more = rowLength(block, row);
+    if (length && length + more > LONGEST) {
+      starts.push(row);
+      length = 0;
+    }
+    length += more;
   }
-  return parts;
+  if (starts.length === 1) return [block];
+  return starts.map((row, at) => {
+    const height = (starts[at + 1] ?? block.height) - row;
+    return { ...block, y: block.y + row, height, values: block.values.slice(row * block.width, (row + height) * block.width) };
+  });
 }
 
 // The cells from one to another one, both with them: each joined to the one before it.

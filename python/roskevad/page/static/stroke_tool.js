@@ -1,5 +1,4 @@
 // The brush and the eraser.
-import { lineOf } from "./map_model.js";
 import { Stroke } from "./stroke.js";
 
 // The largest stamp whose tiles are shown under the hand.
@@ -39,13 +38,8 @@ export class StrokeTool {
     return { cells: [block.x, block.y, block.width, block.height], values, line, colour: this.colour };
   }
 
-  async down(place, event) {
+  down(place, event) {
     const { bench } = this;
-    if (!bench.layer.isTiles) {
-      // The editor says in its own words why this layer takes no stroke.
-      await bench.act([lineOf(this.blockAt(...place.cell), false)]);
-      return;
-    }
     const from = event.shiftKey ? this.start : null;
     this.document = bench.editor.notes.active;
     this.isBarred = true;

@@ -32,8 +32,8 @@ export class Toolbar {
       iconButton("grid", "Grid", "Grid: hides or shows it (Ctrl+G)", () => this.turnGrid(), { id: "grid", className: "on" }),
       iconButton("names", "Names", "Names of objects: hides or shows them (N)", () => this.turnNames(), { id: "turn-names", className: "on" }),
       iconButton("miniMap", "Mini-map", "Mini-map: hides or shows the whole map in small (M)", () => this.turnMiniMap(), { id: "turn-mini-map", className: "on" }),
-      iconButton("keys", "Keys", "Keys: lists them (F1)", () => this.keys.list(), { id: "list-keys" }),
     );
+    byId("page-actions").append(iconButton("keys", "Keys", "Keys: lists them (F1)", () => this.keys.list(), { id: "list-keys" }));
     const clips = new Clips(bench, tools);
     showIcon(byId("take"), "take");
     byId("take").onclick = () => clips.copy();

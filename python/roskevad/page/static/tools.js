@@ -115,12 +115,14 @@ export class Tools {
     getSelection().removeAllRanges();
     const name = this.toolOf(event);
     if (!name || this.held || (name !== "pan" && !this.isReady())) return;
-    if (PAINTING.has(name) && this.bench.layer.isTiles && this.bench.barredLayer()) return;
+    if (PAINTING.has(name) && this.bench.barredLayer()) return;
     event.preventDefault();
     // A press by keys has no pointer.
     if (event.isTrusted) this.bench.view.box.setPointerCapture(event.pointerId);
     this.held = name;
     this.bench.isHeld = true;
+    if (name !== "pan") this.bench.view.hold(true);
+    this.bench.view.box.classList.add("held");
     this.drawnUpTo = -Infinity;
     this.bench.view.work = performance.now();
     this.from = this.placeOf(event);
@@ -187,6 +189,8 @@ export class Tools {
   release() {
     this.held = null;
     this.bench.isHeld = false;
+    this.bench.view.hold(false);
+    this.bench.view.box.classList.remove("held");
   }
 
   // Ends what the hand is about, and says whether it was about something: a stroke stays as far as it came, another drag does nothing.
@@ -207,9 +211,16 @@ export class Tools {
     bench.chooseObject(null);
   }
 
+  // Whether the tool would draw tiles on a layer that has none.
+  get isAstray() {
+    const { layer } = this.bench;
+    return PAINTING.has(this.busy) && layer !== null && !layer.isTiles;
+  }
+
   showHand(place, event = null) {
-    const { marks, map } = this.bench;
-    const hand = place && map ? this.all[this.busy].hover(place, event) : null;
+    const { marks, map, view } = this.bench;
+    view.box.classList.toggle("astray", this.isAstray);
+    const hand = place && map && !this.isAstray ? this.all[this.busy].hover(place, event) : null;
     marks.hand = hand && { ...hand, layer: ON_LAYER.has(this.busy) ? this.bench.layer : null };
     marks.redrawHand();
     this.bench.place = place;
