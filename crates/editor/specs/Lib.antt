@@ -5,3 +5,4 @@ pub mod Acts
 pub mod Steps
 pub mod Editors
 pub mod Planning
+pub mod Asking

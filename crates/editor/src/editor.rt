@@ -3,6 +3,7 @@ ghost use Rattle.command_api.specs.Names.{is_free};
 ghost use Rattle.session.specs.Spelling.{CanBeSpelled};
 ghost use Rattle.undo_stack.specs.declared.limits.TheConstants.{MAX_LIMIT};
 ghost use Rattle.undo_group.specs.Stacks.{group_of, AreHeld};
+ghost use Rattle.editor.specs.Asking.{PlanAsks};
 ghost use Rattle.editor.specs.Editors.{machine_of, IsSound};
 ghost use Rattle.editor.specs.Machine.{active_of, started_machine, workspace};
 ghost use Rattle.editor.specs.Planning.{Commits, FitsActive, FitsPlan, KeepsPlan, Plans};
@@ -53,7 +54,7 @@ impl<C: Command> Editor<C> {
     /// Does what a line asks for, but for an edit, which is left to be put into a box and committed.
     ///
     /// The editor is as it was after an edit that was planned and after every refusal. The store is called for the lines
-    /// `open` and `save` alone.
+    /// `open` and `save` alone, and at most once.
     pub fn plan<S: MapStore>(&mut self, alloc: Global, store: &mut S, line: &Line<'_>) -> Planned
         requires sound { IsSound C.change self.old }
         requires spelled { CanBeSpelled line.now }
@@ -61,6 +62,7 @@ impl<C: Command> Editor<C> {
         ensures plans { Plans line.now (workspace (machine_of C.change self.old) (S.stored store.old)) result (workspace (machine_of C.change self.new) (S.stored store.new)) }
         ensures unchanged { KeepsPlan result (machine_of C.change self.old) (machine_of C.change self.new) }
         ensures fits { FitsPlan (machine_of C.change self.new) result }
+        ensures asks { PlanAsks line.now (machine_of C.change self.old) result (S.asked store.old) (S.asked store.new) }
     {
         match line {
             Line::Quiet => Planned::Quiet,

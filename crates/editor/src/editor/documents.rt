@@ -12,6 +12,7 @@ ghost use Rattle.session.specs.Spelling.{CanBeSpelled};
 ghost use Rattle.session.specs.declared.reply.Reply.TheVariants as replies;
 ghost use Rattle.editor.specs.Editors.{machine_of, IsSound};
 ghost use Rattle.editor.specs.Acts.{Answers, Closes, Creates, NotTaken, GoesOn, Named, OrNoMemory, Opens, TellsText, Uses};
+ghost use Rattle.editor.specs.Asking.{Asks};
 ghost use Rattle.editor.specs.Answers.{documents_text, is_active, starred, status_reply};
 ghost use Rattle.editor.specs.Machine.{active_of, workspace};
 ghost use Rattle.editor.specs.Planning.{IsOfDocuments, KeepsReply};
@@ -122,6 +123,7 @@ impl<C: Command> Editor<C> {
         ensures sound { IsSound C.change self.new }
         ensures step { Step line.now (workspace (machine_of C.change self.old) (S.stored store.old)) (Some result) (workspace (machine_of C.change self.new) (S.stored store.new)) }
         ensures unchanged { KeepsReply result (machine_of C.change self.old) (machine_of C.change self.new) }
+        ensures asks { Asks line.now (machine_of C.change self.old) result (S.asked store.old) (S.asked store.new) }
     {
         match line {
             Line::New {

@@ -1,9 +1,12 @@
 // The lines about files.
-ghost use Rattle.std.specs.Prelude.{◌≤◌, length, Some};
+ghost use Rattle.std.specs.Prelude.{◌≡◌, ◌≤◌, length, Some};
 ghost use Rattle.session.specs.declared.limits.TheConstants.{MAX_FILE_NAME};
 ghost use Rattle.editor.specs.Editors.{machine_of, IsSound};
 ghost use Rattle.map_store.specs.Files.{SameOthers};
 ghost use Rattle.editor.specs.Acts.{FilesStay, Loads, NewName, OfActive, OrNoMemoryForFile, OrStoreFails, OutsideMacros, Saves};
+ghost use Rattle.undo_group.specs.Groups.{history_named};
+ghost use Rattle.editor.specs.Asking.{AsksToSave, asked_to_open};
+ghost use Rattle.editor.specs.Machine.{active_of};
 ghost use Rattle.editor.specs.Planning.{KeepsReply};
 
 use crate::editor::Editor;
@@ -31,6 +34,7 @@ impl<C: Command> Editor<C> {
         ensures step { NewName name.now (OrStoreFails FilesStay (OrNoMemoryForFile (Loads name.now file.now)))
             (S.stored store.old) (S.stored store.new) (machine_of C.change self.old) (Some result) (machine_of C.change self.new) }
         ensures unchanged { KeepsReply result (machine_of C.change self.old) (machine_of C.change self.new) }
+        ensures asks { S.asked store.new ≡ asked_to_open file.now (history_named name.now (machine_of C.change self.old).group.documents) (S.asked store.old) }
     {
         if self.group.get(name.as_str()).is_some() {
             return Reply::Refused(Refusal::NameTaken);
@@ -59,6 +63,7 @@ impl<C: Command> Editor<C> {
         ensures step { OfActive (OutsideMacros (OrStoreFails (SameOthers file.now) (OrNoMemoryForFile (Saves file.now))))
             (S.stored store.old) (S.stored store.new) (machine_of C.change self.old) (Some result) (machine_of C.change self.new) }
         ensures unchanged { KeepsReply result (machine_of C.change self.old) (machine_of C.change self.new) }
+        ensures asks { AsksToSave file.now (active_of (machine_of C.change self.old)) result (S.asked store.old) (S.asked store.new) }
     {
         match self.group.active_mut() {
             Some(stack) => save_document(alloc, store, stack, file),
