@@ -1,5 +1,5 @@
 -- Commands of properties, as they are made and turned.
-use Rattle.std.proofs.Common.{◌≡◌, ℕ, ◌<◌, ◌≤◌, List, length, Bool, false, Option, Some, None, IsSomeAnd, Result, Ok, Err, IfOk, option_map, option_and_then, refl, sym, ap, ◌∙◌, subst, arith}
+use Rattle.std.proofs.Common.{IsUtf8, ◌≡◌, ℕ, ◌<◌, ◌≤◌, List, length, Bool, false, Option, Some, None, IsSomeAnd, Result, Ok, Err, IfOk, option_map, option_and_then, refl, sym, ap, ◌∙◌, subst, arith}
 use Rattle.std.specs.Prelude.{◌↔◌, IsTrue}
 use Rattle.std.specs.List.{slice_get}
 use Rattle.std.specs.Option.{ok_or}
@@ -95,11 +95,12 @@ module _ (d : DocumentParts) (owner : Owner) (name kind : List ℕ) (value : Pro
       )
       )
 
-  pub add-made : (ps : List Property) (at : ℕ) (loose : Option Property) (shown : GivenSetting) → at ≡ length ps → property_place d.map place name ≡ None → properties_of d.map place ≡ Some ps
+  pub add-made : (ps : List Property) (at : ℕ) (loose : Option Property) (shown : GivenSetting) → IsUtf8 name → at ≡ length ps
+      → property_place d.map place name ≡ None → properties_of d.map place ≡ Some ps
       → length ps < MAX_PROPERTIES → loose ≡ Some (new_property name (setting_with kind value)) → given_setting shown ≡ setting_with kind value → IsSetting d.map place (setting_with kind value)
       → Makes (set_property_names owner name follows) d (after_set_property d owner name kind value)
       (property_set_change (record { owner = owner; name = name; follows = follows; place = place; at = at; shown = shown; kind = Add (Some loose) }))
-  add-made ps at loose shown last none are few is shows allowed =
+  add-made ps at loose shown utf8 last none are few is shows allowed =
       let p = new_property name (setting_with kind value) in
       let behind : length ps ≤ length ps = omega arith in
       let free : IsSomeAnd (properties_of d.map place) (λ qs. length ps ≤ length qs) = rw are behind in
@@ -114,7 +115,7 @@ module _ (d : DocumentParts) (owner : Owner) (name kind : List ℕ) (value : Pro
               link = record {
                 ready = free;
                 before = h;
-                after = with_property_at-keeps place (length ps) p ps d.map are few (new_property-IsProperty d.map place name (setting_with kind value) allowed) new h;
+                after = with_property_at-keeps place (length ps) p ps d.map are few (new_property-IsProperty d.map place name (setting_with kind value) utf8 allowed) new h;
               };
               new = (refl, record { stands = owner-there d.map owner place found; new = none; last = count });
             };

@@ -75,7 +75,13 @@ module _ (owner : Owner) (name : List ℕ) (place : OwnerPlace) (at : ℕ) (d : 
   AllowsSetting-put stands is = record { stands = setting_named-keeps owner name (λ own. s) d ∙ stands; setting = is }
 
   AllowsSetting-back : AllowsSetting owner name place at (put (setting_named owner name) s d) held → AllowsSetting owner name place at d held
-  AllowsSetting-back h = record { stands = sym (setting_named-keeps owner name (λ own. s) d) ∙ h.stands; setting = subst (λ n. IsValue (property_level n) held.value) (setting_named-level owner name (λ own. s) d place) h.setting }
+  AllowsSetting-back h = record {
+    stands = sym (setting_named-keeps owner name (λ own. s) d) ∙ h.stands;
+    setting = record {
+      kind = h.setting.kind;
+      value = subst (λ n. IsValue (property_level n) held.value) (setting_named-level owner name (λ own. s) d place) h.setting.value;
+    };
+  }
 
 -- ---- a property that is new
 module _ (owner : Owner) (name : List ℕ) (place : OwnerPlace) (at : ℕ) where

@@ -1,5 +1,5 @@
 -- A tileset that is added, and one that is removed.
-use Rattle.std.proofs.Common.{◌≡◌, ℕ, ◌<◌, ◌≤◌, List, [], ◌∷◌, length, true, false, Option, Some, None, IsSome, refl, arith}
+use Rattle.std.proofs.Common.{◌≡◌, IsUtf8, ℕ, ◌<◌, ◌≤◌, List, [], ◌∷◌, length, true, false, Option, Some, None, IsSome, refl, arith}
 use Rattle.std.proofs.lemmas.Bool.{lt-ltb, le-leb, and_parts, ltb-true}
 use Rattle.std.proofs.lemmas.List.Quantifiers.{position-Some}
 use Rattle.map_model.specs.declared.limits.TheConstants.{MAX_FIRST_ID, MAX_TILESETS}
@@ -23,15 +23,16 @@ below : (first : ℕ) (ts : List Tileset) → is_above first ts ≡ true → Eac
 below first [] h = tt
 below first (t ∷ ts) h = let both = and_parts _ _ h in (ltb-true _ _ both.0, below first ts both.1)
 
-pub add_tileset_made : (d : DocumentParts) (first : ℕ) (source : List ℕ) (at : ℕ) (loose : Option Tileset) → at ≡ length d.map.tilesets → loose ≡ Some (external_tileset first source) → is_above first d.map.tilesets ≡ true → 1 ≤ first
+pub add_tileset_made : (d : DocumentParts) (first : ℕ) (source : List ℕ) (at : ℕ) (loose : Option Tileset) → IsUtf8 source → at ≡ length d.map.tilesets
+    → loose ≡ Some (external_tileset first source) → is_above first d.map.tilesets ≡ true → 1 ≤ first
     → first ≤ MAX_FIRST_ID → length d.map.tilesets < MAX_TILESETS → IsWellFormed d.map
     → Makes add_tileset_names d (after_add_tileset d first source) (add_tileset_change (record { at = at; tileset = Some loose }))
-add_tileset_made d first source at loose last is above low high few h =
+add_tileset_made d first source at loose utf8 last is above low high few h =
     rw (is, last) (
     link_made refl (record {
       ready = omega arith;
       before = h;
-      after = insert_tileset-keeps d.map (length d.map.tilesets) (external_tileset first source) few (external_tileset-IsTileset first source low high) (below first d.map.tilesets above) h;
+      after = insert_tileset-keeps d.map (length d.map.tilesets) (external_tileset first source) few (external_tileset-IsTileset first source utf8 low high) (below first d.map.tilesets above) h;
     })
     (rw (above, le-leb 1 first low, le-leb first MAX_FIRST_ID high, lt-ltb (length d.map.tilesets) MAX_TILESETS few) refl)
     )

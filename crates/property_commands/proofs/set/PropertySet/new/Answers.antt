@@ -41,5 +41,6 @@ returns-in-Ok-new-2-clause-command c =
     made-as (λ (made : PropertySet). Makes (set_property_names a.owner a.name.now a.follows) d (after_set_property d a.owner a.name.now a.kind.now value) (property_set_change made))
     c.named-in-None.result
     (record { owner = a.owner; name = a.name.now; follows = a.follows; place = place; at = c.len-at.result; shown = c.in-Ok-new-2.shown; kind = Add (Some c.in-Ok-loose_property.property) }) c.named-in-None.ensures.ok
-    (add-made d a.owner a.name.now a.kind.now value a.follows place found well ps c.len-at.result c.in-Ok-loose_property.property c.in-Ok-new-2.shown c.len-at.ensures.value none are few
+    (add-made d a.owner a.name.now a.kind.now value a.follows place found well ps c.len-at.result c.in-Ok-loose_property.property
+    c.in-Ok-new-2.shown c.utf8.name c.len-at.ensures.value none are few
     c.in-Ok-loose_property.ensures.property c.in-Ok-new-2.ensures (c.in-Ok-loose_property.ensures.value d.map place))
