@@ -20,13 +20,11 @@ use Rattle.map_model.proofs.FoundLaws.{found-get, found-update}
 use Rattle.map_model.proofs.PropertyKeeps.{owner_level-with_properties}
 use Rattle.map_model.proofs.PropertyLaws.{properties-laws, property_slot-laws}
 use Rattle.map_model.proofs.StayPut.{setting_place-added, setting_named-keeps, setting_named-laws, without_setting-none, without-put, new_property-put}
-use Rattle.command_api.specs.declared.ids.TheConstants.{SET_ID}
 use Rattle.command_api.specs.Exchange.{FitsTurn, IsExchanged, change_of}
 use Rattle.command_api.specs.Names.{Names, WhenEqual}
 use Rattle.command_api.specs.Link.{link, turned_link}
 use Rattle.command_api.specs.Offers.{FitsNew, FitsPut, FitsSetting, IsMerged, IsOfferOf, Shown, Value, offer_undone, setting_undone}
 use Rattle.command_api.specs.Swap.{FitsShown}
-use Rattle.command_api.specs.Tag.{OfName}
 use Rattle.command_api.proofs.Links.{place_in-differs}
 use Rattle.command_api.proofs.Offering.{follower-offered, nothing-offered}
 use Rattle.command_api.proofs.Swaps.{shown_merged, shown_offered}
