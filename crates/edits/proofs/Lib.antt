@@ -5,6 +5,7 @@ pub mod FillCalls
 pub mod Fills
 pub mod Flooded
 pub mod Joined
+pub mod KnownValues
 pub mod Laws
 pub mod Marking
 pub mod Merged
