@@ -19,3 +19,4 @@ pub mod SelectedNumbers
 pub mod RowStretches
 pub mod Spreading
 pub mod Turns
+pub mod WordBits
