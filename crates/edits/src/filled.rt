@@ -1,5 +1,5 @@
 // The changes that a fill makes.
-ghost use Rattle.std.specs.Prelude.{◌≡◌, ◌≢◌, ℕ, ◌+◌, ◌-◌, ◌*◌, ◌<◌, ◌≤◌, ◌++◌, IfOk, OnOk, true, length};
+ghost use Rattle.std.specs.Prelude.{◌≡◌, ◌≢◌, ℕ, ◌+◌, ◌-◌, ◌*◌, ◌<◌, ◌≤◌, [], ◌∷◌, ◌++◌, if◌then◌else◌, IfOk, OnOk, true, length};
 ghost use Rattle.edits.specs.Covering.{covered};
 ghost use Rattle.map_model.specs.Difference.{difference};
 ghost use Rattle.edits.specs.Filling.{fill_over};
@@ -162,6 +162,29 @@ fn changes_of(
     Ok(cells)
 }
 
+// The change of the start of a fill alone, where it may be changed.
+fn change_of_start(
+    alloc: Global,
+    ground: &Ground<'_>,
+    value: Gid,
+) -> Result<Vec<CellEdit>, AllocError>
+    requires { IsGround ground.now }
+    ensures { IfOk result (λ cells. cells.items ≡ (if free_in ground.now (ground.now.start.0, ground.now.start.1)
+        then record { x = ground.now.start.0; y = ground.now.start.1; before = ground.now.value; after = value } ∷ [] else [])) }
+{
+    let (x, y) = ground.start;
+    let mut cells = Vec::new(alloc);
+    if ground.is_free(x, y) {
+        cells.push(CellEdit {
+            x: x as u16,
+            y: y as u16,
+            before: ground.value,
+            after: value,
+        })?;
+    }
+    Ok(cells)
+}
+
 /// The changes of a fill of a layer of this width: each cell that is joined to the start takes the value.
 ///
 /// They come in row order, each cell once, with unequal values before and after.
@@ -180,6 +203,10 @@ pub(crate) fn fill_cells(
     let ground = Ground::new(tiles, width, selection, start);
     if ground.value == value {
         return Ok(Vec::new(alloc));
+    }
+    if !ground.has_free_neighbour() {
+        let change = change_of_start(alloc, &ground, value)?;
+        return Ok(change);
     }
     let spread = Spread::over(alloc, &ground)?;
     let cells = changes_of(alloc, &ground, &spread, value)?;

@@ -2,10 +2,11 @@
 ghost use Rattle.std.specs.Prelude.{◌≡◌, ℕ, ◌+◌, ◌*◌, ◌/◌, ◌%◌, ◌<◌, ◌≤◌, ◌^◌, ◌≢◌, IfOk, true, length, nat_eq, slice_get};
 ghost use Rattle.std.specs.Int.{bit_at};
 ghost use Rattle.map_model.specs.declared.limits.TheConstants.{MAX_SIDE};
-ghost use Rattle.edits.specs.Flooding.{AreAllowed, AreSelected, AreSideBySide, HasCell, IsGround, IsGroundOf, IsLed, free_at};
-ghost use Rattle.edits.specs.Joining.{is_value};
+ghost use Rattle.edits.specs.Flooding.{AreAllowed, AreSelected, AreSideBySide, HasCell, IsGround, IsGroundOf, IsLed, free_at, free_in, start_of};
+ghost use Rattle.edits.specs.Joining.{any_neighbour, is_value};
 ghost use Rattle.edits.specs.Marks.{room};
 
+use crate::extent::lets_change;
 use crate::marks::Marks;
 use region::Region;
 use std::alloc::{AllocError, Global};
@@ -81,6 +82,40 @@ impl<'a> Ground<'a> {
 }
 
 impl Ground<'_> {
+    /// Whether a fill may take a cell.
+    pub(crate) fn is_free(&self, x: u32, y: u32) -> bool
+        requires { IsGround self.now }
+        ensures { result ≡ free_in self.now (x, y) }
+    {
+        if x >= self.width {
+            return false;
+        }
+        let number = y as usize * self.width as usize + x as usize;
+        if number >= self.tiles.len() || self.tiles[number] != self.value {
+            return false;
+        }
+        lets_change(self.selection, x, y)
+    }
+
+    /// Whether a fill may take a cell beside its start.
+    pub(crate) fn has_free_neighbour(&self) -> bool
+        requires { IsGround self.now }
+        ensures { result ≡ any_neighbour (free_in self.now) (start_of self.now) }
+    {
+        let (x, y) = self.start;
+        // No map has a column or a row as high as those that wrap.
+        if self.is_free(x.wrapping_sub(1), y) {
+            return true;
+        }
+        if self.is_free(x + 1, y) {
+            return true;
+        }
+        if self.is_free(x, y.wrapping_sub(1)) {
+            return true;
+        }
+        self.is_free(x, y + 1)
+    }
+
     /// Marks of the numbers that may be changed.
     pub(crate) fn allowed_numbers(&self, alloc: Global) -> Result<Marks, AllocError>
         requires { IsGround self.now }
