@@ -139,3 +139,14 @@ module _ (over : ℕ → ℕ → Option ℕ) (r : Extent) (h : IsExtent over r) 
   changes-all =
       let all : r.rows.end + (h.layer.height - r.rows.end) ≡ h.layer.height = omega (arith, h.rows_within) in
       sym (other-rows r.rows.end (h.layer.height - r.rows.end) (omega arith) (λ y a b. inr a)) ∙ ap (λ n. changes_below over r (n * r.width)) all ∙ ap (changes_below over r) (sym h.layer.size)
+
+  -- one cell
+  pub changes-before_one : r.rows.first < h.layer.height → [] ≡ changes_below over r (r.rows.first * r.width + r.columns.first)
+  changes-before_one row = changes-above ∙ sym (changes-left r.rows.first row)
+
+  pub changes-of_one : r.columns.end ≡ r.columns.first + 1 → r.rows.end ≡ r.rows.first + 1
+      → changes_below over r (r.rows.first * r.width + (r.columns.first + 1)) ≡ changes_below over r (length r.tiles.now)
+  changes-of_one column row =
+      let y = r.rows.first in
+      let all : r.rows.end * r.width ≡ y * r.width + r.width = ap (λ n. n * r.width) row ∙ (let next : (y + 1) * r.width ≡ y * r.width + r.width = omega arith in next) in
+      ap (λ n. changes_below over r (y * r.width + n)) (sym column) ∙ sym (changes-right y (omega (arith, row, h.rows_within))) ∙ ap (changes_below over r) (sym all) ∙ changes-all

@@ -27,6 +27,24 @@ beside_any test zero b (inr s) e = or_left (test 1) false (ap test s ∙ e)
 beside_any test (suc a) b (inl s) e = let same : a ≡ b = omega arith in or_left (test a) (test (suc (suc a)) || false) (ap test same ∙ e)
 beside_any test (suc a) b (inr s) e = or_right (test a) (test (suc (suc a)) || false) (or_left (test (suc (suc a))) false (ap test s ∙ e))
 
+or_false : (a : Bool) → (a || false) ≡ a
+or_false true = refl
+or_false false = refl
+
+-- the test at the column, or the row, before and behind one: before the first there is none
+any_beside-by : (test : ℕ → Bool) (a before : ℕ) → (a ≡ 0 → test before ≡ false) → (0 < a → before ≡ a - 1) → list_any test (beside a) ≡ (test before || test (a + 1))
+any_beside-by test zero before none back = or_false (test 1) ∙ ap (λ b. b || test 1) (sym (none refl))
+any_beside-by test (suc a) before none back =
+    let same : before ≡ a = omega (arith, back (omega arith)) in
+    let next : suc a + 1 ≡ suc (suc a) = omega arith in
+    ap (λ b. test a || b) (or_false (test (suc (suc a)))) ∙ ap (λ k. test k || test (suc (suc a))) (sym same) ∙ ap (λ k. test before || test k) (sym next)
+
+pub any_neighbour-by : (test : ℕ × ℕ → Bool) (x y left up : ℕ) → (x ≡ 0 → test (left, y) ≡ false) → (0 < x → left ≡ x - 1) → (y ≡ 0 → test (x, up) ≡ false) → (0 < y → up ≡ y - 1)
+    → any_neighbour test (x, y) ≡ ((test (left, y) || test (x + 1, y)) || (test (x, up) || test (x, y + 1)))
+any_neighbour-by test x y left up first before top above =
+    ap (λ b. b || list_any (λ k. test (x, k)) (beside y)) (any_beside-by (λ k. test (k, y)) x left first before)
+    ∙ ap (λ b. (test (left, y) || test (x + 1, y)) || b) (any_beside-by (λ k. test (x, k)) y up top above)
+
 -- the test holds of a neighbour
 neighbour-of : (test : ℕ × ℕ → Bool) (q : ℕ × ℕ) → any_neighbour test q ≡ true → (r : ℕ × ℕ) × AreNeighbours r q × (test r ≡ true)
 neighbour-of test q h = elim (or_cases (list_any (λ x. test (x, q.1)) (beside q.0)) (list_any (λ y. test (q.0, y)) (beside q.1)) h) [
@@ -121,6 +139,17 @@ module _ (free : ℕ × ℕ → Bool) where
   pub start_free : (p q : ℕ × ℕ) → AreJoined free p q → free p ≡ true
   start_free p q ([], h) = h.0
   start_free p q (r ∷ path, h) = h.0
+
+neighbours_turned : (p q : ℕ × ℕ) → AreNeighbours p q → AreNeighbours q p
+neighbours_turned p q (inl (row, inl e)) = inl (sym row, inr e)
+neighbours_turned p q (inl (row, inr e)) = inl (sym row, inl e)
+neighbours_turned p q (inr (column, inl e)) = inr (sym column, inr e)
+neighbours_turned p q (inr (column, inr e)) = inr (sym column, inl e)
+
+-- a cell with no free neighbour is joined to itself alone
+pub alone-joined : (free : ℕ × ℕ → Bool) (p q : ℕ × ℕ) → any_neighbour free p ≡ false → AreJoined free p q → p ≡ q
+alone-joined free p q alone ([], h) = h.1
+alone-joined free p q alone (r ∷ path, h) = absurd (false≢true (sym alone ∙ any_neighbour-of free r p (neighbours_turned p r h.1) (start_free free r q (path, h.2))))
 
 -- ---- steps
 module _ (free : ℕ × ℕ → Bool) (p : ℕ × ℕ) where

@@ -1,3 +1,4 @@
+pub mod Alone
 pub mod Areas
 pub mod Calls
 pub mod Differences
@@ -5,6 +6,7 @@ pub mod FillCalls
 pub mod Fills
 pub mod Flooded
 pub mod Joined
+pub mod KnownValues
 pub mod Laws
 pub mod Marking
 pub mod Merged
@@ -18,3 +20,4 @@ pub mod SelectedNumbers
 pub mod RowStretches
 pub mod Spreading
 pub mod Turns
+pub mod WordBits

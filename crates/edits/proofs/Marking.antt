@@ -1,6 +1,8 @@
 -- Marks as bits of words.
 use Rattle.std.proofs.Common.{◌≡◌, ◌≢◌, ◌⊎◌, inl, inr, ℕ, ◌+◌, ◌-◌, ◌*◌, ◌/◌, ◌%◌, ◌^◌, ◌<◌, ◌≤◌, min, max, List, length, suc, Bool, true, false, cond, not, ◌&&◌, ◌||◌, nat_eq, nat_lt, get_or, set, replicate, refl, sym, ap, ◌∙◌, arith, w64, get_or-set_same, get_or-set_other}
 use Rattle.std.specs.Prelude.{bit_and, bit_or}
+use mir.Syntax.{Width}
+use mir.Val.{bits}
 use Rattle.std.specs.Int.{bit_at, bit_not, trailing_zeros}
 use Rattle.std.proofs.lemmas.Bool.{cases_lt, cases_eq, eq-eqb, eqb-true, lt-ltb}
 use Rattle.std.proofs.lemmas.Bool.Decides.{nat_tests}
@@ -186,11 +188,11 @@ pub shr_bit : (n by i : ℕ) → bit_at (n / 2 ^ by) i ≡ bit_at n (by + i)
 shr_bit n by i = ap (λ x. x % 2) (shr-shr n by i)
 
 -- one bit of a word is set
-pub has_one : (n at i : ℕ) → at < 64 → i < 64 → nat_eq (bit_at (bit_or n (1 * 2 ^ at % 2 ^ 64)) i) 1 ≡ (nat_eq (bit_at n i) 1 || nat_eq at i)
-has_one n at i l m = elim (cases_eq at i) [
-  | inl here ↦ ap (λ k. nat_eq (bit_at (bit_or n (1 * 2 ^ at % 2 ^ 64)) k) 1) (sym here) ∙ ap (λ b. nat_eq b 1) (bit_at_set_same w64 n at l)
+pub has_one_in : (w : Width) (n at i : ℕ) → at < bits w → i < bits w → nat_eq (bit_at (bit_or n (1 * 2 ^ at % 2 ^ bits w)) i) 1 ≡ (nat_eq (bit_at n i) 1 || nat_eq at i)
+has_one_in w n at i l m = elim (cases_eq at i) [
+  | inl here ↦ ap (λ k. nat_eq (bit_at (bit_or n (1 * 2 ^ at % 2 ^ bits w)) k) 1) (sym here) ∙ ap (λ b. nat_eq b 1) (bit_at_set_same w n at l)
       ∙ yes (nat_eq (bit_at n i) 1) (nat_eq at i) (eq-eqb at i here)
-  | inr other ↦ ap (λ b. nat_eq b 1) (bit_at_set_other w64 n at l i (λ e. other (sym e))) ∙ no (nat_eq (bit_at n i) 1) (nat_eq at i) (let differ : nat_eq at i ≡ false = grind (arith, nat_tests) in differ)
+  | inr other ↦ ap (λ b. nat_eq b 1) (bit_at_set_other w n at l i (λ e. other (sym e))) ∙ no (nat_eq (bit_at n i) 1) (nat_eq at i) (let differ : nat_eq at i ≡ false = grind (arith, nat_tests) in differ)
 ]
   where
     yes : (a b : Bool) → b ≡ true → true ≡ (a || b)
@@ -200,6 +202,9 @@ has_one n at i l m = elim (cases_eq at i) [
     no : (a b : Bool) → b ≡ false → a ≡ (a || b)
     no true b e = refl
     no false b e = sym e
+
+pub has_one : (n at i : ℕ) → at < 64 → i < 64 → nat_eq (bit_at (bit_or n (1 * 2 ^ at % 2 ^ 64)) i) 1 ≡ (nat_eq (bit_at n i) 1 || nat_eq at i)
+has_one n at i l m = has_one_in w64 n at i l m
 
 -- ---- words together
 and_test : (a b : ℕ) → a < 2 → b < 2 → nat_eq (min a b) 1 ≡ (nat_eq a 1 && nat_eq b 1)
@@ -219,6 +224,22 @@ has_or m n i = ap (λ b. nat_eq b 1) (bit_at_or m n i) ∙ or_test (bit_at m i) 
 
 pub has_not : (n i : ℕ) → n < 2 ^ 64 → i < 64 → nat_eq (bit_at (bit_not w64 n) i) 1 ≡ not (nat_eq (bit_at n i) 1)
 has_not n i fits l = not_test (bit_at n i) (bit_at (bit_not w64 n) i) (bit_at-lt n i) (bit_at_not w64 n i fits l)
+
+pub and_bits : (m n i : ℕ) → bit_at (bit_and m n) i ≡ 1 → (bit_at m i ≡ 1) × (bit_at n i ≡ 1)
+and_bits m n i e =
+    let both = bit_at_and m n i in
+    let l = bit_at-lt m i in
+    let k = bit_at-lt n i in
+    (omega (arith, e, both, l, k), omega (arith, e, both, l, k))
+
+pub or_bits : (m n i : ℕ) → bit_at (bit_or m n) i ≡ 1 → (bit_at m i ≡ 1) ⊎ (bit_at n i ≡ 1)
+or_bits m n i e = elim (cases_eq (bit_at m i) 1) [
+  | inl here ↦ inl here
+  | inr other ↦ inr (omega (arith, e, other, bit_at_or m n i, bit_at-lt m i, bit_at-lt n i))
+]
+
+pub or_keeps : (m n i : ℕ) → bit_at m i ≡ 1 → bit_at (bit_or m n) i ≡ 1
+or_keeps m n i e = omega (arith, e, bit_at_or m n i, bit_at-lt n i)
 
 -- ---- bits that lead to others
 -- the bits, and those beside them that lie within a mask: to the left where they stand on an inner bit, to the right onto one

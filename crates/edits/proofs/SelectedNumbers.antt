@@ -1,5 +1,5 @@
 -- Marks of the cells of a selection.
-use Rattle.std.proofs.Common.{◌≡◌, ◌↔◌, inl, inr, ℕ, ◌+◌, ◌*◌, ◌/◌, ◌%◌, ◌<◌, min, List, [], ◌∷◌, length, Bool, true, false, ◌&&◌, ◌||◌, nat_eq, nat_le, nat_lt, cond, get_or, Some, None, refl, sym, ap, ◌∙◌, subst, mul_comm, arith}
+use Rattle.std.proofs.Common.{◌≡◌, ◌↔◌, inl, inr, ℕ, ◌+◌, ◌*◌, ◌/◌, ◌%◌, ◌<◌, min, List, [], ◌∷◌, length, Bool, true, false, ◌&&◌, ◌||◌, nat_eq, nat_le, nat_lt, cond, get_or, Option, Some, None, refl, sym, ap, ◌∙◌, subst, mul_comm, arith}
 use Rattle.std.specs.List.{slice_get}
 use Rattle.std.specs.FinSet as set
 use Rattle.std.proofs.lemmas.Bool.{or_cases, and_parts, and_from, ltb-true, lt-ltb, leb-true, le-leb, eqb-true, eq-eqb}
@@ -11,12 +11,11 @@ use Rattle.region.specs.Cells.{cell_cmp}
 use Rattle.region.specs.Runs.{IsMaximalRuns, in_run, in_runs}
 use Rattle.region.proofs.Canonical.{After, after}
 use Rattle.edits.specs.declared.marks.Marks.{Marks}
-use Rattle.edits.specs.declared.flood.Spread.{Spread}
 use Rattle.edits.specs.declared.ground.Ground.{Ground}
 use Rattle.edits.specs.Covering.{covered, covered_value, lets_change}
 use Rattle.map_model.specs.Difference.{difference}
 use Rattle.edits.specs.Filling.{fill_over, free_from, is_joined}
-use Rattle.edits.specs.Flooding.{AreAllowed, AreSelected, HasCell, IsGround, IsGroundOf, cell_of, free_in, is_taken, start_of, taken_over}
+use Rattle.edits.specs.Flooding.{AreAllowed, AreSelected, HasCell, IsGround, IsGroundOf, cell_of, free_in, start_of}
 use Rattle.edits.specs.Joining.{AreJoined, is_free, is_reached, is_value}
 use Rattle.edits.specs.Marks.{is_marked, is_between}
 use Rattle.edits.proofs.Differences.{difference-skip, get_or-each_at}
@@ -125,31 +124,35 @@ AreAllowed-selected g m ground some marks p l =
     ∙ sym (lets_change-some g.selection.now (cell_of g p) some)
 
 -- ---- the cells that a fill takes
-module _ (w : ℕ) (values : List ℕ) (s : set.FinSet cell_cmp) (x y : ℕ) (g : Ground) (h : IsGroundOf w values s x y g) (m : Spread)
-    (taken : (q : ℕ × ℕ) → (is_taken g m q ≡ true) ↔ AreJoined (free_in g) (start_of g) q) where
-  is_taken-is_joined : (q : ℕ × ℕ) → is_taken g m q ≡ is_joined w values s (x, y) q
-  is_taken-is_joined q =
+module _ (w : ℕ) (values : List ℕ) (s : set.FinSet cell_cmp) (x y : ℕ) (g : Ground) (h : IsGroundOf w values s x y g) (taken : ℕ × ℕ → Bool)
+    (are_joined : (q : ℕ × ℕ) → (taken q ≡ true) ↔ AreJoined (free_in g) (start_of g) q) where
+  taken-is_joined : (q : ℕ × ℕ) → taken q ≡ is_joined w values s (x, y) q
+  taken-is_joined q =
       let reached = is_reached-AreJoined (free_in g) (start_of g) g.width g.height (λ r f. (free_in-column g r f, free_in-row g h.sound r f)) q in
       let same : free_in g ≡ free_from w values s (x, y) = λ i r. h.cells r i in
       let start : start_of g ≡ (x, y) = λ i. (h.column i, h.row i) in
       let steps : g.height * g.width ≡ length values = sym h.sound.size ∙ ap length h.tiles in
-      same_from_decides (is_taken g m q) (is_reached (free_in g) (start_of g) (g.height * g.width) q) (taken q) reached
+      same_from_decides (taken q) (is_reached (free_in g) (start_of g) (g.height * g.width) q) (are_joined q) reached
       ∙ ap (λ f. is_reached f (start_of g) (g.height * g.width) q) same
       ∙ ap (λ p. is_reached (free_from w values s (x, y)) p (g.height * g.width) q) start
       ∙ ap (λ n. is_reached (free_from w values s (x, y)) (x, y) n q) steps
 
-  taken_over-fill_over : (value : ℕ) → taken_over g m value ≡ fill_over w values s (x, y) value
-  taken_over-fill_over value = λ i cx cy. cond (is_taken-is_joined (cx, cy) i) (Some value) None
+  -- what a fill puts over the taken cells
+  abbrev over : ℕ → ℕ → ℕ → Option ℕ
+  over value cx cy = cond (taken (cx, cy)) (Some value) None
 
-  pub difference-taken : (value : ℕ) → difference g.width g.tiles.now (covered g.width (taken_over g m value) g.tiles.now) (length g.tiles.now)
+  over-fill_over : (value : ℕ) → over value ≡ fill_over w values s (x, y) value
+  over-fill_over value = λ i cx cy. cond (taken-is_joined (cx, cy) i) (Some value) None
+
+  pub difference-taken : (value : ℕ) → difference g.width g.tiles.now (covered g.width (over value) g.tiles.now) (length g.tiles.now)
       ≡ difference w values (covered w (fill_over w values s (x, y) value) values) (length values)
   difference-taken value =
-      ap (λ n. difference n g.tiles.now (covered n (taken_over g m value) g.tiles.now) (length g.tiles.now)) h.width
-      ∙ ap (λ (vs : List ℕ). difference w vs (covered w (taken_over g m value) vs) (length vs)) h.tiles
-      ∙ ap (λ o. difference w values (covered w o values) (length values)) (taken_over-fill_over value)
+      ap (λ n. difference n g.tiles.now (covered n (over value) g.tiles.now) (length g.tiles.now)) h.width
+      ∙ ap (λ (vs : List ℕ). difference w vs (covered w (over value) vs) (length vs)) h.tiles
+      ∙ ap (λ o. difference w values (covered w o values) (length values)) (over-fill_over value)
 
-  pub taken-free : (q : ℕ × ℕ) → is_taken g m q ≡ true → free_in g q ≡ true
-  taken-free q t = end_free (free_in g) (start_of g) q ((taken q).0 t)
+  pub taken-free : (q : ℕ × ℕ) → taken q ≡ true → free_in g q ≡ true
+  taken-free q t = end_free (free_in g) (start_of g) q ((are_joined q).0 t)
 
 -- a fill with the value that is there changes nothing
 pub difference-own : (w : ℕ) (values : List ℕ) (s : set.FinSet cell_cmp) (x y value : ℕ) → 0 < w → value ≡ get_or values (y * w + x) 0

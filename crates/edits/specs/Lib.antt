@@ -15,4 +15,5 @@ pub mod Refusals
 pub mod Resizing
 pub mod Selecting
 pub mod Stamping
+pub mod Stretches
 pub mod TilesetEdits

@@ -1,11 +1,12 @@
 -- Why an edit of the cells of a layer is refused.
-use Rattle.std.specs.Prelude.{ℕ, List, Bool, ◌||◌, nat_eq, Option, is_some, Result, Ok, Err}
+use Rattle.std.specs.Prelude.{ℕ, List, Bool, ◌||◌, nat_eq, nat_le, Option, is_some, Result, Ok, Err}
 use Rattle.std.specs.Option.{ok_or}
 use Rattle.map_model.specs.declared.parts.Body.{Body}
 use Rattle.map_model.specs.declared.parts.Body.TheVariants.{Tiles, Objects, Other, Group'}
 use Rattle.map_model.specs.declared.parts.Layer.{Layer}
 use Rattle.map_model.specs.declared.parts.MapParts.{MapParts}
 use Rattle.map_model.specs.Tilesets.{tileset_of}
+use Rattle.tile_id.specs.Gid.{base_of}
 use Rattle.command_api.specs.declared.fault.EditFault.{EditFault}
 use Rattle.command_api.specs.declared.fault.EditFault.TheVariants.{NoSuchLayer, LayerOfAnotherKind}
 use Rattle.map_model.specs.Steps.{◌>>=◌}
@@ -25,3 +26,7 @@ tiles_or_fault found = do
 -- a value is 0 or has a tileset
 abbrev pub is_known : MapParts → ℕ → Bool
 is_known m value = nat_eq value 0 || is_some (tileset_of m value)
+
+-- a value is 0, or its base is not below a first id
+abbrev pub is_known_from : ℕ → ℕ → Bool
+is_known_from first_id value = nat_eq value 0 || nat_le first_id (base_of value)

@@ -25,6 +25,16 @@ pub struct Extent<'a> {
     pub selection: &'a Region,
 }
 
+/// Whether a selection lets a cell be changed.
+pub(crate) fn lets_change(selection: &Region, x: u32, y: u32) -> bool
+    ensures { result ≡ lets_change selection.now (x, y) }
+{
+    if selection.is_empty() {
+        return true;
+    }
+    selection.contains(x, y)
+}
+
 // Adds the change of a cell, where there is one.
 fn push_change(
     alloc: Global,
@@ -118,11 +128,39 @@ impl Extent<'_> {
         Ok(())
     }
 
+    // The change of the only cell of an extent, where there is one.
+    fn change_of_cell<C: Cover>(&self, alloc: Global, cover: &C) -> Result<CellList, AllocError>
+        requires extent { IsExtent (C.over cover.now) self.now }
+        requires column { self.now.columns.end ≡ self.now.columns.first + 1 }
+        requires row { self.now.rows.end ≡ self.now.rows.first + 1 }
+        ensures { IfOk result (λ cells. cells_in cells ≡ changes_below (C.over cover.now) self.now (length self.now.tiles.now)) }
+    {
+        let x = self.columns.first;
+        let y = self.rows.first;
+        let mut cells = CellList::new(alloc);
+        if !lets_change(self.selection, x, y) {
+            return Ok(cells);
+        }
+        let number = y as usize * self.width as usize + x as usize;
+        push_change(
+            alloc,
+            &mut cells,
+            x,
+            y,
+            self.tiles[number],
+            cover.value(x, y),
+        )?;
+        Ok(cells)
+    }
+
     // The changes of all cells that a cover lies over and that the selection lets be changed, in row order.
     fn changes<C: Cover>(&self, alloc: Global, cover: &C) -> Result<CellList, AllocError>
         requires { IsExtent (C.over cover.now) self.now }
         ensures { IfOk result (λ cells. cells_in cells ≡ changes_below (C.over cover.now) self.now (length self.now.tiles.now)) }
     {
+        if self.columns.end - self.columns.first == 1 && self.rows.end - self.rows.first == 1 {
+            return self.change_of_cell(alloc, cover);
+        }
         let mut cells = CellList::new(alloc);
         for y in self.rows.first..self.rows.end {
             self.push_row(alloc, &mut cells, cover, y)?;

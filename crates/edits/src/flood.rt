@@ -234,15 +234,12 @@ impl Spread {
         Ok(spread)
     }
 
-    /// The taken numbers from one on and before a stop, in one word: bit i stands for the number i further on.
-    pub(crate) fn taken_bits(&self, number: usize, stop: usize) -> u64
-        requires some { number < stop }
-        requires word { (stop - 1) / 64 ≡ number / 64 }
-        requires open { stop ≤ room self.now.open }
-        requires taken { stop ≤ room self.now.taken }
-        ensures { (i : ℕ) → i < 64 → nat_eq (bit_at result i) 1 ≡ (nat_lt (number + i) stop && taken_at self.now (number + i)) }
+    /// The taken numbers of a word: bit i stands for its number i.
+    pub(crate) fn taken_bits(&self, word: usize) -> u64
+        requires open { 64 * word < room self.now.open }
+        requires taken { 64 * word < room self.now.taken }
+        ensures { (i : ℕ) → i < 64 → nat_eq (bit_at result i) 1 ≡ taken_at self.now (64 * word + i) }
     {
-        let word = self.taken.word(number / 64) & !self.open.word(number / 64);
-        (word >> (number % 64)) & (u64::MAX >> (64 - (stop - number)))
+        self.taken.word(word) & !self.open.word(word)
     }
 }

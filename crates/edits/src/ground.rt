@@ -1,11 +1,12 @@
 // What a fill goes over.
-ghost use Rattle.std.specs.Prelude.{◌≡◌, ℕ, ◌+◌, ◌*◌, ◌/◌, ◌%◌, ◌<◌, ◌≤◌, ◌^◌, IfOk, true, length, nat_eq, slice_get};
+ghost use Rattle.std.specs.Prelude.{◌≡◌, ℕ, ◌+◌, ◌*◌, ◌/◌, ◌%◌, ◌<◌, ◌≤◌, ◌^◌, ◌≢◌, IfOk, true, length, nat_eq, slice_get};
 ghost use Rattle.std.specs.Int.{bit_at};
 ghost use Rattle.map_model.specs.declared.limits.TheConstants.{MAX_SIDE};
-ghost use Rattle.edits.specs.Flooding.{AreAllowed, AreSelected, AreSideBySide, HasCell, IsGround, IsGroundOf, IsLed, free_at};
-ghost use Rattle.edits.specs.Joining.{is_value};
+ghost use Rattle.edits.specs.Flooding.{AreAllowed, AreSelected, AreSideBySide, HasCell, IsGround, IsGroundOf, IsLed, free_at, free_in, start_of};
+ghost use Rattle.edits.specs.Joining.{any_neighbour, is_value};
 ghost use Rattle.edits.specs.Marks.{room};
 
+use crate::extent::lets_change;
 use crate::marks::Marks;
 use region::Region;
 use std::alloc::{AllocError, Global};
@@ -81,6 +82,40 @@ impl<'a> Ground<'a> {
 }
 
 impl Ground<'_> {
+    /// Whether a fill may take a cell.
+    pub(crate) fn is_free(&self, x: u32, y: u32) -> bool
+        requires { IsGround self.now }
+        ensures { result ≡ free_in self.now (x, y) }
+    {
+        if x >= self.width {
+            return false;
+        }
+        let number = y as usize * self.width as usize + x as usize;
+        if number >= self.tiles.len() || self.tiles[number] != self.value {
+            return false;
+        }
+        lets_change(self.selection, x, y)
+    }
+
+    /// Whether a fill may take a cell beside its start.
+    pub(crate) fn has_free_neighbour(&self) -> bool
+        requires { IsGround self.now }
+        ensures { result ≡ any_neighbour (free_in self.now) (start_of self.now) }
+    {
+        let (x, y) = self.start;
+        // No map has a column or a row as high as those that wrap.
+        if self.is_free(x.wrapping_sub(1), y) {
+            return true;
+        }
+        if self.is_free(x + 1, y) {
+            return true;
+        }
+        if self.is_free(x, y.wrapping_sub(1)) {
+            return true;
+        }
+        self.is_free(x, y + 1)
+    }
+
     /// Marks of the numbers that may be changed.
     pub(crate) fn allowed_numbers(&self, alloc: Global) -> Result<Marks, AllocError>
         requires { IsGround self.now }
@@ -94,16 +129,29 @@ impl Ground<'_> {
         }
     }
 
-    // Which of the 64 numbers from one on have the fill's value: bit i stands for the number i further on. The layer has them all.
-    fn equal_in_whole(&self, first: usize) -> u64
-        requires { first + 64 ≤ length self.now.tiles.now }
-        ensures { (i : ℕ) → i < 64 → nat_eq (bit_at result i) 1 ≡ is_value (slice_get self.now.tiles.now (first + i)) self.now.value }
+    // Which of the 32 numbers from one on have the fill's value: bit i stands for the number i further on. The layer has them all.
+    fn equal_in_half(&self, first: usize) -> u32
+        requires { first + 32 ≤ length self.now.tiles.now }
+        ensures { (i : ℕ) → i < 32 → nat_eq (bit_at result i) 1 ≡ is_value (slice_get self.now.tiles.now (first + i)) self.now.value }
     {
         let mut bits = 0;
-        for i in 0..64 {
-            bits = (bits << 1) | u64::from(self.tiles[first + 63 - i] == self.value);
+        for i in 0..32 {
+            if self.tiles[first + i] == self.value {
+                bits |= 1u32 << i;
+            }
         }
         bits
+    }
+
+    // Which of the 64 numbers from one on have the fill's value, where the layer has them all.
+    fn equal_in_whole(&self, first: usize) -> u64
+        requires all { first + 64 ≤ length self.now.tiles.now }
+        requires small { first < 2 ^ 38 }
+        ensures { (i : ℕ) → i < 64 → nat_eq (bit_at result i) 1 ≡ is_value (slice_get self.now.tiles.now (first + i)) self.now.value }
+    {
+        let low = self.equal_in_half(first);
+        let high = self.equal_in_half(first + 32);
+        u64::from(low) | (u64::from(high) << 32)
     }
 
     // Which of the 64 numbers from one on have the fill's value, where the layer ends among them, or before.
@@ -151,6 +199,46 @@ impl Ground<'_> {
         starts
     }
 
+    // The cells of a word to which some of them, the seeds, lead along their rows by steps of 1, 2, 4 and so on up to 32,
+    // all within a mask of free cells. No row begins in the inner ones.
+    #[inline(never)]
+    fn led_bits(&self, word: usize, seeds: u64, mask: u64, inner: u64) -> u64
+        requires ground { IsGround self.now }
+        requires free { (i : ℕ) → i < 64 → bit_at mask i ≡ 1 → free_at self.now (64 * word + i) ≡ true }
+        requires seeds { (i : ℕ) → i < 64 → bit_at seeds i ≡ 1 → (bit_at mask i ≡ 1) × IsLed self.now (64 * word + i) }
+        requires inner { (i : ℕ) → i < 64 → bit_at inner i ≡ 1 → (64 * word + i) % self.now.width ≢ 0 }
+        ensures seeds { (i : ℕ) → i < 64 → bit_at seeds i ≡ 1 → bit_at result i ≡ 1 }
+        ensures led { (i : ℕ) → i < 64 → bit_at result i ≡ 1 → (bit_at mask i ≡ 1) × IsLed self.now (64 * word + i) }
+    {
+        let mut bits = seeds;
+        // Where the cell so many steps before leads to this one, and the cell so many behind.
+        let mut rises = mask & (mask << 1) & inner;
+        let mut falls = mask & ((mask & inner) >> 1);
+        let mut step: u32 = 1;
+        while step < 64 && rises | falls != 0 {
+            bits |= ((bits << step) & rises) | ((bits >> step) & falls);
+            rises &= rises << step;
+            falls &= falls >> step;
+            step *= 2;
+        }
+        bits
+    }
+
+    // The seeds, and in a word of free cells alone also those to which they lead, as `led_bits` finds them.
+    fn first_bits(&self, word: usize, seeds: u64, mask: u64, inner: u64) -> u64
+        requires ground { IsGround self.now }
+        requires free { (i : ℕ) → i < 64 → bit_at mask i ≡ 1 → free_at self.now (64 * word + i) ≡ true }
+        requires seeds { (i : ℕ) → i < 64 → bit_at seeds i ≡ 1 → (bit_at mask i ≡ 1) × IsLed self.now (64 * word + i) }
+        requires inner { (i : ℕ) → i < 64 → bit_at inner i ≡ 1 → (64 * word + i) % self.now.width ≢ 0 }
+        ensures seeds { (i : ℕ) → i < 64 → bit_at seeds i ≡ 1 → bit_at result i ≡ 1 }
+        ensures led { (i : ℕ) → i < 64 → bit_at result i ≡ 1 → (bit_at mask i ≡ 1) × IsLed self.now (64 * word + i) }
+    {
+        if mask == u64::MAX {
+            return self.led_bits(word, seeds, mask, inner);
+        }
+        seeds
+    }
+
     /// The cells of a word to which some of them, the seeds, lead along their rows, all within a mask of free cells.
     pub(crate) fn joined_bits(&self, word: usize, seeds: u64, mask: u64) -> u64
         requires ground { IsGround self.now }
@@ -163,7 +251,7 @@ impl Ground<'_> {
     {
         let inner = !self.row_starts(word);
         let mut bits = 0;
-        let mut next = seeds;
+        let mut next = self.first_bits(word, seeds, mask, inner);
         while next != bits {
             bits = next;
             next = bits | ((((bits << 1) & inner) | ((bits & inner) >> 1)) & mask);

@@ -1,5 +1,7 @@
 use Rattle.std.proofs.Common.{sym, ◌∙◌, arith}
-use Rattle.std.proofs.lemmas.Bool.{eqb-true}
+use Rattle.std.proofs.lemmas.Bool.{eq-eqb, eqb-true, false≢true}
+use Rattle.edits.specs.Flooding.{is_taken}
+use Rattle.edits.proofs.Alone.{difference-start, is_start, start-joined}
 use Rattle.edits.proofs.SelectedNumbers.{difference-own, difference-taken, taken-free}
 use Rattle.edits.proofs.filled.fill_cells.Goals as goal
 
@@ -13,9 +15,17 @@ returns-then-eq c =
 
 pub changes_of-requires-clause-free : goal.changes_of-requires-clause-free
 changes_of-requires-clause-free c =
-    taken-free c.args.width c.args.tiles.now c.args.selection.now c.args.start.0 c.args.start.1 c.new-ground.result c.new-ground.ensures c.in_ok-spread.spread c.in_ok-spread.ensures.cells
+    taken-free c.args.width c.args.tiles.now c.args.selection.now c.args.start.0 c.args.start.1 c.new-ground.result c.new-ground.ensures (is_taken c.new-ground.result c.in_ok-spread.spread) c.in_ok-spread.ensures.cells
 
 pub returns : goal.returns
 returns c =
     c.in_ok-cells.ensures
-    ∙ difference-taken c.args.width c.args.tiles.now c.args.selection.now c.args.start.0 c.args.start.1 c.new-ground.result c.new-ground.ensures c.in_ok-spread.spread c.in_ok-spread.ensures.cells c.args.value
+    ∙ difference-taken c.args.width c.args.tiles.now c.args.selection.now c.args.start.0 c.args.start.1 c.new-ground.result c.new-ground.ensures (is_taken c.new-ground.result c.in_ok-spread.spread) c.in_ok-spread.ensures.cells c.args.value
+
+pub returns-then-not-has_free_neighbour : goal.returns-then-not-has_free_neighbour
+returns-then-not-has_free_neighbour c =
+    let g = c.new-ground.result in
+    let ground = c.new-ground.ensures.sound in
+    c.in_ok-change.ensures
+    ∙ sym (difference-start g ground c.args.value (λ e. false≢true (c.if-eq.ensures ∙ eq-eqb g.value c.args.value e)))
+    ∙ difference-taken c.args.width c.args.tiles.now c.args.selection.now c.args.start.0 c.args.start.1 g c.new-ground.ensures (is_start g) (start-joined g (sym c.if-not-has_free_neighbour.ensures)) c.args.value

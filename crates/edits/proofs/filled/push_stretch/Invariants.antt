@@ -1,15 +1,10 @@
-use Rattle.std.proofs.Common.{◌≡◌, ℕ, ◌+◌, ◌*◌, ◌<◌, ◌≤◌, ◌&&◌, nat_eq, nat_lt}
-use Rattle.std.specs.Int.{bit_at}
-use Rattle.edits.specs.Flooding.{changes_below, taken_at}
+use Rattle.std.proofs.Common.{◌≡◌, ◌+◌, ◌-◌, ◌≤◌, ◌++◌}
+use Rattle.std.specs.Prelude.{vec_len, vec_capacity}
+use Rattle.edits.specs.Stretches.{stretch_edits}
 use Rattle.edits.proofs.filled.push_stretch.Given as goal
 
--- so many columns of the stretch are done with, and the bits that are left are those of the others
-abbrev pub invariant-loop-left : goal.invariant-loop-left
-invariant-loop-left l =
-    (n : ℕ) × (l.stretch.first + n ≤ l.stretch.end)
-    × (l.cells.items ≡ changes_below l.ground l.spread l.value (l.stretch.y * l.ground.width + (l.stretch.first + n)))
-    × ((i : ℕ) → i < 64 → i < n → bit_at l.left i ≡ 0)
-    × ((i : ℕ) → i < 64 → n ≤ i → nat_eq (bit_at l.left i) 1 ≡ (nat_lt (l.row + l.stretch.first + i) (l.row + l.stretch.end) && taken_at l.spread (l.row + l.stretch.first + i)))
-
-abbrev pub decreases-loop-left : goal.decreases-loop-left
-decreases-loop-left l = l.left
+abbrev pub invariant-loop-x : goal.invariant-loop-x
+invariant-loop-x l = record {
+  cells : l.cells.items ≡ l.fn.cells.items ++ stretch_edits l.stretch.y l.stretch.first l.before l.after (l.x - l.stretch.first);
+  room : vec_len l.cells + (l.stretch.end - l.x) ≤ vec_capacity l.cells;
+}
