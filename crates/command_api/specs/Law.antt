@@ -6,10 +6,10 @@
 --
 -- One that never vanishes is never obsolete. One that vanishes when equal is obsolete exactly where turning it, redo or
 -- undo, leaves the document that it fits as it is. One that is free says itself when it is obsolete: then it turns nothing,
--- and the stack drops it.
-use Rattle.std.specs.Prelude.{◌≡◌, ◌↔◌, Bool}
+-- and the stack drops it. A turn makes none but a free one obsolete.
+use Rattle.std.specs.Prelude.{◌≡◌, ◌↔◌, Bool, false}
 use Rattle.map_model.specs.Document.{DocumentParts}
-use Rattle.command_api.specs.Names.{Names, IsSettled}
+use Rattle.command_api.specs.Names.{Names, IsSettled, is_free}
 
 -- what a command is: its names, whether it is obsolete, the documents that it fits, and what they turn to
 pub record Change : Type 1 where
@@ -31,6 +31,7 @@ pub record IsRedone (v w : Change) (d e : DocumentParts) : Type 0 where
   pub fits : w.fits_undo e
   pub back : w.undone e ≡ d
   pub names : w.names ≡ v.names
+  pub obsolete : is_free v.names.vanishing ≡ false → w.obsolete ≡ v.obsolete
 
 -- undo made the command v the command w, and the document d the document e
 pub record IsUndone (v w : Change) (d e : DocumentParts) : Type 0 where
@@ -38,6 +39,7 @@ pub record IsUndone (v w : Change) (d e : DocumentParts) : Type 0 where
   pub fits : w.fits_redo e
   pub back : w.redone e ≡ d
   pub names : w.names ≡ v.names
+  pub obsolete : is_free v.names.vanishing ≡ false → w.obsolete ≡ v.obsolete
 
 -- w does what v does
 pub record IsSame (v w : Change) : Type 0 where

@@ -1,5 +1,6 @@
 // Free commands: which of them go, what stands behind that, and which boxes were turned and dropped.
-ghost use Rattle.std.specs.Prelude.{◌≡◌};
+ghost use Rattle.std.specs.Prelude.{◌≡◌, false};
+ghost use Rattle.command_api.specs.Names.{is_free};
 ghost use Rattle.command_api.specs.Offers.{Nothing};
 ghost use Rattle.library_tests.specs.Fading.{fading};
 ghost use Rattle.undo_stack.specs.Stacks.{Holds};
@@ -47,7 +48,9 @@ impl Drop for Fading {
 
 impl Fading {
     fn turn(&mut self)
-        ensures { (fading self.new.turns_left).names ≡ (fading self.old.turns_left).names }
+        ensures names { (fading self.new.turns_left).names ≡ (fading self.old.turns_left).names }
+        ensures obsolete { is_free (fading self.old.turns_left).names.vanishing ≡ false
+            → (fading self.new.turns_left).obsolete ≡ (fading self.old.turns_left).obsolete }
     {
         self.is_made = self.counts.turn(self.is_made);
         self.turns_left = match self.turns_left {

@@ -1,5 +1,5 @@
--- Entries that stay without a free command that is obsolete.
-use Rattle.std.proofs.Common.{◌≡◌, ℕ, ◌+◌, ◌-◌, ◌<◌, List, [], ◌∷◌, ◌++◌, false, take, drop, length, map, set, get_or, suc, refl, sym, ◌∙◌, ap, subst, arith}
+-- Entries that stay without a command that is obsolete.
+use Rattle.std.proofs.Common.{◌≡◌, ℕ, ◌+◌, ◌-◌, ◌<◌, List, [], ◌∷◌, ◌++◌, Bool, true, false, not, ◌&&◌, take, drop, length, map, set, get_or, suc, refl, sym, ◌∙◌, ap, subst, arith}
 use Rattle.std.specs.List.{All, remove}
 use Rattle.std.proofs.lemmas.List.{take-set, take-append-drop}
 use Rattle.std.proofs.lemmas.List.Elements.{All-nil, All-cons, All-head, All-tail, All-same, All-get_or, All-append, All-push, All-take, All-drop, All-map}
@@ -11,13 +11,12 @@ use Rattle.undo_stack.specs.History.{Step}
 use Rattle.undo_stack.specs.Pushing.{without_last}
 use Rattle.undo_stack.specs.Calm.{IsLive, AreLive, NoneFree}
 use Rattle.undo_stack.specs.Entries.{entry_change}
-use Rattle.undo_stack.specs.Sequence.{steps_of}
+use Rattle.undo_stack.specs.Sequence.{is_stale, steps_of}
 use Rattle.undo_stack.specs.declared.entry.Entry.{Entry}
 use Rattle.undo_stack.proofs.Joins.{last_sequence}
 use Rattle.undo_stack.proofs.Levels.{without_last-append}
 use Rattle.undo_stack.proofs.Sequences.{drop_first, drop_past, take-remove, drop-remove}
 use Rattle.undo_stack.proofs.Texts.{map-steps}
-use Rattle.undo_stack.proofs.Turnings.{false-true}
 
 all_of_map : {X Y : Type 0} (P : X → Type 0) (p : Y → X) (ys : List Y) → All P (map p ys) → All (λ (y : Y). P (p y)) ys
 all_of_map {X} {Y} P p [] h = All-nil (λ (y : Y). P (p y))
@@ -28,7 +27,26 @@ pub bound_as : (v w : Change) → w.names ≡ v.names → is_free v.names.vanish
 bound_as v w names bound = ap (λ (n : Names). is_free n.vanishing) names ∙ bound
 
 pub live_as : (v w : Change) → IsSame v w → IsLive v → IsLive w
-live_as v w same live free = same.obsolete ∙ live (ap (λ (n : Names). is_free n.vanishing) (sym same.names) ∙ free)
+live_as v w same live = same.obsolete ∙ live
+
+-- one that is not free and not stale is not obsolete, and one that is not obsolete is not stale
+live_bound : (c : Change) → is_free c.names.vanishing ≡ false → is_stale c ≡ false → IsLive c
+live_bound c bound fresh = sym (ap (λ (b : Bool). not b && c.obsolete) bound) ∙ fresh
+
+fresh_live : (c : Change) → IsLive c → is_stale c ≡ false
+fresh_live c live = ap (λ (b : Bool). not (is_free c.names.vanishing) && b) live ∙ never (not (is_free c.names.vanishing))
+  where
+    never : (b : Bool) → (b && false) ≡ false
+    never true = refl
+    never false = refl
+
+-- whether it is free or not, one that was looked at is not obsolete
+pub live_either : (c : Change) → (is_free c.names.vanishing ≡ false → IsLive c) → (is_free c.names.vanishing ≡ true → IsLive c) → IsLive c
+live_either c bound free = by_free (is_free c.names.vanishing) refl
+  where
+    by_free : (b : Bool) → is_free c.names.vanishing ≡ b → IsLive c
+    by_free true is = free is
+    by_free false is = bound is
 
 module _ {C : Type 0} (f : C → Change) where
   abbrev pub Live : Entry C → Type 0
@@ -40,8 +58,20 @@ module _ {C : Type 0} (f : C → Change) where
   pub at_number : (P : Entry C → Type 0) (es : List (Entry C)) (v : Entry C) (j : ℕ) → j < length es → v ≡ get_or es j v → All P es → P v
   at_number P es v j inside is all = subst P (sym is) (All-get_or P es j v inside all)
 
-  pub live_none_free : (es : List (Entry C)) → NoneFree f es → AreLive f es
-  live_none_free es all = All-weaker Bound Live (λ e bound free. false-true (sym bound ∙ free)) es all
+  -- entries that are not free, and none of which became stale
+  pub live_moved : (es ts : List (Entry C)) → AreLive f es → map (λ e. is_stale (entry_change f e)) ts ≡ map (λ e. is_stale (entry_change f e)) es → NoneFree f ts → AreLive f ts
+  live_moved es ts live same bound =
+      let stale : Entry C → Bool = λ e. is_stale (entry_change f e) in
+      let IsFalse : Bool → Type 0 = λ b. b ≡ false in
+      let before = All-map IsFalse stale es (All-weaker Live (λ e. IsFalse (stale e)) (λ e h. fresh_live (entry_change f e) h) es live) in
+      let after = all_of_map IsFalse stale ts (All-same IsFalse (map stale ts) (map stale es) same before) in
+      All-both ts after bound
+    where
+      All-both : (xs : List (Entry C)) → All (λ (e : Entry C). is_stale (entry_change f e) ≡ false) xs → NoneFree f xs → AreLive f xs
+      All-both [] fresh none = All-nil Live
+      All-both (x ∷ xs) fresh none =
+          let P : Entry C → Type 0 = λ e. is_stale (entry_change f e) ≡ false in
+          All-cons Live x xs (live_bound (entry_change f x) (All-head Bound x xs none) (All-head P x xs fresh)) (All-both xs (All-tail P x xs fresh) (All-tail Bound x xs none))
 
   -- the entry v at a number stays, where all the others are live
   pub live_again : (es : List (Entry C)) (v : Entry C) (j : ℕ) → j < length es → v ≡ get_or es j v → IsLive (entry_change f v) → AreLive f (remove es j)
@@ -87,4 +117,4 @@ module _ {C : Type 0} (f : C → Change) where
     live_gone h = rw cut_at_last at h
 
     pub live_stays : (entry_change f v).obsolete ≡ false → AreLive f (without_last xs) → AreLive f xs
-    live_stays stays h = All-same Live xs (take (n - 1) xs ++ v ∷ []) sequence (All-push Live (take (n - 1) xs) v (live_gone h) (λ _. stays))
+    live_stays stays h = All-same Live xs (take (n - 1) xs ++ v ∷ []) sequence (All-push Live (take (n - 1) xs) v (live_gone h) stays)

@@ -1,20 +1,20 @@
 -- Sequences that stay held: cut, merged into, settled, and pushed onto.
 use Rattle.std.proofs.Common.{◌≡◌, ℕ, ◌+◌, ◌-◌, ◌<◌, ◌≤◌, List, [], ◌∷◌, ◌++◌, Option, Some, Bool, take, drop, length, set, get_or, refl, sym, ◌∙◌, ap}
-use Rattle.std.proofs.Common.{subst, arith, length-set, Ok, Err, inl, true, false, nat_eq, eq-eqb}
+use Rattle.std.proofs.Common.{subst, arith, length-set, get_or-set_same, map, Ok, Err, inl, true, false, nat_eq, eq-eqb}
 use Rattle.std.specs.Prelude.{Result, IsErr, ◌↔◌}
 use Rattle.std.specs.Option.{option_eq}
 use Rattle.std.proofs.lemmas.List.{length-append, length-drop, length-take-le, take_all}
 use Rattle.std.proofs.lemmas.List.Elements.{All-nil, All-drop, All-push, All-set, All-take}
 use Rattle.map_model.specs.Document.{DocumentParts}
 use Rattle.command_api.specs.Law.{Change, IsSame, IsLawful, IsRedone}
-use Rattle.command_api.specs.Names.{is_free}
+use Rattle.command_api.specs.Names.{Names, is_free}
 use Rattle.undo_stack.specs.History.{step_named, History, current}
 use Rattle.undo_stack.specs.Pushing.{cut, limited_to, lowered, up_to, with_added, Merges, step_of, IsPushed, next_of}
-use Rattle.undo_stack.specs.Sequence.{FitsDown, IsMoved}
+use Rattle.undo_stack.specs.Sequence.{FitsDown, IsMoved, is_stale}
 use Rattle.undo_stack.specs.Calm.{is_gone, IsLive, NoneFree}
 use Rattle.undo_stack.specs.Moving.{positioned}
 use Rattle.undo_stack.specs.Entries.{entry_change, nesting, greatest}
-use Rattle.undo_stack.specs.Held.{Becomes, IsCut, history_at, target_in, IsSoundAt, IsHeld, IsHeldToLast, IsHeldButAt, IsUnchangedAt, IsTakenInto}
+use Rattle.undo_stack.specs.Held.{Becomes, IsCut, history_at, target_in, IsSoundAt, IsHeld, IsHeldToLast, IsHeldButAt, IsSetAt, IsUnchangedAt, IsTakenInto}
 use Rattle.undo_stack.specs.Held.{MergesInto, IsSettledAt, IsDroppedAt}
 use Rattle.undo_stack.specs.Merging.{MergesChange, MergesSequence, HasTarget}
 use Rattle.undo_stack.specs.Reporting.{TakesIn, EndsIn, IsReportedAt, last_entry, left_by, reports}
@@ -22,7 +22,7 @@ use Rattle.undo_stack.specs.Sound.{IsAtMost, IsTurnable, sequence_nesting}
 use Rattle.undo_stack.specs.declared.entry.Entry.{Entry}
 use Rattle.undo_stack.specs.declared.limits.TheConstants.{MAX_DEPTH, MAX_LIMIT}
 use Rattle.undo_stack.specs.declared.sequence.Sequence.{Sequence}
-use Rattle.undo_stack.proofs.Calm.{Bound, Live, live_as, bound_as, bound_moved, at_number, live_again, live_around, live_gone, live_none_free, live_stays}
+use Rattle.undo_stack.proofs.Calm.{Bound, Live, live_as, bound_as, bound_moved, at_number, live_again, live_around, live_gone, live_either, live_moved, live_stays}
 use Rattle.undo_stack.proofs.Joins.{take_below-set, merges_below, altered_moved, drop_below-set, settles_gone, settles_stays}
 use Rattle.undo_stack.proofs.Levels.{without_last-append}
 use Rattle.undo_stack.proofs.Pushes.{pushed_as, redone_step, done_sound, at_most-up_to, at_most-more, at_most-lowered, cut_view, cut_sound, added_view}
@@ -30,6 +30,7 @@ use Rattle.undo_stack.proofs.Pushes.{added_fits, limited_view, sequence_nesting-
 use Rattle.undo_stack.proofs.Reports.{takes_in, last_entry-below, last_entry-append}
 use Rattle.undo_stack.proofs.Sequences.{FitsDown-drop, length-steps, map-set_same}
 use Rattle.undo_stack.proofs.Targets.{merged_view, merges_closed, continues_closed, settles_done, up_to-unclean, at_most-unclean}
+use Rattle.undo_stack.proofs.Turns.{stale_as}
 use Rattle.undo_stack.proofs.Views.{current-history_in, history_with, moved_view, moved_sound}
 
 -- a position that is not the clean one
@@ -161,7 +162,8 @@ module _ {C : Type 0} (f : C → Change) where
         let b = (f c).undone d in
         let t = h.sound.turnable in
         let altered = merges_changed {E = Unit {0}} c d (Err tt) t.down same in
-        let m = altered_moved (entry_change f) es changed n b altered (drop_below-set es w n some) len t.up in
+        let stale = map-set_same (λ x. is_stale (entry_change f x)) es v w (n - 1) is (stale_as (entry_change f v) (entry_change f w) same.names (λ _. same.obsolete)) in
+        let m = altered_moved (entry_change f) es changed n b altered (drop_below-set es w n some) len t.up stale in
         let live = live_as (entry_change f v) (entry_change f w) same (at_number f (Live f) es v (n - 1) inside is h.live) in
         record {
           held = record {
@@ -337,7 +339,16 @@ module _ {C : Type 0} (f : C → Change) where
   module _ (q p : Sequence C) (v w : Entry C) (j m : ℕ) (inside : j < length q.entries.items) (is : v ≡ get_or q.entries.items j v)
       (k : Becomes q (set q.entries.items j w) m q.clean p) (within : m ≤ length q.entries.items) (d e : DocumentParts)
       (moved : IsMoved (entry_change f) q.entries.items q.index d (set q.entries.items j w) m e) (deep : nesting w ≡ nesting v)
-      (names : (entry_change f w).names ≡ (entry_change f v).names) where
+      (names : (entry_change f w).names ≡ (entry_change f v).names)
+      (same : is_free (entry_change f v).names.vanishing ≡ false → (entry_change f w).obsolete ≡ (entry_change f v).obsolete) where
+    -- the entry is as obsolete as it was, where it is not free
+    turned_stays : IsHeld f d q → (x : Entry C) → x ≡ get_or p.entries.items j x → is_free (entry_change f x).names.vanishing ≡ false → IsLive (entry_change f x)
+    turned_stays h x at bound =
+        let put : x ≡ w = at ∙ rw k.entries (get_or-set_same q.entries.items j w x inside) in
+        let was : is_free (entry_change f v).names.vanishing ≡ false =
+        ap (λ (n : Names). is_free n.vanishing) (sym names) ∙ ap (λ (y : Entry C). is_free (entry_change f y).names.vanishing) (sym put) ∙ bound in
+        ap (λ (y : Entry C). (entry_change f y).obsolete) put ∙ same was ∙ at_number f (Live f) q.entries.items v j inside is h.live
+
     pub turned_held : IsHeld f d q → IsHeldButAt f e j p
     turned_held h =
         let es = q.entries.items in
@@ -351,20 +362,36 @@ module _ {C : Type 0} (f : C → Change) where
           sound = sound q p ts m q.clean k d e turnable (omega arith) (omega arith) h.sound;
           live = rw k.entries (live_around f es w j h.live);
           none_free = none_free q p ts m q.clean k bound h.none_free;
+          stays = turned_stays h;
         }
 
   pub moved_held : (q p : Sequence C) (d e : DocumentParts) (n : ℕ) → q.has_free ≡ false
-      → history_at f e p ≡ positioned n (history_at f d q) → IsHeld f d q → IsSoundAt f e p → IsHeld f e p
-  moved_held q p d e n bound moved h s =
+      → history_at f e p ≡ positioned n (history_at f d q) → IsHeld f d q → IsSoundAt f e p
+      → map (λ x. is_stale (entry_change f x)) p.entries.items ≡ map (λ x. is_stale (entry_change f x)) q.entries.items → IsHeld f e p
+  moved_held q p d e n bound moved h s stale =
       let steps = ap (λ (x : History). x.steps) moved in
       let all = bound_moved f q.entries.items p.entries.items q.index p.index d e steps (h.none_free bound) in
-      record { sound = s; live = live_none_free f p.entries.items all; none_free = λ none. all }
+      record { sound = s; live = live_moved f q.entries.items p.entries.items h.live stale all; none_free = λ none. all }
+
+  -- the entry at a number was turned, and no entry is free
+  pub held_bound : (d : DocumentParts) (at : ℕ) (v w : Entry C) (q p : Sequence C) → IsSetAt at v w q p → at < length q.entries.items
+      → p.has_free ≡ false → IsHeldButAt f d at p → IsHeld f d p
+  held_bound d at v w q p put within none h =
+      let es = p.entries.items in
+      let inside : at < length es = omega (arith, length-set q.entries.items at w, ap length put.entries) in
+      let is : w ≡ get_or es at w = rw put.entries (sym (get_or-set_same q.entries.items at w w within)) in
+      let bound = at_number f (Bound f) es w at inside is (h.none_free none) in
+      record { sound = h.sound; live = live_again f es w at inside is (h.stays w is bound) h.live; none_free = h.none_free }
 
   -- the entry at a number stays, where it is live
   pub kept_at : (d : DocumentParts) (at : ℕ) (q : Sequence C) (v : Entry C) → at < length q.entries.items → v ≡ get_or q.entries.items at v
-      → false ≡ is_gone (entry_change f v) → IsLive (entry_change f v) → IsHeldButAt f d at q → IsDroppedAt f d at q q
+      → false ≡ is_gone (entry_change f v) → (is_free (entry_change f v).names.vanishing ≡ true → IsLive (entry_change f v)) → IsHeldButAt f d at q → IsDroppedAt f d at q q
   kept_at d at q v inside is stays live h = record {
-    held = record { sound = h.sound; live = live_again f q.entries.items v at inside is live h.live; none_free = h.none_free };
+    held = record {
+      sound = h.sound;
+      live = live_again f q.entries.items v at inside is (live_either (entry_change f v) (h.stays v is) live) h.live;
+      none_free = h.none_free;
+    };
     dropped = inl refl;
     entry = v;
     was = is;

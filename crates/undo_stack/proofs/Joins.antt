@@ -1,5 +1,5 @@
 -- A newer change that is merged into a change, and into the last one of a sequence; and the last one of a sequence that goes.
-use Rattle.std.proofs.Common.{◌≡◌, ℕ, ◌+◌, ◌-◌, ◌<◌, ◌≤◌, List, [], ◌∷◌, ◌++◌, Some, take, drop, length, set, get_or, refl, sym, ◌∙◌, ap, subst, arith}
+use Rattle.std.proofs.Common.{◌≡◌, ℕ, ◌+◌, ◌-◌, ◌<◌, ◌≤◌, List, [], ◌∷◌, ◌++◌, Some, take, drop, length, map, set, get_or, refl, sym, ◌∙◌, ap, subst, arith}
 use Rattle.std.proofs.Common.{Bool, true, false, Ok, Err}
 use Rattle.std.specs.Prelude.{Result}
 use Rattle.std.proofs.lemmas.List.{take_all, drop-set-lt}
@@ -9,7 +9,7 @@ use Rattle.command_api.specs.Law.{Change, IsSame, IsLawful}
 use Rattle.command_api.specs.Names.{IsSettled}
 use Rattle.undo_stack.specs.History.{Step, step_named, last_after}
 use Rattle.undo_stack.specs.Pushing.{without_last, last_step, led_to, vanishing_of}
-use Rattle.undo_stack.specs.Sequence.{before, steps_down, FitsDown, FitsUp, IsMoved}
+use Rattle.undo_stack.specs.Sequence.{before, steps_down, is_stale, FitsDown, FitsUp, IsMoved}
 use Rattle.undo_stack.specs.Merging.{IsJoined, MergesChange, IsAltered, MergesSequence, SettlesSequence}
 use Rattle.undo_stack.proofs.Sequences.{before-append, steps_down-append, FitsDown-pop, FitsDown-push, last_after-down, take_last}
 use Rattle.undo_stack.proofs.Pushes.{settled-same, settled-back}
@@ -175,13 +175,15 @@ settles_gone f xs v n d p q k law is h =
 
 -- a sequence of which those that are done were altered, but for their steps
 pub altered_moved : {B : Type 0} (f : B → Change) (xs ys : List B) (n : ℕ) (d : DocumentParts) → IsAltered f (λ ss. ss) (take n xs) d (take n ys) d
-    → drop n ys ≡ drop n xs → length ys ≡ length xs → FitsUp f (drop n xs) d → IsMoved f xs n d ys n d
-altered_moved f xs ys n d a past len up = record {
+    → drop n ys ≡ drop n xs → length ys ≡ length xs → FitsUp f (drop n xs) d → map (λ y. is_stale (f y)) ys ≡ map (λ x. is_stale (f x)) xs
+    → IsMoved f xs n d ys n d
+altered_moved f xs ys n d a past len up stale = record {
   same_length = len;
   down = a.down;
   up = rw past up;
   base = a.base;
   steps = rw (past, a.steps) refl;
+  stale = stale;
 }
 
 pub drop_below-set : {B : Type 0} (xs : List B) (w : B) (n : ℕ) → 0 < n → drop n (set xs (n - 1) w) ≡ drop n xs

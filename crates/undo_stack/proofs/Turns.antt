@@ -1,10 +1,11 @@
 -- Sequences of changes of which one is turned.
-use Rattle.std.proofs.Common.{◌≡◌, ℕ, ◌+◌, ◌-◌, ◌<◌, ◌≤◌, List, [], take, drop, length, set, get_or, refl, sym, ◌∙◌, ap, subst, arith, append_assoc, length-set}
+use Rattle.std.proofs.Common.{◌≡◌, ℕ, ◌+◌, ◌-◌, ◌<◌, ◌≤◌, List, [], Bool, true, false, not, ◌&&◌, take, drop, length, set, get_or, refl, sym, ◌∙◌, ap, subst, arith, append_assoc, length-set}
 use Rattle.std.proofs.lemmas.List.{take-set, drop-set, take_more_set}
 use Rattle.map_model.specs.Document.{DocumentParts}
 use Rattle.command_api.specs.Law.{Change, IsRedone, IsUndone}
-use Rattle.undo_stack.specs.Sequence.{FitsDown, FitsUp, IsMoved, Between, after, sequence_change}
-use Rattle.undo_stack.proofs.Sequences.{before-append, steps_down-append, FitsDown-pop, FitsDown-push, take_last, drop_first, drop_past}
+use Rattle.command_api.specs.Names.{Names, is_free}
+use Rattle.undo_stack.specs.Sequence.{FitsDown, FitsUp, IsMoved, Between, after, is_stale, sequence_change}
+use Rattle.undo_stack.proofs.Sequences.{before-append, steps_down-append, FitsDown-pop, FitsDown-push, map-set_same, take_last, drop_first, drop_past}
 
 -- the change below the number fits, and so does the one at it
 pub fits_last : {B : Type 0} (f : B → Change) (xs : List B) (v : B) (j : ℕ) (d : DocumentParts) → FitsDown f (take (j + 1) xs) d → j < length xs
@@ -15,6 +16,14 @@ pub fits_next : {B : Type 0} (f : B → Change) (xs : List B) (v : B) (j : ℕ) 
     → (f v).fits_redo d
 fits_next f xs v j d p h k = (rw (drop_first xs v j h k) at p).0
 
+-- a turn leaves a change as stale as it was
+pub stale_as : (v w : Change) → w.names ≡ v.names → (is_free v.names.vanishing ≡ false → w.obsolete ≡ v.obsolete) → is_stale w ≡ is_stale v
+stale_as v w names same = ap (λ (n : Names). not (is_free n.vanishing) && w.obsolete) names ∙ by_free (is_free v.names.vanishing) same
+  where
+    by_free : (b : Bool) → (b ≡ false → w.obsolete ≡ v.obsolete) → (not b && w.obsolete) ≡ (not b && v.obsolete)
+    by_free true told = refl
+    by_free false told = told refl
+
 -- the change below the number is undone
 pub moved_back : {B : Type 0} (f : B → Change) (xs : List B) (v w : B) (j : ℕ) (d e : DocumentParts) → FitsDown f (take (j + 1) xs) d
     → FitsUp f (drop (j + 1) xs) d → j < length xs → v ≡ get_or xs j v → IsUndone (f v) (f w) d e → IsMoved f xs (j + 1) d (set xs j w) j e
@@ -22,6 +31,7 @@ moved_back f xs v w j d e p q h k t =
     let took = take_last xs v j h k in
     let down = FitsDown-pop f (take j xs) v d (rw took at p) in
     record {
+      stale = map-set_same (λ x. is_stale (f x)) xs v w j k (stale_as (f v) (f w) t.names t.obsolete);
       same_length = length-set xs j w;
       down = rw (take-set xs j w, t.document) down.0;
       up = rw (drop-set xs j w h) (t.fits, rw t.back q);
@@ -36,6 +46,7 @@ moved_on f xs v w j d e p q h k t =
     let first = drop_first xs v j h k in
     let up = rw first at q in
     record {
+      stale = map-set_same (λ x. is_stale (f x)) xs v w j k (stale_as (f v) (f w) t.names t.obsolete);
       same_length = length-set xs j w;
       down = rw (take_more_set xs j w h) (FitsDown-push f (take j xs) w e (rw t.back p) t.fits);
       up = rw (drop_past xs w j, t.document) up.1;
@@ -77,11 +88,11 @@ between_last f xs v j d first last b h k = fits_last f xs v j d b.down h k
 -- the texts of a sequence say nothing of how it is turned
 pub redone_named : {B : Type 0} (f : B → Change) (t a : List ℕ) (xs ys : List B) (d e : DocumentParts)
     → IsRedone (sequence_change [] [] f xs) (sequence_change [] [] f ys) d e → IsRedone (sequence_change t a f xs) (sequence_change t a f ys) d e
-redone_named f t a xs ys d e r = record { document = r.document; fits = r.fits; back = r.back; names = refl }
+redone_named f t a xs ys d e r = record { document = r.document; fits = r.fits; back = r.back; names = refl; obsolete = λ bound. refl }
 
 pub undone_named : {B : Type 0} (f : B → Change) (t a : List ℕ) (xs ys : List B) (d e : DocumentParts)
     → IsUndone (sequence_change [] [] f xs) (sequence_change [] [] f ys) d e → IsUndone (sequence_change t a f xs) (sequence_change t a f ys) d e
-undone_named f t a xs ys d e r = record { document = r.document; fits = r.fits; back = r.back; names = refl }
+undone_named f t a xs ys d e r = record { document = r.document; fits = r.fits; back = r.back; names = refl; obsolete = λ bound. refl }
 
 -- the change right below a number fits, and undoing it leads to the number before
 pub fits_below : {B : Type 0} (f : B → Change) (xs : List B) (v : B) (i : ℕ) (d : DocumentParts) → 0 < i → i ≤ length xs → v ≡ get_or xs (i - 1) v
@@ -103,7 +114,7 @@ moved_below f xs v w i d e p q k down up t =
 -- nothing is turned
 pub moved_none : {B : Type 0} (f : B → Change) (xs : List B) (i : ℕ) (d : DocumentParts) → FitsDown f (take i xs) d → FitsUp f (drop i xs) d
     → IsMoved f xs i d xs i d
-moved_none f xs i d down up = record { same_length = refl; down = down; up = up; base = refl; steps = refl }
+moved_none f xs i d down up = record { same_length = refl; down = down; up = up; base = refl; steps = refl; stale = refl }
 
 -- one turn after another
 pub moved_more : {B : Type 0} (f : B → Change) (xs ys zs : List B) (i j k : ℕ) (c d e : DocumentParts) → IsMoved f xs i c ys j d → IsMoved f ys j d zs k e
@@ -114,4 +125,5 @@ moved_more f xs ys zs i j k c d e m n = record {
   up = n.up;
   base = n.base ∙ m.base;
   steps = n.steps ∙ m.steps;
+  stale = n.stale ∙ m.stale;
 }

@@ -1,4 +1,4 @@
--- Entries without a free command that is obsolete. What stands in a closed macro is not looked at.
+-- Entries without a command that is obsolete. What stands in a closed macro is not looked at.
 use Rattle.std.specs.Prelude.{◌≡◌, List, Bool, true, false, ◌&&◌}
 use Rattle.std.specs.List.{All}
 use Rattle.map_model.specs.Document.{DocumentParts}
@@ -17,11 +17,11 @@ pub record IsGone (c : Change) : Type 0 where
 abbrev pub is_gone : Change → Bool
 is_gone c = is_free c.names.vanishing && c.obsolete
 
--- where the change is that of a free command, it is not obsolete
+-- the change is not obsolete
 abbrev pub IsLive : Change → Type 0
-IsLive c = is_free c.names.vanishing ≡ true → c.obsolete ≡ false
+IsLive c = c.obsolete ≡ false
 
--- none of these entries is a free command that is obsolete
+-- none of these entries is a command that is obsolete
 abbrev pub AreLive : {C : Type 0} → (C → Change) → List (Entry C) → Type 0
 AreLive {C} f es = All (λ (e : Entry C). IsLive (entry_change f e)) es
 

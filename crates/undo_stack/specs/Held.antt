@@ -4,9 +4,10 @@ use Rattle.std.specs.Prelude.{◌≡◌, ℕ, ◌+◌, ◌-◌, ◌<◌, ◌≤�
 use Rattle.std.specs.List.{remove}
 use Rattle.map_model.specs.Document.{DocumentParts}
 use Rattle.command_api.specs.Law.{Change, IsRedone, IsUndone}
+use Rattle.command_api.specs.Names.{is_free}
 use Rattle.undo_stack.specs.History.{History, step_named}
 use Rattle.undo_stack.specs.Pushing.{cut, up_to, without_last, Merges, with_target_at}
-use Rattle.undo_stack.specs.Calm.{AreLive, NoneFree, is_gone}
+use Rattle.undo_stack.specs.Calm.{AreLive, IsLive, NoneFree, is_gone}
 use Rattle.undo_stack.specs.Entries.{entry_change}
 use Rattle.undo_stack.specs.Merging.{HasTarget, SettlesTarget}
 use Rattle.undo_stack.specs.Reporting.{IsRedoneIn, IsUndoneIn, last_entry, left_by, reports}
@@ -49,7 +50,7 @@ pub record IsHeldBut {C : Type 0} (f : C → Change) (d : DocumentParts) (es : L
   pub live : AreLive f es
   pub none_free : q.has_free ≡ false → NoneFree f q.entries.items
 
--- and none of its commands is free and obsolete
+-- and none of its commands is obsolete
 abbrev pub IsHeld : {C : Type 0} → (C → Change) → DocumentParts → Sequence C → Type 0
 IsHeld f d q = IsHeldBut f d q.entries.items q
 
@@ -83,9 +84,12 @@ pub record IsSettledAt {C : Type 0} (f : C → Change) (d : DocumentParts) (q p 
   pub settled : SettlesTarget d (reports f (target_in q)) (history_at f d q) (history_at f d p)
   pub nesting : sequence_nesting p.entries.items ≤ sequence_nesting q.entries.items
 
--- the sequence is held, but the entry at a number was just turned and is not looked at
-abbrev pub IsHeldButAt : {C : Type 0} → (C → Change) → DocumentParts → ℕ → Sequence C → Type 0
-IsHeldButAt f d at q = IsHeldBut f d (remove q.entries.items at) q
+-- the sequence is held, but the entry at a number was just turned, and is looked at only where it is not free
+pub record IsHeldButAt {C : Type 0} (f : C → Change) (d : DocumentParts) (at : ℕ) (q : Sequence C) : Type 0 where
+  pub sound : IsSoundAt f d q
+  pub live : AreLive f (remove q.entries.items at)
+  pub none_free : q.has_free ≡ false → NoneFree f q.entries.items
+  pub stays : (e : Entry C) → e ≡ get_or q.entries.items at e → is_free (entry_change f e).names.vanishing ≡ false → IsLive (entry_change f e)
 
 -- p is the sequence q, which led to d, perhaps without the entry at a number
 pub record IsDroppedAt {C : Type 0} (f : C → Change) (d : DocumentParts) (at : ℕ) (q p : Sequence C) : Type 0 where

@@ -1,9 +1,9 @@
 -- What a sequence of changes means at a document: the documents before it, its steps, and where it fits.
 -- A sequence is a list of things x, of which f x is the change.
-use Rattle.std.specs.Prelude.{◌≡◌, ℕ, List, [], ◌∷◌, ◌++◌, take, drop, length, false}
+use Rattle.std.specs.Prelude.{◌≡◌, ℕ, List, [], ◌∷◌, ◌++◌, map, take, drop, length, Bool, false, not, ◌&&◌}
 use Rattle.map_model.specs.Document.{DocumentParts}
 use Rattle.command_api.specs.Law.{Change}
-use Rattle.command_api.specs.Names.{untagged, Never}
+use Rattle.command_api.specs.Names.{untagged, is_free, Never}
 use Rattle.undo_stack.specs.History.{Step, step_named}
 
 -- the document before a sequence that led to d
@@ -59,10 +59,16 @@ pub record Between {B : Type 0} (f : B → Change) (xs : List B) (n : ℕ) (d fi
 abbrev pub steps_of : {B : Type 0} → (B → Change) → List B → ℕ → DocumentParts → List Step
 steps_of f xs n d = steps_down f (take n xs) d ++ steps_up f (drop n xs) d
 
--- a sequence at the number i and the document d became another one, at j and e, with the same documents and steps
+-- whether a change is not free, and is obsolete
+abbrev pub is_stale : Change → Bool
+is_stale c = not (is_free c.names.vanishing) && c.obsolete
+
+-- a sequence at the number i and the document d became another one, at j and e, with the same documents and steps, and no
+-- change that is not free became obsolete
 pub record IsMoved {B : Type 0} (f : B → Change) (xs : List B) (i : ℕ) (d : DocumentParts) (ys : List B) (j : ℕ) (e : DocumentParts) : Type 0 where
   pub same_length : length ys ≡ length xs
   pub down : FitsDown f (take j ys) e
   pub up : FitsUp f (drop j ys) e
   pub base : before f (take j ys) e ≡ before f (take i xs) d
   pub steps : steps_of f ys j e ≡ steps_of f xs i d
+  pub stale : map (λ y. is_stale (f y)) ys ≡ map (λ x. is_stale (f x)) xs

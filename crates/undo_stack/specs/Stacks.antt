@@ -6,7 +6,7 @@ use Rattle.map_model.specs.Document.{DocumentParts}
 use Rattle.command_api.specs.Law.{Change}
 use Rattle.command_api.specs.Names.{untagged, Never}
 use Rattle.undo_stack.specs.History.{History}
-use Rattle.undo_stack.specs.Calm.{AreLive}
+use Rattle.undo_stack.specs.Calm.{AreLive, IsLive}
 use Rattle.undo_stack.specs.Entries.{entry_change, is_macro, nesting}
 use Rattle.undo_stack.specs.Held.{IsHeld, target_in}
 use Rattle.undo_stack.specs.Lending.{innermost}
@@ -43,6 +43,7 @@ pub record IsClosed {C : Type 0} (f : C → Change) (l : Inner C) (e : Entry C) 
   pub names : (entry_change f e).names ≡ untagged l.text l.action Never
   pub undone : (d : DocumentParts) → (entry_change f e).undone d ≡ before (entry_change f) l.sequence d
   pub fits : (d : DocumentParts) → FitsDown (entry_change f) l.sequence d → (entry_change f e).fits_undo d
+  pub live : IsLive (entry_change f e)
   pub deep : nesting e ≡ sequence_nesting l.sequence + 1
 
 -- all entries of a sequence are done, and it has no limit and no clean index, as that of a macro
@@ -73,12 +74,12 @@ pub record Holds {C : Type 0} (f : C → Change) (s : Stack C) : Type 0 where
   pub ready : AreReady s.sequences.steps s.sequences.levels.items
   pub nesting : level_nesting (inners s) ≤ MAX_DEPTH
 
--- none of the entries of these levels is a free command that reports itself obsolete
+-- none of the entries of these levels is a command that reports itself obsolete
 abbrev pub LevelsAreLive : {C : Type 0} → (C → Change) → List (Level C) → Type 0
 LevelsAreLive f [] = Unit {0}
 LevelsAreLive f (l ∷ ls) = AreLive f l.sequence.entries.items × LevelsAreLive f ls
 
--- no free command that reports itself obsolete stands among the steps or in an open macro. What is in a closed one may be such
+-- no command that reports itself obsolete stands among the steps or in an open macro. What is in a closed one may be such
 pub record IsCalm {C : Type 0} (f : C → Change) (s : Stack C) : Type 0 where
   pub steps : AreLive f s.sequences.steps.entries.items
   pub levels : LevelsAreLive f s.sequences.levels.items

@@ -114,7 +114,7 @@ impl<C: Command> Entry<C> {
     pub fn is_gone(&self) -> bool
         ensures answer { result ≡ is_gone (entry_change C.change self.now) }
         ensures gone { result ≡ true → IsGone (entry_change C.change self.now) }
-        ensures live { result ≡ false → IsLive (entry_change C.change self.now) }
+        ensures live { result ≡ false → is_free (entry_change C.change self.now).names.vanishing ≡ true → IsLive (entry_change C.change self.now) }
     {
         match self {
             Entry::Command(command) => command.is_free() && command.obsolete(),

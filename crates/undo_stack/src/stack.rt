@@ -39,7 +39,7 @@ pub enum StackFault {
 /// A document and its history, over commands of one type, which may be `Box<dyn Command>`.
 ///
 /// A caller sees the history that the stack holds. That the commands fit the document is a condition of its calls, which
-/// each of them keeps. None leaves a free command that is obsolete among the entries or those of an open macro.
+/// each of them keeps. None leaves a command that is obsolete among the entries or those of an open macro.
 #[derive(Drop)]
 pub struct Stack<C> {
     // The document after the entries below the index, and those of the open macros.
@@ -220,7 +220,7 @@ impl<C: Command> Stack<C> {
 }
 
 impl<C: Command> Stack<C> {
-    /// A law: a stack whose commands fit keeps no free command that reports itself obsolete, but within ended macros.
+    /// A law: a stack whose commands fit keeps no command that reports itself obsolete, but within ended macros.
     pub fn sound_is_calm(&self)
         requires { Holds C.change self.now }
         ensures { IsCalm C.change self.now }

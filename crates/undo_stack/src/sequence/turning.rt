@@ -1,6 +1,8 @@
 // Turns of the entries of a sequence, one after the other. Each that is a free command, which is obsolete then, goes.
-ghost use Rattle.std.specs.Prelude.{◌≡◌, ◌<◌, ◌≤◌, ◌+◌, ◌-◌, false, min, max, length, take, drop, reverse};
+ghost use Rattle.std.specs.Prelude.{◌≡◌, ◌<◌, ◌≤◌, ◌+◌, ◌-◌, false, min, max, length, map, take, drop, reverse};
 ghost use Rattle.map_model.specs.Document.{DocumentParts};
+ghost use Rattle.undo_stack.specs.Entries.{entry_change};
+ghost use Rattle.undo_stack.specs.Sequence.{is_stale};
 ghost use Rattle.undo_stack.specs.Held.{history_at, IsHeld, IsHeldButAt, IsSoundAt, IsDroppedAt, RedoesNext, StepsDown, StepsUp, UndoesLast};
 ghost use Rattle.undo_stack.specs.Moving.{positioned};
 ghost use Rattle.undo_stack.specs.Reporting.{AreRedone, AreTurned, AreUndone};
@@ -166,6 +168,7 @@ impl<C: Command> Sequence<C> {
         requires sound { IsSoundAt C.change document.old self.old }
         ensures sound { IsSoundAt C.change document.new self.new }
         ensures has_free { self.new.has_free ≡ self.old.has_free }
+        ensures stale { map (λ e. is_stale (entry_change C.change e)) self.new.entries.items ≡ map (λ e. is_stale (entry_change C.change e)) self.old.entries.items }
         ensures history { history_at C.change document.new self.new
             ≡ positioned (min index self.old.index) (history_at C.change document.old self.old) }
     {
@@ -184,6 +187,7 @@ impl<C: Command> Sequence<C> {
         requires sound { IsSoundAt C.change document.old self.old }
         ensures sound { IsSoundAt C.change document.new self.new }
         ensures has_free { self.new.has_free ≡ self.old.has_free }
+        ensures stale { map (λ e. is_stale (entry_change C.change e)) self.new.entries.items ≡ map (λ e. is_stale (entry_change C.change e)) self.old.entries.items }
         ensures history { history_at C.change document.new self.new
             ≡ positioned (max (min index (length (history_at C.change document.old self.old).steps)) self.old.index)
             (history_at C.change document.old self.old) }
@@ -199,6 +203,7 @@ impl<C: Command> Sequence<C> {
         requires within { index ≤ length self.old.entries.items }
         ensures sound { IsSoundAt C.change document.new self.new }
         ensures has_free { self.new.has_free ≡ self.old.has_free }
+        ensures stale { map (λ e. is_stale (entry_change C.change e)) self.new.entries.items ≡ map (λ e. is_stale (entry_change C.change e)) self.old.entries.items }
         ensures history { history_at C.change document.new self.new ≡ positioned index (history_at C.change document.old self.old) }
     {
         if self.is_worth_a_slice(index - self.index) {

@@ -21,5 +21,6 @@ returns g c =
       names = ap (λ (k : Change). k.names) change ∙ ap (λ (k : MacroContents (Entry g.row.C.Denot)). untagged k.text k.action Never) c.deref_mut.ensures.value;
       undone = λ d. ap (λ (k : Change). k.undone d) change ∙ ap (λ (es : List (Entry g.row.C.Denot)). before (entry_change f) es d) items;
       fits = λ d h. subst (λ (k : Change). k.fits_undo d) (sym change) (rw items h);
+      live = ap (λ (k : Change). k.obsolete) change;
       deep = nesting-Macro m ∙ ap (λ (es : List (Entry g.row.C.Denot)). greatest (map nesting es) + 1) items;
     }

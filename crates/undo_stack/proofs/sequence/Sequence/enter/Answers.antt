@@ -56,7 +56,7 @@ cut_before g c =
 
 pub add-requires-clause-live : goal.add-requires-clause-live
 add-requires-clause-live g c =
-    rw (entry_change-Command g.C.Command.change c.args.command) (λ free. sym c.obsolete.ensures.answer ∙ c.if-obsolete.false)
+    rw (entry_change-Command g.C.Command.change c.args.command) (sym c.obsolete.ensures.answer ∙ c.if-obsolete.false)
 
 pub returns-clause-held : goal.returns-clause-held
 returns-clause-held g c =

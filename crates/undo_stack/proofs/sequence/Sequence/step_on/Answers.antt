@@ -1,5 +1,6 @@
 use Rattle.std.proofs.Common.{ℕ, ◌-◌, arith, subst}
 use Rattle.undo_stack.specs.Held.{IsHeldButAt}
+use Rattle.undo_stack.proofs.Held.{held_bound}
 use Rattle.undo_stack.proofs.Reported.{bound_before, up_kept, up_looked}
 use Rattle.undo_stack.proofs.Views.{step_within}
 use Rattle.undo_stack.proofs.sequence.Sequence.step_on.Goals as goal
@@ -28,3 +29,12 @@ returns-else-self-clause-reported g c =
     let u = t.redone in
     let bound = bound_before f q.index u.before u.after q p u.put (step_within f d q c.requires.above) u.redone.names (t.held.none_free c.if-self.false) in
     up_kept f d c.turn_on.new.document q p u bound t.index t.history
+
+pub returns-else-self-clause-held : goal.returns-else-self-clause-held
+returns-else-self-clause-held g c =
+    let f = g.C.Command.change in
+    let q = c.args.self.now in
+    let p = c.turn_on.new.self in
+    let t = c.turn_on.ensures in
+    let u = t.redone in
+    held_bound f c.turn_on.new.document q.index u.before u.after q p u.put (step_within f c.args.document.now q c.requires.above) c.if-self.false t.held

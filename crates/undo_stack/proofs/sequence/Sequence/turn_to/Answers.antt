@@ -24,7 +24,7 @@ returns-clause-held g c =
     let q = c.args.self.now in
     let r = c.requires in
     moved_held g.C.Command.change q c.redo_to.new.self c.args.document.now c.redo_to.new.document _ r.bound (returns-clause-history g c) r.held
-    c.redo_to.ensures.sound
+    c.redo_to.ensures.sound (c.redo_to.ensures.stale ∙ c.undo_to.ensures.stale)
 
 pub returns-clause-reported : goal.returns-clause-reported
 returns-clause-reported g c =
