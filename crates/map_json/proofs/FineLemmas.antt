@@ -21,7 +21,8 @@ IsFine-get_member n k no_members d h is = absurd cc
 IsFine-get_member n k (member l e ms) d h is = member_at (slice_cmp nat_cmp k l) n d e (get_member k ms) h.2 (λ f g. IsFine-get_member n k ms f h.3 g) is
 
 -- a name stays before the members that are left
-before_at : (o : Ordering) (j l : List ℕ) (e : Data) (rest : Members) → slice_cmp nat_cmp j l ≡ Less → IsBefore j rest → IsBefore j (match_ordering o (member l e rest) rest (member l e rest))
+before_at : (o : Ordering) (j l : List ℕ) (e : Data) (rest : Members) → slice_cmp nat_cmp j l ≡ Less → IsBefore j rest
+    → IsBefore j (match_ordering o (member l e rest) rest (member l e rest))
 before_at Less j l e rest first h = (first, h)
 before_at Equal j l e rest first h = h
 before_at Greater j l e rest first h = (first, h)
@@ -30,14 +31,16 @@ pub IsBefore-without : (j k : List ℕ) (ms : Members) → IsBefore j ms → IsB
 IsBefore-without j k no_members h = tt
 IsBefore-without j k (member l e ms) h = before_at (slice_cmp nat_cmp k l) j l e (without k ms) h.0 (IsBefore-without j k ms h.1)
 
-without_at : (o : Ordering) (n : ℕ) (l : List ℕ) (e : Data) (rest : Members) → AreFineMembers n (member l e rest) → AreFineMembers n (match_ordering o (member l e rest) rest (member l e rest))
+without_at : (o : Ordering) (n : ℕ) (l : List ℕ) (e : Data) (rest : Members) → AreFineMembers n (member l e rest)
+    → AreFineMembers n (match_ordering o (member l e rest) rest (member l e rest))
 without_at Less n l e rest h = h
 without_at Equal n l e rest h = h.3
 without_at Greater n l e rest h = h
 
 pub AreFineMembers-without : (n : ℕ) (k : List ℕ) (ms : Members) → AreFineMembers n ms → AreFineMembers n (without k ms)
 AreFineMembers-without n k no_members h = tt
-AreFineMembers-without n k (member l e ms) h = without_at (slice_cmp nat_cmp k l) n l e (without k ms) (h.0, IsBefore-without l k ms h.1, h.2, AreFineMembers-without n k ms h.3)
+AreFineMembers-without n k (member l e ms) h =
+    without_at (slice_cmp nat_cmp k l) n l e (without k ms) (h.0, IsBefore-without l k ms h.1, h.2, AreFineMembers-without n k ms h.3)
 
 pub AreFineMembers-without_all : (n : ℕ) (ks : List (List ℕ)) (ms : Members) → AreFineMembers n ms → AreFineMembers n (without_all ks ms)
 AreFineMembers-without_all n [] ms h = h
@@ -150,14 +153,16 @@ mutual
 
 -- ---- taken out of what was read
 
-read_without_at : (o : Ordering) (l : List ℕ) (e : Data) (rest : Members) → AreReadableMembers (member l e rest) → AreReadableMembers (match_ordering o (member l e rest) rest (member l e rest))
+read_without_at : (o : Ordering) (l : List ℕ) (e : Data) (rest : Members) → AreReadableMembers (member l e rest)
+    → AreReadableMembers (match_ordering o (member l e rest) rest (member l e rest))
 read_without_at Less l e rest h = h
 read_without_at Equal l e rest h = h.3
 read_without_at Greater l e rest h = h
 
 pub AreReadableMembers-without : (k : List ℕ) (ms : Members) → AreReadableMembers ms → AreReadableMembers (without k ms)
 AreReadableMembers-without k no_members h = tt
-AreReadableMembers-without k (member l e ms) h = read_without_at (slice_cmp nat_cmp k l) l e (without k ms) (h.0, IsBefore-without l k ms h.1, h.2, AreReadableMembers-without k ms h.3)
+AreReadableMembers-without k (member l e ms) h =
+    read_without_at (slice_cmp nat_cmp k l) l e (without k ms) (h.0, IsBefore-without l k ms h.1, h.2, AreReadableMembers-without k ms h.3)
 
 depth_without_at : (o : Ordering) (l : List ℕ) (e : Data) (ms rest : Members) → members_depth rest ≤ members_depth ms → members_depth (match_ordering o (member l e rest) rest (member l e rest)) ≤ max (depth e) (members_depth ms)
 depth_without_at Less l e ms rest h = omega arith

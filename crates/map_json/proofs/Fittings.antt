@@ -225,7 +225,8 @@ not_true : (b : Bool) → not b ≡ true → b ≡ false
 not_true true e = absurd (true≢false (sym e))
 not_true false e = refl
 
-root_fine : (d : Data) (ms : Members) → as_object d ≡ Some ms → has_fraction d ≡ false → IsReadable d → depth d ≤ 127 → AreFineMembers 126 (without VERSION.now ms)
+root_fine : (d : Data) (ms : Members) → as_object d ≡ Some ms → has_fraction d ≡ false → IsReadable d → depth d ≤ 127
+    → AreFineMembers 126 (without VERSION.now ms)
 root_fine null ms is e h le = absurd cc
 root_fine (boolean b) ms is e h le = absurd cc
 root_fine (number x) ms is e h le = absurd cc

@@ -17,7 +17,8 @@ pub IsBefore-trans : (j k : List ℕ) (ms : Members) → slice_cmp nat_cmp j k �
 IsBefore-trans j k no_members e h = tt
 IsBefore-trans j k (member l d ms) e h = (nat_list_cmp_total.trans j k l e h.0, IsBefore-trans j k ms e h.1)
 
-put_before_at : (o : Ordering) (j k l : List ℕ) (d e : Data) (ms rest : Members) → slice_cmp nat_cmp j k ≡ Less → slice_cmp nat_cmp j l ≡ Less → IsBefore j ms → IsBefore j rest
+put_before_at : (o : Ordering) (j k l : List ℕ) (d e : Data) (ms rest : Members) → slice_cmp nat_cmp j k ≡ Less → slice_cmp nat_cmp j l ≡ Less
+    → IsBefore j ms → IsBefore j rest
     → IsBefore j (match_ordering o (member k d (member l e ms)) (member l d ms) (member l e rest))
 put_before_at Less j k l d e ms rest new first h more = (new, (first, h))
 put_before_at Equal j k l d e ms rest new first h more = (first, h)
@@ -32,7 +33,8 @@ pub AreReadableMembers-put : (k : List ℕ) (d : Data) (ms : Members) → IsUtf8
 AreReadableMembers-put k d no_members name new h = (name, tt, new, tt)
 AreReadableMembers-put k d (member l e ms) name new h = by_order (slice_cmp nat_cmp k l) refl (AreReadableMembers-put k d ms name new h.3)
   where
-    by_order : (o : Ordering) → slice_cmp nat_cmp k l ≡ o → AreReadableMembers (put k d ms) → AreReadableMembers (match_ordering o (member k d (member l e ms)) (member l d ms) (member l e (put k d ms)))
+    by_order : (o : Ordering) → slice_cmp nat_cmp k l ≡ o → AreReadableMembers (put k d ms)
+        → AreReadableMembers (match_ordering o (member k d (member l e ms)) (member l d ms) (member l e (put k d ms)))
     by_order Less is more = (name, (is, IsBefore-trans k l ms is h.1), new, h)
     by_order Equal is more = (h.0, h.1, new, h.3)
     by_order Greater is more = (h.0, IsBefore-put l k d ms (after_Greater k l is) h.1, h.2, more)

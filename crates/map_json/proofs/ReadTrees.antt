@@ -39,7 +39,8 @@ float_read : (b : Bool) (x : Float) (n : Num) → cond b (Some (float x)) None �
 float_read true x n e = let s : float x ≡ n = cc in subst IsReadableNumber s tt
 float_read false x n e = absurd cc
 
-unsigned_read : (a b : Bool) (k : ℕ) (rest : Option Num) (n : Num) → (b ≡ true → k < 2 ^ 64) → (rest ≡ Some n → IsReadableNumber n) → cond (a && b) (Some (unsigned k)) rest ≡ Some n → IsReadableNumber n
+unsigned_read : (a b : Bool) (k : ℕ) (rest : Option Num) (n : Num) → (b ≡ true → k < 2 ^ 64) → (rest ≡ Some n → IsReadableNumber n)
+    → cond (a && b) (Some (unsigned k)) rest ≡ Some n → IsReadableNumber n
 unsigned_read true true k rest n small later e = let s : unsigned k ≡ n = cc in subst IsReadableNumber s (small refl)
 unsigned_read true false k rest n small later e = later e
 unsigned_read false b k rest n small later e = later e
@@ -62,7 +63,8 @@ number_from_read true p n e =
     negative_read (is_integer p) (ltb 0 (digits_of p)) (leb (digits_of p) (2 ^ 63)) (digits_of p) (float_of true p) n (ltb-true 0 (digits_of p)) (leb-true (digits_of p) (2 ^ 63))
     (float_read (float_is_finite (nearest binary64 true p)) (nearest binary64 true p) n) e
 
-either_read : (b : Bool) (s t : Option Num) (n : Num) → (s ≡ Some n → IsReadableNumber n) → (t ≡ Some n → IsReadableNumber n) → cond b s t ≡ Some n → IsReadableNumber n
+either_read : (b : Bool) (s t : Option Num) (n : Num) → (s ≡ Some n → IsReadableNumber n) → (t ≡ Some n → IsReadableNumber n) → cond b s t ≡ Some n
+    → IsReadableNumber n
 either_read true s t n f g e = f e
 either_read false s t n f g e = g e
 
@@ -75,7 +77,8 @@ AreReadMembers-put : (k : List ℕ) (d : Data) (ms : Members) → IsReadTree d �
 AreReadMembers-put k d no_members new h = (tt, new, tt)
 AreReadMembers-put k d (member l e ms) new h = by_order (slice_cmp nat_cmp k l) refl (AreReadMembers-put k d ms new h.2)
   where
-    by_order : (o : Ordering) → slice_cmp nat_cmp k l ≡ o → AreReadMembers (put k d ms) → AreReadMembers (match_ordering o (member k d (member l e ms)) (member l d ms) (member l e (put k d ms)))
+    by_order : (o : Ordering) → slice_cmp nat_cmp k l ≡ o → AreReadMembers (put k d ms)
+        → AreReadMembers (match_ordering o (member k d (member l e ms)) (member l d ms) (member l e (put k d ms)))
     by_order Less is more = ((is, IsBefore-trans k l ms is h.0), new, h)
     by_order Equal is more = (h.0, new, h.2)
     by_order Greater is more = (IsBefore-put l k d ms (after_Greater k l is) h.0, h.1, more)

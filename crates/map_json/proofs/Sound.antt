@@ -1,5 +1,5 @@
 -- What was read is well formed, as far as one owner tells: values, properties, elements, numbers and cells.
-use Rattle.std.proofs.Common.{◌≡◌, IsUtf8, ℕ, suc, ◌+◌, ◌-◌, ◌*◌, ◌^◌, ◌<◌, ◌≤◌, ℤ, pos, negsuc, eqb, Bool, true, false, cond, ◌&&◌, List, [], ◌∷◌, length, Option, Some, None, Result, Ok, Err, refl, sym, ap, subst, arith}
+use Rattle.std.proofs.Common.{◌≡◌, IsUtf8, ℕ, suc, ◌+◌, ◌-◌, ◌*◌, ◌^◌, ◌<◌, ◌≤◌, ℤ, eqb, Bool, true, false, cond, ◌&&◌, List, [], ◌∷◌, length, Option, Some, None, Result, Ok, Err, refl, sym, ap, subst, arith}
 use Rattle.std.specs.Prelude.{codes, IfSome, nat_le, nat_lt, option_and_then, option_map, if◌then◌else◌}
 use Rattle.std.specs.List.{list_all}
 use Rattle.std.specs.Result.{result_ok}
@@ -79,7 +79,9 @@ negative_whole z w h e = subst IsWhole e (record { low = h.0; high = let below =
 
 -- a value that is kept, with room for its levels
 kept_value : (level n : ℕ) (d : Data) → level + n ≤ MAX_DEPTH → IsFine n d → IsOfAnotherKind d → IsKeptValue level d
-kept_value level n d room h kind = let deep = depth-fine n d h in record { kind = kind; whole = has_float-fine n d h; shallow = omega arith; readable = IsReadable-fine n d h }
+kept_value level n d room h kind =
+    let deep = depth-fine n d h in
+    record { kind = kind; whole = has_float-fine n d h; shallow = omega arith; readable = IsReadable-fine n d h }
 
 unsigned_held : (b : Bool) (level n m : ℕ) → level + n ≤ MAX_DEPTH → nat_lt m (2 ^ 63) ≡ b → m < 2 ^ 64 → IsValue level (value_of (number (unsigned m)))
 unsigned_held true level n m room e h = let lt : m < 2 ^ 63 = ltb-true m (2 ^ 63) e in

@@ -1,5 +1,5 @@
 -- The texts of a `Value` are UTF-8, since they are strings.
-use Rattle.std.proofs.Common.{◌≡◌, IsUtf8, List, [], ◌∷◌, map, String, Vec, BTreeMap, Global, string_bytes, refl, sym, ap, ◌∙◌, subst}
+use Rattle.std.proofs.Common.{IsUtf8, List, [], ◌∷◌, map, String, Global, sym, subst}
 use Rattle.std.proofs.lemmas.Str.{IsUtf8-string_bytes}
 use Rattle.serde_json.specs.Data.{Data, null, boolean, number, string, array, object, Items, no_items, item, Members, no_members, member}
 use Rattle.serde_json.specs.View.{view, view_step, items_of, members_of}

@@ -9,7 +9,7 @@ use Rattle.base64.specs.Engines.{standard}
 use Rattle.base64.specs.GeneralPurpose.{encode_of}
 use Rattle.base64.proofs.EngineFacts.{IsAscii-encode_of}
 use Rattle.json.proofs.Printed.Utf8.{are_ascii, IsUtf8-are_ascii}
-use Rattle.serde_json.specs.Data.{Data, boolean, number, string, array, object, Items, no_items, Members}
+use Rattle.serde_json.specs.Data.{Data, boolean, number, string, array, object, no_items, Members}
 use Rattle.serde_json.specs.Find.{of_integer}
 use Rattle.map_model.specs.declared.limits.TheConstants.{MAX_FIRST_ID, MAX_GROUPS, MAX_NEXT_ID, MAX_SIDE, MAX_TILE_SIDE}
 use Rattle.map_model.specs.declared.parts.Encoding.{Encoding}
@@ -23,14 +23,14 @@ use Rattle.map_model.specs.declared.parts.Body.TheVariants.{Tiles, Objects, Othe
 use Rattle.map_model.specs.declared.parts.Layer.{Layer}
 use Rattle.map_model.specs.declared.parts.Tileset.{Tileset}
 use Rattle.map_model.specs.declared.parts.MapParts.{MapParts}
-use Rattle.map_model.specs.Groups.{all_drawn, bare, drawn, inside, tree}
+use Rattle.map_model.specs.Groups.{all_drawn, drawn, inside, tree}
 use Rattle.map_model.specs.Keeping.{inner_level, layer_level, map_level, object_level, property_level}
 use Rattle.map_model.specs.Lists.{Each}
 use Rattle.map_model.specs.Readable.{IsReadable, AreReadableItems, AreReadableMembers}
 use Rattle.map_model.specs.WellFormed.{IsId, IsWhole, IsPixels, IsTileValue, IsValue, IsProperty, AreProperties, IsObject, IsBody, IsDrawn, IsLayer, IsTileset, IsWellFormed, ids_of, ids_of_object, object_ids_in, object_ids_of}
 use Rattle.map_model.proofs.GroupBodies.{IsLayer-without, object_ids-with}
 use Rattle.map_json.specs.Members.{Own, with_own, put_some}
-use Rattle.map_json.specs.Trees.{items_by, array_by, whole_tree, value_tree, property_own, property_tree, properties_member, object_own, object_tree, tileset_own, tileset_tree, bytes_of, cells_tree, encoding_member, type_word, body_own, layer_own, layer_tree, layers_tree, plain_own, lists_own, map_own, tree_of}
+use Rattle.map_json.specs.Trees.{items_by, whole_tree, value_tree, property_own, property_tree, properties_member, object_own, object_tree, tileset_own, tileset_tree, bytes_of, cells_tree, encoding_member, type_word, body_own, layer_own, layer_tree, layers_tree, plain_own, lists_own, map_own, tree_of}
 use Rattle.map_json.proofs.DrawnLayers.{Each-left, Each-right, tree-Each}
 use Rattle.map_json.proofs.Orders.{AreReadableMembers-put}
 
@@ -110,7 +110,8 @@ property_readable level p h =
 
 properties_readable : (level : ℕ) (ps : List Property) → AreProperties level ps → IfSome (properties_member ps) IsReadable
 properties_readable level [] h = tt
-properties_readable level (p ∷ ps) h = items_readable (IsProperty (property_level level)) property_tree (property_readable (property_level level)) (p ∷ ps) h.each
+properties_readable level (p ∷ ps) h =
+    items_readable (IsProperty (property_level level)) property_tree (property_readable (property_level level)) (p ∷ ps) h.each
 
 -- ---- objects and tilesets
 -- an id that fits a number of a file
@@ -151,7 +152,8 @@ object_readable level o h =
 
 tileset_readable : (t : Tileset) → IsTileset t → IsReadable (tileset_tree t)
 unfolding tileset_tree
-tileset_readable t h = own_readable (tileset_own t) t.kept (refl, number_below t.first_id MAX_FIRST_ID h.high (omega arith), (refl, text_readable t.source h.source, tt)) h.kept.readable
+tileset_readable t h =
+    own_readable (tileset_own t) t.kept (refl, number_below t.first_id MAX_FIRST_ID h.high (omega arith), (refl, text_readable t.source h.source, tt)) h.kept.readable
 
 -- ---- layers
 cells_readable : (e : Encoding) (cells : List ℕ) → Each IsTileValue cells → IsReadable (cells_tree e cells)
@@ -173,16 +175,16 @@ abbrev IsDrawnSmall : ℕ → ℕ × Layer → Type 0
 IsDrawnSmall size d = IsDrawn size d × (Each IsSmall (ids_of d) × Each IsSmall (object_ids_of d))
 
 module _ (width height : ℕ) (wide : IsSmall width) (high : IsSmall height) where
-  body_readable : (level size : ℕ) (d : Data) → IsReadable d → (b : Body) → IsBody level size b → Each IsSmall (object_ids_in b) → AreReadableOwn (body_own width height d b)
+  body_readable : (level size : ℕ) (d : Data) → IsReadable d → (b : Body) → IsBody level size b → Each IsSmall (object_ids_in b)
+      → AreReadableOwn (body_own width height d b)
   body_readable level size d layers (Tiles e cells) h ids =
       (refl, encoding_readable e, (refl, tt, (refl, wide, (refl, high, (refl, cells_readable e cells h.1, tt)))))
-  body_readable level size d layers (Objects os) h ids =
-      (
-        refl,
-        items_readable (λ (o : Object). IsObject (object_level level) o × Each IsSmall (ids_of_object o)) object_tree (object_readable (object_level level)) os
+  body_readable level size d layers (Objects os) h ids = (
+    refl,
+    items_readable (λ (o : Object). IsObject (object_level level) o × Each IsSmall (ids_of_object o)) object_tree (object_readable (object_level level)) os
         (Each-pair (IsObject (object_level level)) (λ (o : Object). Each IsSmall (ids_of_object o)) os h.1 (Each-of_flat_map IsSmall ids_of_object os ids)),
-        tt,
-      )
+    tt,
+  )
   body_readable level size d layers Other h ids = tt
   body_readable level size d layers (Group' s r) h ids = (refl, layers, tt)
 
@@ -190,8 +192,7 @@ module _ (width height : ℕ) (wide : IsSmall width) (high : IsSmall height) whe
   one_readable : (level size : ℕ) (d : Data) → IsReadable d → (l : Layer) → IsLayer level size l → IsSmall l.id → Each IsSmall (object_ids_in l.body)
       → IsReadable (object (with_own (layer_own width height d l) l.kept))
   one_readable level size d layers l h id ids =
-      own_readable (layer_own width height d l) l.kept
-      (
+      own_readable (layer_own width height d l) l.kept (
         refl,
         type_readable l.body,
         (refl, id, (refl, h.name, (refl, tt, (refl, properties_readable level l.properties h.properties, body_readable level size d layers l.body h.body ids)))),
@@ -199,7 +200,8 @@ module _ (width height : ℕ) (wide : IsSmall width) (high : IsSmall height) whe
       h.kept.readable
 
   -- the first of those that are drawn for a layer is its own
-  own_layer : (room level size : ℕ) (l : Layer) → Each (IsDrawnSmall size) (tree room level l) → IsLayer level size l × IsSmall l.id × Each IsSmall (object_ids_in l.body)
+  own_layer : (room level size : ℕ) (l : Layer) → Each (IsDrawnSmall size) (tree room level l)
+      → IsLayer level size l × IsSmall l.id × Each IsSmall (object_ids_in l.body)
   own_layer room level size l h =
       let own = (tree-Each (IsDrawnSmall size) room level l h).0 in
       (IsLayer-without (λ ls. []) level size l own.0, own.1.0.0, subst (Each IsSmall) (object_ids-with (λ ls. []) l.body) own.1.1)
@@ -207,11 +209,10 @@ module _ (width height : ℕ) (wide : IsSmall width) (high : IsSmall height) whe
   module _ (room level size : ℕ) (one : (l : Layer) → Each (IsDrawnSmall size) (tree room level l) → IsReadable (layer_tree room width height l)) where
     each_readable : (ls : List Layer) → Each (IsDrawnSmall size) (drawn room level ls) → AreReadableItems (items_by (layer_tree room width height) ls)
     each_readable [] h = tt
-    each_readable (l ∷ ls) h =
-        (
-          one l (Each-left (IsDrawnSmall size) (tree room level l) (drawn room level ls) h),
-          each_readable ls (Each-right (IsDrawnSmall size) (tree room level l) (drawn room level ls) h),
-        )
+    each_readable (l ∷ ls) h = (
+      one l (Each-left (IsDrawnSmall size) (tree room level l) (drawn room level ls) h),
+      each_readable ls (Each-right (IsDrawnSmall size) (tree room level l) (drawn room level ls) h),
+    )
 
   layer_readable : (room level size : ℕ) (l : Layer) → Each (IsDrawnSmall size) (tree room level l) → IsReadable (layer_tree room width height l)
   unfolding layer_tree
@@ -248,20 +249,19 @@ plain_readable m h =
     (refl, width, (refl, height, (refl, tile_width, (refl, tile_height, (refl, tt, (refl, next_layer, (refl, next_object, tt)))))))
 
 lists_readable : (d : Data) (m : MapParts) → IsReadable d → IsWellFormed m → AreReadableOwn (lists_own d m)
-lists_readable d m layers h =
+lists_readable d m layers h = (
+  refl,
+  layers,
+  (
+    refl,
+    items_readable IsTileset tileset_tree tileset_readable m.tilesets h.tilesets.each,
     (
       refl,
-      layers,
-      (
-        refl,
-        items_readable IsTileset tileset_tree tileset_readable m.tilesets h.tilesets.each,
-        (
-          refl,
-          properties_readable map_level m.properties h.properties,
-          (refl, IsUtf8-are_ascii (codes "map") refl, (refl, IsUtf8-are_ascii (codes "1.10") refl, tt)),
-        ),
-      ),
-    )
+      properties_readable map_level m.properties h.properties,
+      (refl, IsUtf8-are_ascii (codes "map") refl, (refl, IsUtf8-are_ascii (codes "1.10") refl, tt)),
+    ),
+  ),
+)
 
 pub tree_readable : (m : MapParts) → IsWellFormed m → IsReadable (tree_of m)
 unfolding tree_of
