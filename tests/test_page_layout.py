@@ -327,11 +327,10 @@ def test_edges():
     }
     with Bench() as page:
         for css, ((right, down), wanted) in drags.items():
-            left, top, *corner = box(page, css if css != '#standing' else 'footer')
+            edges = box(page, css)
+            x, y = int(edges[0] + edges[2]) // 2, int(edges[1] + edges[3]) // 2
+            left, top, *corner = edges if css != '#standing' else box(page, 'footer')
             assert corner[0] - left >= LEAST_TARGET and corner[1] - top >= LEAST_TARGET, css
-            x, y = [int(each) for each in page.js(
-                'const {left, top, width, height} = document.querySelector(arguments[0]).getBoundingClientRect(); return [left + width / 2, top + height / 2]', css
-            )]
             before = {each: box(page, each) for each in PANELS}
             page.drag_points([(x, y), (x + right // 2, y + down // 2), (x + right, y + down)])
             for each, (one, other) in ((each, (before[each], box(page, each))) for each in PANELS):

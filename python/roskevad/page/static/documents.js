@@ -84,8 +84,8 @@ export class Documents {
     const known = new Map(this.editor.documents().map(each => [each.path, "open"]));
     const probe = new MapProbe(place);
     const inXml = await this.namesInXml();
-    const more = inXml && element("p", { id: "in-xml", textContent: inXml });
-    const path = await new FileList("Open a map", maps, { known, look: path => probe.look(path), none: "There is no map here.", fields: more ? [more] : [] }).ask();
+    const fields = inXml ? [element("p", { id: "in-xml", textContent: inXml })] : [];
+    const path = await new FileList("Open a map", maps, { known, look: path => probe.look(path), none: "There is no map here.", fields }).ask();
     if (path) await this.openPath(path);
   }
 

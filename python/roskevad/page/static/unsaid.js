@@ -2,7 +2,8 @@
 import { KINDS, TYPES } from "./kinds.js";
 
 // What is said where somebody would rename an object.
-export const NO_NAME = "The name of an object stays as it is: the editor has no step that changes it. Insert a new one under the other name, or rename it in Tiled.";
+export const NO_NAME = "The name of an object stays as it is: the editor has no step that changes it. "
+  + "Insert a new one under the other name, or rename it in Tiled.";
 
 // Why no line sets a property; "" where one does.
 export function whyNotSet({ name, type = "string", value }) {
