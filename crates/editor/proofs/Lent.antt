@@ -1,37 +1,41 @@
 -- An editor whose open documents have changed, and one whose active stack was lent and left as s.
-use Rattle.std.proofs.Common.{◌≡◌, ◌≤◌, Some, refl, subst, sym}
+use Rattle.std.proofs.Common.{◌≡◌, ◌≤◌, length, Some, arith, refl, subst, sym}
 use Rattle.command_api.specs.Law.{Change}
 use Rattle.undo_stack.specs.History.{History}
-use Rattle.undo_stack.specs.Stacks.{history}
+use Rattle.undo_stack.specs.Stacks.{history, Holds}
 use Rattle.undo_stack.specs.Turning.{IsSteady}
 use Rattle.undo_stack.specs.declared.limits.TheConstants.{MAX_LIMIT}
 use Rattle.undo_stack.specs.declared.stack.Stack.{Stack}
+use Rattle.undo_stack.proofs.Views.{length-own}
 use Rattle.undo_group.specs.Groups.{GroupParts}
 use Rattle.undo_group.specs.Groups as groups
 use Rattle.undo_group.specs.Lending.{IsLeft}
 use Rattle.undo_group.specs.Stacks.{AreHeld, group_of}
 use Rattle.editor.specs.declared.editor.Editor.{Editor}
-use Rattle.editor.specs.Editors.{AreSteady, IsSound, machine_of}
+use Rattle.editor.specs.Editors.{AreSteady, IsHeld, IsSound, machine_of}
 use Rattle.editor.specs.Machine.{active_of, with_active}
 use Rattle.editor.proofs.Steady.{active-steady, with_active-AreSteady}
 
 module _ {C : Type 0} (f : C → Change) where
   -- the editor stands for this group
-  pub group-IsSound : (editor : Editor C) (group : GroupParts) → editor.limit ≤ MAX_LIMIT → AreHeld f editor.group → group_of f editor.group ≡ group → AreSteady group.documents → IsSound f editor
-  group-IsSound editor group limit held is steady = record {
-    limit = limit;
-    held = held;
-    steady = subst (λ (g : GroupParts). AreSteady g.documents) (sym is) steady;
-  }
+  pub group-IsSound : (editor : Editor C) (group : GroupParts) → IsHeld f editor → group_of f editor.group ≡ group → AreSteady group.documents → IsSound f editor
+  group-IsSound editor group held is steady = record { held = held; steady = subst (λ (g : GroupParts). AreSteady g.documents) (sym is) steady }
+
+  -- the position of a stack is among its steps
+  pub position-within : (s : Stack C) → Holds f s → (history f s).position ≤ length (history f s).steps
+  position-within s sound = omega (arith, sound.own.sound.turnable.within, length-own f s)
 
   -- the active document is steady
   pub active-IsSteady : (editor : Editor C) (h : History) → IsSound f editor → Some h ≡ active_of (machine_of f editor) → IsSteady h
   active-IsSteady editor h sound at = active-steady h (group_of f editor.group) sound.steady (sym at)
 
 module _ {C : Type 0} (f : C → Change) (old new : Editor C) (s : Stack C) (same : new.limit ≡ old.limit) (left : IsLeft f old.group s new.group) where
+  pub left-IsHeld : IsHeld f old → IsHeld f new
+  left-IsHeld held = record { limit = rw same held.limit; group = left.sound }
+
   pub left-IsSound : IsSteady (history f s) → IsSound f old → IsSound f new
   left-IsSound steady sound =
-      group-IsSound f new (groups.with_active (history f s) (group_of f old.group)) (rw same sound.limit) left.sound left.group (with_active-AreSteady (history f s) (group_of f old.group) steady sound.steady)
+      group-IsSound f new (groups.with_active (history f s) (group_of f old.group)) (left-IsHeld sound.held) left.group (with_active-AreSteady (history f s) (group_of f old.group) steady sound.steady)
 
   pub left-machine : machine_of f new ≡ with_active (history f s) (machine_of f old)
   left-machine = rw (same, left.group) refl

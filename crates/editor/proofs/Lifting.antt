@@ -9,14 +9,13 @@ use Rattle.session.specs.declared.reply.Refusal.{Refusal}
 use Rattle.session.specs.declared.reply.Refusal.TheVariants.{NoActiveDocument}
 use Rattle.session.specs.declared.reply.Reply.{Reply}
 use Rattle.session.specs.declared.reply.Reply.TheVariants.{Refused}
-use Rattle.session.specs.declared.line.Line.{Line}
 use Rattle.editor.specs.declared.planned.Edit.{Edit}
 use Rattle.editor.specs.declared.planned.Planned.{Planned}
 use Rattle.editor.specs.declared.planned.Planned.TheVariants as planned
 use Rattle.editor.specs.Acts.{Act, FileAct, IfActive, OfActive, OrNoMemory, Pushes, WithActive, answer_of, moved_to}
 use Rattle.editor.specs.Machine.{Machine, active_of, with_active, workspace}
-use Rattle.editor.specs.Planning.{FitsActive, FitsPlan, IsEditOf, IsOfActive, KeepsPlan, KeepsReply, Plans, PlansEdit, PlansOn, edit_change, refused}
-use Rattle.editor.specs.Steps.{Allows, Edits, OnActive, OnDocuments, OnFiles, Rule, rule_of}
+use Rattle.editor.specs.Planning.{FitsActive, FitsPlan, IsEditOf, IsOfActive, KeepsPlan, KeepsReply, PlansBy, PlansEdit, PlansOn, edit_change, refused}
+use Rattle.editor.specs.Steps.{Allows, Edits, OnActive, OnDocuments, OnFiles, Rule}
 
 -- a machine with this group
 abbrev pub machine_at : ℕ → GroupParts → Machine
@@ -77,12 +76,12 @@ module _ (h n : History) (old : Machine) (whole : IsGroup old.group) (active : a
   quiet (OnActive act) p = p
   quiet (Edits names edit) p = p.0
 
-  pub on-Plans : (line : Line) (plan : Planned) (stored : StoreParts) → PlansOn (rule_of line) h plan n → Plans line (workspace old stored) plan (workspace (with_active n old) stored)
-  on-Plans line planned.Quiet stored p = absurd (quiet (rule_of line) p)
-  on-Plans line (planned.Reply reply) stored p = replied (rule_of line) reply stored p
-  on-Plans line (planned.Push e) stored p =
-      let is = pushed (rule_of line) e p in
-      let Q : Option History → Type 0 = λ o. IsEditOf (rule_of line) o (edit_change e) in
+  pub on-PlansBy : (rule : Rule) (plan : Planned) (stored : StoreParts) → PlansOn rule h plan n → PlansBy rule (workspace old stored) plan (workspace (with_active n old) stored)
+  on-PlansBy rule planned.Quiet stored p = absurd (quiet rule p)
+  on-PlansBy rule (planned.Reply reply) stored p = replied rule reply stored p
+  on-PlansBy rule (planned.Push e) stored p =
+      let is = pushed rule e p in
+      let Q : Option History → Type 0 = λ o. IsEditOf rule o (edit_change e) in
       (ap (λ m. workspace m stored) (with_active-unchanged h n old whole active is.0), subst Q (sym active) is.1)
 
   pub on-KeepsReply : (reply : Reply) → KeepsReply reply h n → KeepsReply reply old (with_active n old)
@@ -110,8 +109,8 @@ none-Allows (OnDocuments act) old stored s e = absurd s
 none-Allows (OnActive act) old stored s e = rw e ((refl, refl), refl)
 none-Allows (Edits names edit) old stored s e = rw e ((refl, refl), refl)
 
-pub none-Plans : (line : Line) (old : Machine) (stored : StoreParts) → IsOfActive (rule_of line) → active_of old ≡ None → Plans line (workspace old stored) (refused NoActiveDocument) (workspace old stored)
-none-Plans line old stored s e = none-Allows (rule_of line) old stored s e
+pub none-PlansBy : (rule : Rule) (old : Machine) (stored : StoreParts) → IsOfActive rule → active_of old ≡ None → PlansBy rule (workspace old stored) (refused NoActiveDocument) (workspace old stored)
+none-PlansBy rule old stored s e = none-Allows rule old stored s e
 
 -- a document was saved, or not
 pub saves : (act : FileAct History) (h n : History) (reply : Reply) (old new : Machine) (before after : StoreParts) → IsGroup old.group → active_of old ≡ Some h → act before after h (Some reply) n

@@ -1,30 +1,66 @@
--- The lines that move in a history of which no step is that of a free command.
-use Rattle.std.proofs.Common.{◌≡◌, ℕ, Ok, Err, refl}
-use Rattle.command_api.specs.Law.{Change}
+-- The lines that move in a history.
+use Rattle.std.proofs.Common.{◌≡◌, ℕ, ◌≤◌, length, None, Some, Ok, Err, refl}
 use Rattle.undo_stack.specs.History.{History}
-use Rattle.undo_stack.specs.Moving.{Answer, GoesTo, Leads, StepsBack, StepsOn}
-use Rattle.undo_stack.specs.Stacks.{history, Holds}
-use Rattle.undo_stack.specs.Turning.{IsSteady, Redoes, SetsIndex, Undoes}
-use Rattle.undo_stack.specs.declared.stack.Stack.{Stack}
-use Rattle.undo_stack.proofs.Steadiness.{stack-SetsIndex}
-use Rattle.undo_stack.proofs.Turnings.{Redoes-steady, Undoes-steady}
+use Rattle.undo_stack.specs.Moving.{Answer, GoesTo, StepsBack, StepsOn}
+use Rattle.undo_stack.specs.Turning.{IsSteady, LeadsSo, Redoes, SetsIndex, TurnsBack, TurnsOn, TurnsTo, Undoes}
+use Rattle.undo_stack.proofs.Turnings.{Redoes-steady, SetsIndex-steady, Undoes-steady}
+use Rattle.session.specs.declared.line.Line.{Line}
+use Rattle.session.specs.declared.line.Line.TheVariants.{Undo, Redo, Goto}
+use Rattle.session.specs.declared.reply.Refusal.TheVariants.{NoActiveDocument}
 use Rattle.session.specs.declared.reply.Reply.{Reply}
+use Rattle.map_store.specs.Files.{StoreParts}
+use Rattle.editor.specs.declared.planned.Planned.{Planned}
 use Rattle.editor.specs.declared.planned.Planned.TheVariants as planned
 use Rattle.editor.specs.Acts.{Calls}
 use Rattle.editor.specs.Answers.{call_reply}
-use Rattle.editor.specs.Planning.{IsDone, KeepsReply}
+use Rattle.editor.specs.Planning.{IsDone, IsOfActive, IsOfDocuments, KeepsReply, PlansOn, refused}
+use Rattle.editor.specs.Machine.{Machine, Workspace, active_of, workspace}
+use Rattle.editor.specs.Steps.{Step, rule_of}
+use Rattle.editor.specs.Turns.{PlansTurns, turning_rule_of}
+use Rattle.editor.proofs.Lifting.{none-PlansBy}
 
 -- a call that is refused leaves the history as it was
-answer_keeps : (answer : Answer) (h next n : History) → Leads answer h next n → KeepsReply (call_reply answer n) h n
-answer_keeps (Ok done) h next n leads = tt
-answer_keeps (Err fault) h next n leads = leads
+answer_keeps : (R : History → History → Type 0) (answer : Answer) (h n : History) → LeadsSo R answer h n → KeepsReply (call_reply answer n) h n
+answer_keeps R (Ok done) h n leads = tt
+answer_keeps R (Err fault) h n leads = leads
 
-pub undo-IsDone : (h n : History) (answer : Answer) (reply : Reply) → IsSteady h → Undoes h answer n → reply ≡ call_reply answer n → IsDone (Calls StepsBack) h (planned.Reply reply) n
-undo-IsDone h n answer reply steady turns is = let back = Undoes-steady h answer n steady turns in rw is ((answer, back, refl), answer_keeps answer h _ n back.leads)
+pub undo-IsDone : (h n : History) (answer : Answer) (reply : Reply) → Undoes h answer n → reply ≡ call_reply answer n → IsDone (Calls Undoes) h (planned.Reply reply) n
+undo-IsDone h n answer reply turns is = rw is ((answer, turns, refl), answer_keeps TurnsBack answer h n turns.leads)
 
-pub redo-IsDone : (h n : History) (answer : Answer) (reply : Reply) → IsSteady h → Redoes h answer n → reply ≡ call_reply answer n → IsDone (Calls StepsOn) h (planned.Reply reply) n
-redo-IsDone h n answer reply steady turns is = let on = Redoes-steady h answer n steady turns in rw is ((answer, on, refl), answer_keeps answer h _ n on.leads)
+pub redo-IsDone : (h n : History) (answer : Answer) (reply : Reply) → Redoes h answer n → reply ≡ call_reply answer n → IsDone (Calls Redoes) h (planned.Reply reply) n
+redo-IsDone h n answer reply turns is = rw is ((answer, turns, refl), answer_keeps TurnsOn answer h n turns.leads)
 
-pub goto-IsDone : {C : Type 0} (f : C → Change) (s : Stack C) (i : ℕ) (n : History) (answer : Answer) (reply : Reply) → Holds f s → IsSteady (history f s) → SetsIndex i (history f s) answer n
-    → reply ≡ call_reply answer n → IsDone (Calls (GoesTo i)) (history f s) (planned.Reply reply) n
-goto-IsDone f s i n answer reply sound steady sets is = let goes = stack-SetsIndex f s i answer n sound steady sets in rw is ((answer, goes, refl), answer_keeps answer (history f s) _ n goes.leads)
+pub goto-IsDone : (i : ℕ) (h n : History) (answer : Answer) (reply : Reply) → SetsIndex i h answer n → reply ≡ call_reply answer n → IsDone (Calls (SetsIndex i)) h (planned.Reply reply) n
+goto-IsDone i h n answer reply sets is = rw is ((answer, sets, refl), answer_keeps (TurnsTo i) answer h n sets.leads)
+
+-- ---- where no step is that of a free command
+-- a call that says more
+weaker-IsDone : (P Q : History → Answer → History → Type 0) (h n : History) (plan : Planned) → ((answer : Answer) → P h answer n → Q h answer n) → IsDone (Calls P) h plan n → IsDone (Calls Q) h plan n
+weaker-IsDone P Q h n planned.Quiet more p = absurd p
+weaker-IsDone P Q h n (planned.Reply reply) more p = ((p.0.0, more p.0.0 p.0.1, p.0.2), p.1)
+weaker-IsDone P Q h n (planned.Push edit) more p = absurd p
+
+pub steady-PlansOn : (line : Line) (h n : History) (plan : Planned) → IsSteady h → h.position ≤ length h.steps → PlansOn (turning_rule_of line) h plan n → PlansOn (rule_of line) h plan n
+steady-PlansOn Undo h n plan steady within p = weaker-IsDone Undoes StepsBack h n plan (λ answer turns. Undoes-steady h answer n steady turns) p
+steady-PlansOn Redo h n plan steady within p = weaker-IsDone Redoes StepsOn h n plan (λ answer turns. Redoes-steady h answer n steady turns) p
+steady-PlansOn (Goto index) h n plan steady within p = weaker-IsDone (SetsIndex index) (GoesTo index) h n plan (λ answer sets. SetsIndex-steady index h answer n steady within sets) p
+steady-PlansOn line h n plan steady within p = p
+
+-- ---- lines that turn nothing
+-- a line about the open documents or the files does what the table says
+pub others-PlansTurns : (line : Line) (old new : Workspace) (reply : Reply) → IsOfDocuments line → Step line old (Some reply) new → PlansTurns line old (planned.Reply reply) new
+others-PlansTurns Undo old new reply about p = absurd about
+others-PlansTurns Redo old new reply about p = absurd about
+others-PlansTurns (Goto index) old new reply about p = absurd about
+others-PlansTurns line old new reply about p = p
+
+turning-IsOfActive : (line : Line) → IsOfActive (rule_of line) → IsOfActive (turning_rule_of line)
+turning-IsOfActive Undo about = tt
+turning-IsOfActive Redo about = tt
+turning-IsOfActive (Goto index) about = tt
+turning-IsOfActive line about = about
+
+-- nor does a line about the active document where none is
+pub none-PlansTurns : (line : Line) (old : Machine) (stored : StoreParts) → IsOfActive (rule_of line) → active_of old ≡ None
+    → PlansTurns line (workspace old stored) (refused NoActiveDocument) (workspace old stored)
+none-PlansTurns line old stored about none = none-PlansBy (turning_rule_of line) old stored (turning-IsOfActive line about) none

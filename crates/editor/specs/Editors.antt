@@ -16,8 +16,12 @@ machine_of change editor = record { limit = editor.limit; group = group_of chang
 abbrev pub AreSteady : List OpenDocument → Type 0
 AreSteady documents = All (λ d. IsSteady d.history) documents
 
--- what is open can be turned, and no step goes by a turn; a new document may have the limit
-pub record IsSound {C : Type 0} (change : C → Change) (editor : Editor C) : Type 0 where
+-- what is open can be turned, and a new document may have the limit
+pub record IsHeld {C : Type 0} (change : C → Change) (editor : Editor C) : Type 0 where
   pub limit : editor.limit ≤ MAX_LIMIT
-  pub held : AreHeld change editor.group
+  pub group : AreHeld change editor.group
+
+-- and no step goes by a turn
+pub record IsSound {C : Type 0} (change : C → Change) (editor : Editor C) : Type 0 where
+  pub held : IsHeld change editor
   pub steady : AreSteady (group_of change editor.group).documents

@@ -5,4 +5,5 @@ pub mod Acts
 pub mod Steps
 pub mod Editors
 pub mod Planning
+pub mod Turns
 pub mod Asking

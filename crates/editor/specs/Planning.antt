@@ -27,7 +27,7 @@ use Rattle.editor.specs.Acts.{Act, Refuses, answer_of}
 use Rattle.editor.specs.Answers.{state_reply}
 use Rattle.editor.specs.Refusals.{refusal_of_edit}
 use Rattle.editor.specs.Machine.{Machine, Workspace, active_of, with_active}
-use Rattle.editor.specs.Steps.{Rule, OnFiles, OnDocuments, OnActive, Edits, rule_of, Step}
+use Rattle.editor.specs.Steps.{Rule, OnFiles, OnDocuments, OnActive, Edits, Allows, rule_of}
 
 -- what a planned edit does
 abbrev pub edit_change : Edit → Change
@@ -137,11 +137,15 @@ abbrev pub IsEditOf : Rule → Option History → Change → Type 0
 IsEditOf (Edits names edit) (Some h) c = answer_of names (edit (current h)) ≡ Ok (step_of c (current h))
 IsEditOf rule active c = ⊥
 
--- what a plan says: the whole step of the line, or its edit, with nothing changed yet
+-- what a plan says by a rule: all that a line may do, or its edit, with nothing changed yet
+abbrev pub PlansBy : Rule → Workspace → Planned → Workspace → Type 0
+PlansBy rule old planned.Quiet new = Allows rule old None new
+PlansBy rule old (planned.Reply reply) new = Allows rule old (Some reply) new
+PlansBy rule old (planned.Push edit) new = (new ≡ old) × IsEditOf rule (active_of old.machine) (edit_change edit)
+
+-- what it says of a line: its whole step, or its edit
 abbrev pub Plans : Line → Workspace → Planned → Workspace → Type 0
-Plans line old planned.Quiet new = Step line old None new
-Plans line old (planned.Reply reply) new = Step line old (Some reply) new
-Plans line old (planned.Push edit) new = (new ≡ old) × IsEditOf (rule_of line) (active_of old.machine) (edit_change edit)
+Plans line old plan new = PlansBy (rule_of line) old plan new
 
 -- a quiet line, an edit or a refusal has left the machine as it was
 abbrev pub KeepsPlan : Planned → Machine → Machine → Type 0

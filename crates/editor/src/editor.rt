@@ -1,12 +1,16 @@
-ghost use Rattle.std.specs.Prelude.{◌≡◌, ◌≤◌, false};
+ghost use Rattle.std.specs.Prelude.{◌≡◌, ℕ, ◌≤◌, length, false};
 ghost use Rattle.command_api.specs.Names.{is_free};
 ghost use Rattle.session.specs.Spelling.{CanBeSpelled};
 ghost use Rattle.undo_stack.specs.declared.limits.TheConstants.{MAX_LIMIT};
+ghost use Rattle.undo_stack.specs.History.{History};
+ghost use Rattle.undo_stack.specs.Moving.{Answer, GoesTo, StepsBack, StepsOn};
+ghost use Rattle.undo_stack.specs.Turning.{IsSteady, Redoes, SetsIndex, Undoes};
 ghost use Rattle.undo_group.specs.Stacks.{group_of, AreHeld};
 ghost use Rattle.editor.specs.Asking.{PlanAsks};
-ghost use Rattle.editor.specs.Editors.{machine_of, IsSound};
+ghost use Rattle.editor.specs.Editors.{machine_of, IsHeld, IsSound};
 ghost use Rattle.editor.specs.Machine.{active_of, started_machine, workspace};
 ghost use Rattle.editor.specs.Planning.{Commits, FitsActive, FitsPlan, KeepsPlan, Plans};
+ghost use Rattle.editor.specs.Turns.{PlansTurns, ReportsPush};
 
 mod documents;
 mod files;
@@ -19,6 +23,14 @@ use map_store::MapStore;
 use session::{Line, Refusal, Reply};
 use std::alloc::Global;
 use undo_group::Group;
+
+/// Where no step of a history is that of a free command, what the stack's calls do are the moves of the table of rules.
+pub fn turns_are_moves()
+    ensures undo { (h n : History) (answer : Answer) → IsSteady h → Undoes h answer n → StepsBack h answer n }
+    ensures redo { (h n : History) (answer : Answer) → IsSteady h → Redoes h answer n → StepsOn h answer n }
+    ensures goto { (i : ℕ) (h n : History) (answer : Answer) → IsSteady h → h.position ≤ length h.steps
+        → SetsIndex i h answer n → GoesTo i h answer n }
+{}
 
 /// The open documents, with their undo stacks.
 #[derive(Drop)]
@@ -44,7 +56,7 @@ impl<C: Command> Editor<C> {
 
     /// The open documents.
     pub fn group(&self) -> &Group<C>
-        requires { IsSound C.change self.now }
+        requires { IsHeld C.change self.now }
         ensures group { group_of C.change result.now ≡ (machine_of C.change self.now).group }
         ensures held { AreHeld C.change result.now }
     {
@@ -56,13 +68,18 @@ impl<C: Command> Editor<C> {
     /// The editor is as it was after an edit that was planned and after every refusal. The store is called for the lines
     /// `open` and `save` alone, and at most once.
     pub fn plan<S: MapStore>(&mut self, alloc: Global, store: &mut S, line: &Line<'_>) -> Planned
-        requires sound { IsSound C.change self.old }
+        requires held { IsHeld C.change self.old }
         requires spelled { CanBeSpelled line.now }
-        ensures sound { IsSound C.change self.new }
-        ensures plans { Plans line.now (workspace (machine_of C.change self.old) (S.stored store.old)) result (workspace (machine_of C.change self.new) (S.stored store.new)) }
+        ensures held { IsHeld C.change self.new }
+        ensures turns { PlansTurns line.now (workspace (machine_of C.change self.old) (S.stored store.old)) result (workspace (machine_of C.change self.new) (S.stored store.new)) }
         ensures unchanged { KeepsPlan result (machine_of C.change self.old) (machine_of C.change self.new) }
         ensures fits { FitsPlan (machine_of C.change self.new) result }
         ensures asks { PlanAsks line.now (machine_of C.change self.old) result (S.asked store.old) (S.asked store.new) }
+
+        // Where no step is that of a free command, this is the machine's step.
+        ensures sound { IsSound C.change self.old → IsSound C.change self.new }
+        ensures plans { IsSound C.change self.old
+            → Plans line.now (workspace (machine_of C.change self.old) (S.stored store.old)) result (workspace (machine_of C.change self.new) (S.stored store.new)) }
     {
         match line {
             Line::Quiet => Planned::Quiet,
@@ -83,14 +100,15 @@ impl<C: Command> Editor<C> {
         }
     }
 
-    /// Pushes a command onto the active document's stack, and says how that stands. The command is not free. Where there is
-    /// no memory the editor is as it was.
+    /// Pushes a command onto the active document's stack, and says how that stands. Where there is no memory the editor is as
+    /// it was.
     pub fn commit(&mut self, command: C) -> Reply
-        requires sound { IsSound C.change self.old }
+        requires held { IsHeld C.change self.old }
         requires fits { FitsActive (active_of (machine_of C.change self.old)) (C.change command) }
-        requires bound { is_free (C.change command).names.vanishing ≡ false }
-        ensures sound { IsSound C.change self.new }
+        ensures held { IsHeld C.change self.new }
         ensures commits { Commits (active_of (machine_of C.change self.old)) (C.change command) result (machine_of C.change self.old) (machine_of C.change self.new) }
+        ensures reported { ReportsPush C.change command result (machine_of C.change self.old) (machine_of C.change self.new) }
+        ensures sound { IsSound C.change self.old → is_free (C.change command).names.vanishing ≡ false → IsSound C.change self.new }
     {
         match self.group.active_mut() {
             Some(stack) => match stack.push(command) {

@@ -11,5 +11,5 @@ mod saving;
 mod steps;
 mod tile;
 
-pub use editor::Editor;
+pub use editor::{Editor, turns_are_moves};
 pub use planned::{Edit, Planned};

@@ -1,9 +1,9 @@
 // The lines about the active document: those that are edits plan their command, and change nothing.
 ghost use Rattle.std.specs.Prelude.{◌≡◌};
 ghost use Rattle.undo_stack.specs.Stacks.{history, Holds};
-ghost use Rattle.undo_stack.specs.Turning.{IsSteady};
 ghost use Rattle.session.specs.Spelling.{CanBeSpelled};
 ghost use Rattle.editor.specs.Steps.{rule_of};
+ghost use Rattle.editor.specs.Turns.{turning_rule_of};
 ghost use Rattle.editor.specs.Planning.{IsOfActive, IsOfHistory, IsOtherEdit, PlansOn, plan_of, refused};
 
 mod edit_plans;
@@ -59,11 +59,10 @@ fn seek_owner<C: Command>(stack: &mut Stack<C>, owner: Owner)
 #[inline(always)]
 fn on_history<C: Command>(alloc: Global, stack: &mut Stack<C>, line: &Line<'_>) -> Planned
     requires sound { Holds C.change stack.old }
-    requires steady { IsSteady (history C.change stack.old) }
     requires spelled { CanBeSpelled line.now }
     requires about { IsOfHistory (rule_of line.now) }
     ensures sound { Holds C.change stack.new }
-    ensures plans { PlansOn (rule_of line.now) (history C.change stack.old) result (history C.change stack.new) }
+    ensures plans { PlansOn (turning_rule_of line.now) (history C.change stack.old) result (history C.change stack.new) }
 {
     match line {
         Line::Undo => {
@@ -115,7 +114,7 @@ fn on_edit<C: Command>(alloc: Global, stack: &mut Stack<C>, line: &Line<'_>) -> 
     requires spelled { CanBeSpelled line.now }
     requires about { IsOtherEdit line.now }
     ensures sound { Holds C.change stack.new }
-    ensures plans { PlansOn (rule_of line.now) (history C.change stack.old) result (history C.change stack.new) }
+    ensures plans { PlansOn (turning_rule_of line.now) (history C.change stack.old) result (history C.change stack.new) }
 {
     match line {
         // Cells and the selection.
@@ -248,15 +247,13 @@ fn on_edit<C: Command>(alloc: Global, stack: &mut Stack<C>, line: &Line<'_>) -> 
     }
 }
 
-/// Plans a line about a document, the active one: an edit is left to be committed, and any other line is done. No step of
-/// the document is that of a free command.
+/// Plans a line about a document, the active one: an edit is left to be committed, and any other line is done.
 pub fn on_document<C: Command>(alloc: Global, stack: &mut Stack<C>, line: &Line<'_>) -> Planned
     requires sound { Holds C.change stack.old }
-    requires steady { IsSteady (history C.change stack.old) }
     requires spelled { CanBeSpelled line.now }
     requires about { IsOfActive (rule_of line.now) }
     ensures sound { Holds C.change stack.new }
-    ensures plans { PlansOn (rule_of line.now) (history C.change stack.old) result (history C.change stack.new) }
+    ensures plans { PlansOn (turning_rule_of line.now) (history C.change stack.old) result (history C.change stack.new) }
 {
     match line {
         // Most lines are stamps.

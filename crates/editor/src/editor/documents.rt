@@ -10,7 +10,7 @@ ghost use Rattle.undo_stack.specs.History.{new_history};
 ghost use Rattle.undo_stack.specs.Reading.{redo_text_of, undo_text_of};
 ghost use Rattle.session.specs.Spelling.{CanBeSpelled};
 ghost use Rattle.session.specs.declared.reply.Reply.TheVariants as replies;
-ghost use Rattle.editor.specs.Editors.{machine_of, IsSound};
+ghost use Rattle.editor.specs.Editors.{machine_of, IsHeld, IsSound};
 ghost use Rattle.editor.specs.Acts.{Answers, Closes, Creates, NotTaken, GoesOn, Named, OrNoMemory, Opens, TellsText, Uses};
 ghost use Rattle.editor.specs.Asking.{Asks};
 ghost use Rattle.editor.specs.Answers.{documents_text, is_active, starred, status_reply};
@@ -117,10 +117,11 @@ impl<C: Command> Editor<C> {
         store: &mut S,
         line: &Line<'_>,
     ) -> Reply
-        requires sound { IsSound C.change self.old }
+        requires held { IsHeld C.change self.old }
         requires spelled { CanBeSpelled line.now }
         requires about { IsOfDocuments line.now }
-        ensures sound { IsSound C.change self.new }
+        ensures held { IsHeld C.change self.new }
+        ensures sound { IsSound C.change self.old → IsSound C.change self.new }
         ensures step { Step line.now (workspace (machine_of C.change self.old) (S.stored store.old)) (Some result) (workspace (machine_of C.change self.new) (S.stored store.new)) }
         ensures unchanged { KeepsReply result (machine_of C.change self.old) (machine_of C.change self.new) }
         ensures asks { Asks line.now (machine_of C.change self.old) result (S.asked store.old) (S.asked store.new) }
@@ -158,8 +159,9 @@ impl<C: Command> Editor<C> {
     // Opens a new document.
     #[inline(never)]
     fn open_new(&mut self, alloc: Global, name: &Text<'_>, sizes: Sizes, source: &Text<'_>) -> Reply
-        requires { IsSound C.change self.old }
-        ensures sound { IsSound C.change self.new }
+        requires { IsHeld C.change self.old }
+        ensures held { IsHeld C.change self.new }
+        ensures sound { IsSound C.change self.old → IsSound C.change self.new }
         ensures step { NotTaken name.now (OrNoMemory (Creates name.now sizes.width sizes.height sizes.tile_width sizes.tile_height source.now))
             (machine_of C.change self.old) (Some result) (machine_of C.change self.new) }
         ensures unchanged { KeepsReply result (machine_of C.change self.old) (machine_of C.change self.new) }
@@ -183,9 +185,10 @@ impl<C: Command> Editor<C> {
         name: &Text<'_>,
         document: Document,
     ) -> Reply
-        requires sound { IsSound C.change self.old }
+        requires held { IsHeld C.change self.old }
         requires new { IsNew name.now (machine_of C.change self.old).group.documents }
-        ensures sound { IsSound C.change self.new }
+        ensures held { IsHeld C.change self.new }
+        ensures sound { IsSound C.change self.old → IsSound C.change self.new }
         ensures step { OrNoMemory (Opens name.now (new_history document (machine_of C.change self.old).limit))
             (machine_of C.change self.old) (Some result) (machine_of C.change self.new) }
         ensures unchanged { KeepsReply result (machine_of C.change self.old) (machine_of C.change self.new) }
@@ -200,8 +203,9 @@ impl<C: Command> Editor<C> {
 
     // Closes a document that is clean.
     fn close(&mut self, name: &Text<'_>) -> Reply
-        requires { IsSound C.change self.old }
-        ensures sound { IsSound C.change self.new }
+        requires { IsHeld C.change self.old }
+        ensures held { IsHeld C.change self.new }
+        ensures sound { IsSound C.change self.old → IsSound C.change self.new }
         ensures step { Named name.now (Closes name.now) (machine_of C.change self.old) (Some result) (machine_of C.change self.new) }
         ensures unchanged { KeepsReply result (machine_of C.change self.old) (machine_of C.change self.new) }
     {
@@ -215,8 +219,9 @@ impl<C: Command> Editor<C> {
 
     // Closes a document.
     fn discard(&mut self, name: &Text<'_>) -> Reply
-        requires { IsSound C.change self.old }
-        ensures sound { IsSound C.change self.new }
+        requires { IsHeld C.change self.old }
+        ensures held { IsHeld C.change self.new }
+        ensures sound { IsSound C.change self.old → IsSound C.change self.new }
         ensures step { Named name.now (λ h. GoesOn (removed name.now)) (machine_of C.change self.old) (Some result) (machine_of C.change self.new) }
         ensures unchanged { KeepsReply result (machine_of C.change self.old) (machine_of C.change self.new) }
     {
@@ -228,8 +233,9 @@ impl<C: Command> Editor<C> {
 
     // Makes a document the active one, or none.
     fn choose(&mut self, choice: &Option<Text<'_>>) -> Reply
-        requires { IsSound C.change self.old }
-        ensures sound { IsSound C.change self.new }
+        requires { IsHeld C.change self.old }
+        ensures held { IsHeld C.change self.new }
+        ensures sound { IsSound C.change self.old → IsSound C.change self.new }
         ensures step { Uses choice.now (machine_of C.change self.old) (Some result) (machine_of C.change self.new) }
         ensures unchanged { KeepsReply result (machine_of C.change self.old) (machine_of C.change self.new) }
     {
@@ -246,7 +252,7 @@ impl<C: Command> Editor<C> {
     // The names of the open documents, where there is memory for them.
     #[inline(never)]
     fn list(&self, alloc: Global) -> Reply
-        requires { IsSound C.change self.now }
+        requires { IsHeld C.change self.now }
         ensures { OrNoMemory (Answers λ m. replies.Documents (documents_text m.group)) (machine_of C.change self.now) (Some result) (machine_of C.change self.now) }
     {
         match documents_text(alloc, &self.group) {
@@ -257,7 +263,7 @@ impl<C: Command> Editor<C> {
 
     // How the active document stands.
     fn status(&self) -> Reply
-        requires { IsSound C.change self.now }
+        requires { IsHeld C.change self.now }
         ensures { result ≡ status_reply (active_of (machine_of C.change self.now)) }
     {
         match self.group.active() {
@@ -268,7 +274,7 @@ impl<C: Command> Editor<C> {
 
     // The text for undo.
     fn undo_text(&self, alloc: Global) -> Reply
-        requires { IsSound C.change self.now }
+        requires { IsHeld C.change self.now }
         ensures { TellsText undo_text_of (machine_of C.change self.now) (Some result) (machine_of C.change self.now) }
     {
         match self.group.active() {
@@ -279,7 +285,7 @@ impl<C: Command> Editor<C> {
 
     // The text for redo.
     fn redo_text(&self, alloc: Global) -> Reply
-        requires { IsSound C.change self.now }
+        requires { IsHeld C.change self.now }
         ensures { TellsText redo_text_of (machine_of C.change self.now) (Some result) (machine_of C.change self.now) }
     {
         match self.group.active() {

@@ -1,7 +1,7 @@
 // The lines about files.
 ghost use Rattle.std.specs.Prelude.{◌≡◌, ◌≤◌, length, Some};
 ghost use Rattle.session.specs.declared.limits.TheConstants.{MAX_FILE_NAME};
-ghost use Rattle.editor.specs.Editors.{machine_of, IsSound};
+ghost use Rattle.editor.specs.Editors.{machine_of, IsHeld, IsSound};
 ghost use Rattle.map_store.specs.Files.{SameOthers};
 ghost use Rattle.editor.specs.Acts.{FilesStay, Loads, NewName, OfActive, OrNoMemoryForFile, OrStoreFails, OutsideMacros, Saves};
 ghost use Rattle.undo_group.specs.Groups.{history_named};
@@ -29,8 +29,9 @@ impl<C: Command> Editor<C> {
         name: &Text<'_>,
         file: &Text<'_>,
     ) -> Reply
-        requires { IsSound C.change self.old }
-        ensures sound { IsSound C.change self.new }
+        requires { IsHeld C.change self.old }
+        ensures held { IsHeld C.change self.new }
+        ensures sound { IsSound C.change self.old → IsSound C.change self.new }
         ensures step { NewName name.now (OrStoreFails FilesStay (OrNoMemoryForFile (Loads name.now file.now)))
             (S.stored store.old) (S.stored store.new) (machine_of C.change self.old) (Some result) (machine_of C.change self.new) }
         ensures unchanged { KeepsReply result (machine_of C.change self.old) (machine_of C.change self.new) }
@@ -57,9 +58,10 @@ impl<C: Command> Editor<C> {
         store: &mut S,
         file: &Text<'_>,
     ) -> Reply
-        requires sound { IsSound C.change self.old }
+        requires held { IsHeld C.change self.old }
         requires short { length file.now ≤ MAX_FILE_NAME }
-        ensures sound { IsSound C.change self.new }
+        ensures held { IsHeld C.change self.new }
+        ensures sound { IsSound C.change self.old → IsSound C.change self.new }
         ensures step { OfActive (OutsideMacros (OrStoreFails (SameOthers file.now) (OrNoMemoryForFile (Saves file.now))))
             (S.stored store.old) (S.stored store.new) (machine_of C.change self.old) (Some result) (machine_of C.change self.new) }
         ensures unchanged { KeepsReply result (machine_of C.change self.old) (machine_of C.change self.new) }

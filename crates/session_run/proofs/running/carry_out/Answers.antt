@@ -5,15 +5,16 @@ use Rattle.editor.proofs.Bound.{same-bound}
 use Rattle.session_run.proofs.Planned.{push_step, unput_step}
 use Rattle.session_run.proofs.running.carry_out.Goals as goal
 
-pub commit-requires-clause-bound : goal.commit-requires-clause-bound
-commit-requires-clause-bound g c =
-    same-bound c.in-Push.edit (g.C.Command.change c.in-Some.command) (c.requires.same c.in-Push.edit (Some c.in-Some.command) c.in-Some.ensures)
+pub returns-in-Some-clause-sound : goal.returns-in-Some-clause-sound
+returns-in-Some-clause-sound g c =
+    c.commit.ensures.sound (c.in-Push.ensures.sound c.requires.sound)
+    (same-bound c.in-Push.edit (g.C.Command.change c.in-Some.command) (c.requires.same c.in-Push.edit (Some c.in-Some.command) c.in-Some.ensures))
 
 pub returns-in-Some-clause-step : goal.returns-in-Some-clause-step
 returns-in-Some-clause-step g c =
     push_step c.args.line.now _ (workspace (machine_of g.C.Command.change c.plan.new.self) (g.S.MapStore.stored c.plan.new.store)) _ c.in-Push.edit (g.C.Command.change c.in-Some.command) c.commit.result
-    c.in-Push.ensures.plans (c.requires.same c.in-Push.edit (Some c.in-Some.command) c.in-Some.ensures) c.commit.ensures.commits
+    (c.in-Push.ensures.plans c.requires.sound) (c.requires.same c.in-Push.edit (Some c.in-Some.command) c.in-Some.ensures) c.commit.ensures.commits
 
 pub returns-in-None-clause-step : goal.returns-in-None-clause-step
 returns-in-None-clause-step g c =
-    unput_step c.args.line.now _ (workspace (machine_of g.C.Command.change c.plan.new.self) (g.S.MapStore.stored c.plan.new.store)) c.in-Push.edit c.in-Push.ensures.plans
+    unput_step c.args.line.now _ (workspace (machine_of g.C.Command.change c.plan.new.self) (g.S.MapStore.stored c.plan.new.store)) c.in-Push.edit (c.in-Push.ensures.plans c.requires.sound)

@@ -8,16 +8,22 @@ use Rattle.editor.proofs.Lent.{group-IsSound}
 use Rattle.editor.proofs.Steady.{added-AreSteady}
 use Rattle.editor.proofs.editor.Editor.add_document.Goals as goal
 
+pub returns-in-Ok-clause-held : goal.returns-in-Ok-clause-held
+returns-in-Ok-clause-held g c = record { limit = c.requires.held.limit; group = c.add_active.ensures.sound }
+
+pub returns-in-Err-clause-held : goal.returns-in-Err-clause-held
+returns-in-Err-clause-held g c = record { limit = c.requires.held.limit; group = c.add_active.ensures.sound }
+
 pub returns-in-Ok-clause-sound : goal.returns-in-Ok-clause-sound
-returns-in-Ok-clause-sound g c =
+returns-in-Ok-clause-sound g c = λ sound.
     let f = g.C.Command.change in
     let old = group_of f c.args.self.now.group in
     let name = c.as_str.result.now in
     let h = history f c.new-stack.result in
-    group-IsSound f _ (chosen (Some name) (added name h old)) c.requires.sound.limit c.add_active.ensures.sound c.in-Ok.ensures.added
-    (added-AreSteady name h old.documents (subst (λ (k : History). IsSteady k) (sym c.new-stack.ensures.history) tt) c.requires.sound.steady)
+    group-IsSound f _ (chosen (Some name) (added name h old)) (record { limit = c.requires.held.limit; group = c.add_active.ensures.sound }) c.in-Ok.ensures.added
+    (added-AreSteady name h old.documents (subst (λ (k : History). IsSteady k) (sym c.new-stack.ensures.history) tt) sound.steady)
 
 pub returns-in-Err-clause-sound : goal.returns-in-Err-clause-sound
-returns-in-Err-clause-sound g c =
+returns-in-Err-clause-sound g c = λ sound.
     let f = g.C.Command.change in
-    group-IsSound f _ (group_of f c.args.self.now.group) c.requires.sound.limit c.add_active.ensures.sound c.in-Err.ensures.unchanged c.requires.sound.steady
+    group-IsSound f _ (group_of f c.args.self.now.group) (record { limit = c.requires.held.limit; group = c.add_active.ensures.sound }) c.in-Err.ensures.unchanged sound.steady

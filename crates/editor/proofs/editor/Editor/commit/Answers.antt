@@ -5,18 +5,21 @@ use Rattle.undo_stack.specs.Stacks.{history}
 use Rattle.undo_stack.specs.Turning.{IsSteady}
 use Rattle.undo_stack.proofs.Steadiness.{IsPushed-steady}
 use Rattle.editor.specs.Editors.{machine_of}
-use Rattle.editor.proofs.Lent.{active-IsSteady, left-IsSound, left-machine}
+use Rattle.editor.proofs.Lent.{active-IsSteady, left-IsHeld, left-IsSound, left-machine}
 use Rattle.editor.proofs.Lifting.{with_active-unchanged}
 use Rattle.editor.proofs.Committing.{Commits-pushed, Commits-refused}
 use Rattle.editor.proofs.editor.Editor.commit.Goals as goal
 
+pub returns-in-Ok-clause-held : goal.returns-in-Ok-clause-held
+returns-in-Ok-clause-held g c = left-IsHeld g.C.Command.change c.args.self.now _ c.push.new.self refl (c.active_mut.follows.holds c.push.new.self c.push.ensures.sound) c.requires.held
+
 pub returns-in-Ok-clause-sound : goal.returns-in-Ok-clause-sound
-returns-in-Ok-clause-sound g c =
+returns-in-Ok-clause-sound g c = λ sound bound.
     let change = g.C.Command.change in
     let h = history change c.in-Some.stack.now in
-    let steady = active-IsSteady change c.args.self.now h c.requires.sound c.in-Some.ensures.active in
+    let steady = active-IsSteady change c.args.self.now h sound c.in-Some.ensures.active in
     left-IsSound change c.args.self.now _ c.push.new.self refl (c.active_mut.follows.holds c.push.new.self c.push.ensures.sound)
-    (IsPushed-steady h (step_of (change c.args.command) (current h)) (history change c.push.new.self) c.requires.bound steady c.in-Ok.ensures.pushed) c.requires.sound
+    (IsPushed-steady h (step_of (change c.args.command) (current h)) (history change c.push.new.self) bound steady c.in-Ok.ensures.pushed) sound
 
 pub returns-in-Ok-clause-commits : goal.returns-in-Ok-clause-commits
 returns-in-Ok-clause-commits g c =
@@ -24,13 +27,16 @@ returns-in-Ok-clause-commits g c =
     Commits-pushed (change c.args.command) (history change c.in-Some.stack.now) (history change c.push.new.self) (machine_of change c.args.self.now) _ c.state_of.result (sym c.in-Some.ensures.active)
     c.in-Ok.ensures.pushed c.state_of.ensures (left-machine change c.args.self.now _ c.push.new.self refl (c.active_mut.follows.holds c.push.new.self c.push.ensures.sound))
 
+pub returns-in-Err-clause-held : goal.returns-in-Err-clause-held
+returns-in-Err-clause-held g c = left-IsHeld g.C.Command.change c.args.self.now _ c.push.new.self refl (c.active_mut.follows.holds c.push.new.self c.push.ensures.sound) c.requires.held
+
 pub returns-in-Err-clause-sound : goal.returns-in-Err-clause-sound
-returns-in-Err-clause-sound g c =
+returns-in-Err-clause-sound g c = λ sound bound.
     let change = g.C.Command.change in
     let h = history change c.in-Some.stack.now in
-    let steady = active-IsSteady change c.args.self.now h c.requires.sound c.in-Some.ensures.active in
+    let steady = active-IsSteady change c.args.self.now h sound c.in-Some.ensures.active in
     left-IsSound change c.args.self.now _ c.push.new.self refl (c.active_mut.follows.holds c.push.new.self c.push.ensures.sound)
-    (subst (λ (n : History). IsSteady n) (sym c.in-Err.ensures.unchanged) steady) c.requires.sound
+    (subst (λ (n : History). IsSteady n) (sym c.in-Err.ensures.unchanged) steady) sound
 
 pub returns-in-Err-clause-commits : goal.returns-in-Err-clause-commits
 returns-in-Err-clause-commits g c =
@@ -38,3 +44,15 @@ returns-in-Err-clause-commits g c =
     let left = left-machine change c.args.self.now _ c.push.new.self refl (c.active_mut.follows.holds c.push.new.self c.push.ensures.sound) in
     Commits-refused (change c.args.command) (history change c.in-Some.stack.now) (machine_of change c.args.self.now) _ (sym c.in-Some.ensures.active)
     (left ∙ with_active-unchanged (history change c.in-Some.stack.now) (history change c.push.new.self) (machine_of change c.args.self.now) c.in-Some.ensures.whole (sym c.in-Some.ensures.active) c.in-Err.ensures.unchanged)
+
+pub returns-in-Ok-clause-reported : goal.returns-in-Ok-clause-reported
+returns-in-Ok-clause-reported g c =
+    let change = g.C.Command.change in
+    let left = left-machine change c.args.self.now _ c.push.new.self refl (c.active_mut.follows.holds c.push.new.self c.push.ensures.sound) in
+    rw c.state_of.ensures (c.in-Some.stack.now, c.push.new.self, record {
+      before = c.in-Some.ensures.held;
+      active = sym c.in-Some.ensures.active;
+      after = c.push.ensures.sound;
+      left = left;
+      reported = c.in-Ok.ensures.reported;
+    })

@@ -5,13 +5,11 @@ use Rattle.editor.proofs.Steady.{without-AreSteady}
 use Rattle.editor.proofs.editor.Editor.discard.Goals as goal
 
 pub status-requires : goal.status-requires
-status-requires g c =
-    let f = g.C.Command.change in
-    let old = group_of f c.args.self.now.group in
-    group-IsSound f _ (removed c.as_str.result.now old) c.requires.limit c.remove.ensures.sound c.in-Ok.ensures.removed (without-AreSteady c.as_str.result.now old.documents c.requires.steady)
+status-requires g c = record { limit = c.requires.limit; group = c.remove.ensures.sound }
 
 pub returns-clause-sound : goal.returns-clause-sound
-returns-clause-sound g c =
+returns-clause-sound g c = λ sound.
     let f = g.C.Command.change in
     let old = group_of f c.args.self.now.group in
-    group-IsSound f _ (removed c.as_str.result.now old) c.requires.limit c.remove.ensures.sound c.in-Ok.ensures.removed (without-AreSteady c.as_str.result.now old.documents c.requires.steady)
+    group-IsSound f _ (removed c.as_str.result.now old) (record { limit = c.requires.limit; group = c.remove.ensures.sound }) c.in-Ok.ensures.removed
+    (without-AreSteady c.as_str.result.now old.documents sound.steady)

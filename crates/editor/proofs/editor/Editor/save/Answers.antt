@@ -3,19 +3,24 @@ use Rattle.undo_stack.specs.Stacks.{history}
 use Rattle.editor.specs.Editors.{machine_of}
 use Rattle.editor.specs.Machine.{Machine}
 use Rattle.editor.specs.Planning.{KeepsReply}
-use Rattle.editor.proofs.Lent.{active-IsSteady, left-IsSound, left-machine}
+use Rattle.editor.proofs.Lent.{active-IsSteady, left-IsHeld, left-IsSound, left-machine}
 use Rattle.editor.proofs.Lifting.{on-KeepsReply, saves}
 use Rattle.editor.proofs.SteadyPlans.{saves-steady}
 use Rattle.editor.proofs.editor.Editor.save.Goals as goal
 
+pub returns-in-Some-clause-held : goal.returns-in-Some-clause-held
+returns-in-Some-clause-held g c =
+    let stack = c.save_document.new.stack in
+    left-IsHeld g.C.Command.change c.args.self.now _ stack refl (c.active_mut.follows.holds stack c.save_document.ensures.sound) c.requires.held
+
 pub returns-in-Some-clause-sound : goal.returns-in-Some-clause-sound
-returns-in-Some-clause-sound g c =
+returns-in-Some-clause-sound g c = λ sound.
     let change = g.C.Command.change in
     let stack = c.save_document.new.stack in
     let h = history change c.in-Some.stack.now in
-    let steady = active-IsSteady change c.args.self.now h c.requires.sound c.in-Some.ensures.active in
+    let steady = active-IsSteady change c.args.self.now h sound c.in-Some.ensures.active in
     left-IsSound change c.args.self.now _ stack refl (c.active_mut.follows.holds stack c.save_document.ensures.sound)
-    (saves-steady c.args.file.now _ _ h (history change stack) (Some c.save_document.result) steady c.save_document.ensures.saves) c.requires.sound
+    (saves-steady c.args.file.now _ _ h (history change stack) (Some c.save_document.result) steady c.save_document.ensures.saves) sound
 
 pub returns-in-Some-clause-step : goal.returns-in-Some-clause-step
 returns-in-Some-clause-step g c =

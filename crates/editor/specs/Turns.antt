@@ -1,0 +1,40 @@
+-- What a line may do where steps may be those of free commands: an undo, a redo or a goto may drop such a step.
+use Rattle.std.specs.Prelude.{◌≡◌, Some, ⊤}
+use Rattle.command_api.specs.Law.{Change}
+use Rattle.undo_stack.specs.Stacks.{history, Holds, IsReported}
+use Rattle.undo_stack.specs.Turning.{Redoes, SetsIndex, Undoes}
+use Rattle.undo_stack.specs.declared.stack.Stack.{Stack}
+use Rattle.session.specs.declared.line.Line.{Line}
+use Rattle.session.specs.declared.line.Line.TheVariants.{Undo, Redo, Goto}
+use Rattle.session.specs.declared.reply.Reply.{Reply}
+use Rattle.session.specs.declared.reply.Reply.TheVariants.{Refused}
+use Rattle.editor.specs.Acts.{Calls}
+use Rattle.editor.specs.Machine.{Machine, Workspace, active_of, with_active}
+use Rattle.editor.specs.Planning.{PlansBy}
+use Rattle.editor.specs.Steps.{OnActive, Rule, rule_of}
+use Rattle.editor.specs.declared.planned.Planned.{Planned}
+
+-- the rule of a line, where it turns steps that may go
+abbrev pub turning_rule_of : Line → Rule
+turning_rule_of Undo = OnActive (Calls Undoes)
+turning_rule_of Redo = OnActive (Calls Redoes)
+turning_rule_of (Goto index) = OnActive (Calls (SetsIndex index))
+turning_rule_of line = rule_of line
+
+-- what a plan says of such a line
+abbrev pub PlansTurns : Line → Workspace → Planned → Workspace → Type 0
+PlansTurns line old plan new = PlansBy (turning_rule_of line) old plan new
+
+-- pushing the command x onto the active stack s left it as t, and its step is gone exactly where its entry reports that it is
+-- obsolete
+pub record PushesOnto {C : Type 0} (f : C → Change) (x : C) (old new : Machine) (s t : Stack C) : Type 0 where
+  pub before : Holds f s
+  pub active : active_of old ≡ Some (history f s)
+  pub after : Holds f t
+  pub left : new ≡ with_active (history f t) old
+  pub reported : IsReported f x s t
+
+-- a push that was not refused is reported so
+abbrev pub ReportsPush : {C : Type 0} → (C → Change) → C → Reply → Machine → Machine → Type 0
+ReportsPush f x (Refused refusal) old new = ⊤
+ReportsPush {C} f x reply old new = (s : Stack C) × (t : Stack C) × PushesOnto f x old new s t
