@@ -1,6 +1,6 @@
 -- One write after another.
 use Rattle.std.specs.Prelude.{◌==◌}
-use Rattle.std.proofs.Common.{◌≡◌, ℕ, List, [], ◌∷◌, ◌++◌, length, take, drop, Option, Some, None, sym, ap, ◌∙◌, append_assoc}
+use Rattle.std.proofs.Common.{◌≡◌, ℕ, List, [], ◌∷◌, ◌++◌, length, take, drop, Option, Some, None, sym, ap, ◌∙◌, append_assoc, arith}
 use Rattle.std.specs.Io.KnownBytes.{Appends}
 use Rattle.std.proofs.Common.{Result, Ok, Err, OnErr, OnOk, true, false}
 use Rattle.std.specs.Result.{is_err}
@@ -8,7 +8,7 @@ use Rattle.session.specs.declared.reply.Reply.{Reply}
 use Rattle.session.specs.Replies.{reply_text}
 use Rattle.session_run.specs.Runs.{TakesBeginning, reply_line}
 use Rattle.std.proofs.lemmas.Bool.{eqb-true}
-use Rattle.std.proofs.lemmas.List.{append-nil, nil_from_length, take-append-drop}
+use Rattle.std.proofs.lemmas.List.{append-nil, length-append, nil_from_length, take-append-drop}
 
 pub appends_more : (a b c : Option (List ℕ)) (xs ys : List ℕ) → Appends a b xs → Appends b c ys → Appends a c (xs ++ ys)
 appends_more None b c xs ys h k = tt
@@ -23,11 +23,11 @@ takes_more a b c whole beginning rest n e h k =
 
 -- a beginning of the first bytes is one of all
 pub beginning_of_first : (a b : Option (List ℕ)) (xs ys : List ℕ) → TakesBeginning xs a b → TakesBeginning (xs ++ ys) a b
-beginning_of_first a b xs ys p = (p.0, p.1 ++ ys, ap (λ zs. zs ++ ys) p.2 ∙ append_assoc p.0 p.1 ys, p.3)
+beginning_of_first a b xs ys p = (p.0, p.1 ++ ys, omega (arith, p.2, length-append p.1 ys), ap (λ zs. zs ++ ys) p.3 ∙ append_assoc p.0 p.1 ys, p.4)
 
 -- the first bytes were taken, and a beginning of those behind them
 pub beginning_of_second : (a b c : Option (List ℕ)) (xs ys : List ℕ) → Appends a b xs → TakesBeginning ys b c → TakesBeginning (xs ++ ys) a c
-beginning_of_second a b c xs ys h p = (xs ++ p.0, p.1, ap (λ zs. xs ++ zs) p.2 ∙ sym (append_assoc xs p.0 p.1), appends_more a b c xs p.0 h p.3)
+beginning_of_second a b c xs ys h p = (xs ++ p.0, p.1, p.2, ap (λ zs. xs ++ zs) p.3 ∙ sym (append_assoc xs p.0 p.1), appends_more a b c xs p.0 h p.4)
 
 pub on_err : {T E P : Type 0} (r : Result T E) → P → OnErr r P
 on_err (Ok x) p = tt

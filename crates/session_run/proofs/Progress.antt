@@ -1,9 +1,9 @@
 -- How a run goes on.
 use Rattle.std.proofs.Common.{◌≡◌, ◌≢◌, ℕ, ◌+◌, ◌^◌, ◌≤◌, IsTrue, List, [], ◌∷◌, ◌++◌, length, Option, Some, None, Err, refl, sym, ap, subst, ◌∙◌, inl, inr, ◌⊎◌, append_assoc, arith}
-use Rattle.std.specs.Prelude.{option_to_list, All, Bool, IfSome}
+use Rattle.std.specs.Prelude.{option_to_list, All, Bool, Contains, IfSome, false, not, true, ◌↔◌}
 use Rattle.std.specs.Io.KnownBytes.{Appends, Keeps, prepend_known}
 use Rattle.std.proofs.lemmas.Bool.{lt-ltb}
-use Rattle.std.proofs.lemmas.List.{append-nil, length-append}
+use Rattle.std.proofs.lemmas.List.{append-nil, get_or_default, length-append}
 use Rattle.std.proofs.lemmas.List.Elements.{All-append, All-nil, All-cons}
 use Rattle.std.proofs.lemmas.Grind.{flat_map-append}
 use Rattle.lines.specs.declared.reader.Found.{Found}
@@ -18,8 +18,9 @@ use Rattle.session.specs.declared.reply.Reply.TheVariants.{Refused}
 use Rattle.session.specs.Grammar.{line_of}
 use Rattle.session.specs.Replies.{refusal_of}
 use Rattle.editor.specs.Machine.{Workspace}
+use Rattle.map_store.specs.Files.{StoreParts}
 use Rattle.editor.specs.Steps.{StepIn}
-use Rattle.session_run.specs.Runs.{Run, Progress, TakesBeginning, AreClean, IsAccepted, RunsAll, RunsSome, RunsToRead, RunsToRefused, RunsToUnsaved, RunsToWrite, output, reply_line}
+use Rattle.session_run.specs.Runs.{Run, Progress, TakesBeginning, AreClean, IsAccepted, RunsAll, RunsToRefused, RunsToUnread, RunsToUnsaved, RunsToWrite, output, reply_line}
 use Rattle.session_run.specs.WithinRuns.{Goes, StepFound}
 use Rattle.session_run.proofs.Appending.{appends_more, appends_nothing}
 
@@ -55,9 +56,18 @@ refusal_of-Some reply refusal e = by_reply reply e
     by_reply (Refused own) h = let same : own ≡ refusal = cc in ap Refused same
     by_reply r h = absurd cc
 
--- a reply was written whole, and could not be flushed
-pub written_TakesBeginning : (bytes : List ℕ) (before after shown : Option (List ℕ)) → Appends before after bytes → Keeps after shown → TakesBeginning bytes before shown
-written_TakesBeginning bytes before after shown w e = (bytes, [], sym (append-nil bytes), keeps_appends before after shown bytes w e)
+-- where a reader of lines has no whole line, its bytes have no newline
+pub no_line-HasNoNewline : (has : Bool) (bytes : List ℕ) → (IsTrue has ↔ Contains bytes 10) → IsTrue (not has) → HasNoNewline bytes
+no_line-HasNoNewline true bytes h wanted = absurd (let bad : false ≡ true = wanted in cc)
+no_line-HasNoNewline false bytes h wanted = λ k d lt e.
+    let found : Contains bytes 10 = (k, lt, get_or_default bytes k 10 d lt ∙ e) in
+    let bad : false ≡ true = h.1 found in
+    cc
+
+-- nothing of the next line is gone
+stops_before : (left : Option (List ℕ)) → StopsInLine left left
+stops_before None = tt
+stops_before (Some xs) = ([], All-nil (λ b. b ≢ 10), refl)
 
 -- a run that began at start
 module _ (strict : Bool) (start : Workspace) where
@@ -127,13 +137,13 @@ module _ (strict : Bool) (start : Workspace) where
       record { now = now.machine; lines = n; replied = k; progress = progress_with_left input _ _ now before after n k l.0 g; strictly = h; unsaved = u }
 
   -- the beginning of a line had come, and the reader has the rest
-  pub goes_read : (known left left' reader : Option (List ℕ)) (pending : List ℕ) (now : Workspace) (before after : Option (List ℕ)) (n k : ℕ) → Goes strict start known left now before after n k
-      → StopsInLine left left' → left' ≡ prepend_known pending reader → HasNoNewline pending → IfSome known (λ input. RunsToRead strict start input reader before after now.stored)
-  goes_read None left left' reader pending now before after n k g l e h = tt
-  goes_read (Some input) None left' reader pending now before after n k g l e h = absurd g
-  goes_read (Some input) (Some xs) None reader pending now before after n k g l e h = absurd l
-  goes_read (Some input) (Some xs) (Some ys) None pending now before after n k g l e h = absurd cc
-  goes_read (Some input) (Some xs) (Some ys) (Some rest) pending now before after n k g l e h =
+  pub goes_unread : (known left left' reader : Option (List ℕ)) (pending : List ℕ) (now : Workspace) (before after : Option (List ℕ)) (n k : ℕ) → Goes strict start known left now before after n k
+      → StopsInLine left left' → left' ≡ prepend_known pending reader → HasNoNewline pending → IfSome known (λ input. RunsToUnread strict start input reader before after now.stored)
+  goes_unread None left left' reader pending now before after n k g l e h = tt
+  goes_unread (Some input) None left' reader pending now before after n k g l e h = absurd g
+  goes_unread (Some input) (Some xs) None reader pending now before after n k g l e h = absurd l
+  goes_unread (Some input) (Some xs) (Some ys) None pending now before after n k g l e h = absurd cc
+  goes_unread (Some input) (Some xs) (Some ys) (Some rest) pending now before after n k g l e h =
       let same : ys ≡ pending ++ rest = cc in
       let whole : xs ≡ (l.0 ++ pending) ++ rest = l.2 ∙ ap (λ zs. l.0 ++ zs) same ∙ sym (append_assoc l.0 pending rest) in
       record {
@@ -141,14 +151,11 @@ module _ (strict : Bool) (start : Workspace) where
         rest = rest;
         unfinished = All-append (λ b. b ≢ 10) l.0 pending l.1 h;
         unread = refl;
-        runs = record { now = now.machine; lines = n; replied = k; progress = progress_with_left input _ _ now before after n k (ap lines_of whole) g };
+        now = now.machine;
+        lines = n;
+        replied = k;
+        progress = progress_with_left input _ _ now before after n k (ap lines_of whole) g;
       }
-
-  goes_some : (known left : Option (List ℕ)) (now : Workspace) (before after : Option (List ℕ)) (n k : ℕ) → Goes strict start known left now before after n k
-      → IfSome known (λ input. RunsSome strict start input before after now.stored)
-  goes_some None left now before after n k g = tt
-  goes_some (Some input) None now before after n k g = absurd g
-  goes_some (Some input) (Some xs) now before after n k g = record { left = lines_of xs; runs = record { now = now.machine; lines = n; replied = k; progress = g } }
 
   goes_write : (known left left' : Option (List ℕ)) (f : Found) (line : List ℕ) (mid now : Workspace) (reply : Reply) (before after after' : Option (List ℕ)) (n k : ℕ)
       → Goes strict start known left mid before after n k → FindsLine left left' (Some f) line → StepFound f line mid (Some reply) now → TakesBeginning (reply_line reply) after after'
@@ -183,25 +190,36 @@ module _ (strict : Bool) (start : Workspace) where
     beginning = w;
   }
 
-  or_left : (P Q : List ℕ → Type 0) (known : Option (List ℕ)) → IfSome known P → IfSome known (λ input. P input ⊎ Q input)
-  or_left P Q None h = tt
-  or_left P Q (Some input) h = inl h
+  -- what is known of a write fault
+  abbrev pub Unwritten : Option (List ℕ) → Option (List ℕ) → Option (List ℕ) → Option (List ℕ) → StoreParts → Type 0
+  Unwritten known reader before after stored = IfSome known (λ input. RunsToUnread strict start input reader before after stored ⊎ RunsToRefused strict start input before after stored
+      ⊎ RunsToWrite strict start input before after stored)
 
-  or_right : (P Q : List ℕ → Type 0) (known : Option (List ℕ)) → IfSome known Q → IfSome known (λ input. P input ⊎ Q input)
-  or_right P Q None h = tt
-  or_right P Q (Some input) h = inr h
+  or_first : (P Q : List ℕ → Type 0) (known : Option (List ℕ)) → IfSome known P → IfSome known (λ input. P input ⊎ Q input)
+  or_first P Q None h = tt
+  or_first P Q (Some input) h = inl h
+
+  or_second : (P Q : List ℕ → Type 0) (known : Option (List ℕ)) → IfSome known Q → IfSome known (λ input. P input ⊎ Q input)
+  or_second P Q None h = tt
+  or_second P Q (Some input) h = inr h
+
+  -- the replies could not be flushed before a read
+  pub goes_unflushed : (known left reader : Option (List ℕ)) (pending : List ℕ) (now : Workspace) (before after : Option (List ℕ)) (n k : ℕ) → Goes strict start known left now before after n k
+      → left ≡ prepend_known pending reader → HasNoNewline pending → Unwritten known reader before after now.stored
+  goes_unflushed known left reader pending now before after n k g e h =
+      or_first _ _ known (goes_unread known left left reader pending now before after n k g (stops_before left) e h)
+
+  -- the reply to a refused line of a strict run could not be flushed
+  pub goes_unshown : (known reader : Option (List ℕ)) (before after : Option (List ℕ)) (stored : StoreParts)
+      → IfSome known (λ input. RunsToRefused strict start input before after stored) → Unwritten known reader before after stored
+  goes_unshown known reader before after stored r = or_second _ _ known (or_first _ _ known r)
 
   -- the reply to a line could not be written
-  pub goes_unwritten : (known left left' : Option (List ℕ)) (f : Found) (line : List ℕ) (mid now : Workspace) (reply : Reply) (before after after' : Option (List ℕ)) (n k : ℕ)
+  pub goes_unwritten : (known left left' reader : Option (List ℕ)) (f : Found) (line : List ℕ) (mid now : Workspace) (reply : Reply) (before after after' : Option (List ℕ)) (n k : ℕ)
       → Goes strict start known left mid before after n k → FindsLine left left' (Some f) line → StepFound f line mid (Some reply) now → TakesBeginning (reply_line reply) after after'
-      → IfSome known (λ input. RunsSome strict start input before after' now.stored ⊎ RunsToWrite strict start input before after' now.stored)
-  goes_unwritten known left left' f line mid now reply before after after' n k g l s w =
-      or_right _ _ known (goes_write known left left' f line mid now reply before after after' n k g l s w)
-
-  -- the replies could not be flushed
-  pub goes_unflushed : (known left : Option (List ℕ)) (now : Workspace) (before after : Option (List ℕ)) (n k : ℕ) → Goes strict start known left now before after n k
-      → IfSome known (λ input. RunsSome strict start input before after now.stored ⊎ RunsToWrite strict start input before after now.stored)
-  goes_unflushed known left now before after n k g = or_left _ _ known (goes_some known left now before after n k g)
+      → Unwritten known reader before after' now.stored
+  goes_unwritten known left left' reader f line mid now reply before after after' n k g l s w =
+      or_second _ _ known (or_second _ _ known (goes_write known left left' f line mid now reply before after after' n k g l s w))
 
   -- a flush shows what was written
   pub goes_keeps : (known left : Option (List ℕ)) (now : Workspace) (before after after' : Option (List ℕ)) (n k : ℕ) → Goes strict start known left now before after n k → Keeps after after'

@@ -1,5 +1,5 @@
 -- Whole runs of the machine.
-use Rattle.std.specs.Prelude.{◌≡◌, ℕ, Bool, IsTrue, List, [], ◌∷◌, ◌++◌, All, length, Option, None, Some, option_to_list}
+use Rattle.std.specs.Prelude.{◌≡◌, ℕ, ◌<◌, Bool, IsTrue, List, [], ◌∷◌, ◌++◌, All, length, Option, None, Some, option_to_list}
 use Rattle.std.specs.List.{flat_map}
 use Rattle.std.specs.Io.KnownBytes.{Appends}
 use Rattle.lines.specs.Lines.{lines_of, HasNoNewline}
@@ -26,9 +26,10 @@ reply_line reply = reply_text reply ++ 10 ∷ []
 abbrev pub output : List Reply → List ℕ
 output replies = flat_map reply_line replies
 
--- the writer took the beginning of the bytes, and not the rest
+-- the writer took the beginning of the bytes, and not the rest, which is not empty
 abbrev pub TakesBeginning : List ℕ → Option (List ℕ) → Option (List ℕ) → Type 0
-TakesBeginning bytes before after = (beginning : List ℕ) × (rest : List ℕ) × (bytes ≡ beginning ++ rest) × Appends before after beginning
+TakesBeginning bytes before after =
+    (beginning : List ℕ) × (rest : List ℕ) × (0 < length rest) × (bytes ≡ beginning ++ rest) × Appends before after beginning
 
 -- a reply that is no refusal
 abbrev pub IsAccepted : Reply → Type 0
@@ -69,26 +70,17 @@ pub record RunsToUnsaved (strict : Bool) (start : Workspace) (input : List ℕ) 
   pub strictly : IsTrue strict
   pub unsaved : AreClean now.group.documents → ⊥
 
--- the lines were handled but for these, each is done, files and all, and each reply is written whole
-pub record RunsUpTo (left : List (List ℕ)) (strict : Bool) (start : Workspace) (input : List ℕ) (before after : Option (List ℕ)) (stored : StoreParts) : Type 0 where
-  pub now : Machine
-  pub lines : ℕ
-  pub replied : ℕ
-  pub progress : Progress strict start input left (workspace now stored) before after lines replied
-
--- some lines were handled
-pub record RunsSome (strict : Bool) (start : Workspace) (input : List ℕ) (before after : Option (List ℕ)) (stored : StoreParts) : Type 0 where
-  pub left : List (List ℕ)
-  pub runs : RunsUpTo left strict start input before after stored
-
--- All lines were handled before the one that had not come whole: what came of that one has no newline, and the rest of the input the
--- reader still has.
-pub record RunsToRead (strict : Bool) (start : Workspace) (input : List ℕ) (reader : Option (List ℕ)) (before after : Option (List ℕ)) (stored : StoreParts) : Type 0 where
+-- All whole lines that were taken from the reader were handled: each is done, files and all, and each reply is written whole. What came
+-- of a line not whole has no newline, and together with what the reader still has it is the rest of the input.
+pub record RunsToUnread (strict : Bool) (start : Workspace) (input : List ℕ) (reader : Option (List ℕ)) (before after : Option (List ℕ)) (stored : StoreParts) : Type 0 where
   pub beginning : List ℕ
   pub rest : List ℕ
   pub unfinished : HasNoNewline beginning
   pub unread : reader ≡ Some rest
-  pub runs : RunsUpTo (lines_of (beginning ++ rest)) strict start input before after stored
+  pub now : Machine
+  pub lines : ℕ
+  pub replied : ℕ
+  pub progress : Progress strict start input (lines_of (beginning ++ rest)) (workspace now stored) before after lines replied
 
 -- some lines were handled, and one more, whose step is done, files and all, and of the reply to which the beginning is written
 pub record RunsToWrite (strict : Bool) (start : Workspace) (input : List ℕ) (before after : Option (List ℕ)) (stored : StoreParts) : Type 0 where

@@ -5,7 +5,7 @@ ghost use Rattle.editor.specs.Editors.{IsSound, machine_of};
 ghost use Rattle.editor.specs.Machine.{started_machine, workspace};
 ghost use Rattle.editor.specs.Steps.{Step, StepIn};
 ghost use Rattle.session.specs.Spelling.{CanBeSpelled};
-ghost use Rattle.session_run.specs.Runs.{RunsAll, RunsSome, RunsToRead, RunsToRefused, RunsToUnsaved, RunsToWrite};
+ghost use Rattle.session_run.specs.Runs.{RunsAll, RunsToRefused, RunsToUnread, RunsToUnsaved, RunsToWrite};
 ghost use Rattle.session_run.specs.WithinRuns.{PutsSame, StepFound};
 
 use crate::strict::{Report, end_refused, ending, ends_unsaved};
@@ -145,9 +145,10 @@ fn step_all<C: Command, R: Read, W: Write, S: MapStore, F: Fn(Edit) -> Option<C>
         RunsAll (is_some strict.entry) (workspace (machine_of C.change editor) (S.stored store.old)) input (W.contents writer.old) (W.contents writer.new) (S.stored store.new)
         summary.lines summary.replies)) }
     ensures read { IsErrOf result RunFault.Read → IfSome (R.remaining reader.old) (λ input.
-        RunsToRead (is_some strict.entry) (workspace (machine_of C.change editor) (S.stored store.old)) input (R.remaining reader.new) (W.contents writer.old) (W.contents writer.new) (S.stored store.new)) }
+        RunsToUnread (is_some strict.entry) (workspace (machine_of C.change editor) (S.stored store.old)) input (R.remaining reader.new) (W.contents writer.old) (W.contents writer.new) (S.stored store.new)) }
     ensures write { IsErrOf result RunFault.Write → IfSome (R.remaining reader.old) (λ input.
-        RunsSome (is_some strict.entry) (workspace (machine_of C.change editor) (S.stored store.old)) input (W.contents writer.old) (W.contents writer.new) (S.stored store.new)
+        RunsToUnread (is_some strict.entry) (workspace (machine_of C.change editor) (S.stored store.old)) input (R.remaining reader.new) (W.contents writer.old) (W.contents writer.new) (S.stored store.new)
+        ⊎ RunsToRefused (is_some strict.entry) (workspace (machine_of C.change editor) (S.stored store.old)) input (W.contents writer.old) (W.contents writer.new) (S.stored store.new)
         ⊎ RunsToWrite (is_some strict.entry) (workspace (machine_of C.change editor) (S.stored store.old)) input (W.contents writer.old) (W.contents writer.new) (S.stored store.new)) }
     ensures memory { IsErrOf result RunFault.Memory → (writer.new ≡ writer.old) × (reader.new ≡ reader.old) × (store.new ≡ store.old) }
     ensures refused { IsErrOf result RunFault.Refused → IfSome (R.remaining reader.old) (λ input.
@@ -217,16 +218,17 @@ pub fn run<R: Read, W: Write, S: MapStore, T: Report>(
         RunsAll (is_some strict.entry) (workspace (started_machine limit) (S.stored store.old)) input (W.contents writer.old) (W.contents writer.new) (S.stored store.new)
         summary.lines summary.replies)) }
 
-    // All lines before the one that had not come whole are done, files and all, and the replies to them were written whole.
-    // What came of that one and what the reader still has are the rest of the input.
+    // All whole lines that were taken from the reader are done, files and all, and the replies to them were written whole. What
+    // came of a line not whole and what the reader still has are the rest of the input.
     ensures read { IsErrOf result RunFault.Read → IfSome (R.remaining reader.old) (λ input.
-        RunsToRead (is_some strict.entry) (workspace (started_machine limit) (S.stored store.old)) input (R.remaining reader.new) (W.contents writer.old) (W.contents writer.new) (S.stored store.new)) }
+        RunsToUnread (is_some strict.entry) (workspace (started_machine limit) (S.stored store.old)) input (R.remaining reader.new) (W.contents writer.old) (W.contents writer.new) (S.stored store.new)) }
 
-    // All lines that were handled are done, files and all, and all replies were written whole and could not be flushed; or all
-    // replies before the one that could not be written were written whole, its line is done too, and of it the beginning was
-    // written.
+    // A flush failed before a read: all whole lines that were taken from the reader are done, and so on as at a read fault. Or the
+    // flush failed with which a strict run ends at a refused line. Or a write failed: all replies before the one that could not
+    // be written were written whole, its line is done too, files and all, and of it the beginning was written, and not all.
     ensures write { IsErrOf result RunFault.Write → IfSome (R.remaining reader.old) (λ input.
-        RunsSome (is_some strict.entry) (workspace (started_machine limit) (S.stored store.old)) input (W.contents writer.old) (W.contents writer.new) (S.stored store.new)
+        RunsToUnread (is_some strict.entry) (workspace (started_machine limit) (S.stored store.old)) input (R.remaining reader.new) (W.contents writer.old) (W.contents writer.new) (S.stored store.new)
+        ⊎ RunsToRefused (is_some strict.entry) (workspace (started_machine limit) (S.stored store.old)) input (W.contents writer.old) (W.contents writer.new) (S.stored store.new)
         ⊎ RunsToWrite (is_some strict.entry) (workspace (started_machine limit) (S.stored store.old)) input (W.contents writer.old) (W.contents writer.new) (S.stored store.new)) }
 
     // For the line buffer alone, and before anything was read or written.

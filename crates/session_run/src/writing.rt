@@ -1,4 +1,4 @@
-ghost use Rattle.std.specs.Prelude.{◌≡◌, ◌∷◌, ◌++◌, [], OnOk, OnErr};
+ghost use Rattle.std.specs.Prelude.{◌∷◌, ◌++◌, [], IsTrue, OnOk, OnErr};
 ghost use Rattle.std.specs.Io.KnownBytes.{Appends, Keeps};
 ghost use Rattle.session_run.specs.Runs.{reply_line, TakesBeginning};
 
@@ -69,7 +69,8 @@ pub fn write_reply<W: Write>(
 
 /// Flushes the writer, where that is wanted.
 pub fn flush_if<W: Write>(writer: &mut W, is_wanted: bool) -> Result<(), WriteFault>
-    ensures { Keeps (W.contents writer.old) (W.contents writer.new) }
+    ensures bytes { Keeps (W.contents writer.old) (W.contents writer.new) }
+    ensures wanted { OnErr result (IsTrue is_wanted) }
 {
     if is_wanted {
         return writer.flush().map_err(|_| WriteFault);

@@ -49,10 +49,14 @@ pub returns-in-Ok-clause-reported : goal.returns-in-Ok-clause-reported
 returns-in-Ok-clause-reported g c =
     let change = g.C.Command.change in
     let left = left-machine change c.args.self.now _ c.push.new.self refl (c.active_mut.follows.holds c.push.new.self c.push.ensures.sound) in
-    rw c.state_of.ensures (c.in-Some.stack.now, c.push.new.self, record {
-      before = c.in-Some.ensures.held;
-      active = sym c.in-Some.ensures.active;
-      after = c.push.ensures.sound;
-      left = left;
-      reported = c.in-Ok.ensures.reported;
-    })
+    rw c.state_of.ensures (
+      c.in-Some.stack.now,
+      c.push.new.self,
+      record {
+        before = c.in-Some.ensures.held;
+        active = sym c.in-Some.ensures.active;
+        after = c.push.ensures.sound;
+        left = left;
+        reported = c.in-Ok.ensures.reported;
+      },
+    )

@@ -37,7 +37,7 @@ returns-in-Some-clause-turns g c =
     let P : Machine → Type 0 = λ m. PlansBy (turning_rule_of c.args.line.now) (workspace old stored) c.on_document.result (workspace m stored) in
     subst P (sym (left-machine change c.args.self.now _ stack refl (c.active_mut.follows.holds stack c.on_document.ensures.sound)))
     (on-PlansBy (history change c.in-Some.stack.now) (history change stack) old c.in-Some.ensures.whole (sym c.in-Some.ensures.active)
-     (turning_rule_of c.args.line.now) c.on_document.result stored c.on_document.ensures.plans)
+    (turning_rule_of c.args.line.now) c.on_document.result stored c.on_document.ensures.plans)
 
 pub returns-in-Some-clause-plans : goal.returns-in-Some-clause-plans
 returns-in-Some-clause-plans g c = λ sound.
@@ -61,7 +61,7 @@ returns-in-Some-clause-unchanged g c =
     let P : Machine → Type 0 = λ m. KeepsPlan c.on_document.result old m in
     subst P (sym (left-machine change c.args.self.now _ stack refl (c.active_mut.follows.holds stack c.on_document.ensures.sound)))
     (on-KeepsPlan (history change c.in-Some.stack.now) (history change stack) old c.in-Some.ensures.whole (sym c.in-Some.ensures.active)
-     (turning_rule_of c.args.line.now) c.on_document.result c.on_document.ensures.plans)
+    (turning_rule_of c.args.line.now) c.on_document.result c.on_document.ensures.plans)
 
 pub returns-in-Some-clause-fits : goal.returns-in-Some-clause-fits
 returns-in-Some-clause-fits g c =
@@ -71,4 +71,4 @@ returns-in-Some-clause-fits g c =
     let P : Machine → Type 0 = λ m. FitsPlan m c.on_document.result in
     subst P (sym (left-machine change c.args.self.now _ stack refl (c.active_mut.follows.holds stack c.on_document.ensures.sound)))
     (on-FitsPlan (history change c.in-Some.stack.now) (history change stack) old c.in-Some.ensures.whole (sym c.in-Some.ensures.active)
-     (turning_rule_of c.args.line.now) c.on_document.result c.on_document.ensures.plans)
+    (turning_rule_of c.args.line.now) c.on_document.result c.on_document.ensures.plans)
