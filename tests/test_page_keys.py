@@ -526,7 +526,7 @@ def test_own_maps_stay_alone():
         assert 'new tab' not in page.find('#try').get_attribute('title')
         driver.close()
         driver.switch_to.window(own)
-        assert 'in a new tab' in page.bubble()
+        assert 'in a new tab' in page.find('#told').get_attribute('textContent')
         assert page.js('return roskevad.editor.place.kind') == 'served' and standing(page) == (0, 0)
         page.reload()
         assert page.notices() == [] and standing(page) == (0, 0)

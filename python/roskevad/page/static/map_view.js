@@ -10,7 +10,7 @@ const MOST_MEASURES = 1000;
 // How many cells are drawn at the hand's event itself.
 const MOST_AT_ONCE = 2500;
 // The space around a map that is fitted into the window, and how much of the map stays in view at least.
-const MARGIN = 12;
+const MARGIN = 8;
 const LEAST_SEEN = 48;
 // The largest scale of a map that is fitted.
 const LARGEST_FIT = 4;
