@@ -40,3 +40,30 @@ pub const TOO_LARGE: usize = usize::MAX - 10;
 
 /// Made finite, the map would not come back as it was.
 pub const UNLIKE: usize = usize::MAX - 11;
+
+// Each is the number that `include/roskevad.h` gives it, which is fixed for callers that are built already.
+const _: () = prove!(DONE == 0);
+
+const _: () = prove!(NONE == 18_446_744_073_709_551_615);
+
+const _: () = prove!(CLOSED == 18_446_744_073_709_551_614);
+
+const _: () = prove!(NO_MEMORY == 18_446_744_073_709_551_613);
+
+const _: () = prove!(TOO_GREAT == 18_446_744_073_709_551_612);
+
+const _: () = prove!(BAD_NAME == 18_446_744_073_709_551_611);
+
+const _: () = prove!(NOT_JSON == 18_446_744_073_709_551_610);
+
+const _: () = prove!(NAME_TAKEN == 18_446_744_073_709_551_609);
+
+const _: () = prove!(TOO_DEEP == 18_446_744_073_709_551_608);
+
+const _: () = prove!(BAD_CHUNK == 18_446_744_073_709_551_607);
+
+const _: () = prove!(OVERLAP == 18_446_744_073_709_551_606);
+
+const _: () = prove!(TOO_LARGE == 18_446_744_073_709_551_605);
+
+const _: () = prove!(UNLIKE == 18_446_744_073_709_551_604);

@@ -9,19 +9,20 @@ use Rattle.std.proofs.lemmas.Grind.{flat_map-append}
 use Rattle.lines.specs.declared.reader.Found.{Found}
 use Rattle.lines.specs.declared.reader.Found.TheVariants as found
 use Rattle.lines.specs.Lines.{lines_of, HasNoNewline}
-use Rattle.lines.specs.Reading.{FindsLine, StopsInLine}
+use Rattle.lines.specs.Reading.{FindsLine, Reading, StopsInLine, fresh, input_left}
 use Rattle.session.specs.declared.limits.TheConstants.{MAX_LINE}
 use Rattle.session.specs.declared.line.LineFault.TheVariants.{TooLong}
 use Rattle.session.specs.declared.reply.Refusal.{Refusal}
+use Rattle.session.specs.declared.reply.Refusal.TheVariants.{Line as LineRefusal}
 use Rattle.session.specs.declared.reply.Reply.{Reply}
 use Rattle.session.specs.declared.reply.Reply.TheVariants.{Refused}
 use Rattle.session.specs.Grammar.{line_of}
 use Rattle.session.specs.Replies.{refusal_of}
 use Rattle.editor.specs.Machine.{Workspace}
-use Rattle.map_store.specs.Files.{StoreParts}
 use Rattle.editor.specs.Steps.{StepIn}
-use Rattle.session_run.specs.Runs.{Run, Progress, TakesBeginning, AreClean, IsAccepted, RunsAll, RunsToRefused, RunsToUnread, RunsToUnsaved, RunsToWrite, output, reply_line}
-use Rattle.session_run.specs.WithinRuns.{Goes, StepFound}
+use Rattle.session_run.specs.Runs.{Run, TakesBeginning, IsAccepted, output, reply_line}
+use Rattle.session_run.specs.StrictRuns.{refused_text}
+use Rattle.session_run.specs.WithinRuns.{Going, Goes, StepFound, StopsInWrite, StopsRefused, StopsUnread, StopsUnwritten}
 use Rattle.session_run.proofs.Appending.{appends_more, appends_nothing}
 
 pub too_long : (long : List ℕ) → 2 ^ 16 ≤ length long → line_of long ≡ Err TooLong
@@ -69,28 +70,48 @@ stops_before : (left : Option (List ℕ)) → StopsInLine left left
 stops_before None = tt
 stops_before (Some xs) = ([], All-nil (λ b. b ≢ 10), refl)
 
+-- a long line is refused as such
+too_long_refused : (long : List ℕ) (old new : Workspace) (refusal : Refusal) → 2 ^ 16 ≤ length long → StepIn long old (Some (Refused refusal)) new → refusal ≡ LineRefusal TooLong
+too_long_refused long old new refusal size s =
+    let step = rw (too_long long size) at s in
+    let same : Some (Refused refusal) ≡ Some (Refused (LineRefusal TooLong)) = step.0 in
+    cc
+
 -- a run that began at start
 module _ (strict : Bool) (start : Workspace) where
-  progress_more : (input line : List ℕ) (left : List (List ℕ)) (now mid : Workspace) (reply : Option Reply) (before after after' : Option (List ℕ)) (n k : ℕ)
-      → Progress strict start input (line ∷ left) now before after n k → StepIn line now reply mid → Appends after after' (output (option_to_list reply))
-      → (IsTrue strict → All IsAccepted (option_to_list reply)) → Progress strict start input left mid before after' (n + 1) (k + length (option_to_list reply))
-  progress_more input line left now mid reply before after after' n k t s w a =
-      let joined : output (t.replies ++ option_to_list reply) ≡ output t.replies ++ output (option_to_list reply) = flat_map-append reply_line t.replies (option_to_list reply) in
+  going_more : (input line : List ℕ) (left : List (List ℕ)) (now mid : Workspace) (reply : Option Reply) (before after after' : Option (List ℕ)) (n k : ℕ)
+      → Going strict start input (line ∷ left) now before after n k → StepIn line now reply mid → Appends after after' (output (option_to_list reply))
+      → (IsTrue strict → All IsAccepted (option_to_list reply)) → Going strict start input left mid before after' (n + 1) (k + length (option_to_list reply))
+  going_more input line left now mid reply before after after' n k g s w a =
+      let joined : output (g.progress.replies ++ option_to_list reply) ≡ output g.progress.replies ++ output (option_to_list reply) = flat_map-append reply_line g.progress.replies (option_to_list reply) in
       let P : List ℕ → Type 0 = λ bytes. Appends before after' bytes in
       record {
-        handled = t.handled ++ line ∷ [];
-        replies = t.replies ++ option_to_list reply;
-        split = t.split ∙ sym (append_assoc t.handled (line ∷ []) left);
-        run = run_more t.handled line start now mid t.replies reply t.run s;
-        written = subst P (sym joined) (appends_more before after after' (output t.replies) (output (option_to_list reply)) t.written w);
-        accepted = λ h. All-append IsAccepted t.replies (option_to_list reply) (t.accepted h) (a h);
-        lines_counted = omega (arith, t.lines_counted, length-append t.handled (line ∷ []));
-        replies_counted = omega (arith, t.replies_counted, length-append t.replies (option_to_list reply));
+        progress = record {
+          handled = g.progress.handled ++ line ∷ [];
+          replies = g.progress.replies ++ option_to_list reply;
+          split = g.progress.split ∙ sym (append_assoc g.progress.handled (line ∷ []) left);
+          run = run_more g.progress.handled line start now mid g.progress.replies reply g.progress.run s;
+          written = subst P (sym joined) (appends_more before after after' (output g.progress.replies) (output (option_to_list reply)) g.progress.written w);
+          lines_counted = omega (arith, g.progress.lines_counted, length-append g.progress.handled (line ∷ []));
+          replies_counted = omega (arith, g.progress.replies_counted, length-append g.progress.replies (option_to_list reply));
+        };
+        accepted = λ h. All-append IsAccepted g.progress.replies (option_to_list reply) (g.accepted h) (a h);
       }
 
-  progress_with_left : (input : List ℕ) (left left' : List (List ℕ)) (now : Workspace) (before after : Option (List ℕ)) (n k : ℕ) → left ≡ left' → Progress strict start input left now before after n k
-      → Progress strict start input left' now before after n k
-  progress_with_left input left left' now before after n k e t = let P : List (List ℕ) → Type 0 = λ ls. Progress strict start input ls now before after n k in subst P e t
+  going_with_left : (input : List ℕ) (left left' : List (List ℕ)) (now : Workspace) (before after : Option (List ℕ)) (n k : ℕ) → left ≡ left' → Going strict start input left now before after n k
+      → Going strict start input left' now before after n k
+  going_with_left input left left' now before after n k e t = let P : List (List ℕ) → Type 0 = λ ls. Going strict start input ls now before after n k in subst P e t
+
+  -- nothing was read yet
+  pub goes_none : (known : Option (List ℕ)) (lines : Reading) (before : Option (List ℕ)) → lines ≡ fresh → Goes strict start known (input_left lines known) start before before 0 0
+  goes_none None lines before e = tt
+  goes_none (Some input) lines before e =
+      let P : Reading → Type 0 = λ r. Goes strict start (Some input) (input_left r (Some input)) start before before 0 0 in
+      let at : P fresh = record {
+        progress = record { handled = []; replies = []; split = refl; run = (refl, refl); written = appends_nothing before; lines_counted = refl; replies_counted = refl };
+        accepted = λ h. All-nil IsAccepted;
+      } in
+      subst P (sym e) at
 
   goes_more : (known left left' : Option (List ℕ)) (f : Found) (line : List ℕ) (now mid : Workspace) (reply : Option Reply) (before after after' : Option (List ℕ)) (n k : ℕ)
       → Goes strict start known left now before after n k → FindsLine left left' (Some f) line → StepFound f line now reply mid → Appends after after' (output (option_to_list reply)) → (IsTrue strict → All IsAccepted (option_to_list reply))
@@ -99,9 +120,9 @@ module _ (strict : Bool) (start : Workspace) where
   goes_more (Some input) None left' f line now mid reply before after after' n k g l s w a = absurd g
   goes_more (Some input) (Some xs) None f line now mid reply before after after' n k g l s w a = l
   goes_more (Some input) (Some xs) (Some ys) found.Line line now mid reply before after after' n k g l s w a =
-      progress_more input line (lines_of ys) now mid reply before after after' n k (progress_with_left input _ _ now before after n k l.0 g) s w a
+      going_more input line (lines_of ys) now mid reply before after after' n k (going_with_left input _ _ now before after n k l.0 g) s w a
   goes_more (Some input) (Some xs) (Some ys) found.TooLong line now mid reply before after after' n k g l s w a =
-      progress_more input l.0 (lines_of ys) now mid reply before after after' n k (progress_with_left input _ _ now before after n k l.1 g) (s l.0 l.2) w a
+      going_more input l.0 (lines_of ys) now mid reply before after after' n k (going_with_left input _ _ now before after n k l.1 g) (s l.0 l.2) w a
 
   pub goes_quiet : (known left left' : Option (List ℕ)) (f : Found) (line : List ℕ) (now mid : Workspace) (before after : Option (List ℕ)) (n k : ℕ)
       → Goes strict start known left now before after n k → FindsLine left left' (Some f) line → StepFound f line now None mid → Goes strict start known left' mid before after (n + 1) k
@@ -119,26 +140,17 @@ module _ (strict : Bool) (start : Workspace) where
       goes_more known left left' f line now mid (Some reply) before after after' n k g l s (subst P (sym (append-nil (reply_line reply))) w)
       (λ h. All-cons IsAccepted reply [] (a h) (All-nil IsAccepted))
 
+  -- all lines were handled
   pub goes_all : (known left left' : Option (List ℕ)) (line : List ℕ) (now : Workspace) (before after : Option (List ℕ)) (n k : ℕ) → Goes strict start known left now before after n k
-      → FindsLine left left' None line → (IsTrue strict → AreClean now.machine.group.documents) → IfSome known (λ input. RunsAll strict start input before after now.stored n k)
-  goes_all None left left' line now before after n k g l c = tt
-  goes_all (Some input) None left' line now before after n k g l c = absurd g
-  goes_all (Some input) (Some xs) None line now before after n k g l c = absurd l
-  goes_all (Some input) (Some xs) (Some ys) line now before after n k g l c =
-      record { now = now.machine; progress = progress_with_left input _ _ now before after n k l.0 g; clean = c }
-
-  -- a strict run leaves a document that is not clean
-  pub goes_unsaved : (known left left' : Option (List ℕ)) (line : List ℕ) (now : Workspace) (before after : Option (List ℕ)) (n k : ℕ) → Goes strict start known left now before after n k
-      → FindsLine left left' None line → IsTrue strict → (AreClean now.machine.group.documents → ⊥) → IfSome known (λ input. RunsToUnsaved strict start input before after now.stored)
-  goes_unsaved None left left' line now before after n k g l h u = tt
-  goes_unsaved (Some input) None left' line now before after n k g l h u = absurd g
-  goes_unsaved (Some input) (Some xs) None line now before after n k g l h u = absurd l
-  goes_unsaved (Some input) (Some xs) (Some ys) line now before after n k g l h u =
-      record { now = now.machine; lines = n; replied = k; progress = progress_with_left input _ _ now before after n k l.0 g; strictly = h; unsaved = u }
+      → FindsLine left left' None line → IfSome known (λ input. Going strict start input [] now before after n k)
+  goes_all None left left' line now before after n k g l = tt
+  goes_all (Some input) None left' line now before after n k g l = absurd g
+  goes_all (Some input) (Some xs) None line now before after n k g l = absurd l
+  goes_all (Some input) (Some xs) (Some ys) line now before after n k g l = going_with_left input _ _ now before after n k l.0 g
 
   -- the beginning of a line had come, and the reader has the rest
   pub goes_unread : (known left left' reader : Option (List ℕ)) (pending : List ℕ) (now : Workspace) (before after : Option (List ℕ)) (n k : ℕ) → Goes strict start known left now before after n k
-      → StopsInLine left left' → left' ≡ prepend_known pending reader → HasNoNewline pending → IfSome known (λ input. RunsToUnread strict start input reader before after now.stored)
+      → StopsInLine left left' → left' ≡ prepend_known pending reader → HasNoNewline pending → IfSome known (λ input. StopsUnread strict start input reader before after now.stored)
   goes_unread None left left' reader pending now before after n k g l e h = tt
   goes_unread (Some input) None left' reader pending now before after n k g l e h = absurd g
   goes_unread (Some input) (Some xs) None reader pending now before after n k g l e h = absurd l
@@ -146,54 +158,49 @@ module _ (strict : Bool) (start : Workspace) where
   goes_unread (Some input) (Some xs) (Some ys) (Some rest) pending now before after n k g l e h =
       let same : ys ≡ pending ++ rest = cc in
       let whole : xs ≡ (l.0 ++ pending) ++ rest = l.2 ∙ ap (λ zs. l.0 ++ zs) same ∙ sym (append_assoc l.0 pending rest) in
-      record {
-        beginning = l.0 ++ pending;
-        rest = rest;
-        unfinished = All-append (λ b. b ≢ 10) l.0 pending l.1 h;
-        unread = refl;
-        now = now.machine;
-        lines = n;
-        replied = k;
-        progress = progress_with_left input _ _ now before after n k (ap lines_of whole) g;
-      }
+      let went : Going strict start input (lines_of ((l.0 ++ pending) ++ rest)) now before after n k = going_with_left input _ _ now before after n k (ap lines_of whole) g in (
+        record {
+          beginning = l.0 ++ pending;
+          rest = rest;
+          unfinished = All-append (λ b. b ≢ 10) l.0 pending l.1 h;
+          unread = refl;
+          now = now.machine;
+          lines = n;
+          replied = k;
+          progress = went.progress;
+        },
+        went.accepted,
+      )
+
+  going_unwritten : (input line : List ℕ) (left : List (List ℕ)) (mid now : Workspace) (reply : Reply) (before after after' : Option (List ℕ)) (n k : ℕ)
+      → Going strict start input (line ∷ left) mid before after n k → StepIn line mid (Some reply) now → TakesBeginning (reply_line reply) after after' → StopsUnwritten strict start input before after' now.stored
+  going_unwritten input line left mid now reply before after after' n k g s w = (
+    record {
+      mid = mid;
+      line = line;
+      left = left;
+      written = after;
+      lines = n;
+      replied = k;
+      progress = g.progress;
+      reply = reply;
+      now = now.machine;
+      step = s;
+      beginning = w;
+    },
+    g.accepted,
+  )
 
   goes_write : (known left left' : Option (List ℕ)) (f : Found) (line : List ℕ) (mid now : Workspace) (reply : Reply) (before after after' : Option (List ℕ)) (n k : ℕ)
       → Goes strict start known left mid before after n k → FindsLine left left' (Some f) line → StepFound f line mid (Some reply) now → TakesBeginning (reply_line reply) after after'
-      → IfSome known (λ input. RunsToWrite strict start input before after' now.stored)
+      → IfSome known (λ input. StopsUnwritten strict start input before after' now.stored)
   goes_write None left left' f line mid now reply before after after' n k g l s w = tt
   goes_write (Some input) None left' f line mid now reply before after after' n k g l s w = absurd g
   goes_write (Some input) (Some xs) None f line mid now reply before after after' n k g l s w = absurd l
-  goes_write (Some input) (Some xs) (Some ys) found.Line line mid now reply before after after' n k g l s w = record {
-    mid = mid;
-    line = line;
-    left = lines_of ys;
-    written = after;
-    lines = n;
-    replied = k;
-    progress = progress_with_left input _ _ mid before after n k l.0 g;
-    reply = reply;
-    now = now.machine;
-    step = s;
-    beginning = w;
-  }
-  goes_write (Some input) (Some xs) (Some ys) found.TooLong line mid now reply before after after' n k g l s w = record {
-    mid = mid;
-    line = l.0;
-    left = lines_of ys;
-    written = after;
-    lines = n;
-    replied = k;
-    progress = progress_with_left input _ _ mid before after n k l.1 g;
-    reply = reply;
-    now = now.machine;
-    step = s l.0 l.2;
-    beginning = w;
-  }
-
-  -- what is known of a write fault
-  abbrev pub Unwritten : Option (List ℕ) → Option (List ℕ) → Option (List ℕ) → Option (List ℕ) → StoreParts → Type 0
-  Unwritten known reader before after stored = IfSome known (λ input. RunsToUnread strict start input reader before after stored ⊎ RunsToRefused strict start input before after stored
-      ⊎ RunsToWrite strict start input before after stored)
+  goes_write (Some input) (Some xs) (Some ys) found.Line line mid now reply before after after' n k g l s w =
+      going_unwritten input line (lines_of ys) mid now reply before after after' n k (going_with_left input _ _ mid before after n k l.0 g) s w
+  goes_write (Some input) (Some xs) (Some ys) found.TooLong line mid now reply before after after' n k g l s w =
+      going_unwritten input l.0 (lines_of ys) mid now reply before after after' n k (going_with_left input _ _ mid before after n k l.1 g) (s l.0 l.2) w
 
   or_first : (P Q : List ℕ → Type 0) (known : Option (List ℕ)) → IfSome known P → IfSome known (λ input. P input ⊎ Q input)
   or_first P Q None h = tt
@@ -205,21 +212,16 @@ module _ (strict : Bool) (start : Workspace) where
 
   -- the replies could not be flushed before a read
   pub goes_unflushed : (known left reader : Option (List ℕ)) (pending : List ℕ) (now : Workspace) (before after : Option (List ℕ)) (n k : ℕ) → Goes strict start known left now before after n k
-      → left ≡ prepend_known pending reader → HasNoNewline pending → Unwritten known reader before after now.stored
+      → left ≡ prepend_known pending reader → HasNoNewline pending → IfSome known (λ input. StopsInWrite strict start input reader before after now.stored)
   goes_unflushed known left reader pending now before after n k g e h =
       or_first _ _ known (goes_unread known left left reader pending now before after n k g (stops_before left) e h)
-
-  -- the reply to a refused line of a strict run could not be flushed
-  pub goes_unshown : (known reader : Option (List ℕ)) (before after : Option (List ℕ)) (stored : StoreParts)
-      → IfSome known (λ input. RunsToRefused strict start input before after stored) → Unwritten known reader before after stored
-  goes_unshown known reader before after stored r = or_second _ _ known (or_first _ _ known r)
 
   -- the reply to a line could not be written
   pub goes_unwritten : (known left left' reader : Option (List ℕ)) (f : Found) (line : List ℕ) (mid now : Workspace) (reply : Reply) (before after after' : Option (List ℕ)) (n k : ℕ)
       → Goes strict start known left mid before after n k → FindsLine left left' (Some f) line → StepFound f line mid (Some reply) now → TakesBeginning (reply_line reply) after after'
-      → Unwritten known reader before after' now.stored
+      → IfSome known (λ input. StopsInWrite strict start input reader before after' now.stored)
   goes_unwritten known left left' reader f line mid now reply before after after' n k g l s w =
-      or_second _ _ known (or_second _ _ known (goes_write known left left' f line mid now reply before after after' n k g l s w))
+      or_second _ _ known (goes_write known left left' f line mid now reply before after after' n k g l s w)
 
   -- a flush shows what was written
   pub goes_keeps : (known left : Option (List ℕ)) (now : Workspace) (before after after' : Option (List ℕ)) (n k : ℕ) → Goes strict start known left now before after n k → Keeps after after'
@@ -227,48 +229,50 @@ module _ (strict : Bool) (start : Workspace) where
   goes_keeps None left now before after after' n k g h = tt
   goes_keeps (Some input) None now before after after' n k g h = g
   goes_keeps (Some input) (Some xs) now before after after' n k g h = record {
-    handled = g.handled;
-    replies = g.replies;
-    split = g.split;
-    run = g.run;
-    written = keeps_appends before after after' (output g.replies) g.written h;
+    progress = record {
+      handled = g.progress.handled;
+      replies = g.progress.replies;
+      split = g.progress.split;
+      run = g.progress.run;
+      written = keeps_appends before after after' (output g.progress.replies) g.progress.written h;
+      lines_counted = g.progress.lines_counted;
+      replies_counted = g.progress.replies_counted;
+    };
     accepted = g.accepted;
-    lines_counted = g.lines_counted;
-    replies_counted = g.replies_counted;
   }
 
-  -- a strict run ends at a refused line, whose reply is written whole and flushed
+  going_refused : (input line shown : List ℕ) (left : List (List ℕ)) (mid now : Workspace) (refusal : Refusal) (before after after' : Option (List ℕ)) (n k : ℕ)
+      → Going strict start input (line ∷ left) mid before after n k → StepIn line mid (Some (Refused refusal)) now → Appends after after' (reply_line (Refused refusal)) → IsTrue strict
+      → refused_text line refusal ≡ refused_text shown refusal → StopsRefused start input refusal now.stored shown before after' (n + 1)
+  going_refused input line shown left mid now refusal before after after' n k g s w h e = record {
+    runs = record {
+      mid = mid;
+      line = line;
+      left = left;
+      written = after;
+      lines = n;
+      replied = k;
+      progress = g.progress;
+      accepted = g.accepted h;
+      refusal = refusal;
+      now = now.machine;
+      step = s;
+      reply = w;
+    };
+    counted = refl;
+    refused = refl;
+    text = e;
+  }
+
+  -- a strict run stops at a refused line, whose reply is written whole
   pub goes_refused : (known left left' : Option (List ℕ)) (f : Found) (line : List ℕ) (mid now : Workspace) (refusal : Refusal) (before after after' : Option (List ℕ)) (n k : ℕ)
       → Goes strict start known left mid before after n k → FindsLine left left' (Some f) line → StepFound f line mid (Some (Refused refusal)) now
-      → Appends after after' (reply_line (Refused refusal)) → IsTrue strict → IfSome known (λ input. RunsToRefused strict start input before after' now.stored)
+      → Appends after after' (reply_line (Refused refusal)) → IsTrue strict → IfSome known (λ input. IsTrue strict × StopsRefused start input refusal now.stored line before after' (n + 1))
   goes_refused None left left' f line mid now refusal before after after' n k g l s w h = tt
   goes_refused (Some input) None left' f line mid now refusal before after after' n k g l s w h = absurd g
   goes_refused (Some input) (Some xs) None f line mid now refusal before after after' n k g l s w h = absurd l
-  goes_refused (Some input) (Some xs) (Some ys) found.Line line mid now refusal before after after' n k g l s w h = record {
-    mid = mid;
-    line = line;
-    left = lines_of ys;
-    written = after;
-    lines = n;
-    replied = k;
-    progress = progress_with_left input _ _ mid before after n k l.0 g;
-    strictly = h;
-    refusal = refusal;
-    now = now.machine;
-    step = s;
-    reply = w;
-  }
-  goes_refused (Some input) (Some xs) (Some ys) found.TooLong line mid now refusal before after after' n k g l s w h = record {
-    mid = mid;
-    line = l.0;
-    left = lines_of ys;
-    written = after;
-    lines = n;
-    replied = k;
-    progress = progress_with_left input _ _ mid before after n k l.1 g;
-    strictly = h;
-    refusal = refusal;
-    now = now.machine;
-    step = s l.0 l.2;
-    reply = w;
-  }
+  goes_refused (Some input) (Some xs) (Some ys) found.Line line mid now refusal before after after' n k g l s w h =
+      (h, going_refused input line line (lines_of ys) mid now refusal before after after' n k (going_with_left input _ _ mid before after n k l.0 g) s w h refl)
+  goes_refused (Some input) (Some xs) (Some ys) found.TooLong line mid now refusal before after after' n k g l s w h =
+      let same : refusal ≡ LineRefusal TooLong = too_long_refused l.0 mid now refusal l.2 (s l.0 l.2) in
+      (h, going_refused input l.0 line (lines_of ys) mid now refusal before after after' n k (going_with_left input _ _ mid before after n k l.1 g) (s l.0 l.2) w h (rw same refl))

@@ -1,14 +1,10 @@
 -- Whole runs of the machine.
-use Rattle.std.specs.Prelude.{◌≡◌, ℕ, ◌<◌, Bool, IsTrue, List, [], ◌∷◌, ◌++◌, All, length, Option, None, Some, option_to_list}
+use Rattle.std.specs.Prelude.{◌≡◌, ℕ, ◌<◌, List, [], ◌∷◌, ◌++◌, length, Option, None, Some, option_to_list}
 use Rattle.std.specs.List.{flat_map}
 use Rattle.std.specs.Io.KnownBytes.{Appends}
 use Rattle.lines.specs.Lines.{lines_of, HasNoNewline}
 use Rattle.session.specs.declared.reply.Reply.{Reply}
-use Rattle.session.specs.declared.reply.Refusal.{Refusal}
-use Rattle.session.specs.declared.reply.Reply.TheVariants.{Refused}
 use Rattle.session.specs.Replies.{refusal_of, reply_text}
-use Rattle.undo_stack.specs.History.{is_clean}
-use Rattle.undo_group.specs.Groups.{OpenDocument}
 use Rattle.editor.specs.Machine.{Machine, Workspace, workspace}
 use Rattle.map_store.specs.Files.{StoreParts}
 use Rattle.editor.specs.Steps.{StepIn}
@@ -26,53 +22,34 @@ reply_line reply = reply_text reply ++ 10 ∷ []
 abbrev pub output : List Reply → List ℕ
 output replies = flat_map reply_line replies
 
+-- a reply that is no refusal
+abbrev pub IsAccepted : Reply → Type 0
+IsAccepted reply = refusal_of reply ≡ None
+
 -- the writer took the beginning of the bytes, and not the rest, which is not empty
 abbrev pub TakesBeginning : List ℕ → Option (List ℕ) → Option (List ℕ) → Type 0
 TakesBeginning bytes before after =
     (beginning : List ℕ) × (rest : List ℕ) × (0 < length rest) × (bytes ≡ beginning ++ rest) × Appends before after beginning
 
--- a reply that is no refusal
-abbrev pub IsAccepted : Reply → Type 0
-IsAccepted reply = refusal_of reply ≡ None
-
--- in a strict run no line was refused
-abbrev pub AreAccepted : Bool → List Reply → Type 0
-AreAccepted strict replies = IsTrue strict → All IsAccepted replies
-
--- each document is clean, so none has a macro open
-abbrev pub AreClean : List OpenDocument → Type 0
-AreClean documents = All (λ d. IsTrue (is_clean d.history)) documents
-
 -- Some lines of the input were handled, and these are left. The run began at `start` and stands at `now`, and the writer, whose
 -- contents went from `before` to `after`, has the replies to the lines that were handled.
-pub record Progress (strict : Bool) (start : Workspace) (input : List ℕ) (left : List (List ℕ)) (now : Workspace) (before after : Option (List ℕ)) (lines replied : ℕ) : Type 0 where
+pub record Progress (start : Workspace) (input : List ℕ) (left : List (List ℕ)) (now : Workspace) (before after : Option (List ℕ)) (lines replied : ℕ) : Type 0 where
   pub handled : List (List ℕ)
   pub replies : List Reply
   pub split : lines_of input ≡ handled ++ left
   pub run : Run start handled replies now
   pub written : Appends before after (output replies)
-  pub accepted : AreAccepted strict replies
   pub lines_counted : lines ≡ length handled
   pub replies_counted : replied ≡ length replies
 
--- All lines were handled, and the store keeps what the run leaves. A strict run leaves each document clean.
-pub record RunsAll (strict : Bool) (start : Workspace) (input : List ℕ) (before after : Option (List ℕ)) (stored : StoreParts) (lines replied : ℕ) : Type 0 where
+-- all lines were handled, and the store keeps what the run leaves
+pub record RunsAll (start : Workspace) (input : List ℕ) (before after : Option (List ℕ)) (stored : StoreParts) (lines replied : ℕ) : Type 0 where
   pub now : Machine
-  pub progress : Progress strict start input [] (workspace now stored) before after lines replied
-  pub clean : IsTrue strict → AreClean now.group.documents
-
--- a strict run: all lines were handled, and not each document is clean
-pub record RunsToUnsaved (strict : Bool) (start : Workspace) (input : List ℕ) (before after : Option (List ℕ)) (stored : StoreParts) : Type 0 where
-  pub now : Machine
-  pub lines : ℕ
-  pub replied : ℕ
-  pub progress : Progress strict start input [] (workspace now stored) before after lines replied
-  pub strictly : IsTrue strict
-  pub unsaved : AreClean now.group.documents → ⊥
+  pub progress : Progress start input [] (workspace now stored) before after lines replied
 
 -- All whole lines that were taken from the reader were handled: each is done, files and all, and each reply is written whole. What came
 -- of a line not whole has no newline, and together with what the reader still has it is the rest of the input.
-pub record RunsToUnread (strict : Bool) (start : Workspace) (input : List ℕ) (reader : Option (List ℕ)) (before after : Option (List ℕ)) (stored : StoreParts) : Type 0 where
+pub record RunsToUnread (start : Workspace) (input : List ℕ) (reader before after : Option (List ℕ)) (stored : StoreParts) : Type 0 where
   pub beginning : List ℕ
   pub rest : List ℕ
   pub unfinished : HasNoNewline beginning
@@ -80,33 +57,18 @@ pub record RunsToUnread (strict : Bool) (start : Workspace) (input : List ℕ) (
   pub now : Machine
   pub lines : ℕ
   pub replied : ℕ
-  pub progress : Progress strict start input (lines_of (beginning ++ rest)) (workspace now stored) before after lines replied
+  pub progress : Progress start input (lines_of (beginning ++ rest)) (workspace now stored) before after lines replied
 
 -- some lines were handled, and one more, whose step is done, files and all, and of the reply to which the beginning is written
-pub record RunsToWrite (strict : Bool) (start : Workspace) (input : List ℕ) (before after : Option (List ℕ)) (stored : StoreParts) : Type 0 where
+pub record RunsToWrite (start : Workspace) (input : List ℕ) (before after : Option (List ℕ)) (stored : StoreParts) : Type 0 where
   pub mid : Workspace
   pub line : List ℕ
   pub left : List (List ℕ)
   pub written : Option (List ℕ)
   pub lines : ℕ
   pub replied : ℕ
-  pub progress : Progress strict start input (line ∷ left) mid before written lines replied
+  pub progress : Progress start input (line ∷ left) mid before written lines replied
   pub reply : Reply
   pub now : Machine
   pub step : StepIn line mid (Some reply) (workspace now stored)
   pub beginning : TakesBeginning (reply_line reply) written after
-
--- a strict run: the lines were handled up to and with the first that was refused, and each reply is written whole
-pub record RunsToRefused (strict : Bool) (start : Workspace) (input : List ℕ) (before after : Option (List ℕ)) (stored : StoreParts) : Type 0 where
-  pub mid : Workspace
-  pub line : List ℕ
-  pub left : List (List ℕ)
-  pub written : Option (List ℕ)
-  pub lines : ℕ
-  pub replied : ℕ
-  pub progress : Progress strict start input (line ∷ left) mid before written lines replied
-  pub strictly : IsTrue strict
-  pub refusal : Refusal
-  pub now : Machine
-  pub step : StepIn line mid (Some (Refused refusal)) (workspace now stored)
-  pub reply : Appends written after (reply_line (Refused refusal))

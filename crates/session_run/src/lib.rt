@@ -6,4 +6,4 @@ mod strict;
 mod writing;
 
 pub use running::{RunFault, Summary, run, step};
-pub use strict::{Report, Unsaved};
+pub use strict::{Report, StrictFault, Unsaved, run_strict};

@@ -1,14 +1,15 @@
-ghost use Rattle.std.specs.Prelude.{◌≡◌, ◌≤◌, Option, IsErrOf, IfOk, IfSome, is_some, ◌⊎◌};
+ghost use Rattle.std.specs.Prelude.{◌≡◌, ◌≤◌, [], Option, IsErrOf, IsTrue, IfOk, IfSome, OnErr, OnOk, ◌⊎◌};
 ghost use Rattle.undo_stack.specs.declared.limits.TheConstants.{MAX_LIMIT};
 ghost use Rattle.editor.specs.declared.planned.Edit.{Edit};
 ghost use Rattle.editor.specs.Editors.{IsSound, machine_of};
 ghost use Rattle.editor.specs.Machine.{started_machine, workspace};
 ghost use Rattle.editor.specs.Steps.{Step, StepIn};
 ghost use Rattle.session.specs.Spelling.{CanBeSpelled};
-ghost use Rattle.session_run.specs.Runs.{RunsAll, RunsToRefused, RunsToUnread, RunsToUnsaved, RunsToWrite};
-ghost use Rattle.session_run.specs.WithinRuns.{PutsSame, StepFound};
+ghost use Rattle.session_run.specs.Runs.{RunsAll, RunsToUnread, RunsToWrite};
+ghost use Rattle.session_run.specs.StrictRuns.{Tells};
+ghost use Rattle.session_run.specs.WithinRuns.{EndsAs, EndsInWrite, PutsSame, StepFound, Stops, StopsInWrite, StopsUnread, TellsEnd};
 
-use crate::strict::{Report, end_refused, ending, ends_unsaved};
+use crate::strict::{End, Nobody, Report, end_over, end_refused, ending};
 use crate::writing::{flush_if, write_reply};
 use arrayvec::ArrayString;
 use command_api::Command;
@@ -39,12 +40,23 @@ pub enum RunFault {
     /// There was no memory for the line buffer. Nothing was read or written.
     #[error("no memory")]
     Memory,
-    /// A line of a strict run was refused. That line and those before it are done, and no later one is. All replies were written.
-    #[error("line refused")]
-    Refused,
-    /// A strict run has read its whole input, and not each document is clean. All replies were written.
-    #[error("unsaved changes")]
-    Unsaved,
+}
+
+/// How the lines of a run ended, where no fault ended them.
+#[derive(Drop)]
+struct Stopped {
+    summary: Summary,
+    /// The refusal that ended a strict run.
+    refusal: Option<Refusal>,
+    /// It shows the last line.
+    lines: LineReader,
+}
+
+/// How a run ended, where no fault ended it.
+#[derive(Clone, Copy)]
+pub struct Ended {
+    pub summary: Summary,
+    pub end: End,
 }
 
 // A command in a box, where there is memory.
@@ -128,33 +140,31 @@ fn step_found<C: Command, S: MapStore, F: Fn(Edit) -> Option<C>>(
     }
 }
 
-// Does the steps of all lines and writes the replies, from the state of an editor on. What a line plans is put into a command by `put`.
-fn step_all<C: Command, R: Read, W: Write, S: MapStore, F: Fn(Edit) -> Option<C>, T: Report>(
+// Does the steps of all lines, or in a strict run of those up to the first that is refused, and writes the replies. What a line
+// plans is put into a command by `put`.
+#[inline(always)]
+fn step_all<C: Command, R: Read, W: Write, S: MapStore, F: Fn(Edit) -> Option<C>>(
     alloc: Global,
-    mut editor: Editor<C>,
+    editor: &mut Editor<C>,
     reader: &mut R,
     writer: &mut W,
     store: &mut S,
-    put: F,
-    strict: Option<&T>,
-) -> Result<Summary, RunFault>
-    requires sound { IsSound C.change editor }
-    requires callable { F.IsAlwaysCallable put }
-    requires same { (edit : Edit) (command : Option C) → F.post put edit command → PutsSame C.change edit command }
-    ensures ok { IfOk result (λ summary. IfSome (R.remaining reader.old) (λ input.
-        RunsAll (is_some strict.entry) (workspace (machine_of C.change editor) (S.stored store.old)) input (W.contents writer.old) (W.contents writer.new) (S.stored store.new)
-        summary.lines summary.replies)) }
+    put: &F,
+    is_strict: bool,
+) -> Result<Stopped, RunFault>
+    requires sound { IsSound C.change editor.old }
+    requires callable { F.IsAlwaysCallable put.now }
+    requires same { (edit : Edit) (command : Option C) → F.post put.now edit command → PutsSame C.change edit command }
+    ensures sound { OnOk result (IsSound C.change editor.new) }
+    ensures ok { IfOk result (λ stopped. IfSome (R.remaining reader.old) (λ input.
+        Stops is_strict (workspace (machine_of C.change editor.old) (S.stored store.old)) input stopped.refusal (workspace (machine_of C.change editor.new) (S.stored store.new)) stopped.lines.line
+        (W.contents writer.old) (W.contents writer.new) stopped.summary.lines stopped.summary.replies)) }
+    ensures strict { IfOk result (λ stopped. IfSome stopped.refusal (λ _. IsTrue is_strict)) }
     ensures read { IsErrOf result RunFault.Read → IfSome (R.remaining reader.old) (λ input.
-        RunsToUnread (is_some strict.entry) (workspace (machine_of C.change editor) (S.stored store.old)) input (R.remaining reader.new) (W.contents writer.old) (W.contents writer.new) (S.stored store.new)) }
+        StopsUnread is_strict (workspace (machine_of C.change editor.old) (S.stored store.old)) input (R.remaining reader.new) (W.contents writer.old) (W.contents writer.new) (S.stored store.new)) }
     ensures write { IsErrOf result RunFault.Write → IfSome (R.remaining reader.old) (λ input.
-        RunsToUnread (is_some strict.entry) (workspace (machine_of C.change editor) (S.stored store.old)) input (R.remaining reader.new) (W.contents writer.old) (W.contents writer.new) (S.stored store.new)
-        ⊎ RunsToRefused (is_some strict.entry) (workspace (machine_of C.change editor) (S.stored store.old)) input (W.contents writer.old) (W.contents writer.new) (S.stored store.new)
-        ⊎ RunsToWrite (is_some strict.entry) (workspace (machine_of C.change editor) (S.stored store.old)) input (W.contents writer.old) (W.contents writer.new) (S.stored store.new)) }
+        StopsInWrite is_strict (workspace (machine_of C.change editor.old) (S.stored store.old)) input (R.remaining reader.new) (W.contents writer.old) (W.contents writer.new) (S.stored store.new)) }
     ensures memory { IsErrOf result RunFault.Memory → (writer.new ≡ writer.old) × (reader.new ≡ reader.old) × (store.new ≡ store.old) }
-    ensures refused { IsErrOf result RunFault.Refused → IfSome (R.remaining reader.old) (λ input.
-        RunsToRefused (is_some strict.entry) (workspace (machine_of C.change editor) (S.stored store.old)) input (W.contents writer.old) (W.contents writer.new) (S.stored store.new)) }
-    ensures unsaved { IsErrOf result RunFault.Unsaved → IfSome (R.remaining reader.old) (λ input.
-        RunsToUnsaved (is_some strict.entry) (workspace (machine_of C.change editor) (S.stored store.old)) input (W.contents writer.old) (W.contents writer.new) (S.stored store.new)) }
 {
     let Ok(mut lines) = LineReader::new(alloc) else {
         return Err(RunFault::Memory);
@@ -171,12 +181,17 @@ fn step_all<C: Command, R: Read, W: Write, S: MapStore, F: Fn(Edit) -> Option<C>
         }
         let found = match lines.next(reader) {
             Ok(Some(found)) => found,
-            Ok(None) if ends_unsaved(strict, editor.group()) => return Err(RunFault::Unsaved),
-            Ok(None) => return Ok(summary),
+            Ok(None) => {
+                return Ok(Stopped {
+                    summary,
+                    refusal: None,
+                    lines,
+                });
+            }
             Err(_) => return Err(RunFault::Read),
         };
         summary.lines += 1;
-        let Some(reply) = step_found(alloc, &mut editor, store, found, lines.line(), &put) else {
+        let Some(reply) = step_found(alloc, editor, store, found, lines.line(), put) else {
             continue 'session;
         };
         let refusal = reply.refusal();
@@ -184,65 +199,41 @@ fn step_all<C: Command, R: Read, W: Write, S: MapStore, F: Fn(Edit) -> Option<C>
             return Err(RunFault::Write);
         }
         summary.replies += 1;
-        if let Some(refusal) = ending(strict, refusal) {
-            if end_refused(writer, strict, summary.lines, &lines, refusal).is_err() {
-                return Err(RunFault::Write);
-            }
-            return Err(RunFault::Refused);
+        if let Some(refusal) = ending(is_strict, refusal) {
+            return Ok(Stopped {
+                summary,
+                refusal: Some(refusal),
+                lines,
+            });
         }
     }
 }
 
-/// Reads session lines to the end of the input, and writes a reply to each but the quiet ones. The maps that lines open
-/// and save are files of the store. The limit is the undo limit of each document when it is made, at most 1,000,000, where 0
-/// stands for none.
-///
-/// The replies are those of the machine that keeps, for each open document, a history of whole documents, and so are the
-/// files where the store is honest. Where it is not, it may find any bytes at an `open`, and nothing is said of its files.
-/// The writer is flushed before each read that may wait, before an `Ok`, and where a strict run ends.
-///
-/// A strict run is one with a report. The first refused line ends it, and so does the end of the input where a document has
-/// unsaved changes or an open macro; the report says which line or documents.
-pub fn run<R: Read, W: Write, S: MapStore, T: Report>(
+// Does a run, strict or not, and tells the report what ended a strict one. `run` and `run_strict` both call it, so the loop over
+// lines stands once in a program.
+#[inline(never)]
+pub fn run_lines<R: Read, W: Write, S: MapStore>(
     alloc: Global,
     reader: &mut R,
     writer: &mut W,
     store: &mut S,
     limit: usize,
-    strict: Option<&T>,
-) -> Result<Summary, RunFault>
+    is_strict: bool,
+    report: &mut dyn Report,
+) -> Result<Ended, RunFault>
     requires { limit ≤ MAX_LIMIT }
-
-    // All lines of the input were handled, and the replies and the files are those of the machine.
-    ensures ok { IfOk result (λ summary. IfSome (R.remaining reader.old) (λ input.
-        RunsAll (is_some strict.entry) (workspace (started_machine limit) (S.stored store.old)) input (W.contents writer.old) (W.contents writer.new) (S.stored store.new)
-        summary.lines summary.replies)) }
-
-    // All whole lines that were taken from the reader are done, files and all, and the replies to them were written whole. What
-    // came of a line not whole and what the reader still has are the rest of the input.
+    ensures ok { IfOk result (λ ended. IfSome (R.remaining reader.old) (λ input.
+        EndsAs ended.end is_strict (workspace (started_machine limit) (S.stored store.old)) input (W.contents writer.old) (W.contents writer.new) (S.stored store.new)
+        ended.summary.lines ended.summary.replies (told report.old) (told report.new))) }
+    ensures told { IfOk result (λ ended. TellsEnd ended.end (told report.old) (told report.new)) }
+    ensures untold { OnErr result (Tells (told report.old) (told report.new) []) }
     ensures read { IsErrOf result RunFault.Read → IfSome (R.remaining reader.old) (λ input.
-        RunsToUnread (is_some strict.entry) (workspace (started_machine limit) (S.stored store.old)) input (R.remaining reader.new) (W.contents writer.old) (W.contents writer.new) (S.stored store.new)) }
-
-    // A flush failed before a read: all whole lines that were taken from the reader are done, and so on as at a read fault. Or the
-    // flush failed with which a strict run ends at a refused line. Or a write failed: all replies before the one that could not
-    // be written were written whole, its line is done too, files and all, and of it the beginning was written, and not all.
+        StopsUnread is_strict (workspace (started_machine limit) (S.stored store.old)) input (R.remaining reader.new) (W.contents writer.old) (W.contents writer.new) (S.stored store.new)) }
     ensures write { IsErrOf result RunFault.Write → IfSome (R.remaining reader.old) (λ input.
-        RunsToUnread (is_some strict.entry) (workspace (started_machine limit) (S.stored store.old)) input (R.remaining reader.new) (W.contents writer.old) (W.contents writer.new) (S.stored store.new)
-        ⊎ RunsToRefused (is_some strict.entry) (workspace (started_machine limit) (S.stored store.old)) input (W.contents writer.old) (W.contents writer.new) (S.stored store.new)
-        ⊎ RunsToWrite (is_some strict.entry) (workspace (started_machine limit) (S.stored store.old)) input (W.contents writer.old) (W.contents writer.new) (S.stored store.new)) }
-
-    // For the line buffer alone, and before anything was read or written.
+        EndsInWrite is_strict (workspace (started_machine limit) (S.stored store.old)) input (R.remaining reader.new) (W.contents writer.old) (W.contents writer.new) (S.stored store.new)) }
     ensures memory { IsErrOf result RunFault.Memory → (writer.new ≡ writer.old) × (reader.new ≡ reader.old) × (store.new ≡ store.old) }
-
-    // A strict run has handled the lines up to and with the first that was refused, and they are done.
-    ensures refused { IsErrOf result RunFault.Refused → IfSome (R.remaining reader.old) (λ input.
-        RunsToRefused (is_some strict.entry) (workspace (started_machine limit) (S.stored store.old)) input (W.contents writer.old) (W.contents writer.new) (S.stored store.new)) }
-
-    // A strict run has handled all lines, and leaves a document that is not clean.
-    ensures unsaved { IsErrOf result RunFault.Unsaved → IfSome (R.remaining reader.old) (λ input.
-        RunsToUnsaved (is_some strict.entry) (workspace (started_machine limit) (S.stored store.old)) input (W.contents writer.old) (W.contents writer.new) (S.stored store.new)) }
 {
-    let editor: Editor<Box<dyn Command>> = Editor::new(alloc, limit);
+    let mut editor: Editor<Box<dyn Command>> = Editor::new(alloc, limit);
     // Each kind of command is boxed by its own type.
     let put = |edit: Edit| -> Option<Box<dyn Command>>
         ensures { PutsSame (λ command. change command) edit result }
@@ -265,5 +256,60 @@ pub fn run<R: Read, W: Write, S: MapStore, T: Report>(
             Edit::RemoveTileset(command) => Some(boxed(alloc, command)?),
         }
     };
-    step_all(alloc, editor, reader, writer, store, put, strict)
+    let stopped = match step_all(alloc, &mut editor, reader, writer, store, &put, is_strict) {
+        Ok(stopped) => stopped,
+        Err(fault) => return Err(fault),
+    };
+    let summary = stopped.summary;
+    let Some(refusal) = stopped.refusal else {
+        let end = end_over(is_strict, editor.group(), report);
+        return Ok(Ended { summary, end });
+    };
+    if end_refused(writer, report, summary.lines, &stopped.lines, refusal).is_err() {
+        return Err(RunFault::Write);
+    }
+    let end = End::Refused;
+    Ok(Ended { summary, end })
+}
+
+/// Reads session lines to the end of the input, and writes a reply to each but the quiet ones. The maps that lines open
+/// and save are files of the store. The limit is the undo limit of each document when it is made, at most 1,000,000, where 0
+/// stands for none.
+///
+/// The replies are those of the machine that keeps, for each open document, a history of whole documents, and so are the
+/// files where the store is honest. Where it is not, it may find any bytes at an `open`, and nothing is said of its files.
+/// The writer is flushed before each read that may wait, and before an `Ok`.
+pub fn run<R: Read, W: Write, S: MapStore>(
+    alloc: Global,
+    reader: &mut R,
+    writer: &mut W,
+    store: &mut S,
+    limit: usize,
+) -> Result<Summary, RunFault>
+    requires { limit ≤ MAX_LIMIT }
+
+    // All lines of the input were handled, and the replies and the files are those of the machine.
+    ensures ok { IfOk result (λ summary. IfSome (R.remaining reader.old) (λ input.
+        RunsAll (workspace (started_machine limit) (S.stored store.old)) input (W.contents writer.old) (W.contents writer.new) (S.stored store.new)
+        summary.lines summary.replies)) }
+
+    // All whole lines that were taken from the reader are done, files and all, and the replies to them were written whole. What
+    // came of a line not whole and what the reader still has are the rest of the input.
+    ensures read { IsErrOf result RunFault.Read → IfSome (R.remaining reader.old) (λ input.
+        RunsToUnread (workspace (started_machine limit) (S.stored store.old)) input (R.remaining reader.new) (W.contents writer.old) (W.contents writer.new) (S.stored store.new)) }
+
+    // A flush failed before a read: all is as at a read fault. Or a write failed: all replies before the one that could not be
+    // written were written whole, its line is done too, files and all, and of it the beginning was written, and not all.
+    ensures write { IsErrOf result RunFault.Write → IfSome (R.remaining reader.old) (λ input.
+        RunsToUnread (workspace (started_machine limit) (S.stored store.old)) input (R.remaining reader.new) (W.contents writer.old) (W.contents writer.new) (S.stored store.new)
+        ⊎ RunsToWrite (workspace (started_machine limit) (S.stored store.old)) input (W.contents writer.old) (W.contents writer.new) (S.stored store.new)) }
+
+    // For the line buffer alone, and before anything was read or written.
+    ensures memory { IsErrOf result RunFault.Memory → (writer.new ≡ writer.old) × (reader.new ≡ reader.old) × (store.new ≡ store.old) }
+{
+    let mut nobody = Nobody;
+    match run_lines(alloc, reader, writer, store, limit, false, &mut nobody) {
+        Ok(ended) => Ok(ended.summary),
+        Err(fault) => Err(fault),
+    }
 }

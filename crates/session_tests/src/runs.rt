@@ -1,6 +1,5 @@
 use map_store::MemoryStore;
-use session::Refusal;
-use session_run::{Report, RunFault, Summary, Unsaved, run};
+use session_run::{RunFault, Summary, run};
 use std::alloc::{AllocError, Global};
 use std::io;
 use std::io::{BufWriter, Read, Write};
@@ -9,20 +8,9 @@ use std::test::Fail;
 mod faults;
 mod flushes;
 mod stores;
+mod strict;
 
 pub use stores::MAP;
-
-/// Reports nothing.
-struct Silent;
-
-impl Report for Silent {
-    fn refused(&self, _number: u64, _text: Option<&str>, _refusal: Refusal) {}
-
-    fn unsaved(&self, _document: &str, _unsaved: Unsaved) {}
-}
-
-/// These runs are not strict.
-const LENIENT: Option<&Silent> = None;
 
 /// More than a test's calls, and more than its bytes.
 const MANY: u32 = 1_000_000;
@@ -141,10 +129,10 @@ fn taken(
     let mut store = MemoryStore::new(alloc);
     if has_buffer {
         let mut writer = BufWriter::new(alloc, sink).map_err(|_| AllocError)?;
-        let end = run(alloc, &mut source, &mut writer, &mut store, 0, LENIENT);
+        let end = run(alloc, &mut source, &mut writer, &mut store, 0);
         return told_of(alloc, writer.get_ref(), &end);
     }
-    let end = run(alloc, &mut source, &mut sink, &mut store, 0, LENIENT);
+    let end = run(alloc, &mut source, &mut sink, &mut store, 0);
     told_of(alloc, &sink, &end)
 }
 

@@ -1,5 +1,5 @@
 // The forms of session lines, and the word at which a refused line leaves them.
-use crate::options::shown_forms;
+use crate::command_line::shown_forms;
 use crate::word_kinds::{
     is_block, is_coordinate, is_key, is_name, is_number, is_number_within, is_owner, is_text,
     is_type, is_value,

@@ -1,16 +1,17 @@
 //! The program: session lines from standard input, and a reply to each on standard output.
 #![tactic(auto)]
 
+mod choices;
+mod command_line;
 mod forms;
-mod options;
 mod reports;
 mod word_kinds;
 
-use crate::options::parse_options;
+use crate::command_line::options;
 use crate::reports::{ErrorLines, FolderFaults, look_at_folder};
 use clap::error::ErrorKind;
 use map_store::FolderStore;
-use session_run::{RunFault, run};
+use session_run::{RunFault, StrictFault, run, run_strict};
 use std::env::Env;
 use std::fmt::Display;
 use std::io::BufWriter;
@@ -71,34 +72,41 @@ fn main(rt: HostRuntime) -> ExitCode {
         Ok(words) => words,
         Err(error) => return ends_without_words(&rt, &error),
     };
-    let options = match parse_options(rt.alloc(), words.as_slice()) {
-        Ok(options) => options,
+    let chosen = match options(rt.alloc(), words.as_slice()) {
+        Ok(chosen) => chosen,
         Err(answer) => return ends_with_answer(&rt, &answer),
     };
     let Ok(mut writer) = BufWriter::new(rt.alloc(), rt.stdout()) else {
         return ends(&rt, RunFault::Memory, FAILED);
     };
-    look_at_folder(&rt, options.folder);
-    let files = FolderStore::new(&rt, options.folder).telling("tile_editor");
-    let faults = FolderFaults::new(&rt, options.folder);
+    look_at_folder(&rt, chosen.folder);
+    let files = FolderStore::new(&rt, chosen.folder).telling("tile_editor");
+    let faults = FolderFaults::new(&rt, chosen.folder);
     // One type of store with and without the option: the compiler folds what `run` calls once into it.
-    let mut store = TiledStore::new(files, faults, options.opens_all_maps);
-    let report = ErrorLines::new(&rt, rt.alloc());
-    let strict = if options.is_strict {
-        Some(&report)
+    let mut store = TiledStore::new(files, faults, chosen.opens_all_maps);
+    let ended = if chosen.is_strict {
+        let mut report = ErrorLines::new(&rt, rt.alloc());
+        run_strict(
+            rt.alloc(),
+            &mut rt.stdin(),
+            &mut writer,
+            &mut store,
+            chosen.limit,
+            &mut report,
+        )
     } else {
-        None
+        run(
+            rt.alloc(),
+            &mut rt.stdin(),
+            &mut writer,
+            &mut store,
+            chosen.limit,
+        )
+        .map_err(|fault| StrictFault::Run(fault))
     };
-    match run(
-        rt.alloc(),
-        &mut rt.stdin(),
-        &mut writer,
-        &mut store,
-        options.limit,
-        strict,
-    ) {
+    match ended {
         Ok(_) => ExitCode::SUCCESS,
-        Err(RunFault::Refused | RunFault::Unsaved) => ExitCode::from(NOT_DONE),
-        Err(fault) => ends(&rt, fault, FAILED),
+        Err(StrictFault::Refused | StrictFault::Unsaved) => ExitCode::from(NOT_DONE),
+        Err(StrictFault::Run(fault)) => ends(&rt, fault, FAILED),
     }
 }

@@ -59,7 +59,7 @@ impl<'a, R: Eprint> ErrorLines<'a, R> {
 }
 
 impl<'a, R: Eprint> Report for ErrorLines<'a, R> {
-    fn refused(&self, number: u64, text: Option<&str>, refusal: Refusal) {
+    fn refused(&mut self, number: u64, text: Option<&str>, refusal: Refusal) {
         let words = refusal.words();
         let _ = match text {
             Some(text) => {
@@ -71,7 +71,7 @@ impl<'a, R: Eprint> Report for ErrorLines<'a, R> {
         };
     }
 
-    fn unsaved(&self, document: &str, unsaved: Unsaved) {
+    fn unsaved(&mut self, document: &str, unsaved: Unsaved) {
         let what = match unsaved {
             Unsaved::OpenMacro => "macro open",
             Unsaved::Changes => "unsaved changes",

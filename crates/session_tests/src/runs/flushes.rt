@@ -1,6 +1,6 @@
 use super::{
-    LENIENT, MANY, ONE, SEVERAL, Script, Sink, Source, WHOLE, first_replies, read_script,
-    source_of, taken, whole_lines,
+    MANY, ONE, SEVERAL, Script, Sink, Source, WHOLE, first_replies, read_script, source_of, taken,
+    whole_lines,
 };
 use map_store::MemoryStore;
 use session_run::run;
@@ -50,9 +50,9 @@ fn flush_faults_come_behind_whole_replies(rt: HostRuntime) -> Result<(), Fail> {
 
 /// Counts the bytes that it takes, and shows how many of them it had taken at its last flush.
 #[derive(Drop)]
-struct Counter<'a> {
-    bytes: usize,
-    flushed: &'a Cell<usize>,
+pub struct Counter<'a> {
+    pub bytes: usize,
+    pub flushed: &'a Cell<usize>,
 }
 
 impl<'a> Write for Counter<'a> {
@@ -109,9 +109,9 @@ fn each_read_finds_all_replies_flushed(rt: HostRuntime) -> Result<(), Fail> {
             let mut store = MemoryStore::new(alloc);
             if has_buffer {
                 let mut writer = BufWriter::new(alloc, writer)?;
-                run(alloc, &mut reader, &mut writer, &mut store, 0, LENIENT)?;
+                run(alloc, &mut reader, &mut writer, &mut store, 0)?;
             } else {
-                run(alloc, &mut reader, &mut writer, &mut store, 0, LENIENT)?;
+                run(alloc, &mut reader, &mut writer, &mut store, 0)?;
             }
             assert_eq!(rt; reader.seen.as_slice(), due.as_slice(), "by {step}");
         }

@@ -1,4 +1,4 @@
-use super::{LENIENT, MANY, Sink, Source, WHOLE, read_script, source_of, told_of, whole_lines};
+use super::{MANY, Sink, Source, WHOLE, read_script, source_of, told_of, whole_lines};
 use map_store::{FuseStore, MapStore, MemoryStore};
 use session_run::run;
 use std::alloc::{AllocError, Global};
@@ -25,7 +25,7 @@ fn told_over_files(
     fails_at: u64,
 ) -> Result<String, AllocError> {
     let mut store = FuseStore::new(one_file(alloc)?, fails_at);
-    let end = run(alloc, &mut source, &mut sink, &mut store, 0, LENIENT);
+    let end = run(alloc, &mut source, &mut sink, &mut store, 0);
     let told = told_of(alloc, &sink, &end)?;
     let mut files = store.into_inner();
     match files.load(alloc, "n.tmj") {

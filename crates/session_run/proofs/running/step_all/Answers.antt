@@ -1,10 +1,20 @@
-use Rattle.std.proofs.Common.{◌<◌, refl, sym, subst, ◌∙◌, arith}
-use Rattle.lines.specs.Reading.{budget}
-use Rattle.undo_group.specs.Groups.{GroupParts}
-use Rattle.session_run.specs.Runs.{AreClean}
-use Rattle.session_run.proofs.Progress.{goes_replied, goes_quiet, goes_unwritten, goes_keeps, goes_all, goes_refused, goes_unflushed, goes_unread, goes_unsaved, goes_unshown, keeps_appends, no_line-HasNoNewline, refusal_of-Some}
+use Rattle.std.proofs.Common.{◌≡◌, ◌<◌, ◌≤◌, ◌+◌, ◌^◌, false, true, ap, refl, subst, sym, ◌∙◌, lit≤, arith}
+use Rattle.lines.specs.Reading.{Reading, budget, fresh}
+use Rattle.session_run.proofs.Progress.{goes_none, goes_replied, goes_quiet, goes_unwritten, goes_keeps, goes_all, goes_refused, goes_unflushed, goes_unread, no_line-HasNoNewline, refusal_of-Some}
 use Rattle.session_run.proofs.Appending.{at_ok, at_err}
 use Rattle.session_run.proofs.running.step_all.Goals as goal
+
+pub session-init : goal.session-init
+session-init g c =
+    let is : c.in-Ok.lines ≡ fresh = c.in-Ok.ensures in
+    let P : Reading → Type 0 = λ r. 0 + budget r ≤ 2 ^ 48 in
+    record {
+      sound = c.requires.sound;
+      ended = λ h. absurd (let bad : false ≡ true = sym (ap (λ (r : Reading). r.ended) is) ∙ h in cc);
+      goes = goes_none _ _ _ _ _ is;
+      bounded = subst P (sym is) (lit≤ tt);
+      few = omega arith;
+    }
 
 pub session-preserved-in_default-step_found : goal.session-preserved-in_default-step_found
 session-preserved-in_default-step_found g c =
@@ -35,15 +45,6 @@ returns-then-is_err-2-clause-write g c = λ e. goes_unwritten _ _ _ _ _ _ _ _ _ 
     (rw c.in-Ok-Some.field-0-is at c.in-Ok-Some.ensures.found) (rw c.line.ensures at c.in-Some.ensures.step)
     (at_err _ (sym c.is_err-in-session.ensures.value ∙ c.if-is_err-2.true) c.write_reply.ensures.err)
 
--- the reply to a refused line of a strict run was written, and could not be flushed
-pub returns-then-is_err-3-clause-write : goal.returns-then-is_err-3-clause-write
-returns-then-is_err-3-clause-write g c = λ e.
-    let is = refusal_of-Some _ _ (sym c.refusal-refusal.ensures ∙ c.in-Some-ending.ensures.some) in
-    goes_unshown _ _ _ _ _ _ _ (goes_refused _ _ _ _ _ _ _ _ _ _ _ _ _ _ _ (goes_keeps _ _ _ _ _ _ _ _ _ _ c.session.invariant.goes c.flush_if.ensures.bytes) (rw c.in-Ok-Some.field-0-is at c.in-Ok-Some.ensures.found)
-    (rw (c.line.ensures, is) at c.in-Some.ensures.step)
-    (keeps_appends _ _ _ _ (rw is at (at_ok _ (sym c.is_err-in-session.ensures.value ∙ c.if-is_err-2.false) c.write_reply.ensures.ok)) c.end_refused.ensures)
-    c.in-Some-ending.ensures.strict)
-
 -- a flush is wanted where no whole line is at hand
 pub returns-then-is_err-clause-write : goal.returns-then-is_err-clause-write
 returns-then-is_err-clause-write g c = λ e.
@@ -51,22 +52,16 @@ returns-then-is_err-clause-write g c = λ e.
     goes_unflushed _ _ _ _ _ _ _ _ _ _ _ (goes_keeps _ _ _ _ _ _ _ _ _ _ c.session.invariant.goes c.flush_if.ensures.bytes) refl
     (no_line-HasNoNewline _ _ c.has_line.ensures wanted)
 
-pub returns-in-Ok-None-2-clause-ok : goal.returns-in-Ok-None-2-clause-ok
-returns-in-Ok-None-2-clause-ok g c =
+pub returns-in-Ok-None-clause-ok : goal.returns-in-Ok-None-clause-ok
+returns-in-Ok-None-clause-ok g c =
     goes_all _ _ _ _ _ _ _ _ _ _ _ (goes_keeps _ _ _ _ _ _ _ _ _ _ c.session.invariant.goes c.flush_if.ensures.bytes) (rw c.in-Ok-None.field-0-is at c.in-Ok-None.ensures.found)
-    (λ h. subst (λ (x : GroupParts). AreClean x.documents) c.group.ensures.group (c.ends_unsaved.ensures.clean c.if-ends_unsaved.false h))
 
-pub returns-in-Ok-None-clause-unsaved : goal.returns-in-Ok-None-clause-unsaved
-returns-in-Ok-None-clause-unsaved g c = λ e.
-    goes_unsaved _ _ _ _ _ _ _ _ _ _ _ (goes_keeps _ _ _ _ _ _ _ _ _ _ c.session.invariant.goes c.flush_if.ensures.bytes) (rw c.in-Ok-None.field-0-is at c.in-Ok-None.ensures.found) (c.ends_unsaved.ensures.unsaved c.if-ends_unsaved.true).0
-    (λ clean. (c.ends_unsaved.ensures.unsaved c.if-ends_unsaved.true).1 (subst (λ (x : GroupParts). AreClean x.documents) (sym c.group.ensures.group) clean))
-
-pub returns-in-Some-ending-clause-refused : goal.returns-in-Some-ending-clause-refused
-returns-in-Some-ending-clause-refused g c = λ e.
+pub returns-in-Some-ending-clause-ok : goal.returns-in-Some-ending-clause-ok
+returns-in-Some-ending-clause-ok g c =
     let is = refusal_of-Some _ _ (sym c.refusal-refusal.ensures ∙ c.in-Some-ending.ensures.some) in
     goes_refused _ _ _ _ _ _ _ _ _ _ _ _ _ _ _ (goes_keeps _ _ _ _ _ _ _ _ _ _ c.session.invariant.goes c.flush_if.ensures.bytes) (rw c.in-Ok-Some.field-0-is at c.in-Ok-Some.ensures.found)
     (rw (c.line.ensures, is) at c.in-Some.ensures.step)
-    (keeps_appends _ _ _ _ (rw is at (at_ok _ (sym c.is_err-in-session.ensures.value ∙ c.if-is_err-2.false) c.write_reply.ensures.ok)) c.end_refused.ensures)
+    (rw is at (at_ok _ (sym c.is_err-in-session.ensures.value ∙ c.if-is_err-2.false) c.write_reply.ensures.ok))
     c.in-Some-ending.ensures.strict
 
 pub returns-in-Err-clause-read : goal.returns-in-Err-clause-read
