@@ -8,7 +8,6 @@ use std::test::Fail;
 mod faults;
 mod flushes;
 mod stores;
-mod strict;
 
 pub use stores::MAP;
 

@@ -50,9 +50,9 @@ fn flush_faults_come_behind_whole_replies(rt: HostRuntime) -> Result<(), Fail> {
 
 /// Counts the bytes that it takes, and shows how many of them it had taken at its last flush.
 #[derive(Drop)]
-pub struct Counter<'a> {
-    pub bytes: usize,
-    pub flushed: &'a Cell<usize>,
+struct Counter<'a> {
+    bytes: usize,
+    flushed: &'a Cell<usize>,
 }
 
 impl<'a> Write for Counter<'a> {
