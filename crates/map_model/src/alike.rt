@@ -19,23 +19,25 @@ fn is_row_to(edits: &[CellEdit], last: usize) -> bool
     to.y == from.y && to.x as usize == from.x as usize + last
 }
 
-// How many cells at the head of a list stand side by side, where those up to an index are known to do. It looks at cells by
-// steps that double as long as they do, and then halve.
+// How many cells at the head of a list stand side by side. It looks at cells by steps, of which the first is given: they double
+// as long as the cells do, and then halve. It ends where the next cell does not.
 #[inline(never)]
-fn row_length(edits: &[CellEdit], known: usize) -> usize
-    requires within { known < length edits.now }
+fn row_length(edits: &[CellEdit], first_step: usize) -> usize
+    requires some { 0 < length edits.now }
     requires ordered { AreInRowOrder edits.now }
-    requires known { AreSideBySide (take (known + 1) edits.now) }
     ensures some { 0 < result }
     ensures within { result ≤ length edits.now }
     ensures row { AreSideBySide (take result edits.now) }
 {
-    let mut last = known;
-    let mut step = 8;
+    let mut last = 0;
+    let mut step = first_step;
     while step > 0 {
         if step < edits.len() - last && is_row_to(edits, last + step) {
             last += step;
             step *= 2;
+            if edits.len() - last < 2 || !is_row_to(edits, last + 1) {
+                step = 0;
+            }
         } else {
             step /= 2;
         }
@@ -86,6 +88,7 @@ fn fill(values: &mut [Gid], width: usize, edits: &[CellEdit], value: Gid)
     ensures { values.new ≡ fill_values width value edits.now values.old }
 {
     let mut rest = edits;
+    let mut step = 7;
     while let [
         first,
         second,
@@ -99,8 +102,9 @@ fn fill(values: &mut [Gid], width: usize, edits: &[CellEdit], value: Gid)
     ] = rest
     {
         if is_row_to(rest, 7) {
-            let (row, behind) = rest.split_at(row_length(rest, 7));
+            let (row, behind) = rest.split_at(row_length(rest, step));
             put_row(values, width, row, value);
+            step = row.len() - 1;
             rest = behind;
         } else {
             put_value(values, width, *first, value);
