@@ -81,7 +81,7 @@ fn put_each(values: &mut [Gid], width: usize, edits: &[CellEdit], value: Gid)
 }
 
 // Sets the cells of a list, in the values of a layer of this width, to a value: row by row where eight or more stand side by
-// side, and else eight in each round.
+// side, and else eight in each round. For each row the length of the one before it is tried first.
 fn fill(values: &mut [Gid], width: usize, edits: &[CellEdit], value: Gid)
     requires inside { Each (IsBelow width (length values.old)) edits.now }
     requires ordered { AreInRowOrder edits.now }

@@ -1,4 +1,4 @@
-use Rattle.std.proofs.Common.{◌≡◌, ◌+◌, ◌*◌, add-zero, ap, sym, subst, ◌∙◌, arith}
+use Rattle.std.proofs.Common.{◌+◌, ◌*◌, add-zero, ap, sym, subst, ◌∙◌, arith}
 use Rattle.edits.specs.Flooding.{changes_below}
 use Rattle.edits.proofs.Fills.{changes-unmarked}
 use Rattle.edits.proofs.WordBits.{IsLeft, none-left}
