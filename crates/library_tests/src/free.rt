@@ -115,11 +115,16 @@ impl Command for Fading {
     }
 }
 
+// A free command in a box, not made yet. It fits each document.
 fn new_fading(
     alloc: Global,
+    document: &Document,
     counts: &Rc<Counts>,
     turns_left: u32,
-) -> Result<Box<Fading>, AllocError> {
+) -> Result<Box<Fading>, AllocError>
+    ensures { IfOk result (λ b. (fading b.value.turns_left).fits_redo document.now) }
+{
+    let _ = document;
     let fading = Fading {
         counts: counts.clone()?,
         is_made: false,
@@ -200,7 +205,7 @@ fn told_among_stamps(alloc: Global, turns: u32, calls: &str) -> Result<Option<St
     let mut stack: Stack<Box<dyn Command>> = Stack::new(alloc, town(alloc)?, 0);
     let below: Box<dyn Command> = boxed_stamp(alloc, stack.document(), &first, 0)?;
     push(&mut stack, below)?;
-    let fading: Box<dyn Command> = new_fading(alloc, &free, turns)?;
+    let fading: Box<dyn Command> = new_fading(alloc, stack.document(), &free, turns)?;
     push(&mut stack, fading)?;
     let above: Box<dyn Command> = boxed_stamp(alloc, stack.document(), &last, 1)?;
     push(&mut stack, above)?;
@@ -223,7 +228,7 @@ fn told_behind_a_stamp(
     let is_begun = call_all(&mut stack, before);
     let below: Box<dyn Command> = boxed_stamp(alloc, stack.document(), &first, 0)?;
     push(&mut stack, below)?;
-    let fading: Box<dyn Command> = new_fading(alloc, &free, turns)?;
+    let fading: Box<dyn Command> = new_fading(alloc, stack.document(), &free, turns)?;
     push(&mut stack, fading)?;
     let are_done = call_all(&mut stack, calls);
     let told = told_of(alloc, &stack, &[&first, &free])?;
