@@ -1,5 +1,5 @@
 -- From plans to steps.
-use Rattle.std.proofs.Common.{◌≡◌, List, Option, Some, absurd, ap, subst, sym}
+use Rattle.std.proofs.Common.{◌≡◌, List, Option, Some, ap, subst, sym}
 use Rattle.command_api.specs.Law.{Change, IsSame}
 use Rattle.map_store.specs.Asking.{Asked}
 use Rattle.undo_stack.specs.History.{History}
