@@ -10,5 +10,5 @@ push-requires-2-clause-fits c =
     let made = c.into_dyn_box-in_ok-new_fading.ensures.1 in
     let boxed = c.into_dyn_box-in_ok-new_fading.result in
     let is : (own-1.entry boxed.vtable).1.change boxed.value ≡ fading c.in_ok-new_fading.field-0.value.turns_left =
-        read_made own-1 _ (inr (inl tt)) refl Change (λ j x. j.1.change x) boxed.vtable boxed.value c.in_ok-new_fading.field-0.value made in
+    read_made own-1 _ (inr (inl tt)) refl Change (λ j x. j.1.change x) boxed.vtable boxed.value c.in_ok-new_fading.field-0.value made in
     rw is (record { fits = tt })
