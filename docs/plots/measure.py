@@ -79,7 +79,7 @@ def closing(folder):
 def tilesets(folder):
     for count in (1, 16, 256):
         before = [NEW] + [f'tileset add {at * 1_000 + 1} t{at}.tsj' for at in range(1, count)]
-        values = ' '.join(str(at % 900 + 1) for at in range(64 * 64))
+        values = ','.join(str(at % 900 + 1) for at in range(64 * 64))
         yield count, a_line(before, [f'stamp 1 {at} 0 64 {values}' for at in range(5)], folder)
 
 
