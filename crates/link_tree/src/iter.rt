@@ -1,0 +1,115 @@
+ghost use Rattle.std.specs.Prelude.{◌≡◌, ◌+◌, ◌≤◌, ◌++◌, length};
+ghost use Rattle.std.specs.Iterator.{YieldsFirstRef, item_count};
+ghost use Rattle.link_tree.specs.Trees.{items, IsSized};
+ghost use Rattle.link_tree.specs.Waiting.{waiting, AreLinks};
+
+use crate::tree::Tree;
+use std::marker::Model;
+
+// How many links may wait. A tree of 4,096 links is less deep.
+const ROOM: usize = 32;
+
+/// The items of a list that are left to visit.
+///
+/// These are the last `left` ones of a tree that is deeper than there is room, if there are any, and then those of each
+/// link that waits, the last one first: its item and the links behind it.
+#[derive(Drop)]
+pub struct Iter<'a, T> {
+    waits: [&'a Tree<T>; ROOM],
+    depth: usize,
+    deep: &'a Tree<T>,
+    left: usize,
+}
+
+impl<'a, T> Model for Iter<'a, T> {
+    ghost use Rattle.std.specs.Prelude.{List, ◌≤◌, ◌-◌, ◌++◌, drop, length};
+    ghost use Rattle.std.specs.Coded.{coded_list};
+    ghost use Rattle.link_tree.specs.declared.iter.TheConstants.{ROOM};
+    ghost use Rattle.link_tree.specs.Trees.{items, IsSized};
+    ghost use Rattle.link_tree.specs.Waiting.{waiting, AreLinks};
+
+    ghost Value = { List T };
+
+    ghost coded = { coded_list T.code };
+
+    ghost view = { λ a. drop (length (items a.deep.now) - a.left) (items a.deep.now) ++ waiting a.waits a.depth };
+
+    ghost invariant = { λ a. (a.depth ≤ ROOM) × (AreLinks a.waits a.depth × (IsSized a.deep.now × (a.left ≤ length (items a.deep.now)))) };
+}
+
+// Lets the links on the way to a tree's first one wait, and hands back how many wait then, and the part of the tree for
+// which there is no room.
+fn go_down<'a, T>(
+    waits: &mut [&'a Tree<T>],
+    depth: usize,
+    tree: &'a Tree<T>,
+) -> (usize, &'a Tree<T>)
+    requires room { depth ≤ length waits.old }
+    requires links { AreLinks waits.old depth }
+    requires sized { IsSized tree.now }
+    ensures room { result.0 ≤ length waits.old }
+    ensures links { AreLinks waits.new result.0 }
+    ensures sized { IsSized result.1.now }
+    ensures items { items result.1.now ++ waiting waits.new result.0 ≡ items tree.now ++ waiting waits.old depth }
+{
+    match tree {
+        Tree::Empty => (depth, tree),
+        Tree::Filled(link) => {
+            if depth < waits.len() {
+                waits[depth] = tree;
+                go_down(waits, depth + 1, &link.left)
+            } else {
+                (depth, tree)
+            }
+        }
+    }
+}
+
+impl<'a, T> Iter<'a, T> {
+    pub(crate) fn over(tree: &'a Tree<T>) -> Iter<'a, T>
+        requires { IsSized tree.now }
+        ensures { result ≡ items tree.now }
+    {
+        let mut waits = [tree; ROOM];
+        let (depth, deep) = go_down(&mut waits[..], 0, tree);
+        Iter {
+            waits,
+            depth,
+            deep,
+            left: deep.len(),
+        }
+    }
+}
+
+impl<'a, T> Iterator for Iter<'a, T> {
+    type Item = &'a T;
+
+    ghost next_gives = { YieldsFirstRef (λ s. s) };
+
+    ghost remaining = { item_count (λ s. s) };
+
+    fn next(&mut self) -> Option<&'a T> {
+        if self.left > 0 {
+            let deep = self.deep;
+            let item = deep.get(deep.len() - self.left);
+            self.left -= 1;
+            return Some(item);
+        }
+        if self.depth == 0 {
+            return None;
+        }
+        let above = self.depth - 1;
+        let waits = &self.waits[..];
+        let top = waits[above];
+        match top {
+            Tree::Empty => unreachable!(),
+            Tree::Filled(link) => {
+                let (depth, deep) = go_down(&mut self.waits[..], above, &link.right);
+                self.depth = depth;
+                self.deep = deep;
+                self.left = deep.len();
+                Some(&link.item)
+            }
+        }
+    }
+}
