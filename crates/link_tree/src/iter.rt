@@ -37,29 +37,27 @@ impl<'a, T> Model for Iter<'a, T> {
     ghost invariant = { λ a. (a.depth ≤ ROOM) × (AreLinks a.waits a.depth × (IsSized a.deep.now × (a.left ≤ length (items a.deep.now)))) };
 }
 
-// Lets the links on the way to a tree's first one wait, and hands back how many wait then, and the part of the tree for
+// Lets the links on the way to a tree's first one wait, behind so many others, and hands back the part of the tree for
 // which there is no room.
-fn go_down<'a, T>(
-    waits: &mut [&'a Tree<T>],
-    depth: usize,
-    tree: &'a Tree<T>,
-) -> (usize, &'a Tree<T>)
-    requires room { depth ≤ length waits.old }
-    requires links { AreLinks waits.old depth }
+fn go_down<'a, T>(waits: &mut [&'a Tree<T>], depth: &mut usize, tree: &'a Tree<T>) -> &'a Tree<T>
+    requires room { depth.old ≤ length waits.old }
+    requires links { AreLinks waits.old depth.old }
     requires sized { IsSized tree.now }
-    ensures room { result.0 ≤ length waits.old }
-    ensures links { AreLinks waits.new result.0 }
-    ensures sized { IsSized result.1.now }
-    ensures items { items result.1.now ++ waiting waits.new result.0 ≡ items tree.now ++ waiting waits.old depth }
+    ensures room { depth.new ≤ length waits.old }
+    ensures links { AreLinks waits.new depth.new }
+    ensures sized { IsSized result.now }
+    ensures items { items result.now ++ waiting waits.new depth.new ≡ items tree.now ++ waiting waits.old depth.old }
 {
     match tree {
-        Tree::Empty => (depth, tree),
+        Tree::Empty => tree,
         Tree::Filled(link) => {
-            if depth < waits.len() {
-                waits[depth] = tree;
-                go_down(waits, depth + 1, &link.left)
+            let number = *depth;
+            if number < waits.len() {
+                waits[number] = tree;
+                *depth = number + 1;
+                go_down(waits, depth, &link.left)
             } else {
-                (depth, tree)
+                tree
             }
         }
     }
@@ -71,7 +69,8 @@ impl<'a, T> Iter<'a, T> {
         ensures { result ≡ items tree.now }
     {
         let mut waits = [tree; ROOM];
-        let (depth, deep) = go_down(&mut waits[..], 0, tree);
+        let mut depth = 0;
+        let deep = go_down(&mut waits[..], &mut depth, tree);
         Iter {
             waits,
             depth,
@@ -104,7 +103,8 @@ impl<'a, T> Iterator for Iter<'a, T> {
         match top {
             Tree::Empty => unreachable!(),
             Tree::Filled(link) => {
-                let (depth, deep) = go_down(&mut self.waits[..], above, &link.right);
+                let mut depth = above;
+                let deep = go_down(&mut self.waits[..], &mut depth, &link.right);
                 self.depth = depth;
                 self.deep = deep;
                 self.left = deep.len();

@@ -11,5 +11,5 @@ go_down-requires g t c κs within =
     let sum : length (items link.left ++ link.item ∷ items link.right) ≡ length (items link.left) + (length (items link.right) + 1) = simp length-append (omega arith) in
     (rw c.deref.ensures (omega (arith, whole, sum)), (search rules, (search rules, (links-more _ _ _ (search rules) (search rules) (search rules), search rules))))
 
-pub returns-then-depth-waits-clause-items : goal.returns-then-depth-waits-clause-items
-returns-then-depth-waits-clause-items g t c = grind (arith, common_steps, waiting-more)
+pub returns-then-number-waits-clause-items : goal.returns-then-number-waits-clause-items
+returns-then-number-waits-clause-items g t c = grind (arith, common_steps, waiting-more)

@@ -18,8 +18,8 @@ unreachable-requires g c =
     let links = links-top i.waits 32 i.depth c.index-waits-above.result c.self.told c.self.invariant.0 c.if-self-eq0.false c.index-waits-above.is c.self.invariant.1.0 in
     rw c.in-Empty.is at links.0
 
-pub go_down-depth-requires-clause-sized : goal.go_down-depth-requires-clause-sized
-go_down-depth-requires-clause-sized g c =
+pub go_down-deep-requires-clause-sized : goal.go_down-deep-requires-clause-sized
+go_down-deep-requires-clause-sized g c =
     let i = c.self.inside in
     let links = links-top i.waits 32 i.depth c.index-waits-above.result c.self.told c.self.invariant.0 c.if-self-eq0.false c.index-waits-above.is c.self.invariant.1.0 in
     rw c.deref.ensures (rw c.in-Filled.is at links.0)
@@ -28,12 +28,12 @@ pub returns-clause-steps : goal.returns-clause-steps
 returns-clause-steps g c =
     let i = c.self.inside in
     let link = c.in-Filled.link.value in
-    let rest = c.go_down-depth.result.1.now in
+    let rest = c.go_down-deep.result.now in
     let top : waiting i.waits i.depth ≡ (link.item ∷ items link.right) ++ waiting i.waits (i.depth - 1) =
     rw c.in-Filled.is at
     (waiting-top i.waits 32 i.depth c.index-waits-above.result c.self.told c.self.invariant.0 c.if-self-eq0.false c.index-waits-above.is) in
     rw (← c.self.view_is, c.deref-in-Filled.ensures, latest-none (items i.deep.now) i.left c.if-self-gt0.false, top, latest-all (items rest) c.len-self-inside.result c.len-self-inside.ensures)
-    (ap (λ xs. link.item ∷ xs) (sym (rw c.deref.ensures at c.go_down-depth.ensures.items)))
+    (ap (λ xs. link.item ∷ xs) (sym (rw c.deref.ensures at c.go_down-deep.ensures.items)))
 
 pub returns-clause-goes : goal.returns-clause-goes
 returns-clause-goes g c = let steps = returns-clause-steps g c in grind (arith, common_steps, steps)
