@@ -64,6 +64,7 @@ fn go_down<'a, T>(waits: &mut [&'a Tree<T>], depth: &mut usize, tree: &'a Tree<T
 }
 
 impl<'a, T> Iter<'a, T> {
+    #[inline(never)]
     pub(crate) fn over(tree: &'a Tree<T>) -> Iter<'a, T>
         requires { IsSized tree.now }
         ensures { result ≡ items tree.now }
@@ -106,8 +107,12 @@ impl<'a, T> Iterator for Iter<'a, T> {
                 let mut depth = above;
                 let deep = go_down(&mut self.waits[..], &mut depth, &link.right);
                 self.depth = depth;
-                self.deep = deep;
-                self.left = deep.len();
+                let left = deep.len();
+                if left > 0 {
+                    self.deep = deep;
+                    self.left = left;
+                    return Some(&link.item);
+                }
                 Some(&link.item)
             }
         }
