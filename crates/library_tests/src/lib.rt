@@ -14,3 +14,5 @@ mod free;
 mod paints;
 #[cfg(test)]
 mod stacks;
+#[cfg(test)]
+mod trees;
