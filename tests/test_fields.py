@@ -45,7 +45,8 @@ PAINT = {
     },
     ('edits', 'change.rt'): {
         'CellList': ['One(CellEdit)', 'Many(Vec<CellEdit>)'],
-        'CellEdits': ['cells: CellList'],
+        'KeptCells': ['One(CellEdit)', 'Many(Vec<CellEdit>)', 'Alike(Vec<CellEdit>)'],
+        'CellEdits': ['cells: KeptCells'],
         'CellChange': ['layer: u32', 'cells: CellEdits'],
     },
     ('map_model', 'edit.rt'): {

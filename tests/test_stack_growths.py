@@ -15,6 +15,9 @@ REFUSED = [
     # The document, the command in its box, and the stack's room.
     Case('a refused push leaves a new stack', 'stacks::refused_push_leaves_a_new_stack', 5),
     Case('a refused push leaves the step above', 'stacks::refused_push_leaves_the_step_above', 8),
+    # The document, both commands in their boxes, the stack's room, the macro's two texts, its box
+    # and its place, and at last that of the command in it.
+    Case('a refused push leaves a macro', 'stacks::refused_push_leaves_a_macro', 9),
     # The document, the command in its box, and for each of three macros its two texts, its box and
     # its places.
     Case(

@@ -10,10 +10,11 @@ use Rattle.undo_stack.proofs.Views.{length-own}
 use Rattle.undo_group.specs.Groups.{GroupParts}
 use Rattle.undo_group.specs.Groups as groups
 use Rattle.undo_group.specs.Lending.{IsLeft}
-use Rattle.undo_group.specs.Stacks.{AreHeld, group_of}
+use Rattle.undo_group.specs.Stacks.{AreHeld, group_of, stack_at}
 use Rattle.editor.specs.declared.editor.Editor.{Editor}
-use Rattle.editor.specs.Editors.{AreSteady, IsHeld, IsSound, machine_of}
+use Rattle.editor.specs.Editors.{AreSteady, IsHeld, IsSound, machine_of, stacks_in}
 use Rattle.editor.specs.Machine.{active_of, with_active}
+use Rattle.editor.specs.Turns.{PutsActive}
 use Rattle.editor.proofs.Steady.{active-steady, with_active-AreSteady}
 
 module _ {C : Type 0} (f : C → Change) where
@@ -39,3 +40,16 @@ module _ {C : Type 0} (f : C → Change) (old new : Editor C) (s : Stack C) (sam
 
   pub left-machine : machine_of f new ≡ with_active (history f s) (machine_of f old)
   left-machine = rw (same, left.group) refl
+
+-- the active stack s was lent, and left as t
+pub put_active : {C : Type 0} (f : C → Change) (old new : Editor C) (s t : Stack C) → new.limit ≡ old.limit → IsLeft f old.group t new.group
+    → Holds f s → Some (history f s) ≡ active_of (machine_of f old) → Some s ≡ stack_at (machine_of f old).group.active (stacks_in old) → Holds f t
+    → PutsActive f old new s t
+put_active f old new s t same left before active was after = record {
+  before = before;
+  active = sym active;
+  was = sym was;
+  after = after;
+  left = left-machine f old new t same left;
+  is = left.stacks;
+}

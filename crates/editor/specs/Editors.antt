@@ -4,13 +4,17 @@ use Rattle.command_api.specs.Law.{Change}
 use Rattle.undo_stack.specs.Turning.{IsSteady}
 use Rattle.undo_stack.specs.declared.limits.TheConstants.{MAX_LIMIT}
 use Rattle.undo_group.specs.Groups.{OpenDocument}
-use Rattle.undo_group.specs.Stacks.{group_of, AreHeld}
+use Rattle.undo_group.specs.Stacks.{NamedStack, group_of, stacks_of, AreHeld}
 use Rattle.editor.specs.declared.editor.Editor.{Editor}
 use Rattle.editor.specs.Machine.{Machine}
 
 -- the machine that an editor stands for
 abbrev pub machine_of : {C : Type 0} → (C → Change) → Editor C → Machine
 machine_of change editor = record { limit = editor.limit; group = group_of change editor.group }
+
+-- the stacks of an editor, in order of opening
+abbrev pub stacks_in : {C : Type 0} → Editor C → List (NamedStack C)
+stacks_in editor = stacks_of editor.group
 
 -- no step of these documents is that of a free command
 abbrev pub AreSteady : List OpenDocument → Type 0

@@ -14,7 +14,7 @@ use Rattle.undo_stack.specs.History.{History, current}
 use Rattle.undo_stack.specs.History as histories
 use Rattle.undo_stack.specs.Pushing.{IsPushed, step_of}
 use Rattle.session.specs.declared.line.Line.{Line}
-use Rattle.session.specs.declared.line.Line.TheVariants.{Quiet, Stamp}
+use Rattle.session.specs.declared.line.Line.TheVariants.{Quiet}
 use Rattle.session.specs.declared.reply.Refusal.{Refusal}
 use Rattle.session.specs.declared.reply.Refusal.TheVariants as refusals
 use Rattle.session.specs.declared.reply.Reply.{Reply}
@@ -93,16 +93,6 @@ IsOfActive (OnFiles act) = ⊥
 IsOfActive (OnDocuments act) = ⊥
 IsOfActive (OnActive act) = ⊤
 IsOfActive (Edits names edit) = ⊤
-
--- one that is an edit
-abbrev pub IsOfEdit : Rule → Type 0
-IsOfEdit (Edits names edit) = ⊤
-IsOfEdit rule = ⊥
-
--- an edit, but for a stamp
-abbrev pub IsOtherEdit : Line → Type 0
-IsOtherEdit (Stamp layer x y width values follows) = ⊥
-IsOtherEdit line = IsOfEdit (rule_of line)
 
 -- one about the active document that is no edit
 abbrev pub IsOfHistory : Rule → Type 0

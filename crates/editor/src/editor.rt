@@ -107,7 +107,7 @@ impl<C: Command> Editor<C> {
         requires fits { FitsActive (active_of (machine_of C.change self.old)) (C.change command) }
         ensures held { IsHeld C.change self.new }
         ensures commits { Commits (active_of (machine_of C.change self.old)) (C.change command) result (machine_of C.change self.old) (machine_of C.change self.new) }
-        ensures reported { ReportsPush C.change command result (machine_of C.change self.old) (machine_of C.change self.new) }
+        ensures reported { ReportsPush C.change command result self.old self.new }
         ensures sound { IsSound C.change self.old → is_free (C.change command).names.vanishing ≡ false → IsSound C.change self.new }
     {
         match self.group.active_mut() {

@@ -4,7 +4,8 @@ ghost use Rattle.undo_stack.specs.Stacks.{history, Holds};
 ghost use Rattle.session.specs.Spelling.{CanBeSpelled};
 ghost use Rattle.editor.specs.Steps.{rule_of};
 ghost use Rattle.editor.specs.Turns.{turning_rule_of};
-ghost use Rattle.editor.specs.Planning.{IsOfActive, IsOfHistory, IsOtherEdit, PlansOn, plan_of, refused};
+ghost use Rattle.editor.specs.EditLines.{IsOfCells, IsOfLayers, IsOfObjects, IsOfProperties};
+ghost use Rattle.editor.specs.Planning.{IsOfActive, IsOfHistory, PlansOn, plan_of, refused};
 
 mod edit_plans;
 
@@ -107,17 +108,16 @@ fn on_history<C: Command>(alloc: Global, stack: &mut Stack<C>, line: &Line<'_>) 
     }
 }
 
-// Plans a line that is an edit of the active document, and no stamp.
+// Plans a line that is an edit of cells or of the selection, and no stamp.
 #[inline(always)]
-fn on_edit<C: Command>(alloc: Global, stack: &mut Stack<C>, line: &Line<'_>) -> Planned
+fn on_cells<C: Command>(alloc: Global, stack: &mut Stack<C>, line: &Line<'_>) -> Planned
     requires sound { Holds C.change stack.old }
     requires spelled { CanBeSpelled line.now }
-    requires about { IsOtherEdit line.now }
+    requires about { IsOfCells line.now }
     ensures sound { Holds C.change stack.new }
     ensures plans { PlansOn (turning_rule_of line.now) (history C.change stack.old) result (history C.change stack.new) }
 {
     match line {
-        // Cells and the selection.
         Line::Erase {
             layer,
             x,
@@ -162,7 +162,20 @@ fn on_edit<C: Command>(alloc: Global, stack: &mut Stack<C>, line: &Line<'_>) -> 
             plan_select(alloc, stack.document(), Selecting::Rectangle { mode, area })
         }
         Line::SelectNone => plan_select(alloc, stack.document(), Selecting::Nothing),
-        // Layers and the map's size.
+        _ => unreachable!(),
+    }
+}
+
+// Plans a line that is an edit of layers or of the map's size.
+#[inline(always)]
+fn on_layers<C: Command>(alloc: Global, stack: &mut Stack<C>, line: &Line<'_>) -> Planned
+    requires sound { Holds C.change stack.old }
+    requires spelled { CanBeSpelled line.now }
+    requires about { IsOfLayers line.now }
+    ensures sound { Holds C.change stack.new }
+    ensures plans { PlansOn (turning_rule_of line.now) (history C.change stack.old) result (history C.change stack.new) }
+{
+    match line {
         Line::AddLayer { kind, name } => plan_add_layer(alloc, stack.document(), *kind, name),
         Line::RemoveLayer { layer } => plan_remove_layer(stack.document(), *layer),
         Line::RenameLayer { layer, name } => {
@@ -180,7 +193,20 @@ fn on_edit<C: Command>(alloc: Global, stack: &mut Stack<C>, line: &Line<'_>) -> 
             dx,
             dy,
         } => plan_resize(alloc, stack.document(), *width, *height, *dx, *dy),
-        // Objects.
+        _ => unreachable!(),
+    }
+}
+
+// Plans a line that is an edit of objects.
+#[inline(always)]
+fn on_objects<C: Command>(alloc: Global, stack: &mut Stack<C>, line: &Line<'_>) -> Planned
+    requires sound { Holds C.change stack.old }
+    requires spelled { CanBeSpelled line.now }
+    requires about { IsOfObjects line.now }
+    ensures sound { Holds C.change stack.new }
+    ensures plans { PlansOn (turning_rule_of line.now) (history C.change stack.old) result (history C.change stack.new) }
+{
+    match line {
         Line::AddObject {
             layer,
             x,
@@ -225,7 +251,20 @@ fn on_edit<C: Command>(alloc: Global, stack: &mut Stack<C>, line: &Line<'_>) -> 
             stack.seek_object(*object);
             plan_remove_object(stack.document(), *object)
         }
-        // Properties and tilesets.
+        _ => unreachable!(),
+    }
+}
+
+// Plans a line that is an edit of properties or tilesets.
+#[inline(always)]
+fn on_properties<C: Command>(alloc: Global, stack: &mut Stack<C>, line: &Line<'_>) -> Planned
+    requires sound { Holds C.change stack.old }
+    requires spelled { CanBeSpelled line.now }
+    requires about { IsOfProperties line.now }
+    ensures sound { Holds C.change stack.new }
+    ensures plans { PlansOn (turning_rule_of line.now) (history C.change stack.old) result (history C.change stack.new) }
+{
+    match line {
         Line::SetProperty {
             owner,
             name,
@@ -292,6 +331,23 @@ pub fn on_document<C: Command>(alloc: Global, stack: &mut Stack<C>, line: &Line<
         | Line::Show
         | Line::StepText { .. }
         | Line::Tile { .. } => on_history(alloc, stack, line),
-        _ => on_edit(alloc, stack, line),
+        Line::Erase { .. } | Line::Fill { .. } | Line::Select { .. } | Line::SelectNone => {
+            on_cells(alloc, stack, line)
+        }
+        Line::AddLayer { .. }
+        | Line::RemoveLayer { .. }
+        | Line::RenameLayer { .. }
+        | Line::ShowLayer { .. }
+        | Line::MoveLayer { .. }
+        | Line::Resize { .. } => on_layers(alloc, stack, line),
+        Line::AddObject { .. }
+        | Line::MoveObject { .. }
+        | Line::ResizeObject { .. }
+        | Line::RemoveObject { .. } => on_objects(alloc, stack, line),
+        Line::SetProperty { .. }
+        | Line::RemoveProperty { .. }
+        | Line::AddTileset { .. }
+        | Line::RemoveTileset { .. } => on_properties(alloc, stack, line),
+        _ => unreachable!(),
     }
 }

@@ -28,7 +28,7 @@ covered_value-cond false value old = refl
 
 module _ (g : Ground) (s : Spread) (value : ℕ) where
   -- the value of a cell after the fill
-  get_or-filled : (k : ℕ) → 0 < g.width → k < length g.tiles.now
+  pub get_or-filled : (k : ℕ) → 0 < g.width → k < length g.tiles.now
       → get_or (covered g.width (taken_over g s value) g.tiles.now) k 0 ≡ cond (taken_at s k) value (get_or g.tiles.now k 0)
   get_or-filled k some l =
       let old = get_or g.tiles.now k 0 in
@@ -37,7 +37,7 @@ module _ (g : Ground) (s : Spread) (value : ℕ) where
       ∙ covered_value-cond (taken_at s k) value old
 
   -- a cell that is not taken stays
-  unmarked-same : 0 < g.width → (k : ℕ) → taken_at s k ≡ false → get_or (covered g.width (taken_over g s value) g.tiles.now) k 0 ≡ get_or g.tiles.now k 0
+  pub unmarked-same : 0 < g.width → (k : ℕ) → taken_at s k ≡ false → get_or (covered g.width (taken_over g s value) g.tiles.now) k 0 ≡ get_or g.tiles.now k 0
   unmarked-same some k none = elim (cases_lt k (length g.tiles.now)) [
     | inl l ↦ get_or-filled k some l ∙ ap (λ b. cond b value (get_or g.tiles.now k 0)) none
     | inr past ↦
@@ -63,7 +63,7 @@ module _ (g : Ground) (s : Spread) (value : ℕ) where
       let here = free_at-within g some (y * g.width + x) (sym (free_in-at g x y column) ∙ free (x, y) (is_taken-at g s x y column ∙ ap (taken_at s) at ∙ taken)) in
       omega (arith, at, here)
 
-  old-value : 0 < g.width → (p : ℕ) → free_at g p ≡ true → get_or g.tiles.now p 0 ≡ g.value
+  pub old-value : 0 < g.width → (p : ℕ) → free_at g p ≡ true → get_or g.tiles.now p 0 ≡ g.value
   old-value some p h =
       let inside = free_at-within g some p h in
       eqb-true (get_or g.tiles.now p 0) g.value (sym (ap (λ o. is_value o g.value) (slice_get-get_or g.tiles.now p 0 inside)) ∙ free_at-value g some p h)

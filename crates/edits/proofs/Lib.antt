@@ -3,6 +3,7 @@ pub mod Areas
 pub mod Calls
 pub mod Differences
 pub mod FillCalls
+pub mod FilledAlike
 pub mod Fills
 pub mod Flooded
 pub mod Joined

@@ -1,8 +1,12 @@
 ghost use Rattle.std.specs.Prelude.{◌≡◌, ◌++◌, ◌∷◌, [], OnOk};
-ghost use Rattle.edits.specs.CellLists.{cells_in};
+ghost use Rattle.edits.specs.CellLists.{IsSoundlyKept, cells_in, kept_cells};
+ghost use Rattle.map_model.specs.Alike.{AreAlike};
 ghost use Rattle.map_model.specs.CellEdits.{AreInRowOrder};
+ghost use Rattle.map_model.specs.Document.{IsDocument, painted};
+ghost use Rattle.map_model.specs.Lists.{Each};
+ghost use Rattle.map_model.specs.Lookups.{HasTiles, IsWithin};
 
-use map_model::CellEdit;
+use map_model::{CellEdit, Document, Side};
 use std::alloc::{AllocError, Global};
 use std::marker::Model;
 use std::slice;
@@ -46,13 +50,36 @@ impl CellList {
         }
         Ok(())
     }
+}
+
+/// Changed cells as they are kept.
+#[derive(Drop)]
+enum KeptCells {
+    One(CellEdit),
+    Many(Vec<CellEdit>),
+    /// Cells that all have one value before and one after.
+    Alike(Vec<CellEdit>),
+}
+
+impl KeptCells {
+    // The changed cells of a list.
+    fn of_list(cells: CellList) -> KeptCells
+        ensures cells { kept_cells result ≡ cells_in cells }
+        ensures sound { IsSoundlyKept result }
+    {
+        match cells {
+            CellList::One(cell) => KeptCells::One(cell),
+            CellList::Many(cells) => KeptCells::Many(cells),
+        }
+    }
 
     fn as_slice(&self) -> &[CellEdit]
-        ensures { result.now ≡ cells_in self.now }
+        ensures { result.now ≡ kept_cells self.now }
     {
         match self {
-            CellList::One(cell) => slice::from_ref(cell),
-            CellList::Many(cells) => cells.as_slice(),
+            KeptCells::One(cell) => slice::from_ref(cell),
+            KeptCells::Many(cells) => cells.as_slice(),
+            KeptCells::Alike(cells) => cells.as_slice(),
         }
     }
 }
@@ -60,20 +87,20 @@ impl CellList {
 /// Changed cells in row order, each once, seen as their list.
 #[derive(Drop)]
 pub struct CellEdits {
-    cells: CellList,
+    cells: KeptCells,
 }
 
 impl Model for CellEdits {
     ghost use Rattle.std.specs.Prelude.{List};
-    ghost use Rattle.edits.specs.CellLists.{cells_in};
+    ghost use Rattle.edits.specs.CellLists.{IsSoundlyKept, kept_cells};
     ghost use Rattle.map_model.specs.declared.edit.CellEdit.{CellEdit};
     ghost use Rattle.map_model.specs.CellEdits.{AreInRowOrder};
 
     ghost Value = { List CellEdit };
 
-    ghost view = { λ a. cells_in a.cells };
+    ghost view = { λ a. kept_cells a.cells };
 
-    ghost invariant = { λ a. AreInRowOrder (cells_in a.cells) };
+    ghost invariant = { λ a. AreInRowOrder (kept_cells a.cells) × IsSoundlyKept a.cells };
 }
 
 impl CellEdits {
@@ -82,7 +109,9 @@ impl CellEdits {
         requires { AreInRowOrder cells.items }
         ensures { result ≡ cells.items }
     {
-        CellEdits::of_list(CellList::Many(cells))
+        CellEdits {
+            cells: KeptCells::Many(cells),
+        }
     }
 
     // The changed cells of a list, which are in row order, each once.
@@ -90,7 +119,20 @@ impl CellEdits {
         requires { AreInRowOrder (cells_in cells) }
         ensures { result ≡ cells_in cells }
     {
-        CellEdits { cells }
+        CellEdits {
+            cells: KeptCells::of_list(cells),
+        }
+    }
+
+    // The changed cells of a vector, which are in row order, each once. All of them have one value before and one after.
+    pub(crate) fn alike(cells: Vec<CellEdit>) -> CellEdits
+        requires ordered { AreInRowOrder cells.items }
+        requires alike { AreAlike cells.items }
+        ensures { result ≡ cells.items }
+    {
+        CellEdits {
+            cells: KeptCells::Alike(cells),
+        }
     }
 
     /// The changed cells.
@@ -99,6 +141,21 @@ impl CellEdits {
         ensures ordered { AreInRowOrder self.now }
     {
         self.cells.as_slice()
+    }
+
+    /// Sets the cells, in a tile layer of a document, to their values on a side.
+    #[inline(always)]
+    pub fn put(&self, document: &mut Document, layer: u32, side: Side)
+        requires tiles { HasTiles document.old.map layer }
+        requires inside { Each (IsWithin document.old.map) self.now }
+        ensures document { document.new ≡ painted layer self.now side document.old }
+        ensures well_formed { IsDocument document.new }
+    {
+        match &self.cells {
+            KeptCells::One(cell) => document.put_edits(layer, slice::from_ref(cell), side),
+            KeptCells::Many(cells) => document.put_edits(layer, cells.as_slice(), side),
+            KeptCells::Alike(cells) => document.put_alike(layer, cells.as_slice(), side),
+        }
     }
 }
 

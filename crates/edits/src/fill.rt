@@ -54,7 +54,7 @@ pub fn fill_change(
     match fill_cells(alloc, tiles, width, document.selection(), start, value) {
         Ok(cells) => Ok(CellChange {
             layer,
-            cells: CellEdits::new(cells),
+            cells: CellEdits::alike(cells),
         }),
         Err(_) => Err(EditFault::NoMemory),
     }

@@ -1,6 +1,7 @@
 // The changes that a fill makes.
 ghost use Rattle.std.specs.Prelude.{◌≡◌, ◌≢◌, ℕ, ◌+◌, ◌-◌, ◌*◌, ◌<◌, ◌≤◌, [], ◌∷◌, ◌++◌, if◌then◌else◌, IfOk, OnOk, true, length};
 ghost use Rattle.edits.specs.Covering.{covered};
+ghost use Rattle.map_model.specs.Alike.{AreAlike};
 ghost use Rattle.map_model.specs.Difference.{difference};
 ghost use Rattle.edits.specs.Filling.{fill_over};
 ghost use Rattle.edits.specs.Flooding.{HasCell, IsGround, IsSound, changes_below, free_in, is_taken};
@@ -110,7 +111,8 @@ fn push_bits(
 }
 
 // Adds the changes of the taken cells of a word: in one loop, where all of them are taken and stand in one row.
-fn push_word(
+#[inline(never)]
+fn push_taken(
     cells: &mut Vec<CellEdit>,
     ground: &Ground<'_>,
     spread: &Spread,
@@ -142,6 +144,30 @@ fn push_word(
     Ok(())
 }
 
+// Adds the changes of the taken cells of a word, if there are any.
+#[inline(always)]
+fn push_word(
+    cells: &mut Vec<CellEdit>,
+    ground: &Ground<'_>,
+    spread: &Spread,
+    word: usize,
+    value: Gid,
+) -> Result<(), AllocError>
+    requires ground { IsGround ground.now }
+    requires sound { IsSound ground.now spread.now }
+    requires free { (q : ℕ × ℕ) → is_taken ground.now spread.now q ≡ true → free_in ground.now q ≡ true }
+    requires other { ground.now.value ≢ value }
+    requires within { 64 * word < room spread.now.open }
+    requires so_far { cells.old.items ≡ changes_below ground.now spread.now value (64 * word) }
+    ensures { OnOk result (cells.new.items ≡ changes_below ground.now spread.now value (64 * word + 64)) }
+{
+    let taken = spread.taken_bits(word);
+    if taken == 0 {
+        return Ok(());
+    }
+    push_taken(cells, ground, spread, word, value)
+}
+
 // The changes of the cells that a fill has taken: each gets the value.
 fn changes_of(
     alloc: Global,
@@ -153,7 +179,8 @@ fn changes_of(
     requires sound { IsSound ground.now spread.now }
     requires free { (q : ℕ × ℕ) → is_taken ground.now spread.now q ≡ true → free_in ground.now q ≡ true }
     requires other { ground.now.value ≢ value }
-    ensures { IfOk result (λ cells. cells.items ≡ changes_below ground.now spread.now value (length ground.now.tiles.now)) }
+    ensures cells { IfOk result (λ cells. cells.items ≡ changes_below ground.now spread.now value (length ground.now.tiles.now)) }
+    ensures alike { IfOk result (λ cells. AreAlike cells.items) }
 {
     let mut cells = Vec::with_capacity(alloc, spread.count)?;
     for word in spread.first.min(spread.end)..spread.end {
@@ -187,7 +214,8 @@ fn change_of_start(
 
 /// The changes of a fill of a layer of this width: each cell that is joined to the start takes the value.
 ///
-/// They come in row order, each cell once, with unequal values before and after.
+/// They come in row order, each cell once, with unequal values before and after. All of them have one value before and one
+/// after.
 pub(crate) fn fill_cells(
     alloc: Global,
     tiles: &[Gid],
@@ -197,8 +225,9 @@ pub(crate) fn fill_cells(
     value: Gid,
 ) -> Result<Vec<CellEdit>, AllocError>
     requires { HasCell width tiles.now start.0 start.1 }
-    ensures { IfOk result (λ cells. cells.items ≡ difference width tiles.now
+    ensures cells { IfOk result (λ cells. cells.items ≡ difference width tiles.now
         (covered width (fill_over width tiles.now selection.now (start.0, start.1) value) tiles.now) (length tiles.now)) }
+    ensures alike { IfOk result (λ cells. AreAlike cells.items) }
 {
     let ground = Ground::new(tiles, width, selection, start);
     if ground.value == value {

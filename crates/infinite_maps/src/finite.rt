@@ -238,11 +238,8 @@ fn copied(alloc: Global, value: &Value) -> Result<Map<String, Value>, Fault> {
     }
 }
 
-fn finite_map(
-    alloc: Global,
-    value: &Value,
-    members: &Map<String, Value>,
-) -> Result<Map<String, Value>, Fault> {
+// What the layers of a map take.
+fn surveyed(members: &Map<String, Value>) -> Result<Survey, Fault> {
     let mut survey = Survey {
         around: None,
         layers: 0,
@@ -250,6 +247,29 @@ fn finite_map(
     if let Some(layers) = found(members, "layers") {
         survey_layers(layers, &mut survey)?;
     }
+    Ok(survey)
+}
+
+// The finite map on a plane.
+fn finite_on(
+    alloc: Global,
+    plane: Plane,
+    value: &Value,
+    members: &Map<String, Value>,
+) -> Result<Map<String, Value>, Fault> {
+    let note = note_of(alloc, value, plane)?;
+    let mut all = finite_members(alloc, plane, Part::Layers, members)?;
+    let (columns, rows) = (plane.columns as i64, plane.rows as i64);
+    put_map(alloc, &mut all, columns, rows, note)?;
+    Ok(all)
+}
+
+fn finite_map(
+    alloc: Global,
+    value: &Value,
+    members: &Map<String, Value>,
+) -> Result<Map<String, Value>, Fault> {
+    let survey = surveyed(members)?;
     let around = box_of(survey.around);
     let Some(plane) = plane_of(value, around) else {
         return too_large(alloc, value, around);
@@ -257,16 +277,7 @@ fn finite_map(
     if survey.layers.saturating_mul(plane.size() as u64) > MAX_LAYER_CELLS {
         return Err(Fault::TooLarge);
     }
-    let note = note_of(alloc, value, plane)?;
-    let mut all = finite_members(alloc, plane, Part::Layers, members)?;
-    put_map(
-        alloc,
-        &mut all,
-        plane.columns as i64,
-        plane.rows as i64,
-        note,
-    )?;
-    Ok(all)
+    finite_on(alloc, plane, value, members)
 }
 
 fn finite_of(alloc: Global, value: &Value) -> Result<Value, Fault> {

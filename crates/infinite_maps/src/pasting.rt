@@ -120,6 +120,40 @@ fn pasted(
     Ok((cells, rectangles))
 }
 
+// Puts the data and the note of a layer that has the plane's size.
+fn put_layer(
+    alloc: Global,
+    plane: Plane,
+    all: &mut Map<String, Value>,
+    data: Value,
+    note: Value,
+) -> Result<(), AllocError> {
+    remove(all, "startx");
+    remove(all, "starty");
+    serde_json::put(all, alloc, "data", data)?;
+    serde_json::put(all, alloc, MARK, note)?;
+    serde_json::put(all, alloc, "width", Value::from(plane.columns))?;
+    serde_json::put(all, alloc, "height", Value::from(plane.rows))
+}
+
+// Puts the cells of chunks, and the note of them.
+fn put_pasted(
+    alloc: Global,
+    plane: Plane,
+    members: &Map<String, Value>,
+    chunks: &Vec<Value>,
+    all: &mut Map<String, Value>,
+) -> Result<(), Fault> {
+    let text = is_base64(members);
+    let (cells, rectangles) = pasted(alloc, plane, text, chunks)?;
+    if !are_apart(alloc, plane.columns, plane.size(), &rectangles)? {
+        return Err(Fault::Overlap);
+    }
+    let data = cells_data(alloc, text, &cells)?;
+    let note = note_of(alloc, members, &rectangles)?;
+    Ok(put_layer(alloc, plane, all, data, note)?)
+}
+
 /// Puts the cells of a layer's chunks into one array, and where these were into a note. `all` are the layer's members but those.
 ///
 /// A layer without chunks, or whose data are compressed, stays as it is.
@@ -133,22 +167,8 @@ pub fn put_finite(
         return Ok(());
     };
     if is_compressed(members) {
-        serde_json::put(all, alloc, "chunks", value.clone()?)?;
-        return Ok(());
+        return Ok(serde_json::put(all, alloc, "chunks", value.clone()?)?);
     }
     let chunks = value.as_array().ok_or(Fault::BadChunk)?;
-    let text = is_base64(members);
-    let (cells, rectangles) = pasted(alloc, plane, text, chunks)?;
-    if !are_apart(alloc, plane.columns, plane.size(), &rectangles)? {
-        return Err(Fault::Overlap);
-    }
-    let data = cells_data(alloc, text, &cells)?;
-    let note = note_of(alloc, members, &rectangles)?;
-    remove(all, "startx");
-    remove(all, "starty");
-    serde_json::put(all, alloc, "data", data)?;
-    serde_json::put(all, alloc, MARK, note)?;
-    serde_json::put(all, alloc, "width", Value::from(plane.columns))?;
-    serde_json::put(all, alloc, "height", Value::from(plane.rows))?;
-    Ok(())
+    put_pasted(alloc, plane, members, chunks, all)
 }

@@ -16,9 +16,9 @@ use tile_id::Gid;
 use undo_stack::Stack;
 
 // A paint that counts its turns, and that it is dropped. All else it hands on.
-struct CountedPaint {
+pub(crate) struct CountedPaint {
     counts: Rc<Counts>,
-    paint: PaintCommand,
+    pub(crate) paint: PaintCommand,
 }
 
 impl Drop for CountedPaint {
@@ -81,7 +81,7 @@ impl Command for CountedPaint {
 }
 
 // A stamp of one cell of the first row, not made yet.
-fn new_stamp(
+pub(crate) fn new_stamp(
     alloc: Global,
     document: &Document,
     counts: &Rc<Counts>,

@@ -1,11 +1,14 @@
-// Free commands: which of them go, what stands behind that, and which boxes were turned and dropped.
-ghost use Rattle.std.specs.Prelude.{◌≡◌, false};
+// Free commands among others: which of them go, what stands behind that, and which boxes were turned and dropped.
+ghost use Rattle.std.specs.Prelude.{◌≡◌, IfOk, false};
 ghost use Rattle.command_api.specs.Names.{is_free};
 ghost use Rattle.command_api.specs.Offers.{Nothing};
 ghost use Rattle.library_tests.specs.Fading.{fading};
+ghost use Rattle.paint_commands.specs.Painting.{paint_change};
 ghost use Rattle.undo_stack.specs.Stacks.{Holds};
 
-use crate::stacks::{Counts, add_one, begin_macro, blank, end_macro, push, redo, set_index, undo};
+use crate::counted_paints::{CountedPaint, new_stamp};
+use crate::paints::town;
+use crate::stacks::{Counts, add_one, begin_macro, end_macro, push, redo, set_index, undo};
 use command_api::{Command, Offer};
 use map_model::Document;
 use std::alloc::{AllocError, Global};
@@ -13,26 +16,29 @@ use std::rc::Rc;
 use std::test::Fail;
 use undo_stack::Stack;
 
-// A case is calls on a new stack, and what they leave: the index, the count, clean or not, and how often each command was
-// redone, undone and dropped, in order of the pushes. P and Q never vanish, I with a number is free and obsolete from
-// that turn on, of which the push is the first.
+// A case is the turns of a free command, the calls behind its push, and what they leave: the index, the count, the clean
+// index, and how often each command was redone, undone and dropped, in order of the pushes. The free command is pushed
+// between two stamps of one cell each, and is obsolete from that turn on, of which its push is the first.
 //
-// A free command that undo, redo or a goto leaves obsolete goes, and with it a clean index above it; not in a macro. One that
-// is obsolete at its push is no step.
-const CASES: &str = "P I1 => 1 1 dirty 1/0/0 1/0/1
-P I2 Q clean undo undo => 1 2 dirty 1/0/0 1/1/1 1/1/0
-P I2 Q clean undo undo redo => 2 2 dirty 1/0/0 1/1/1 2/1/0
-P I2 Q clean undo undo redo P => 3 3 dirty 1/0/0 1/1/1 2/1/0 1/0/0
-P I3 Q undo undo redo => 1 2 dirty 1/0/0 2/1/1 1/1/0
-P I3 Q undo undo third => 2 2 dirty 1/0/0 2/1/1 2/1/0
-begin P I2 end undo redo => 1 1 dirty 2/1/0 2/1/0";
+// A free command that undo, redo or a goto leaves obsolete goes, and with it a clean index above it.
+const AMONG_STAMPS: [(u32, &str, &str); 4] = [
+    (2, "clean undo undo", "1 2 lost 1/0/0 1/1/1 1/1/0"),
+    (2, "clean undo undo redo", "2 2 lost 1/0/0 1/1/1 2/1/0"),
+    (3, "undo undo redo", "1 2 0 1/0/0 2/1/1 1/1/0"),
+    (3, "undo undo third", "2 2 0 1/0/0 2/1/1 2/1/0"),
+];
 
-// A command that leaves the document as it is. Without a number of turns it never vanishes; with one it is free, and
-// obsolete once no turn is left.
+// The same behind one stamp, with calls before it. One that is obsolete at its push is no step, and one in a macro stays.
+const BEHIND_A_STAMP: [(&str, u32, &str, &str); 2] = [
+    ("", 1, "", "1 1 0 1/0/0 1/0/1"),
+    ("begin", 2, "end undo redo", "1 1 0 2/1/0 2/1/0"),
+];
+
+// A free command that leaves the document as it is, and is obsolete once no turn is left.
 struct Fading {
     counts: Rc<Counts>,
     is_made: bool,
-    turns_left: Option<u32>,
+    turns_left: u32,
 }
 
 impl Drop for Fading {
@@ -53,10 +59,7 @@ impl Fading {
             → (fading self.new.turns_left).obsolete ≡ (fading self.old.turns_left).obsolete }
     {
         self.is_made = self.counts.turn(self.is_made);
-        self.turns_left = match self.turns_left {
-            Some(left) => Some(left.saturating_sub(1)),
-            None => None,
-        };
+        self.turns_left = self.turns_left.saturating_sub(1);
     }
 }
 
@@ -78,17 +81,11 @@ impl Command for Fading {
     }
 
     fn obsolete(&self) -> bool {
-        match self.turns_left {
-            Some(left) => left == 0,
-            None => false,
-        }
+        self.turns_left == 0
     }
 
     fn is_free(&self) -> bool {
-        match self.turns_left {
-            Some(_) => true,
-            None => false,
-        }
+        true
     }
 
     fn redo(&mut self, document: &mut Document) {
@@ -118,35 +115,43 @@ impl Command for Fading {
     }
 }
 
-// The turns of a command that is named so, where they have a number.
-fn turns_of(name: &str) -> Option<u32> {
-    name.strip_prefix('I')?.parse::<u32>().ok()
-}
-
-// Pushes a new command, whose counts go last.
-fn push_new(
+// A free command in a box, not made yet. It fits each document.
+fn new_fading(
     alloc: Global,
-    stack: &mut Stack<Fading>,
-    pushed: &mut Vec<Rc<Counts>>,
-    turns_left: Option<u32>,
-) -> Result<(), AllocError>
-    requires { Holds (λ (c : Fading). fading c.turns_left) stack.old }
-    ensures { Holds (λ (c : Fading). fading c.turns_left) stack.new }
+    document: &Document,
+    counts: &Rc<Counts>,
+    turns_left: u32,
+) -> Result<Box<Fading>, AllocError>
+    ensures { IfOk result (λ b. (fading b.value.turns_left).fits_redo document.now) }
 {
-    let counts = Counts::new(alloc)?;
-    pushed.push(counts.clone()?)?;
-    let command = Fading {
-        counts,
+    let _ = document;
+    let fading = Fading {
+        counts: counts.clone()?,
         is_made: false,
         turns_left,
     };
-    push(stack, command)
+    Ok(Box::new(alloc, fading)?)
+}
+
+// A stamp of one cell of the first row in a box, not made yet.
+fn boxed_stamp(
+    alloc: Global,
+    document: &Document,
+    counts: &Rc<Counts>,
+    column: i32,
+) -> Result<Box<CountedPaint>, AllocError>
+    ensures { IfOk result (λ b. (paint_change b.value.paint).fits_redo document.now) }
+{
+    match new_stamp(alloc, document, counts, column, false) {
+        Some(paint) => Ok(Box::new(alloc, paint)?),
+        None => Err(AllocError),
+    }
 }
 
 // Makes the call that a word stands for, and says whether it was answered well.
-fn play(alloc: Global, stack: &mut Stack<Fading>, pushed: &mut Vec<Rc<Counts>>, word: &str) -> bool
-    requires { Holds (λ (c : Fading). fading c.turns_left) stack.old }
-    ensures { Holds (λ (c : Fading). fading c.turns_left) stack.new }
+fn call<C: Command>(stack: &mut Stack<C>, word: &str) -> bool
+    requires { Holds C.change stack.old }
+    ensures { Holds C.change stack.new }
 {
     match word {
         "undo" => undo(stack).is_ok(),
@@ -155,19 +160,33 @@ fn play(alloc: Global, stack: &mut Stack<Fading>, pushed: &mut Vec<Rc<Counts>>, 
         "clean" => stack.set_clean().is_ok(),
         "begin" => begin_macro(stack).is_ok(),
         "end" => end_macro(stack).is_ok(),
-        name => push_new(alloc, stack, pushed, turns_of(name)).is_ok(),
+        _ => word.is_empty(),
     }
 }
 
+// Makes the calls that words stand for, and says whether each was answered well.
+fn call_all<C: Command>(stack: &mut Stack<C>, words: &str) -> bool
+    requires { Holds C.change stack.old }
+    ensures { Holds C.change stack.new }
+{
+    let mut are_done = true;
+    for word in words.split(' ') {
+        are_done &= call(stack, word);
+    }
+    are_done
+}
+
 // How a stack stands, and how often each command was turned and dropped.
-fn told_of(
+fn told_of<C: Command>(
     alloc: Global,
-    stack: &Stack<Fading>,
-    pushed: &[Rc<Counts>],
+    stack: &Stack<C>,
+    pushed: &[&Rc<Counts>],
 ) -> Result<String, AllocError> {
     let (index, count) = (stack.index(), stack.count());
-    let mark = if stack.is_clean() { "clean" } else { "dirty" };
-    let mut told = format!(in alloc; "{index} {count} {mark}")?;
+    let mut told = match stack.clean_index() {
+        Some(clean) => format!(in alloc; "{index} {count} {clean}")?,
+        None => format!(in alloc; "{index} {count} lost")?,
+    };
     for counts in pushed {
         let (redone, undone, dropped) = counts.all();
         told.push_str(&format!(in alloc; " {redone}/{undone}/{dropped}")?)?;
@@ -175,31 +194,63 @@ fn told_of(
     Ok(told)
 }
 
-// What the calls leave of a new stack; `None` where one was not answered well, or where the stack, once it is dropped,
-// has not dropped each command once.
-fn told_after(alloc: Global, calls: &str) -> Result<Option<String>, AllocError> {
-    let mut pushed: Vec<Rc<Counts>> = Vec::new(alloc);
-    let mut stack: Stack<Fading> = Stack::new(alloc, blank(alloc)?, 0);
-    let mut are_done = true;
-    for word in calls.split(' ') {
-        are_done &= play(alloc, &mut stack, &mut pushed, word);
-    }
-    let told = told_of(alloc, &stack, &pushed);
+// What a stamp, a free command, another stamp and calls behind them leave; `None` where one was not answered well, or
+// where the stack, once it is dropped, has not dropped each command once.
+fn told_among_stamps(alloc: Global, turns: u32, calls: &str) -> Result<Option<String>, AllocError> {
+    let (first, free, last) = (
+        Counts::new(alloc)?,
+        Counts::new(alloc)?,
+        Counts::new(alloc)?,
+    );
+    let mut stack: Stack<Box<dyn Command>> = Stack::new(alloc, town(alloc)?, 0);
+    let below: Box<dyn Command> = boxed_stamp(alloc, stack.document(), &first, 0)?;
+    push(&mut stack, below)?;
+    let fading: Box<dyn Command> = new_fading(alloc, stack.document(), &free, turns)?;
+    push(&mut stack, fading)?;
+    let above: Box<dyn Command> = boxed_stamp(alloc, stack.document(), &last, 1)?;
+    push(&mut stack, above)?;
+    let are_done = call_all(&mut stack, calls);
+    let told = told_of(alloc, &stack, &[&first, &free, &last])?;
     drop(stack);
-    let are_gone = pushed.iter().all(|counts| counts.dropped.get() == 1);
-    if !are_done || !are_gone {
-        return Ok(None);
-    }
-    Ok(Some(told?))
+    let are_gone = [first.dropped.get(), free.dropped.get(), last.dropped.get()] == [1, 1, 1];
+    Ok((are_done && are_gone).then_some(told))
+}
+
+// The same of calls, a stamp, a free command and further calls.
+fn told_behind_a_stamp(
+    alloc: Global,
+    before: &str,
+    turns: u32,
+    calls: &str,
+) -> Result<Option<String>, AllocError> {
+    let (first, free) = (Counts::new(alloc)?, Counts::new(alloc)?);
+    let mut stack: Stack<Box<dyn Command>> = Stack::new(alloc, town(alloc)?, 0);
+    let is_begun = call_all(&mut stack, before);
+    let below: Box<dyn Command> = boxed_stamp(alloc, stack.document(), &first, 0)?;
+    push(&mut stack, below)?;
+    let fading: Box<dyn Command> = new_fading(alloc, stack.document(), &free, turns)?;
+    push(&mut stack, fading)?;
+    let are_done = call_all(&mut stack, calls);
+    let told = told_of(alloc, &stack, &[&first, &free])?;
+    drop(stack);
+    let are_gone = [first.dropped.get(), free.dropped.get()] == [1, 1];
+    Ok((is_begun && are_done && are_gone).then_some(told))
 }
 
 #[test]
 fn free_commands_that_are_obsolete_go(rt: HostRuntime) -> Result<(), Fail> {
     let alloc = rt.alloc();
-    for case in CASES.lines() {
-        let (calls, wanted) = case.split_once(" => ").unwrap_or((case, ""));
-        let told = told_after(alloc, calls)?;
-        assert_eq!(rt; told.as_deref(), Some(wanted), "at {calls}");
+    for (turns, calls, wanted) in AMONG_STAMPS {
+        let told = told_among_stamps(alloc, turns, calls)?;
+        assert_eq!(rt; told.as_deref(), Some(wanted), "at {turns} {calls}");
+    }
+    for (before, turns, calls, wanted) in BEHIND_A_STAMP {
+        let told = told_behind_a_stamp(alloc, before, turns, calls)?;
+        assert_eq!(rt;
+            told.as_deref(),
+            Some(wanted),
+            "at {before} {turns} {calls}"
+        );
     }
     Ok(())
 }

@@ -11,6 +11,8 @@ mod counted_paints;
 #[cfg(test)]
 mod free;
 #[cfg(test)]
+mod looks;
+#[cfg(test)]
 mod paints;
 #[cfg(test)]
 mod stacks;

@@ -1,5 +1,5 @@
 // The cells that a paint holds once newer ones were merged into it, on documents of 4 by 3 cells.
-ghost use Rattle.std.specs.Prelude.{◌≡◌, ◌≤◌, IfSome, length};
+ghost use Rattle.std.specs.Prelude.{◌≡◌, ◌≤◌, IfOk, length};
 ghost use Rattle.paint_commands.specs.Painting.{paint_change};
 
 use command_api::Command;
@@ -22,11 +22,11 @@ fn stamp(
     column: i32,
     values: &[Gid],
     follows: bool,
-) -> Option<PaintCommand>
+) -> Result<PaintCommand, AllocError>
     requires some { 1 ≤ length values.now }
     requires few { length values.now ≤ 4 }
-    ensures fits { IfSome result (λ c. (paint_change c).fits_undo document.new) }
-    ensures back { IfSome result (λ c. (paint_change c).undone document.new ≡ document.old) }
+    ensures fits { IfOk result (λ c. (paint_change c).fits_undo document.new) }
+    ensures back { IfOk result (λ c. (paint_change c).undone document.new ≡ document.old) }
 {
     let block = Block {
         x: column,
@@ -34,9 +34,11 @@ fn stamp(
         width: values.len() as u32,
         values,
     };
-    let mut command = PaintCommand::stamp(alloc, document, 1, &block, follows).ok()?;
+    // The layer is there and the values have a tileset, so nothing but memory can be wanting.
+    let stamp = PaintCommand::stamp(alloc, document, 1, &block, follows);
+    let mut command = stamp.map_err(|_| AllocError)?;
     command.redo(document);
-    Some(command)
+    Ok(command)
 }
 
 // Merges the newer command, which led to the document, into the one before it.
@@ -62,14 +64,8 @@ fn cell(x: u16, before: u32, after: u32) -> CellEdit {
 fn merged_paint_holds_both_changes(rt: HostRuntime) -> Result<(), Fail> {
     let alloc = rt.alloc();
     let mut document = town(alloc)?;
-    let first = stamp(alloc, &mut document, 0, &[Gid(5); 4], false);
-    let Some(mut older) = first else {
-        return Ok(());
-    };
-    let second = stamp(alloc, &mut document, 1, &[Gid(0), Gid(6)], true);
-    let Some(newer) = second else {
-        return Ok(());
-    };
+    let mut older = stamp(alloc, &mut document, 0, &[Gid(5); 4], false)?;
+    let newer = stamp(alloc, &mut document, 1, &[Gid(0), Gid(6)], true)?;
     let is_merged = merge(alloc, &mut older, &newer, &document);
     let wanted = [cell(0, 0, 5), cell(1, 0, 5), cell(2, 0, 6), cell(3, 0, 5)];
     assert!(rt; is_merged && older.change() == wanted.as_slice());
@@ -80,11 +76,8 @@ fn merged_paint_holds_both_changes(rt: HostRuntime) -> Result<(), Fail> {
 fn paint_over_the_same_values_leaves_them_out(rt: HostRuntime) -> Result<(), Fail> {
     let alloc = rt.alloc();
     let mut document = town(alloc)?;
-    let first = stamp(alloc, &mut document, 0, &[Gid(5); 2], false);
-    let second = stamp(alloc, &mut document, 0, &[Gid(5), Gid(5), Gid(7)], false);
-    let (Some(_older), Some(newer)) = (first, second) else {
-        return Ok(());
-    };
+    let _older = stamp(alloc, &mut document, 0, &[Gid(5); 2], false)?;
+    let newer = stamp(alloc, &mut document, 0, &[Gid(5), Gid(5), Gid(7)], false)?;
     assert!(rt; newer.change() == [cell(2, 0, 7)].as_slice());
     Ok(())
 }
@@ -93,17 +86,9 @@ fn paint_over_the_same_values_leaves_them_out(rt: HostRuntime) -> Result<(), Fai
 fn merged_cells_that_are_as_before_go(rt: HostRuntime) -> Result<(), Fail> {
     let alloc = rt.alloc();
     let mut document = town(alloc)?;
-    if stamp(alloc, &mut document, 0, &[Gid(5); 2], false).is_none() {
-        return Ok(());
-    }
-    let second = stamp(alloc, &mut document, 0, &[Gid(6); 2], false);
-    let Some(mut older) = second else {
-        return Ok(());
-    };
-    let third = stamp(alloc, &mut document, 0, &[Gid(5)], true);
-    let Some(newer) = third else {
-        return Ok(());
-    };
+    let _first = stamp(alloc, &mut document, 0, &[Gid(5); 2], false)?;
+    let mut older = stamp(alloc, &mut document, 0, &[Gid(6); 2], false)?;
+    let newer = stamp(alloc, &mut document, 0, &[Gid(5)], true)?;
     let is_merged = merge(alloc, &mut older, &newer, &document);
     assert!(rt; is_merged && older.change() == [cell(1, 5, 6)].as_slice());
     Ok(())

@@ -308,6 +308,26 @@ fn refused_below_a_step(
     Some((is_redone, first.all(), second.all()))
 }
 
+// What a push into a macro behind a step leaves where it is refused: that the macro ends; the index, the count and the
+// depth behind that; and how often both commands were turned and dropped.
+fn refused_in_a_macro(
+    alloc: Global,
+    first: &Rc<Counts>,
+    second: &Rc<Counts>,
+    document: Document,
+) -> Option<(bool, (usize, usize, usize), [(u32, u32, u32); 2])> {
+    let step: Box<dyn Command> = new_probe(alloc, first).ok()?;
+    let command: Box<dyn Command> = new_probe(alloc, second).ok()?;
+    let mut stack: Stack<Box<dyn Command>> = Stack::new(alloc, document, 0);
+    let is_begun = push(&mut stack, step).is_ok() && begin_macro(&mut stack).is_ok();
+    if !is_begun || push(&mut stack, command).is_ok() {
+        return None;
+    }
+    let is_ended = end_macro(&mut stack).is_ok();
+    let stands = (stack.index(), stack.count(), stack.depth());
+    Some((is_ended, stands, [first.all(), second.all()]))
+}
+
 // Want of memory for what the tests themselves make ends them well, so that each allocation can be refused in turn.
 #[test]
 fn refused_push_leaves_a_new_stack(rt: HostRuntime) {
@@ -332,6 +352,22 @@ fn refused_push_leaves_the_step_above(rt: HostRuntime) {
     };
     if let Some(seen) = refused_below_a_step(alloc, &first, &second, document) {
         assert_eq!(rt; seen, (true, (2, 1, 0), (1, 1, 1)));
+    }
+}
+
+// The last growth of the test is the place in the macro.
+#[test]
+fn refused_push_leaves_a_macro(rt: HostRuntime) {
+    let alloc = rt.alloc();
+    let (Ok(first), Ok(second), Ok(document)) = (
+        Counts::new(alloc),
+        Counts::new(alloc),
+        blank(alloc),
+    ) else {
+        return;
+    };
+    if let Some(seen) = refused_in_a_macro(alloc, &first, &second, document) {
+        assert_eq!(rt; seen, (true, (2, 2, 0), [(1, 0, 0), (1, 1, 1)]));
     }
 }
 

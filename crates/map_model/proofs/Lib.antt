@@ -29,3 +29,4 @@ pub mod TreeWalks
 pub mod FirstChanges
 pub mod PropertyKeeps
 pub mod PropertyLaws
+pub mod SideBySide

@@ -1,3 +1,4 @@
+pub mod Alike
 pub mod Bodies
 pub mod Canvas
 pub mod CellEdits

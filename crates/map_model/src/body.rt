@@ -2,7 +2,8 @@
 ghost use Rattle.std.specs.Prelude.{◌≡◌, ◌<◌, ◌↔◌, IsTrue, is_some, IfSome, length};
 ghost use Rattle.map_model.specs.Bodies.{IsTiles, tiles_of, tile_at};
 ghost use Rattle.map_model.specs.Lookups.{body_with_tiles};
-ghost use Rattle.map_model.specs.CellEdits.{HaveRange, IsBelow, put_values, with_value};
+ghost use Rattle.map_model.specs.Alike.{AreAlike};
+ghost use Rattle.map_model.specs.CellEdits.{AreInRowOrder, HaveRange, IsBelow, put_values, with_value};
 ghost use Rattle.map_model.specs.Lists.{Each};
 
 use crate::edit::{CellEdit, Side};
@@ -58,6 +59,23 @@ impl Body {
     {
         match self {
             Body::Tiles(_, cells) => cells.put(width, edits, side),
+            Body::Objects(_) => unreachable!(),
+            Body::Other => unreachable!(),
+            Body::Group(_) => unreachable!(),
+        }
+    }
+
+    /// Does what `put_tiles` does, with cells that all have one value before and one after.
+    pub(crate) fn put_alike(&mut self, width: usize, edits: &[CellEdit], side: Side)
+        requires tiles { IsTiles self.old }
+        requires numbers { Each (IsBelow width (length (tiles_of self.old))) edits.now }
+        requires ordered { AreInRowOrder edits.now }
+        requires alike { AreAlike edits.now }
+        ensures body { self.new ≡ body_with_tiles (put_values width side edits.now) self.old }
+        ensures range { HaveRange side edits.now }
+    {
+        match self {
+            Body::Tiles(_, cells) => cells.put_alike(width, edits, side),
             Body::Objects(_) => unreachable!(),
             Body::Other => unreachable!(),
             Body::Group(_) => unreachable!(),

@@ -2,9 +2,11 @@
 ghost use Rattle.std.specs.Prelude.{◌≡◌, IsUtf8, [], ◌+◌, ◌*◌, ◌<◌, length, slice_set, string_bytes};
 ghost use Rattle.serde_json.specs.View.{view as data_of, members_view};
 ghost use Rattle.map_model.specs.Lists.{Each};
-ghost use Rattle.map_model.specs.CellEdits.{HaveRange, IsBelow, cell_number, put_values, side_value, with_value};
+ghost use Rattle.map_model.specs.Alike.{AreAlike};
+ghost use Rattle.map_model.specs.CellEdits.{AreInRowOrder, HaveRange, IsBelow, cell_number, put_values, side_value, with_value};
 ghost use Rattle.map_model.specs.WellFormed.{IsTileValue};
 
+use crate::alike::put_alike;
 use crate::edit::{CellEdit, Side};
 use serde_json::Value;
 use std::marker::Model;
@@ -103,6 +105,17 @@ impl Cells {
         ensures range { HaveRange side edits.now }
     {
         put_all(self.values.as_mut_slice(), width, edits, side);
+    }
+
+    /// Does what `put` does, with cells that all have one value before and one after.
+    pub(crate) fn put_alike(&mut self, width: usize, edits: &[CellEdit], side: Side)
+        requires inside { Each (IsBelow width (length self.old)) edits.now }
+        requires ordered { AreInRowOrder edits.now }
+        requires alike { AreAlike edits.now }
+        ensures values { self.new ≡ put_values width side edits.now self.old }
+        ensures range { HaveRange side edits.now }
+    {
+        put_alike(self.values.as_mut_slice(), width, edits, side);
     }
 }
 

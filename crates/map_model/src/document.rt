@@ -1,4 +1,6 @@
 ghost use Rattle.std.specs.Prelude.{◌≡◌, ◌<◌, Some, IsSome, IsSomeAnd, option_map};
+ghost use Rattle.map_model.specs.Alike.{AreAlike};
+ghost use Rattle.map_model.specs.CellEdits.{AreInRowOrder};
 ghost use Rattle.map_model.specs.Document.{document_of, painted, with_map, with_selection, IsDocument, IsSelectionOf};
 ghost use Rattle.map_model.specs.Layers.{IsPlaceIn, layer_at, layer_name, layer_with_name, layer_with_visible, with_layer_at, with_next_ids, without_layer_at};
 ghost use Rattle.map_model.specs.Lists.{Each};
@@ -13,7 +15,9 @@ mod tilesets;
 use crate::contents::MapText;
 use crate::edit::{CellEdit, Side};
 use crate::here::seek_layer_in;
-use crate::layers::{insert_layer_in, put_in, rename_in, set_in, show_in, take_layer_in};
+use crate::layers::{
+    insert_layer_in, put_alike_in, put_in, rename_in, set_in, show_in, take_layer_in,
+};
 use crate::map::Map;
 use crate::parts::Layer;
 use crate::place::LayerPlace;
@@ -105,6 +109,25 @@ impl Document {
             _ => {
                 let width = self.map.parts.width as usize;
                 put_in(&mut self.map.parts.layers, layer, width, edits, side);
+            }
+        }
+    }
+
+    /// Does what `put_edits` does, with cells that all have one value before and one after. It looks at the ends of what stands
+    /// side by side, and not at each cell there.
+    pub fn put_alike(&mut self, layer: u32, edits: &[CellEdit], side: Side)
+        requires tiles { HasTiles self.old.map layer }
+        requires inside { Each (IsWithin self.old.map) edits.now }
+        requires ordered { AreInRowOrder edits.now }
+        requires alike { AreAlike edits.now }
+        ensures document { self.new ≡ painted layer edits.now side self.old }
+        ensures well_formed { IsDocument self.new }
+    {
+        match edits {
+            [edit] => self.put_cell(layer, edit.x.into(), edit.y.into(), edit.value(side)),
+            _ => {
+                let width = self.map.parts.width as usize;
+                put_alike_in(&mut self.map.parts.layers, layer, width, edits, side);
             }
         }
     }

@@ -3,7 +3,8 @@ ghost use Rattle.std.specs.Prelude.{◌≡◌, ◌<◌, ◌≤◌, ◌+◌, ◌^
 ghost use Rattle.std.specs.List.{insert, remove};
 ghost use Rattle.map_model.specs.declared.limits.TheConstants.{MAX_GROUPS};
 ghost use Rattle.map_model.specs.Bodies.{IsTiles};
-ghost use Rattle.map_model.specs.CellEdits.{HaveRange, IsBelow, put_values, with_value};
+ghost use Rattle.map_model.specs.Alike.{AreAlike};
+ghost use Rattle.map_model.specs.CellEdits.{AreInRowOrder, HaveRange, IsBelow, put_values, with_value};
 ghost use Rattle.map_model.specs.Groups.{body_with_layers, change_among, group_in, layer_among};
 ghost use Rattle.map_model.specs.Layers.{IsPlaceIn, layer_at, layer_name, layer_with_name, layer_with_visible, siblings_of, with_layer_at, without_layer_at};
 ghost use Rattle.map_model.specs.Lists.{Distinct, Each};
@@ -39,6 +40,26 @@ pub fn put_in(layers: &mut Chain<Layer>, id: u32, width: usize, edits: &[CellEdi
     ensures range { HaveRange side edits.now }
 {
     change_layer(layers, id, |layer| layer.body.put_tiles(width, edits, side));
+}
+
+/// Does what `put_in` does, with cells that all have one value before and one after.
+#[inline(never)]
+pub fn put_alike_in(
+    layers: &mut Chain<Layer>,
+    id: u32,
+    width: usize,
+    edits: &[CellEdit],
+    side: Side,
+)
+    requires distinct { Distinct (layer_ids layers.old) }
+    requires tiles { IsSomeAnd (layer_among id MAX_GROUPS layers.old) (λ l. IsTiles l.body) }
+    requires numbers { Each (IsBelow width (length (tiles_of_layer (layer_among id MAX_GROUPS layers.old)))) edits.now }
+    requires ordered { AreInRowOrder edits.now }
+    requires alike { AreAlike edits.now }
+    ensures layers { layers.new ≡ change_among id MAX_GROUPS (layer_with_tiles (put_values width side edits.now)) layers.old }
+    ensures range { HaveRange side edits.now }
+{
+    change_layer(layers, id, |layer| layer.body.put_alike(width, edits, side));
 }
 
 /// Exchanges the name of the layer with an id and another name.

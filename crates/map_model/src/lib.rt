@@ -3,6 +3,7 @@
 //! A look-up or a change takes no memory; what must hold for it is a condition, and no call refuses.
 #![tactic(auto)]
 
+mod alike;
 mod body;
 mod canvas;
 mod contents;

@@ -165,7 +165,7 @@ impl Exchange for PaintCommand {
     fn exchange(&mut self, document: &mut Document) {
         let side = side_to_put(self.is_made);
         self.is_made = !self.is_made;
-        document.put_edits(self.layer, self.cells.as_slice(), side);
+        self.cells.put(document, self.layer, side);
     }
 }
 

@@ -1,6 +1,8 @@
 -- From plans to steps.
-use Rattle.std.proofs.Common.{◌≡◌, Some, ap, subst, sym}
+use Rattle.std.proofs.Common.{◌≡◌, List, Option, Some, ap, subst, sym}
 use Rattle.command_api.specs.Law.{Change, IsSame}
+use Rattle.map_store.specs.Asking.{Asked}
+use Rattle.undo_stack.specs.History.{History}
 use Rattle.session.specs.declared.line.Line.{Line}
 use Rattle.session.specs.declared.reply.Refusal.TheVariants.{NoMemory}
 use Rattle.session.specs.declared.reply.Reply.{Reply}
@@ -8,9 +10,11 @@ use Rattle.session.specs.declared.reply.Reply.TheVariants.{Refused}
 use Rattle.editor.specs.declared.planned.Edit.{Edit}
 use Rattle.editor.specs.declared.planned.Planned.TheVariants as planned
 use Rattle.editor.specs.Machine.{Machine, Workspace, active_of, workspace}
-use Rattle.editor.specs.Steps.{Step}
-use Rattle.editor.specs.Planning.{Commits, Plans, edit_change}
+use Rattle.editor.specs.Steps.{Edits, OnActive, OnDocuments, OnFiles, Rule, Step, rule_of}
+use Rattle.editor.specs.Planning.{Commits, IsEditOf, IsOfActive, Plans, edit_change}
+use Rattle.editor.proofs.Asking.{unasked}
 use Rattle.editor.proofs.Committing.{commit_step, uncommitted}
+use Rattle.session_run.specs.Asking.{LineAsks}
 
 -- equal commands do the same
 pub same-IsSame : (v w : Change) → w ≡ v → IsSame v w
@@ -36,3 +40,15 @@ pub unput_step : (line : Line) (old mid : Workspace) (edit : Edit) → Plans lin
 unput_step line old mid edit p =
     let Q : Workspace → Type 0 = λ m. Step line old (Some (Refused NoMemory)) m in
     subst Q (sym p.0) (uncommitted line old.machine old.stored (edit_change edit) p.1)
+
+-- an edit is a line about the active document
+edit-IsOfActive : (rule : Rule) (active : Option History) (c : Change) → IsEditOf rule active c → IsOfActive rule
+edit-IsOfActive (OnFiles act) active c p = absurd p
+edit-IsOfActive (OnDocuments act) active c p = absurd p
+edit-IsOfActive (OnActive act) active c p = absurd p
+edit-IsOfActive (Edits names edit) active c p = tt
+
+-- for an edit no store is asked, whatever its reply is
+pub unasked_edit : (line : Line) (m : Machine) (active : Option History) (c : Change) (reply : Reply) (old new : List Asked)
+    → IsEditOf (rule_of line) active c → new ≡ old → LineAsks line m (Some reply) old new
+unasked_edit line m active c reply old new p e = rw e (unasked line m (planned.Reply reply) old (edit-IsOfActive (rule_of line) active c p))

@@ -5,6 +5,7 @@ ghost use Rattle.editor.specs.Editors.{IsSound, machine_of};
 ghost use Rattle.editor.specs.Machine.{started_machine, workspace};
 ghost use Rattle.editor.specs.Steps.{Step, StepIn};
 ghost use Rattle.session.specs.Spelling.{CanBeSpelled};
+ghost use Rattle.session_run.specs.Asking.{AsksIn, LineAsks};
 ghost use Rattle.session_run.specs.Runs.{RunsAll, RunsToUnread, RunsToWrite};
 ghost use Rattle.session_run.specs.StrictRuns.{Tells};
 ghost use Rattle.session_run.specs.WithinRuns.{EndsAs, EndsInWrite, PutsSame, StepFound, Stops, StopsInWrite, StopsUnread, TellsEnd};
@@ -83,6 +84,7 @@ fn carry_out<C: Command, S: MapStore, F: Fn(Edit) -> Option<C>>(
     ensures sound { IsSound C.change editor.new }
     ensures step { Step line.now
         (workspace (machine_of C.change editor.old) (S.stored store.old)) result (workspace (machine_of C.change editor.new) (S.stored store.new)) }
+    ensures asks { LineAsks line.now (machine_of C.change editor.old) result (S.asked store.old) (S.asked store.new) }
 {
     match editor.plan(alloc, store, line) {
         Planned::Quiet => None,
@@ -96,6 +98,8 @@ fn carry_out<C: Command, S: MapStore, F: Fn(Edit) -> Option<C>>(
 
 /// Does what a line asks for, and gives the reply to it, and none to a quiet one. The line has no newline at its end. What it
 /// plans is put into a command by `put`.
+///
+/// The store is called for the lines `open` and `save` alone, and at most once.
 #[inline(always)]
 pub fn step<C: Command, S: MapStore, F: Fn(Edit) -> Option<C>>(
     alloc: Global,
@@ -110,6 +114,7 @@ pub fn step<C: Command, S: MapStore, F: Fn(Edit) -> Option<C>>(
     ensures sound { IsSound C.change editor.new }
     ensures step { StepIn line.now
         (workspace (machine_of C.change editor.old) (S.stored store.old)) result (workspace (machine_of C.change editor.new) (S.stored store.new)) }
+    ensures asks { AsksIn line.now (machine_of C.change editor.old) result (S.asked store.old) (S.asked store.new) }
 {
     match &parse_line(line) {
         Ok(line) => carry_out(alloc, editor, store, line, put),

@@ -110,6 +110,10 @@ impl<'a, R: Eprint> FaultReport for FolderFaults<'a, R> {
 
 /// Says on standard error where there is no such folder. Lines that need no file can be carried out all the same.
 pub fn look_at_folder(rt: &(impl Files + Eprint), folder: &str) {
+    // The folder in which the program runs is there.
+    if folder == "." {
+        return;
+    }
     let _ = match fs::metadata(rt, folder) {
         Ok(metadata) if metadata.is_dir() => Ok(()),
         Ok(_) => eprintln!(rt; "tile_editor: {folder}: Not a directory"),

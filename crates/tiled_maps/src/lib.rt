@@ -7,8 +7,6 @@ mod fault;
 mod fraction;
 mod fractions;
 mod look;
-#[cfg(test)]
-mod look_tests;
 mod members;
 mod place;
 mod text;

@@ -23,7 +23,7 @@ use Rattle.undo_stack.specs.Stacks.{history, Holds}
 use Rattle.undo_stack.specs.declared.stack.Stack.{Stack}
 use Rattle.undo_stack.specs.History.{History}
 use Rattle.undo_group.specs.Groups.{IsNew, AreDistinct, history_named, with_history, removed, GroupParts, added, chosen}
-use Rattle.undo_group.specs.Stacks.{document_of, documents_of, name_at, group_at, named, number_without, group_of, stacks_of, AreHeld, IsReplacedAt, IsTakenOut, NamedStack}
+use Rattle.undo_group.specs.Stacks.{document_of, documents_of, name_at, group_at, named, number_without, group_of, stack_at, stack_named, stacks_of, AreHeld, IsReplacedAt, IsTakenOut, NamedStack}
 use Rattle.undo_group.specs.declared.group.Group.{Group}
 use Rattle.undo_group.specs.Lending.{IsLeft}
 use Rattle.undo_group.proofs.Documents.{history_named-at, with_history-new, group_at-remove}
@@ -52,6 +52,41 @@ module _ {C : Type 0} (f : C → Change) {Y : Type 0} where
   pub names-documents_of : (es : List (String Y × Stack C)) → map (λ d. d.name) (documents_of f es) ≡ map string_bytes (keys_of es)
   names-documents_of [] = refl
   names-documents_of (e ∷ es) = ap (λ ns. string_bytes e.0 ∷ ns) (names-documents_of es)
+
+  -- a look-up of a name
+  stack_named-stacks : (name : List ℕ) (es : List (String Y × Stack C))
+      → stack_named name (map (λ e. named (string_bytes e.0) e.1) es) ≡ lookup (is_name name) es
+  stack_named-stacks name [] = refl
+  stack_named-stacks name (e ∷ es) = grind (arith, stack_named-stacks name es)
+
+  -- the stack at a number, which is found by its name
+  pub stack_at-found : (es : List (String Y × Stack C)) (key : String Y) (s : Stack C) (number : Option ℕ) (i : ℕ) → number ≡ Some i
+      → slice_get es i ≡ Some (key, s) → lookup (is_name (string_bytes key)) es ≡ Some s
+      → stack_at (name_at (documents_of f es) number) (map (λ e. named (string_bytes e.0) e.1) es) ≡ Some s
+  stack_at-found es key s number i is at found =
+      let name : name_at (documents_of f es) (Some i) ≡ Some (string_bytes key) = rw (slice_get-map (document_of f) es i, at) refl in
+      rw (is, name, stack_named-stacks (string_bytes key) es) found
+
+  -- the stack at a number is the one of its name
+  stack_named-at : (es : List (String Y × Stack C)) (i : ℕ) (e : String Y × Stack C) → AreDistinct (documents_of f es) → slice_get es i ≡ Some e
+      → stack_named (string_bytes e.0) (map (λ e. named (string_bytes e.0) e.1) es) ≡ Some e.1
+  stack_named-at [] i e distinct at = absurd cc
+  stack_named-at (x ∷ es) zero e distinct at = grind (arith, bytes_eq-Decides)
+  stack_named-at (x ∷ es) (suc i) e distinct at =
+      grind (arith, bytes_eq-Decides, stack_named-at es i e distinct.1, history_named-at (documents_of f es) i (document_of f e) distinct.1, slice_get-map (document_of f) es)
+
+  pub stack_at-number : (es : List (String Y × Stack C)) (i : ℕ) → AreDistinct (documents_of f es)
+      → stack_at (name_at (documents_of f es) (Some i)) (map (λ e. named (string_bytes e.0) e.1) es) ≡ option_map (λ e. e.1) (slice_get es i)
+  stack_at-number es i distinct = by_entry (slice_get es i) refl
+    where
+      by_entry : (o : Option (String Y × Stack C)) → slice_get es i ≡ o
+          → stack_at (name_at (documents_of f es) (Some i)) (map (λ e. named (string_bytes e.0) e.1) es) ≡ option_map (λ e. e.1) (slice_get es i)
+      by_entry None none =
+          let name : name_at (documents_of f es) (Some i) ≡ None = grind (arith, slice_get-map) in
+          rw (name, none) refl
+      by_entry (Some e) at =
+          let name : name_at (documents_of f es) (Some i) ≡ Some (string_bytes e.0) = grind (arith, slice_get-map) in
+          rw (name, at) (stack_named-at es i e distinct at)
 
   -- a number that was found by a name has it
   pub name_at-found : (name : List ℕ) (es : List (String Y × Stack C)) (i : ℕ) → position (is_name name) (keys_of es) ≡ Some i → name_at (documents_of f es) (Some i) ≡ Some name

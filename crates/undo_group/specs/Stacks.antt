@@ -1,6 +1,7 @@
 -- A group of stacks, seen as a group of histories, where f says what their commands do.
-use Rattle.std.specs.Prelude.{◌≡◌, ℕ, ◌-◌, ◌<◌, ◌==◌, nat_lt, if◌then◌else◌, List, ◌∷◌, ◌++◌, map, length, Option, Some, None, IsSome, IfSome, All, slice_get}
+use Rattle.std.specs.Prelude.{◌≡◌, ℕ, ◌-◌, ◌<◌, ◌==◌, nat_lt, if◌then◌else◌, List, [], ◌∷◌, ◌++◌, map, length, Option, Some, None, IsSome, IfSome, All, slice_get}
 use Rattle.std.specs.Option.{option_map}
+use Rattle.std.specs.Str.{bytes_eq}
 use Rattle.std.specs.String.{string_bytes}
 use Rattle.std.specs.declared.string.String.{String}
 use Rattle.command_api.specs.Law.{Change}
@@ -45,6 +46,16 @@ named name s = record { name = name; stack = s }
 -- the stacks of a group, in order of opening
 abbrev pub stacks_of : {C : Type 0} → Group C → List (NamedStack C)
 stacks_of g = map (λ e. named (string_bytes e.0) e.1) g.stacks.entries
+
+-- the stack of this name
+abbrev pub stack_named : {C : Type 0} → List ℕ → List (NamedStack C) → Option (Stack C)
+stack_named name [] = None
+stack_named name (s ∷ ss) = if bytes_eq name s.name then Some s.stack else stack_named name ss
+
+-- the stack of the active name, where there is one
+abbrev pub stack_at : {C : Type 0} → Option (List ℕ) → List (NamedStack C) → Option (Stack C)
+stack_at None ss = None
+stack_at (Some name) ss = stack_named name ss
 
 -- taking the stack s of this name out of the stacks old leaves new
 pub record IsTakenOut {C : Type 0} (name : List ℕ) (old : List (NamedStack C)) (s : Stack C) (new : List (NamedStack C)) : Type 0 where

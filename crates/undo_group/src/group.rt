@@ -6,7 +6,7 @@ ghost use Rattle.undo_stack.specs.Reading.{undo_text_of, redo_text_of};
 ghost use Rattle.undo_stack.specs.Stacks.{history, Holds};
 ghost use Rattle.undo_group.specs.Groups.{history_named, active_history, text_of_active, is_clean_active, IsNew, IsGroup, empty_group, added, removed, chosen};
 ghost use Rattle.undo_group.specs.Lending.{LendsActive};
-ghost use Rattle.undo_group.specs.Stacks.{group_of, named, number_without, stacks_of, AreHeld, IsNotAdded, IsTakenOut};
+ghost use Rattle.undo_group.specs.Stacks.{group_of, named, number_without, stack_at, stacks_of, AreHeld, IsNotAdded, IsTakenOut};
 
 use crate::names::Names;
 use command_api::Command;
@@ -172,6 +172,7 @@ impl<C: Command> Group<C> {
     pub fn active(&self) -> Option<&Stack<C>>
         requires { AreHeld C.change self.now }
         ensures active { option_map (λ stack. history C.change stack.now) result ≡ active_history (group_of C.change self.now) }
+        ensures stack { option_map (λ stack. stack.now) result ≡ stack_at (group_of C.change self.now).active (stacks_of self.now) }
         ensures held { IfSome result (λ stack. Holds C.change stack.now) }
     {
         let (_, stack) = self.stacks.get_index(self.active?)?;
@@ -184,6 +185,7 @@ impl<C: Command> Group<C> {
         requires { AreHeld C.change self.old }
         ensures* lends { sem 𝓛 (LendsActive C.row C.change self.entry result) }
         ensures active { option_map (λ stack. history C.change stack.now) result ≡ active_history (group_of C.change self.old) }
+        ensures stack { option_map (λ stack. stack.now) result ≡ stack_at (group_of C.change self.old).active (stacks_of self.old) }
         ensures held { IfSome result (λ stack. Holds C.change stack.now) }
         ensures whole { OnSome result (IsGroup (group_of C.change self.old)) }
     {

@@ -1,9 +1,10 @@
--- What an entry does, and how deep it is, by its two forms.
+-- What an entry does, how deep it is, and its outline, by its two forms.
 use Rattle.std.proofs.Common.{◌≡◌, ℕ, ◌+◌, List, [], ◌∷◌, map, Box, Global, refl, ap, sym, ◌∙◌}
 use Rattle.map_model.specs.Document.{DocumentParts}
 use Rattle.command_api.specs.Law.{Change}
 use Rattle.undo_stack.specs.Sequence.{sequence_change, before, after, FitsDown, FitsUp}
 use Rattle.undo_stack.specs.Entries.{entry_change, layer_change, greatest, nesting, layer_nesting}
+use Rattle.undo_stack.specs.Outlines.{Outline, Single, layer_outline, nested, outline}
 use Rattle.undo_stack.specs.declared.entry.MacroContents.{MacroContents}
 use Rattle.undo_stack.specs.declared.entry.Entry.{Entry, rec-roll-Entry, fold-roll-Entry, roll-Entry}
 use Rattle.undo_stack.specs.declared.entry.Entry.TheOpen as open_form
@@ -67,3 +68,12 @@ nesting-Command c = ap nesting (sym (rolls-Command c)) ∙ nesting-roll (open_fo
 
 pub nesting-Macro : {C : Type 0} (contents : Contents C) → nesting (Macro contents) ≡ greatest (map nesting contents.value.children.items) + 1
 nesting-Macro contents = ap nesting (sym (rolls-Macro contents)) ∙ nesting-roll (open_form.Macro contents)
+
+outline-roll : {C : Type 0} (x : Entry-F C (Entry C)) → outline (roll-Entry C x) ≡ layer_outline (map-Entry C (Entry C) Outline outline x)
+outline-roll {C} x = fold-roll-Entry C Outline layer_outline x
+
+pub outline-Command : {C : Type 0} (c : C) → outline (Command c) ≡ Single
+outline-Command c = ap outline (sym (rolls-Command c)) ∙ outline-roll (open_form.Command c)
+
+pub outline-Macro : {C : Type 0} (contents : Contents C) → outline (Macro contents) ≡ nested (map outline contents.value.children.items)
+outline-Macro contents = ap outline (sym (rolls-Macro contents)) ∙ outline-roll (open_form.Macro contents)

@@ -11,13 +11,15 @@ use Rattle.command_api.specs.Names.{is_free}
 use Rattle.undo_stack.specs.History.{Step, History, step_named, last_after}
 use Rattle.undo_stack.specs.Pushing.{up_to}
 use Rattle.undo_stack.specs.Calm.{is_gone, IsGone, NoneFree}
-use Rattle.undo_stack.specs.Held.{Becomes, IsHeld, IsHeldButAt, IsDroppedAt, history_at}
+use Rattle.undo_stack.specs.Held.{Becomes, IsHeld, IsHeldButAt, IsDroppedAt, entry_outlines, history_at}
 use Rattle.undo_stack.specs.Entries.{entry_change, nesting}
+use Rattle.undo_stack.specs.Outlines.{outline}
 use Rattle.undo_stack.specs.Sequence.{before, steps_down, steps_up, steps_of, FitsDown, FitsUp}
 use Rattle.undo_stack.specs.Sound.{IsTurnable, IsAtMost, sequence_nesting}
 use Rattle.undo_stack.specs.Turning.{MayGo, Drops, without_step}
 use Rattle.undo_stack.specs.declared.entry.Entry.{Entry}
 use Rattle.undo_stack.specs.declared.sequence.Sequence.{Sequence}
+use Rattle.undo_stack.proofs.Outlines.{map-remove, shaped}
 use Rattle.undo_stack.proofs.Pushes.{greatest-append, at_most-up_to, sequence_nesting-take, sequence_nesting-drop}
 use Rattle.undo_stack.proofs.Sequences.{take-remove, drop-remove, before-append, steps_down-append, FitsDown-pop, length-down, take_last, drop_first}
 use Rattle.undo_stack.proofs.Sequences.{last_after-down}
@@ -195,7 +197,9 @@ module _ {C : Type 0} (f : C → Change) (q : Sequence C) (v : Entry C) (j : ℕ
       dropped = rw seen_left (drops n (history_at f d q) is);
       entry = v;
       was = at;
-      left = rw (← goes, seen_left) (left_view n (history_at f d q) is);
+      left = rw (← goes)
+          (shaped (history_at f d p) (without_step j (history_at f d q)) (entry_outlines p) (remove (entry_outlines q) j)
+          (seen_left ∙ left_view n (history_at f d q) is) (ap (map outline) b.entries ∙ map-remove outline es j));
       below = same_below;
       above = above;
     }

@@ -14,9 +14,10 @@ use Rattle.undo_stack.specs.Sequence.{FitsDown, IsMoved, is_stale}
 use Rattle.undo_stack.specs.Calm.{is_gone, IsLive, NoneFree}
 use Rattle.undo_stack.specs.Moving.{positioned}
 use Rattle.undo_stack.specs.Entries.{entry_change, nesting, greatest}
-use Rattle.undo_stack.specs.Held.{Becomes, IsCut, history_at, target_in, IsSoundAt, IsHeld, IsHeldToLast, IsHeldButAt, IsSetAt, IsUnchangedAt, IsTakenInto}
-use Rattle.undo_stack.specs.Held.{MergesInto, IsSettledAt, IsDroppedAt}
-use Rattle.undo_stack.specs.Merging.{MergesChange, MergesSequence, HasTarget}
+use Rattle.undo_stack.specs.Held.{Becomes, IsCut, history_at, outlines_at, shape_at, target_in, IsSoundAt, IsHeld, IsHeldToLast, IsHeldButAt, IsSetAt, IsUnchangedAt, IsTakenInto}
+use Rattle.undo_stack.specs.Held.{MergesInto, MergesOutlines, entry_outlines, IsSettledAt, IsDroppedAt}
+use Rattle.undo_stack.specs.Merging.{MergesChange, MergesSequence, HasTarget, left_of}
+use Rattle.undo_stack.specs.Outlines.{Outlines, outline, outlines_cut, outlines_next_of}
 use Rattle.undo_stack.specs.Reporting.{TakesIn, EndsIn, IsReportedAt, last_entry, left_by, reports}
 use Rattle.undo_stack.specs.Sound.{IsAtMost, IsTurnable, sequence_nesting}
 use Rattle.undo_stack.specs.declared.entry.Entry.{Entry}
@@ -25,6 +26,7 @@ use Rattle.undo_stack.specs.declared.sequence.Sequence.{Sequence}
 use Rattle.undo_stack.proofs.Calm.{Bound, Live, live_as, bound_as, bound_moved, at_number, live_again, live_around, live_gone, live_either, live_moved, live_stays}
 use Rattle.undo_stack.proofs.Joins.{take_below-set, merges_below, altered_moved, drop_below-set, settles_gone, settles_stays}
 use Rattle.undo_stack.proofs.Levels.{without_last-append}
+use Rattle.undo_stack.proofs.Outlines.{outlines-without_last}
 use Rattle.undo_stack.proofs.Pushes.{pushed_as, redone_step, done_sound, at_most-up_to, at_most-more, at_most-lowered, cut_view, cut_sound, added_view}
 use Rattle.undo_stack.proofs.Pushes.{added_fits, limited_view, sequence_nesting-append, sequence_nesting-drop, sequence_nesting-take}
 use Rattle.undo_stack.proofs.Reports.{takes_in, last_entry-below, last_entry-append}
@@ -229,6 +231,10 @@ module _ {C : Type 0} (f : C → Change) where
   merged_err c d q p (Ok b) e k = absurd (let bad : false ≡ true = e in let worse : ⊥ = cc in worse)
   merged_err c d q p (Err x) e k = k
 
+  pub merged_err_outlines : {E : Type 0} (q p : Sequence C) (r : Result Bool E) → IsErr r → entry_outlines p ≡ entry_outlines q → MergesOutlines q r p
+  merged_err_outlines q p (Ok b) e k = absurd (let bad : false ≡ true = e in let worse : ⊥ = cc in worse)
+  merged_err_outlines q p (Err x) e k = k
+
   -- ---- the target v, which goes or stays
   module _ (q : Sequence C) (v : Entry C) (some : 0 < q.index) (end : q.index ≡ length q.entries.items)
       (is : v ≡ get_or q.entries.items (q.index - 1) v) (law : IsLawful (entry_change f v)) where
@@ -239,6 +245,14 @@ module _ {C : Type 0} (f : C → Change) where
 
     told : reports f (target_in q) ≡ (entry_change f v).obsolete
     told = ap (reports f) (last_entry-below q.entries.items v q.index some is (omega arith))
+
+    -- its outline goes with it
+    pub outlines_go : (entry_change f v).obsolete ≡ true
+        → map outline (take (q.index - 1) q.entries.items) ≡ left_of (reports f (target_in q)) (entry_outlines q)
+    outlines_go gone = rw (told, gone) (outlines-without_last q.entries.items v q.index some end is)
+
+    pub outlines_stay : (entry_change f v).obsolete ≡ false → entry_outlines q ≡ left_of (reports f (target_in q)) (entry_outlines q)
+    outlines_stay kept = rw (told, kept) refl
 
     pub stays : (d : DocumentParts) → (entry_change f v).obsolete ≡ false → IsHeldToLast f d q → IsSettledAt f d q q
     stays d kept h =
@@ -395,7 +409,7 @@ module _ {C : Type 0} (f : C → Change) where
     dropped = inl refl;
     entry = v;
     was = is;
-    left = ap (λ (b : Bool). left_by b at (history_at f d q) (history_at f d q)) stays;
+    left = ap (λ (b : Bool). left_by b at (shape_at f d q) (shape_at f d q)) stays;
     below = refl;
     above = λ index. ap (λ (n : ℕ). drop n q.entries.items) index;
   }
@@ -418,8 +432,9 @@ module _ {C : Type 0} (f : C → Change) where
     pub reported_at : (merged : Bool) (entry : Option (Entry C))
         → (merged ≡ true ↔ Merges (cut (history_at f ((f y).undone e) q)) (step_named (f y).names e)) → EndsIn merged f y e (target_in q) entry
         → n ≡ next_of merged (reports f entry) (step_named (f y).names e) (cut (history_at f ((f y).undone e) q))
-        → IsReportedAt f x d (target_in q) (history_at f d q) e n
-    reported_at merged entry where_merged ends next = record {
+        → (os : Outlines) → os ≡ outlines_next_of merged (reports f entry) q.limit (outlines_cut q.index (outlines_at q))
+        → IsReportedAt f x d (target_in q) (shape_at f d q) e (record { history = n; outlines = os })
+    reported_at merged entry where_merged ends next os outlined = record {
       command = y;
       redone = r;
       merged = merged;
@@ -427,4 +442,5 @@ module _ {C : Type 0} (f : C → Change) where
       entry = entry;
       ends = ends;
       next = rw same_step (subst (λ (k : History). n ≡ next_of merged (reports f entry) (step_named (f y).names e) (cut k)) same_base next);
+      outlined = outlined;
     }

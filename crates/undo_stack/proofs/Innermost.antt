@@ -17,10 +17,11 @@ use Rattle.undo_stack.specs.Sequence.{before, steps_down, FitsDown}
 use Rattle.undo_stack.specs.Macros.{Ends}
 use Rattle.undo_stack.specs.Entries.{entry_change, nesting}
 use Rattle.undo_stack.specs.Lending.{innermost_of, innermost, with_innermost_of, with_innermost_at}
-use Rattle.undo_stack.specs.Held.{IsHeld, history_at, target_in}
+use Rattle.undo_stack.specs.Held.{IsHeld, history_at, outlines_at, shape_at, target_in}
+use Rattle.undo_stack.specs.Outlines.{Outlines, Shape, outlines_cut, outlines_next_of}
 use Rattle.undo_stack.specs.Reporting.{IsReportedAt, reports}
 use Rattle.undo_stack.specs.Sound.{Inner, IsAtMost, start_of, sequence_nesting, level_nesting}
-use Rattle.undo_stack.specs.Stacks.{inner_of, inners, history, AreHeld, AreReady, Holds, IsClosed, IsDone, IsReady, IsReported, target_entry, IsCalm}
+use Rattle.undo_stack.specs.Stacks.{inner_of, inners, history, outlines, shape, AreHeld, AreReady, Holds, IsClosed, IsDone, IsReady, IsReported, target_entry, IsCalm}
 use Rattle.undo_stack.specs.Stacks.{LevelsAreLive}
 use Rattle.undo_stack.specs.declared.entry.Entry.{Entry}
 use Rattle.undo_stack.specs.declared.level.Level.{Level}
@@ -104,6 +105,14 @@ next-levelled true false s h (p ∷ os) o = ap (λ rest. record h { levels = res
 next-levelled false false s h [] o = refl
 next-levelled false false s h (p ∷ os) o = ap (λ rest. record h { levels = rest }) (with_innermost-append (λ ss. ss ++ s ∷ []) (p ∷ os) o)
 
+-- where the outlines of the sequence q are those of p after a push, those of the stack t are those of s after it
+abbrev pub NextLent : {C : Type 0} → (C → Change) → Stack C → Sequence C → Sequence C → Stack C → Type 0
+NextLent f s p q t = (merged gone : Bool) → outlines_at q ≡ outlines_next_of merged gone p.limit (outlines_cut p.index (outlines_at p))
+    → outlines t ≡ outlines_next_of merged gone s.sequences.steps.limit (outlines_cut s.sequences.steps.index (outlines s))
+
+abbrev shape_with : History → Outlines → Shape
+shape_with h os = record { history = h; outlines = os }
+
 -- pushing the change c onto the history h gave n
 abbrev pub Pushes : Change → History → History → Type 0
 Pushes c h n = IsPushed h (step_of c (current h)) n
@@ -171,9 +180,12 @@ module _ (h : History) (os : List Open) (o : Open) where
       } in
       rw (sym same_current) pushed
 
-  reported_whole : {C : Type 0} (f : C → Change) (x : C) (d e : DocumentParts) (v : Option (Entry C)) (n : History)
-      → IsReportedAt f x d v part e n → IsReportedAt f x d v whole e (whole_with n)
-  reported_whole f x d e v n r =
+  -- and reports the same, where the outlines of the whole are next where those of the part are
+  reported_whole : {C : Type 0} (f : C → Change) (x : C) (d e : DocumentParts) (v : Option (Entry C)) (n : History) (xs ys os ps : Outlines)
+      → ((merged gone : Bool) → ys ≡ outlines_next_of merged gone part.limit (outlines_cut part.position xs)
+      → ps ≡ outlines_next_of merged gone whole.limit (outlines_cut whole.position os))
+      → IsReportedAt f x d v (shape_with part xs) e (shape_with n ys) → IsReportedAt f x d v (shape_with whole os) e (shape_with (whole_with n) ps)
+  reported_whole f x d e v n xs ys os ps next r =
       let s = step_of (f x) (current part) in
       record {
         command = r.command;
@@ -184,6 +196,7 @@ module _ (h : History) (os : List Open) (o : Open) where
         entry = r.entry;
         ends = r.ends;
         next = rw (sym same_current) (next_whole r.merged (reports f r.entry) s n r.next);
+        outlined = next r.merged (reports f r.entry) r.outlined;
       }
 
 -- ---- a sequence of which all entries are done
@@ -237,6 +250,17 @@ closed_step f R s d q none r =
     let old = history_at f s.document s.sequences.steps in
     subst (λ (h : History). R h (history f t)) (sym (closed_history f s none))
     (subst (λ (n : History). R old n) (sym (closed_history f t none)) r)
+
+pub closed_shape : {C : Type 0} (f : C → Change) (R : Shape → Shape → Type 0) (s : Stack C) (d : DocumentParts) (q : Sequence C)
+    → s.sequences.levels.items ≡ [] → R (shape_at f s.document s.sequences.steps) (shape_at f d q)
+    → R (shape f s) (shape f (record s { document = d; sequences = record s.sequences { steps = q } }))
+closed_shape f R s d q none r =
+    let t : Stack _ = record s { document = d; sequences = record s.sequences { steps = q } } in
+    let old = shape_at f s.document s.sequences.steps in
+    subst (λ (h : Shape). R h (shape f t)) (sym (closed_as f s none)) (subst (λ (n : Shape). R old n) (sym (closed_as f t none)) r)
+  where
+    closed_as : {C : Type 0} (f : C → Change) (s : Stack C) → s.sequences.levels.items ≡ [] → shape f s ≡ shape_at f s.document s.sequences.steps
+    closed_as f s none = rw none refl
 
 -- ---- a stack that holds is calm
 AreHeld-LevelsAreLive : {C : Type 0} (f : C → Change) (ls : List (Level C)) (d : DocumentParts) → AreHeld f ls d → LevelsAreLive f ls
@@ -294,7 +318,7 @@ last_items xs v at last =
     let number = last.number in
     sym (take_all (at + 1) xs (omega arith)) ∙ take_last xs v at (omega arith) last.is
 
-set_items : {A : Type 0} (xs : List A) (w : A) (at : ℕ) → at + 1 ≡ length xs → set xs at w ≡ take at xs ++ w ∷ []
+pub set_items : {A : Type 0} (xs : List A) (w : A) (at : ℕ) → at + 1 ≡ length xs → set xs at w ≡ take at xs ++ w ∷ []
 set_items xs w at last =
     sym (take_all (at + 1) (set xs at w) (omega (arith, length-set xs at w))) ∙ take-set_at xs at (at + 1) w refl (omega arith)
 
@@ -371,7 +395,10 @@ module _ {C : Type 0} {f : C → Change} {s : Stack C} (h : Holds f s) {v : Leve
   level_row : history_at f s.document v.sequence ≡ row inner.start inner.steps
   level_row = row_of f s.document v.sequence (levels_apart h ms v old_items).2
 
-  level_innermost : innermost s.sequences ≡ v.sequence
+  pub level_done : IsDone v.sequence
+  level_done = (levels_apart h ms v old_items).2
+
+  pub level_innermost : innermost s.sequences ≡ v.sequence
   level_innermost = ap (innermost_of s.sequences.steps) old_items ∙ innermost_of-append s.sequences.steps ms v
 
   -- ---- the stack at the document d, where the level has the sequence q
@@ -452,15 +479,25 @@ module _ {C : Type 0} {f : C → Change} {s : Stack C} (h : Holds f s) {v : Leve
               (pushed_whole outer outer.levels inner (f x) n part_pushed)),
         )
 
-        reported_inside : IsReportedAt f x s.document (target_in v.sequence) (history_at f s.document v.sequence) d n → IsReported f x s t
-        reported_inside r =
+        reported_inside : NextLent f s v.sequence q t → IsReportedAt f x s.document (target_in v.sequence) (shape_at f s.document v.sequence) d (shape_at f d q)
+            → IsReported f x s t
+        reported_inside next r =
             let e = target_in v.sequence in
-            let part = subst (λ (k : History). IsReportedAt f x s.document e k d n) level_row r in
+            let xs = outlines_at v.sequence in
+            let ys = outlines_at q in
+            let os = outlines s in
+            let ps = outlines t in
+            let part = subst (λ (k : History). IsReportedAt f x s.document e (shape_with k xs) d (shape_with n ys)) level_row r in
             let new = outer_with (record inner { steps = n.steps }) in
-            subst (λ (k : History). IsReportedAt f x s.document (target_entry s) k d (history f t)) (sym old_view)
-            (subst (λ (k : History). IsReportedAt f x s.document (target_entry s) (outer_with inner) d k) (sym (landed_view n.steps lands))
-            (subst (λ (y : Sequence C). IsReportedAt f x s.document (target_in y) (outer_with inner) d new) (sym level_innermost)
-            (reported_whole outer outer.levels inner f x s.document d e n part)))
+            let position : v.sequence.index ≡ length inner.steps = ap (λ (k : History). k.position) level_row in
+            let limit : v.sequence.limit ≡ 0 = ap (λ (k : History). k.limit) level_row in
+            let up : (merged gone : Bool) → ys ≡ outlines_next_of merged gone 0 (outlines_cut (length inner.steps) xs)
+            → ps ≡ outlines_next_of merged gone outer.limit (outlines_cut outer.position os) =
+            λ merged gone is. next merged gone (rw (position, limit) is) in
+            subst (λ (k : History). IsReportedAt f x s.document (target_entry s) (shape_with k os) d (shape f t)) (sym old_view)
+            (subst (λ (k : History). IsReportedAt f x s.document (target_entry s) (shape_with (outer_with inner) os) d (shape_with k ps)) (sym (landed_view n.steps lands))
+            (subst (λ (y : Sequence C). IsReportedAt f x s.document (target_in y) (shape_with (outer_with inner) os) d (shape_with new ps)) (sym level_innermost)
+            (reported_whole outer outer.levels inner f x s.document d e n xs ys os ps up part)))
 
     -- an entry of this step was added to the sequence, and so to the stack
     module _ (st : Step) (same : history_at f d q ≡ with_added st [] (history_at f s.document v.sequence)) where
@@ -486,7 +523,7 @@ with_innermost-open : {C : Type 0} (z : Sequences C) (q : Sequence C) (v : Level
 with_innermost-open z q v e = ap (λ o. with_innermost_at o z q) e
 
 -- what holds of it where it is the stack's own, and where it is that of the last level, holds of it
-by_place : {C : Type 0} (s : Stack C) (q : Sequence C) (R : Sequences C → Type 0)
+pub by_place : {C : Type 0} (s : Stack C) (q : Sequence C) (R : Sequences C → Type 0)
     → (s.sequences.levels.items ≡ [] → R (record s.sequences { steps = q }))
     → ((v : Level C) (at : ℕ) → IsLastOf s.sequences.levels.items v at
     → R (record s.sequences { levels = with_item s.sequences.levels at (record v { sequence = q }) }))
@@ -546,17 +583,20 @@ module _ {C : Type 0} {f : C → Change} {s : Stack C} (h : Holds f s) where
 
       -- and reports the same
       abbrev ReportedOn : Sequence C → Type 0
-      ReportedOn y = IsReportedAt f x s.document (target_in y) (history_at f s.document y) d (history_at f d q)
+      ReportedOn y = IsReportedAt f x s.document (target_in y) (shape_at f s.document y) d (shape_at f d q)
 
-      pub reported_led : IsReportedAt f x s.document (target_in (innermost s.sequences)) (history_at f s.document (innermost s.sequences))
-          d (history_at f d q) → IsReported f x s (led s d q)
-      reported_led r = by_place s q (λ z. IsReported f x s (record s { document = d; sequences = z }))
-          (λ none.
+      pub reported_led : NextLent f s (innermost s.sequences) q (led s d q) → ReportedOn (innermost s.sequences) → IsReported f x s (led s d q)
+      reported_led next r = by_place s q
+          (λ z. let t : Stack C = record s { document = d; sequences = z } in NextLent f s (innermost s.sequences) q t → IsReported f x s t)
+          (λ none next.
           let onto : ReportedOn s.sequences.steps = rw none at r in
-          closed_step f (λ k n. IsReportedAt f x s.document (target_entry s) k d n) s d q none (rw none onto))
-          (λ v at last.
+          closed_shape f (λ k n. IsReportedAt f x s.document (target_entry s) k d n) s d q none (rw none onto))
+          (λ v at last next.
           let is = level_innermost h last in
-          reported_inside h last d q held (rw is at less) x (part_onto v.sequence is) (subst ReportedOn is r))
+          let t : Stack C = record s { document = d; sequences = record s.sequences { levels = with_item s.sequences.levels at (record v { sequence = q }) } } in
+          let onto = subst (λ (y : Sequence C). NextLent f s y q t) is next in
+          reported_inside h last d q held (rw is at less) x (part_onto v.sequence is) onto (subst ReportedOn is r))
+          next
 
 -- ---- a level opens behind the others, and the last one closes
 innermost_done : {C : Type 0} (f : C → Change) (q : Sequence C) (ls : List (Level C)) (d : DocumentParts) → 0 < length ls → AreHeld f ls d

@@ -8,7 +8,9 @@ pub mod Views
 pub mod Texts
 mod Actions
 pub mod Pushes
+pub mod Outlines
 mod Reported
+mod Lent
 pub mod Levels
 pub mod Joins
 pub mod Macros

@@ -1,5 +1,5 @@
 -- What turns make of a history, as the commands that are turned report it.
-use Rattle.std.proofs.Common.{◌≡◌, ℕ, ◌+◌, ◌-◌, ◌<◌, ◌≤◌, List, [], ◌∷◌, ◌++◌, Bool, true, false, ◌&&◌, take, drop, reverse, length, set, get_or, refl, sym}
+use Rattle.std.proofs.Common.{◌≡◌, ℕ, ◌+◌, ◌-◌, ◌<◌, ◌≤◌, List, [], ◌∷◌, ◌++◌, Bool, true, false, ◌&&◌, take, drop, reverse, length, map, set, get_or, refl, sym}
 use Rattle.std.proofs.Common.{◌∙◌, ap, subst, arith, length-set, min, zero, suc}
 use Rattle.std.proofs.lemmas.List.{drop_all, drop-append-le, get_or-set_same, length-drop, length-reverse, length-take, length-take-le, reverse-append}
 use Rattle.std.proofs.lemmas.List.{take-set}
@@ -9,14 +9,15 @@ use Rattle.command_api.specs.Law.{Change, IsRedone, IsUndone}
 use Rattle.command_api.specs.Names.{Names, is_free}
 use Rattle.undo_stack.specs.Calm.{NoneFree, is_gone}
 use Rattle.undo_stack.specs.Entries.{entry_change}
-use Rattle.undo_stack.specs.Held.{IsDroppedAt, IsSetAt, RedoesNext, StepsDown, StepsUp, UndoesLast, history_at}
-use Rattle.undo_stack.specs.History.{History}
+use Rattle.undo_stack.specs.Held.{IsDroppedAt, IsSetAt, RedoesNext, StepsDown, StepsUp, UndoesLast, entry_outlines, history_at, shape_at}
 use Rattle.undo_stack.specs.Moving.{positioned}
+use Rattle.undo_stack.specs.Outlines.{Shape, outline, shape_positioned}
 use Rattle.undo_stack.specs.Reporting.{AreRedone, AreTurned, AreUndone, GoesBy, IsRedoneIn, IsUndoneIn, left_by}
 use Rattle.undo_stack.specs.declared.entry.Entry.{Entry}
 use Rattle.undo_stack.specs.declared.sequence.Sequence.{Sequence}
 use Rattle.undo_stack.proofs.Calm.{Bound, at_number}
-use Rattle.undo_stack.proofs.Sequences.{drop_first, drop_past, take_last}
+use Rattle.undo_stack.proofs.Outlines.{shaped}
+use Rattle.undo_stack.proofs.Sequences.{drop_first, drop_past, map-set_same, take_last}
 
 -- as many as there are
 take_most : {X : Type 0} (k : ℕ) (xs : List X) → take (min k (length xs)) xs ≡ take k xs
@@ -28,13 +29,14 @@ take_most {X} (suc k) (x ∷ xs) =
 
 -- ---- one turn
 -- the history H is at the number where the step may go
-left_by-positioned : (gone : Bool) (at : ℕ) (h : History) (i : ℕ) → left_by gone at (positioned i h) (positioned i h) ≡ left_by gone at h (positioned i h)
-left_by-positioned true at h i = refl
-left_by-positioned false at h i = refl
+left_by-positioned : (gone : Bool) (at : ℕ) (a : Shape) (i : ℕ)
+    → left_by gone at (shape_positioned i a) (shape_positioned i a) ≡ left_by gone at a (shape_positioned i a)
+left_by-positioned true at a i = refl
+left_by-positioned false at a i = refl
 
-position-left_by : (gone : Bool) (at : ℕ) (h next : History) → next.position ≡ at → (left_by gone at h next).position ≡ at
-position-left_by true at h next e = refl
-position-left_by false at h next e = e
+position-left_by : (gone : Bool) (at : ℕ) (a next : Shape) → next.history.position ≡ at → (left_by gone at a next).history.position ≡ at
+position-left_by true at a next e = refl
+position-left_by false at a next e = e
 
 module _ {C : Type 0} (f : C → Change) where
   goes_by : (IsTurned : Entry C → Type 0) (w : Entry C) (b : Bool) → IsTurned w → GoesBy f b IsTurned (b && (entry_change f w).obsolete)
@@ -61,6 +63,16 @@ module _ {C : Type 0} (f : C → Change) where
       let here : w ≡ get_or ts at w = sym (get_or-set_same q.entries.items at w w inside) in
       ap (λ (n : Names). is_free n.vanishing) (sym names) ∙ at_number f (Bound f) ts w at long here (rw put.entries at none)
 
+  -- the outlines of a sequence in which an entry was put in the place of another one
+  outlines_put : (at : ℕ) (v w : Entry C) (q m : Sequence C) → IsSetAt at v w q m → entry_outlines m ≡ entry_outlines q
+  outlines_put at v w q m put = ap (map outline) put.entries ∙ map-set_same outline q.entries.items v w at put.was put.outlined
+
+  -- the shape of a sequence in which an entry was turned, by its history
+  shape_put : (d e : DocumentParts) (at i : ℕ) (v w : Entry C) (q m : Sequence C) → IsSetAt at v w q m
+      → history_at f e m ≡ positioned i (history_at f d q) → shape_at f e m ≡ shape_positioned i (shape_at f d q)
+  shape_put d e at i v w q m put seen =
+      shaped (history_at f e m) (positioned i (history_at f d q)) (entry_outlines m) (entry_outlines q) seen (outlines_put at v w q m put)
+
   -- the entry below the index was undone, and its step stays, since it is not free
   pub down_kept : (d e : DocumentParts) (q m : Sequence C) (u : UndoesLast f d q e m)
       → is_free (entry_change f u.before).names.vanishing ≡ false → m.index ≡ q.index - 1
@@ -72,7 +84,7 @@ module _ {C : Type 0} (f : C → Change) where
     undone = record {
       gone = false;
       goes = stays_by _ (is_free (entry_change f u.before).names.vanishing) bound;
-      left = seen;
+      left = shape_put d e (q.index - 1) (q.index - 1) u.before u.after q m u.put seen;
     };
     index = index;
     rest = rw u.put.entries (take-set q.entries.items (q.index - 1) u.after);
@@ -88,7 +100,7 @@ module _ {C : Type 0} (f : C → Change) where
     redone = record {
       gone = false;
       goes = stays_by _ (is_free (entry_change f u.before).names.vanishing) bound;
-      left = seen;
+      left = shape_put d e q.index (q.index + 1) u.before u.after q m u.put seen;
     };
     rest = rw (index, u.put.entries) (drop_past q.entries.items u.after q.index);
   }
@@ -102,16 +114,16 @@ module _ {C : Type 0} (f : C → Change) where
       ∙ get_or-set_same es at w x inside
 
   -- whether its step goes is what it reports
-  left_looked : (e : DocumentParts) (m : Sequence C) (n h : History) (at i j : ℕ) (w x : Entry C)
-      → n ≡ left_by (is_gone (entry_change f x)) i (history_at f e m) (history_at f e m) → x ≡ w → i ≡ at
-      → history_at f e m ≡ positioned j h → n ≡ left_by (is_gone (entry_change f w)) at h (positioned j h)
+  left_looked : (e : DocumentParts) (m : Sequence C) (n h : Shape) (at i j : ℕ) (w x : Entry C)
+      → n ≡ left_by (is_gone (entry_change f x)) i (shape_at f e m) (shape_at f e m) → x ≡ w → i ≡ at
+      → shape_at f e m ≡ shape_positioned j h → n ≡ left_by (is_gone (entry_change f w)) at h (shape_positioned j h)
   left_looked e m n h at i j w x left looked here seen =
       let gone = is_gone (entry_change f w) in
-      let k = history_at f e m in
+      let k = shape_at f e m in
       left
       ∙ ap (λ (y : Entry C). left_by (is_gone (entry_change f y)) i k k) looked
       ∙ ap (λ (a : ℕ). left_by gone a k k) here
-      ∙ ap (λ (y : History). left_by gone at y y) seen
+      ∙ ap (λ (y : Shape). left_by gone at y y) seen
       ∙ left_by-positioned gone at h j
 
   -- the entry below the index was undone, and then looked at
@@ -121,10 +133,11 @@ module _ {C : Type 0} (f : C → Change) where
   down_looked d e q m p u some within index seen r =
       let es = q.entries.items in
       let at = q.index - 1 in
-      let h = history_at f d q in
+      let h = shape_at f d q in
       let gone = is_gone (entry_change f u.after) in
+      let put = shape_put d e at at u.before u.after q m u.put seen in
       let looked = same_entry es m.entries.items at m.index u.after r.entry u.put.entries index (omega (arith, some, within)) r.was in
-      let left = left_looked e m (history_at f e p) h at m.index at u.after r.entry r.left looked index seen in
+      let left = left_looked e m (shape_at f e p) h at m.index at u.after r.entry r.left looked index put in
       let turned : DocumentParts → Type 0 = IsUndone (entry_change f u.before) (entry_change f u.after) d in
       record {
         entry = u.before;
@@ -135,7 +148,7 @@ module _ {C : Type 0} (f : C → Change) where
           goes = goes_as _ u.before u.after u.undone.names (subst turned u.undone.document u.undone);
           left = left;
         };
-        index = ap (λ (x : History). x.position) left ∙ position-left_by gone at h (positioned at h) refl;
+        index = ap (λ (x : Shape). x.history.position) left ∙ position-left_by gone at h (shape_positioned at h) refl;
         rest =
             ap (λ (n : ℕ). take n p.entries.items) (sym index)
             ∙ r.below
@@ -154,7 +167,8 @@ module _ {C : Type 0} (f : C → Change) where
       let here : m.index - 1 ≡ at = omega (arith, index) in
       let next : m.index - 1 + 1 ≡ at + 1 = omega (arith, index) in
       let looked = same_entry es m.entries.items at (m.index - 1) u.after r.entry u.put.entries here inside r.was in
-      let left = left_looked e m (history_at f e p) (history_at f d q) at (m.index - 1) (at + 1) u.after r.entry r.left looked here seen in
+      let put = shape_put d e at (at + 1) u.before u.after q m u.put seen in
+      let left = left_looked e m (shape_at f e p) (shape_at f d q) at (m.index - 1) (at + 1) u.after r.entry r.left looked here put in
       let turned : DocumentParts → Type 0 = IsRedone (entry_change f u.before) (entry_change f u.after) d in
       let above : drop p.index p.entries.items ≡ drop (m.index - 1 + 1) m.entries.items = r.above (omega (arith, index)) in
       record {
@@ -180,21 +194,21 @@ module _ {C : Type 0} (f : C → Change) where
       ap reverse cut ∙ reverse-append (drop a (take n es)) (v ∷ [])
 
   -- none is turned
-  pub none_undone : (es : List (Entry C)) (a n : ℕ) (d : DocumentParts) (h : History) → n ≤ a → AreUndone f (reverse (drop a (take n es))) d h h
+  pub none_undone : (es : List (Entry C)) (a n : ℕ) (d : DocumentParts) (h : Shape) → n ≤ a → AreUndone f (reverse (drop a (take n es))) d h h
   none_undone es a n d h past =
       let long = length-take n es in
       let none : drop a (take n es) ≡ [] = drop_all a (take n es) (omega (arith, past, long)) in
       rw none refl
 
   -- one more is undone
-  pub undone_more : (d e : DocumentParts) (q p : Sequence C) (a : ℕ) (n : History) → a < q.index → q.index ≤ length q.entries.items
-      → StepsDown f d q e p → AreUndone f (reverse (drop a (take p.index p.entries.items))) e (history_at f e p) n
-      → AreUndone f (reverse (drop a (take q.index q.entries.items))) d (history_at f d q) n
+  pub undone_more : (d e : DocumentParts) (q p : Sequence C) (a : ℕ) (n : Shape) → a < q.index → q.index ≤ length q.entries.items
+      → StepsDown f d q e p → AreUndone f (reverse (drop a (take p.index p.entries.items))) e (shape_at f e p) n
+      → AreUndone f (reverse (drop a (take q.index q.entries.items))) d (shape_at f d q) n
   undone_more d e q p a n below within s rest =
       let es = q.entries.items in
       let at = q.index - 1 in
-      let h = history_at f d q in
-      let m = history_at f e p in
+      let h = shape_at f d q in
+      let m = shape_at f e p in
       let top : at + 1 ≡ q.index = omega (arith, below) in
       let first = undone_first es s.entry a at (omega (arith, below)) (omega (arith, below, within)) s.was in
       let same : take p.index p.entries.items ≡ take at es = ap (λ (k : ℕ). take k p.entries.items) s.index ∙ s.rest in
@@ -205,13 +219,13 @@ module _ {C : Type 0} (f : C → Change) where
       (subst (λ (xs : List (Entry C)). AreUndone f xs d h n) (sym first) all)
 
   -- one more is redone
-  pub redone_more : (d e : DocumentParts) (q p : Sequence C) (k : ℕ) (n : History) → 0 < k → q.index < length q.entries.items
-      → StepsUp f d q e p → AreRedone f (take (k - 1) (drop p.index p.entries.items)) e (history_at f e p) n
-      → AreRedone f (take k (drop q.index q.entries.items)) d (history_at f d q) n
+  pub redone_more : (d e : DocumentParts) (q p : Sequence C) (k : ℕ) (n : Shape) → 0 < k → q.index < length q.entries.items
+      → StepsUp f d q e p → AreRedone f (take (k - 1) (drop p.index p.entries.items)) e (shape_at f e p) n
+      → AreRedone f (take k (drop q.index q.entries.items)) d (shape_at f d q) n
   redone_more d e q p k n some inside s rest =
       let es = q.entries.items in
-      let h = history_at f d q in
-      let m = history_at f e p in
+      let h = shape_at f d q in
+      let m = shape_at f e p in
       let above = drop (q.index + 1) es in
       let next : suc (k - 1) ≡ k = omega (arith, some) in
       let first = drop_first es s.entry q.index inside s.was in
@@ -228,13 +242,13 @@ module _ {C : Type 0} (f : C → Change) where
       let last : reverse (v ∷ vs) ≡ reverse vs ++ v ∷ [] = reverse-append (v ∷ []) vs in
       rw last (All-push (Bound f) (reverse vs) v (NoneFree-reverse vs (All-tail (Bound f) v vs none)) (All-head (Bound f) v vs none))
 
-  bound_undone : (vs : List (Entry C)) → NoneFree f vs → (d : DocumentParts) (h : History)
-      → AreUndone f vs d h (positioned (h.position - length vs) h)
-  bound_undone [] none d h = let at : h.position - 0 ≡ h.position = omega arith in ap (λ (i : ℕ). positioned i h) at
+  bound_undone : (vs : List (Entry C)) → NoneFree f vs → (d : DocumentParts) (h : Shape)
+      → AreUndone f vs d h (shape_positioned (h.history.position - length vs) h)
+  bound_undone [] none d h = let at : h.history.position - 0 ≡ h.history.position = omega arith in ap (λ (i : ℕ). shape_positioned i h) at
   bound_undone (v ∷ vs) none d h =
-      let m = positioned (h.position - 1) h in
+      let m = shape_positioned (h.history.position - 1) h in
       let e = (entry_change f v).undone d in
-      let at : h.position - 1 - length vs ≡ h.position - suc (length vs) = omega arith in
+      let at : h.history.position - 1 - length vs ≡ h.history.position - suc (length vs) = omega arith in
       let bound = All-head (Bound f) v vs none in
       let one : IsUndoneIn f v d h m = record {
         gone = false;
@@ -242,15 +256,15 @@ module _ {C : Type 0} (f : C → Change) where
         left = refl;
       } in
       let rest = bound_undone vs (All-tail (Bound f) v vs none) e m in
-      (m, one, subst (λ (i : ℕ). AreUndone f vs e m (positioned i h)) at rest)
+      (m, one, subst (λ (i : ℕ). AreUndone f vs e m (shape_positioned i h)) at rest)
 
-  bound_redone : (vs : List (Entry C)) → NoneFree f vs → (d : DocumentParts) (h : History)
-      → AreRedone f vs d h (positioned (h.position + length vs) h)
-  bound_redone [] none d h = let at : h.position + 0 ≡ h.position = omega arith in ap (λ (i : ℕ). positioned i h) at
+  bound_redone : (vs : List (Entry C)) → NoneFree f vs → (d : DocumentParts) (h : Shape)
+      → AreRedone f vs d h (shape_positioned (h.history.position + length vs) h)
+  bound_redone [] none d h = let at : h.history.position + 0 ≡ h.history.position = omega arith in ap (λ (i : ℕ). shape_positioned i h) at
   bound_redone (v ∷ vs) none d h =
-      let m = positioned (h.position + 1) h in
+      let m = shape_positioned (h.history.position + 1) h in
       let e = (entry_change f v).redone d in
-      let at : h.position + 1 + length vs ≡ h.position + suc (length vs) = omega arith in
+      let at : h.history.position + 1 + length vs ≡ h.history.position + suc (length vs) = omega arith in
       let bound = All-head (Bound f) v vs none in
       let one : IsRedoneIn f v d h m = record {
         gone = false;
@@ -258,43 +272,43 @@ module _ {C : Type 0} (f : C → Change) where
         left = refl;
       } in
       let rest = bound_redone vs (All-tail (Bound f) v vs none) e m in
-      (m, one, subst (λ (i : ℕ). AreRedone f vs e m (positioned i h)) at rest)
+      (m, one, subst (λ (i : ℕ). AreRedone f vs e m (shape_positioned i h)) at rest)
 
   -- turns to the number i where no entry is free
-  pub bound_turned : (es : List (Entry C)) (i : ℕ) (d : DocumentParts) (h n : History) → NoneFree f es → h.position ≤ length es
-      → n ≡ positioned (min i (length es)) h → AreTurned f es i d h n
+  pub bound_turned : (es : List (Entry C)) (i : ℕ) (d : DocumentParts) (h n : Shape) → NoneFree f es → h.history.position ≤ length es
+      → n ≡ shape_positioned (min i (length es)) h → AreTurned f es i d h n
   bound_turned es i d h n none within is =
-      let done = take h.position es in
-      let undone = drop h.position es in
+      let done = take h.history.position es in
+      let undone = drop h.history.position es in
       let below = reverse (drop i done) in
-      let above = take (i - h.position) undone in
+      let above = take (i - h.history.position) undone in
       let back = length-reverse (drop i done) in
       let cut = length-drop i done in
-      let long = length-take-le h.position es within in
-      let on = length-take (i - h.position) undone in
-      let left = length-drop h.position es in
-      let between = positioned (h.position - length below) h in
-      let at : h.position - length below + length above ≡ min i (length es) = omega (arith, back, cut, long, on, left, within) in
-      let none_below = NoneFree-reverse (drop i done) (All-drop (Bound f) i done (All-take (Bound f) h.position es none)) in
-      let none_above = All-take (Bound f) (i - h.position) undone (All-drop (Bound f) h.position es none) in
-      let turned = subst (λ (k : ℕ). AreRedone f above d between (positioned k h)) at (bound_redone above none_above d between) in
+      let long = length-take-le h.history.position es within in
+      let on = length-take (i - h.history.position) undone in
+      let left = length-drop h.history.position es in
+      let between = shape_positioned (h.history.position - length below) h in
+      let at : h.history.position - length below + length above ≡ min i (length es) = omega (arith, back, cut, long, on, left, within) in
+      let none_below = NoneFree-reverse (drop i done) (All-drop (Bound f) i done (All-take (Bound f) h.history.position es none)) in
+      let none_above = All-take (Bound f) (i - h.history.position) undone (All-drop (Bound f) h.history.position es none) in
+      let turned = subst (λ (k : ℕ). AreRedone f above d between (shape_positioned k h)) at (bound_redone above none_above d between) in
       record { between = between; back = bound_undone below none_below d h; on = rw is turned }
 
   -- ---- turns to a number, back or on
   module _ (d : DocumentParts) (q : Sequence C) where
-    abbrev h : History
-    h = history_at f d q
+    abbrev h : Shape
+    h = shape_at f d q
 
     abbrev es : List (Entry C)
     es = q.entries.items
 
     -- nothing is redone on the way back
-    on_none : (i : ℕ) (n : History) → i ≤ q.index → AreRedone f (take (i - q.index) (drop q.index es)) d n n
+    on_none : (i : ℕ) (n : Shape) → i ≤ q.index → AreRedone f (take (i - q.index) (drop q.index es)) d n n
     on_none i n below =
         let none : 0 ≡ i - q.index = omega (arith, below) in
         subst (λ (k : ℕ). AreRedone f (take k (drop q.index es)) d n n) none refl
 
-    pub turned_down : (i : ℕ) (n : History) → i ≤ q.index → AreUndone f (reverse (drop (q.index - (q.index - i)) (take q.index es))) d h n
+    pub turned_down : (i : ℕ) (n : Shape) → i ≤ q.index → AreUndone f (reverse (drop (q.index - (q.index - i)) (take q.index es))) d h n
         → AreTurned f es i d h n
     turned_down i n below back =
         let floor : q.index - (q.index - i) ≡ i = omega (arith, below) in
@@ -304,7 +318,7 @@ module _ {C : Type 0} (f : C → Change) where
           on = on_none i n below;
         }
 
-    pub turned_up : (i k : ℕ) (n : History) → q.index ≤ i → k ≡ min i (length es) - q.index
+    pub turned_up : (i k : ℕ) (n : Shape) → q.index ≤ i → k ≡ min i (length es) - q.index
         → AreRedone f (take k (drop q.index es)) d h n → AreTurned f es i d h n
     turned_up i k n above is on =
         let left = drop q.index es in
@@ -319,9 +333,9 @@ module _ {C : Type 0} (f : C → Change) where
 
     -- one step back, and one step on
     pub turned_once_down : (e : DocumentParts) (p : Sequence C) → 0 < q.index → q.index ≤ length es → StepsDown f d q e p
-        → AreTurned f es (q.index - 1) d h (history_at f e p)
+        → AreTurned f es (q.index - 1) d h (shape_at f e p)
     turned_once_down e p some within s =
-        let n = history_at f e p in
+        let n = shape_at f e p in
         let top : p.index ≤ q.index - 1 = omega (arith, s.index) in
         let none = none_undone p.entries.items (q.index - 1) p.index e n top in
         record {
@@ -331,9 +345,9 @@ module _ {C : Type 0} (f : C → Change) where
         }
 
     pub turned_once_up : (e : DocumentParts) (p : Sequence C) → q.index < length es → StepsUp f d q e p
-        → AreTurned f es (q.index + 1) d h (history_at f e p)
+        → AreTurned f es (q.index + 1) d h (shape_at f e p)
     turned_once_up e p inside s =
-        let n = history_at f e p in
+        let n = shape_at f e p in
         let one : 1 ≡ q.index + 1 - q.index = omega arith in
         let redone = redone_more d e q p 1 n (omega arith) inside s refl in
         record {

@@ -1,6 +1,7 @@
 -- What an entry does, and how deep macros stand in one another.
-use Rattle.std.specs.Prelude.{ℕ, ◌+◌, max, Bool, true, false, List, [], ◌∷◌}
+use Rattle.std.specs.Prelude.{ℕ, ◌+◌, max, Bool, List, [], ◌∷◌}
 use Rattle.command_api.specs.Law.{Change}
+use Rattle.undo_stack.specs.Outlines.{is_nested, outline}
 use Rattle.undo_stack.specs.Sequence.{sequence_change}
 use Rattle.undo_stack.specs.declared.entry.Entry.{Entry, rec-Entry, fold-Entry}
 use Rattle.undo_stack.specs.declared.entry.Entry.TheOpen.{Entry-F, Command, Macro}
@@ -29,9 +30,5 @@ abbrev pub nesting : {C : Type 0} → Entry C → ℕ
 nesting {C} = fold-Entry C ℕ layer_nesting
 
 -- whether an entry is a macro
-abbrev pub layer_is_macro : {C : Type 0} → Entry-F C Bool → Bool
-layer_is_macro (Command c) = false
-layer_is_macro (Macro contents) = true
-
 abbrev pub is_macro : {C : Type 0} → Entry C → Bool
-is_macro {C} = fold-Entry C Bool layer_is_macro
+is_macro e = is_nested (outline e)

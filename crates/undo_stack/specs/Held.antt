@@ -1,6 +1,6 @@
 -- A sequence of entries with an index, as code keeps it, seen as a history at a document. The stack has one of its own, and each
 -- open macro has one, of which all entries are done.
-use Rattle.std.specs.Prelude.{◌≡◌, ℕ, ◌+◌, ◌-◌, ◌<◌, ◌≤◌, List, [], Option, Bool, true, false, Result, Ok, Err, take, drop, set, get_or, length}
+use Rattle.std.specs.Prelude.{◌≡◌, ℕ, ◌+◌, ◌-◌, ◌<◌, ◌≤◌, List, [], Option, Bool, true, false, Result, Ok, Err, take, drop, set, get_or, length, map}
 use Rattle.std.specs.List.{remove}
 use Rattle.map_model.specs.Document.{DocumentParts}
 use Rattle.command_api.specs.Law.{Change, IsRedone, IsUndone}
@@ -10,6 +10,7 @@ use Rattle.undo_stack.specs.Pushing.{cut, up_to, without_last, Merges, with_targ
 use Rattle.undo_stack.specs.Calm.{AreLive, IsLive, NoneFree, is_gone}
 use Rattle.undo_stack.specs.Entries.{entry_change}
 use Rattle.undo_stack.specs.Merging.{HasTarget, SettlesTarget}
+use Rattle.undo_stack.specs.Outlines.{Outline, Outlines, Shape, outline}
 use Rattle.undo_stack.specs.Reporting.{IsRedoneIn, IsUndoneIn, last_entry, left_by, reports}
 use Rattle.undo_stack.specs.Sound.{history_of, IsTurnable, sequence_nesting}
 use Rattle.undo_stack.specs.Turning.{Drops}
@@ -32,6 +33,16 @@ IsCut q p = Becomes q (take q.index q.entries.items) q.index (up_to q.index q.cl
 -- the history that a sequence holds at the document d
 abbrev pub history_at : {C : Type 0} → (C → Change) → DocumentParts → Sequence C → History
 history_at f d q = history_of f d q.entries.items q.index q.clean q.limit []
+
+-- the outlines of its entries, and these as the outlines of a history with no open level
+abbrev pub entry_outlines : {C : Type 0} → Sequence C → List Outline
+entry_outlines q = map outline q.entries.items
+
+abbrev pub outlines_at : {C : Type 0} → Sequence C → Outlines
+outlines_at q = record { steps = map outline q.entries.items; levels = [] }
+
+abbrev pub shape_at : {C : Type 0} → (C → Change) → DocumentParts → Sequence C → Shape
+shape_at f d q = record { history = history_at f d q; outlines = outlines_at q }
 
 -- the entry that is the target once the entries above the index are gone
 abbrev pub target_in : {C : Type 0} → Sequence C → Option (Entry C)
@@ -78,6 +89,12 @@ MergesInto f c d q (Ok true) p = IsTakenInto f c d q p
 MergesInto f c d q (Ok false) p = (Merges (cut (history_at f ((f c).undone d) q)) (step_named (f c).names d) → ⊥) × IsUnchangedAt f ((f c).undone d) q p
 MergesInto f c d q (Err e) p = IsUnchangedAt f ((f c).undone d) q p
 
+-- a merge keeps the outlines of q in p, of which the entries above the index go where it is done
+abbrev pub MergesOutlines : {E C : Type 0} → Sequence C → Result Bool E → Sequence C → Type 0
+MergesOutlines q (Ok true) p = entry_outlines p ≡ take q.index (entry_outlines q)
+MergesOutlines q (Ok false) p = entry_outlines p ≡ entry_outlines q
+MergesOutlines q (Err e) p = entry_outlines p ≡ entry_outlines q
+
 -- p is the sequence q, which led to d, without its target where that is obsolete
 pub record IsSettledAt {C : Type 0} (f : C → Change) (d : DocumentParts) (q p : Sequence C) : Type 0 where
   pub held : IsHeld f d p
@@ -97,13 +114,14 @@ pub record IsDroppedAt {C : Type 0} (f : C → Change) (d : DocumentParts) (at :
   pub dropped : Drops at (history_at f d q) (history_at f d q) (history_at f d p)
   pub entry : Entry C
   pub was : entry ≡ get_or q.entries.items at entry
-  pub left : history_at f d p ≡ left_by (is_gone (entry_change f entry)) at (history_at f d q) (history_at f d q)
+  pub left : shape_at f d p ≡ left_by (is_gone (entry_change f entry)) at (shape_at f d q) (shape_at f d q)
   pub below : take at p.entries.items ≡ take at q.entries.items
   pub above : q.index ≡ at + 1 → drop p.index p.entries.items ≡ drop (at + 1) q.entries.items
 
--- the entry at a number, which was v, is w in p, and all others are as in q
+-- the entry at a number, which was v, is w in p, with the same outline, and all others are as in q
 pub record IsSetAt {C : Type 0} (at : ℕ) (v w : Entry C) (q p : Sequence C) : Type 0 where
   pub was : v ≡ get_or q.entries.items at v
+  pub outlined : outline w ≡ outline v
   pub entries : p.entries.items ≡ set q.entries.items at w
 
 -- undoing the entry below the index, which led to d, made p of the sequence q, and e of the document
@@ -126,7 +144,7 @@ pub record StepsDown {C : Type 0} (f : C → Change) (d : DocumentParts) (q : Se
   pub entry : Entry C
   pub was : entry ≡ get_or q.entries.items (q.index - 1) entry
   pub document : e ≡ (entry_change f entry).undone d
-  pub undone : IsUndoneIn f entry d (history_at f d q) (history_at f e p)
+  pub undone : IsUndoneIn f entry d (shape_at f d q) (shape_at f e p)
   pub index : p.index ≡ q.index - 1
   pub rest : take (q.index - 1) p.entries.items ≡ take (q.index - 1) q.entries.items
 
@@ -136,5 +154,5 @@ pub record StepsUp {C : Type 0} (f : C → Change) (d : DocumentParts) (q : Sequ
   pub entry : Entry C
   pub was : entry ≡ get_or q.entries.items q.index entry
   pub document : e ≡ (entry_change f entry).redone d
-  pub redone : IsRedoneIn f entry d (history_at f d q) (history_at f e p)
+  pub redone : IsRedoneIn f entry d (shape_at f d q) (shape_at f e p)
   pub rest : drop p.index p.entries.items ≡ drop (q.index + 1) q.entries.items

@@ -6,6 +6,7 @@ pub mod Calm
 pub mod Macros
 pub mod Reading
 pub mod Sequence
+pub mod Outlines
 pub mod Entries
 pub mod Sound
 pub mod Stacks

@@ -40,10 +40,10 @@ MergesSequence f xs c d (Ok false) ys =
     IsAltered f (λ ss. ss) xs (c.undone d) ys (c.undone d)
 MergesSequence f xs c d (Err e) ys = IsAltered f (λ ss. ss) xs (c.undone d) ys (c.undone d)
 
--- the steps that are left where the last one is gone, and where it is not
-abbrev pub left_of : Bool → List Step → List Step
-left_of true ss = without_last ss
-left_of false ss = ss
+-- the things that are left where the last one is gone, and where it is not
+abbrev pub left_of : {A : Type 0} → Bool → List A → List A
+left_of true xs = without_last xs
+left_of false xs = xs
 
 -- ys is the sequence xs, which led to d; its last change is gone where that is obsolete
 pub record SettlesSequence {B : Type 0} (f : B → Change) (gone : Bool) (xs : List B) (d : DocumentParts) (ys : List B) : Type 0 where

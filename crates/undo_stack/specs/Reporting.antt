@@ -4,15 +4,16 @@
 -- step is gone exactly where that entry reports that it is obsolete.
 --
 -- Of a turn only the step of a free command may go: exactly where the command reports, after its turn, that it is obsolete.
+-- Each step that stays keeps its outline, so no step goes that stands in a closed macro.
 use Rattle.std.specs.Prelude.{◌≡◌, ◌↔◌, ◌+◌, ◌-◌, ℕ, List, [], ◌∷◌, take, drop, reverse, Option, Some, None, Bool, true, false, Result, Ok, Err}
 use Rattle.map_model.specs.Document.{DocumentParts}
 use Rattle.command_api.specs.Law.{Change, IsRedone, IsUndone}
 use Rattle.command_api.specs.Names.{is_free}
-use Rattle.undo_stack.specs.History.{History, current}
+use Rattle.undo_stack.specs.History.{current}
 use Rattle.undo_stack.specs.Pushing.{step_of, cut, Merges, next_of}
 use Rattle.undo_stack.specs.Entries.{entry_change}
 use Rattle.undo_stack.specs.Merging.{IsJoined}
-use Rattle.undo_stack.specs.Moving.{positioned}
+use Rattle.undo_stack.specs.Outlines.{Shape, outlines_cut, outlines_next_of, outlines_without, shape_positioned}
 use Rattle.undo_stack.specs.Turning.{without_step}
 use Rattle.undo_stack.specs.declared.entry.Entry.{Entry}
 use Rattle.undo_stack.specs.declared.entry.Entry.TheVariants.{Command}
@@ -47,52 +48,53 @@ abbrev pub EndsIn : {C : Type 0} → Bool → (C → Change) → C → DocumentP
 EndsIn true f c d v w = HasTakenIn f c d v w
 EndsIn false f c d v w = w ≡ Some (Command c)
 
--- pushing the command x onto the history h, at the document d, where v is the entry of the target, gave the history n, at e.
--- The step is gone exactly where the entry that x ended in is obsolete
-pub record IsReportedAt {C : Type 0} (f : C → Change) (x : C) (d : DocumentParts) (v : Option (Entry C)) (h : History)
-    (e : DocumentParts) (n : History) : Type 0 where
+-- pushing the command x onto a, at the document d, where v is the entry of the target, gave n, at e. The step is gone exactly
+-- where the entry that x ended in is obsolete
+pub record IsReportedAt {C : Type 0} (f : C → Change) (x : C) (d : DocumentParts) (v : Option (Entry C)) (a : Shape)
+    (e : DocumentParts) (n : Shape) : Type 0 where
   pub command : C
   pub redone : IsRedone (f x) (f command) d e
   pub merged : Bool
-  pub merged_where : merged ≡ true ↔ Merges (cut h) (step_of (f x) (current h))
+  pub merged_where : merged ≡ true ↔ Merges (cut a.history) (step_of (f x) (current a.history))
   pub entry : Option (Entry C)
   pub ends : EndsIn merged f command e v entry
-  pub next : n ≡ next_of merged (reports f entry) (step_of (f x) (current h)) (cut h)
+  pub next : n.history ≡ next_of merged (reports f entry) (step_of (f x) (current a.history)) (cut a.history)
+  pub outlined : n.outlines ≡ outlines_next_of merged (reports f entry) a.history.limit (outlines_cut a.history.position a.outlines)
 
--- the history h without the step at a number, where that is gone, else next
-abbrev pub left_by : Bool → ℕ → History → History → History
-left_by true at h next = without_step at h
-left_by false at h next = next
+-- a without the step at a number, where that is gone, else next
+abbrev pub left_by : Bool → ℕ → Shape → Shape → Shape
+left_by true at a next = record { history = without_step at a.history; outlines = outlines_without at a.outlines }
+left_by false at a next = next
 
 -- whether the step of an entry, which is that of a free command or not, is gone after a turn
 abbrev pub GoesBy : {C : Type 0} → (C → Change) → Bool → (Entry C → Type 0) → Bool → Type 0
 GoesBy {C} f true IsTurned gone = (w : Entry C) × IsTurned w × (gone ≡ (entry_change f w).obsolete)
 GoesBy f false IsTurned gone = gone ≡ false
 
--- undoing the entry v below the position, which led to the document d, made n of the history h
-pub record IsUndoneIn {C : Type 0} (f : C → Change) (v : Entry C) (d : DocumentParts) (h n : History) : Type 0 where
+-- undoing the entry v below the position, which led to the document d, made n of a
+pub record IsUndoneIn {C : Type 0} (f : C → Change) (v : Entry C) (d : DocumentParts) (a n : Shape) : Type 0 where
   pub gone : Bool
   pub goes : GoesBy f (is_free (entry_change f v).names.vanishing) (λ w. IsUndone (entry_change f v) (entry_change f w) d ((entry_change f v).undone d)) gone
-  pub left : n ≡ left_by gone (h.position - 1) h (positioned (h.position - 1) h)
+  pub left : let at = a.history.position - 1 in n ≡ left_by gone at a (shape_positioned at a)
 
--- redoing the entry v above the position, at the document d, made n of the history h
-pub record IsRedoneIn {C : Type 0} (f : C → Change) (v : Entry C) (d : DocumentParts) (h n : History) : Type 0 where
+-- redoing the entry v above the position, at the document d, made n of a
+pub record IsRedoneIn {C : Type 0} (f : C → Change) (v : Entry C) (d : DocumentParts) (a n : Shape) : Type 0 where
   pub gone : Bool
   pub goes : GoesBy f (is_free (entry_change f v).names.vanishing) (λ w. IsRedone (entry_change f v) (entry_change f w) d ((entry_change f v).redone d)) gone
-  pub left : n ≡ left_by gone h.position h (positioned (h.position + 1) h)
+  pub left : let at = a.history.position in n ≡ left_by gone at a (shape_positioned (at + 1) a)
 
 -- undoing these entries, one after the other, the first of which led to d
-abbrev pub AreUndone : {C : Type 0} → (C → Change) → List (Entry C) → DocumentParts → History → History → Type 0
-AreUndone f [] d h n = n ≡ h
-AreUndone f (v ∷ vs) d h n = (m : History) × IsUndoneIn f v d h m × AreUndone f vs ((entry_change f v).undone d) m n
+abbrev pub AreUndone : {C : Type 0} → (C → Change) → List (Entry C) → DocumentParts → Shape → Shape → Type 0
+AreUndone f [] d a n = n ≡ a
+AreUndone f (v ∷ vs) d a n = (m : Shape) × IsUndoneIn f v d a m × AreUndone f vs ((entry_change f v).undone d) m n
 
 -- redoing these entries, one after the other, from the document d on
-abbrev pub AreRedone : {C : Type 0} → (C → Change) → List (Entry C) → DocumentParts → History → History → Type 0
-AreRedone f [] d h n = n ≡ h
-AreRedone f (v ∷ vs) d h n = (m : History) × IsRedoneIn f v d h m × AreRedone f vs ((entry_change f v).redone d) m n
+abbrev pub AreRedone : {C : Type 0} → (C → Change) → List (Entry C) → DocumentParts → Shape → Shape → Type 0
+AreRedone f [] d a n = n ≡ a
+AreRedone f (v ∷ vs) d a n = (m : Shape) × IsRedoneIn f v d a m × AreRedone f vs ((entry_change f v).redone d) m n
 
--- turning the entries es, from the position of h back to the number i, or on to it, made n of h. One of the two is no turn
-pub record AreTurned {C : Type 0} (f : C → Change) (es : List (Entry C)) (i : ℕ) (d : DocumentParts) (h n : History) : Type 0 where
-  pub between : History
-  pub back : AreUndone f (reverse (drop i (take h.position es))) d h between
-  pub on : AreRedone f (take (i - h.position) (drop h.position es)) d between n
+-- turning the entries es, from the position of a back to the number i, or on to it, made n of a. One of the two is no turn
+pub record AreTurned {C : Type 0} (f : C → Change) (es : List (Entry C)) (i : ℕ) (d : DocumentParts) (a n : Shape) : Type 0 where
+  pub between : Shape
+  pub back : AreUndone f (reverse (drop i (take a.history.position es))) d a between
+  pub on : AreRedone f (take (i - a.history.position) (drop a.history.position es)) d between n

@@ -1,15 +1,16 @@
 -- A stack, seen as a history, where f says what its commands do. An open macro is a `Level` in code, which keeps a box, an
 -- `Inner` where its entries are seen as lists, and an `Open` in the history, with whole documents.
-use Rattle.std.specs.Prelude.{◌≡◌, ℕ, ◌+◌, ◌<◌, ◌≤◌, Bool, true, List, [], ◌∷◌, ◌++◌, Option, None, length, map}
+use Rattle.std.specs.Prelude.{◌≡◌, ℕ, ◌+◌, ◌<◌, ◌≤◌, Bool, List, [], ◌∷◌, Option, None, length, map}
 use Rattle.std.specs.VecDeque.{deque_capacity}
 use Rattle.map_model.specs.Document.{DocumentParts}
 use Rattle.command_api.specs.Law.{Change}
 use Rattle.command_api.specs.Names.{untagged, Never}
 use Rattle.undo_stack.specs.History.{History}
 use Rattle.undo_stack.specs.Calm.{AreLive, IsLive}
-use Rattle.undo_stack.specs.Entries.{entry_change, is_macro, nesting}
-use Rattle.undo_stack.specs.Held.{IsHeld, target_in}
+use Rattle.undo_stack.specs.Entries.{entry_change, nesting}
+use Rattle.undo_stack.specs.Held.{IsHeld, entry_outlines, target_in}
 use Rattle.undo_stack.specs.Lending.{innermost}
+use Rattle.undo_stack.specs.Outlines.{Outlines, Shape, macros_of, nested, outline}
 use Rattle.undo_stack.specs.Reporting.{AreTurned, IsReportedAt}
 use Rattle.undo_stack.specs.Sequence.{before, FitsDown}
 use Rattle.undo_stack.specs.Sound.{Inner, history_of, level_nesting, sequence_nesting, start_of}
@@ -30,13 +31,16 @@ inners s = map inner_of s.sequences.levels.items
 abbrev pub history : {C : Type 0} → (C → Change) → Stack C → History
 history f s = history_of f s.document s.sequences.steps.entries.items s.sequences.steps.index s.sequences.steps.clean s.sequences.steps.limit (inners s)
 
--- of each step whether it is a macro: of the entries, and last of the open one where there is one
-abbrev pub macros_in : {C : Type 0} → List (Level C) → List (Entry C) → List Bool
-macros_in [] es = map is_macro es
-macros_in (l ∷ ls) es = map is_macro es ++ true ∷ []
+-- the outlines of its steps and of those of its open levels
+abbrev pub outlines : {C : Type 0} → Stack C → Outlines
+outlines s = record { steps = entry_outlines s.sequences.steps; levels = map (λ l. entry_outlines l.sequence) s.sequences.levels.items }
 
+abbrev pub shape : {C : Type 0} → (C → Change) → Stack C → Shape
+shape f s = record { history = history f s; outlines = outlines s }
+
+-- of each step whether it is a macro, and last of the open one where there is one
 abbrev pub macros : {C : Type 0} → Stack C → List Bool
-macros s = macros_in s.sequences.levels.items s.sequences.steps.entries.items
+macros s = macros_of (outlines s)
 
 -- the entry e is what the level l is once it is closed
 pub record IsClosed {C : Type 0} (f : C → Change) (l : Inner C) (e : Entry C) : Type 0 where
@@ -44,6 +48,7 @@ pub record IsClosed {C : Type 0} (f : C → Change) (l : Inner C) (e : Entry C) 
   pub undone : (d : DocumentParts) → (entry_change f e).undone d ≡ before (entry_change f) l.sequence d
   pub fits : (d : DocumentParts) → FitsDown (entry_change f) l.sequence d → (entry_change f e).fits_undo d
   pub live : IsLive (entry_change f e)
+  pub outlined : outline e ≡ nested (map outline l.sequence)
   pub deep : nesting e ≡ sequence_nesting l.sequence + 1
 
 -- all entries of a sequence are done, and it has no limit and no clean index, as that of a macro
@@ -90,9 +95,9 @@ target_entry s = target_in (innermost s.sequences)
 
 -- pushing the command x onto the stack s gave t, and the step is gone exactly where the entry that x ended in is obsolete
 abbrev pub IsReported : {C : Type 0} → (C → Change) → C → Stack C → Stack C → Type 0
-IsReported f x s t = IsReportedAt f x s.document (target_entry s) (history f s) t.document (history f t)
+IsReported f x s t = IsReportedAt f x s.document (target_entry s) (shape f s) t.document (shape f t)
 
 -- turning the entries of the stack s up to the number i gave t, and the step of each is gone exactly where its command is free
--- and reports, after its turn, that it is obsolete
+-- and reports, after its turn, that it is obsolete; each that stays keeps its outline
 abbrev pub IsTurnReported : {C : Type 0} → (C → Change) → ℕ → Stack C → Stack C → Type 0
-IsTurnReported f i s t = AreTurned f s.sequences.steps.entries.items i s.document (history f s) (history f t)
+IsTurnReported f i s t = AreTurned f s.sequences.steps.entries.items i s.document (shape f s) (shape f t)

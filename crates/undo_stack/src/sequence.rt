@@ -1,4 +1,4 @@
-ghost use Rattle.std.specs.Prelude.{◌≡◌, ◌≤◌, ◌<◌, ◌+◌, ◌-◌, [], length, take, drop, IfOk, IfErr, Some, false, max};
+ghost use Rattle.std.specs.Prelude.{◌≡◌, ◌≤◌, ◌<◌, ◌+◌, ◌-◌, ◌++◌, ◌∷◌, [], length, take, drop, IfOk, IfErr, Some, false, max};
 ghost use Rattle.std.specs.VecDeque.{deque_capacity};
 ghost use Rattle.map_model.specs.Document.{DocumentParts};
 ghost use Rattle.command_api.specs.Names.{is_free};
@@ -7,9 +7,11 @@ ghost use Rattle.undo_stack.specs.History.{current, step_named};
 ghost use Rattle.undo_stack.specs.Pushing.{IsPushed, step_of, up_to, lowered, with_added};
 ghost use Rattle.undo_stack.specs.Calm.{IsLive};
 ghost use Rattle.undo_stack.specs.Entries.{entry_change, nesting};
-ghost use Rattle.undo_stack.specs.Held.{Becomes, IsCut, history_at, target_in, IsHeld, IsHeldToLast, MergesInto, IsSettledAt};
-ghost use Rattle.undo_stack.specs.Merging.{HasTarget, IsEntered};
-ghost use Rattle.undo_stack.specs.Reporting.{TakesIn, IsReportedAt};
+ghost use Rattle.undo_stack.specs.Held.{Becomes, IsCut, history_at, shape_at, entry_outlines, target_in, IsHeld, IsHeldToLast};
+ghost use Rattle.undo_stack.specs.Held.{MergesInto, MergesOutlines, IsSettledAt};
+ghost use Rattle.undo_stack.specs.Merging.{HasTarget, IsEntered, left_of};
+ghost use Rattle.undo_stack.specs.Outlines.{entered_outlines, within_limit, outline};
+ghost use Rattle.undo_stack.specs.Reporting.{TakesIn, IsReportedAt, reports};
 ghost use Rattle.undo_stack.specs.Sound.{sequence_nesting};
 ghost use Rattle.undo_stack.specs.declared.limits.TheConstants.{MAX_DEPTH};
 
@@ -92,8 +94,9 @@ impl<C: Command> Sequence<C> {
             (history_at C.change document.new self.new)) }
         ensures nesting { sequence_nesting self.new.entries.items ≤ sequence_nesting self.old.entries.items }
         ensures reported { IfOk result (λ _. IsReportedAt C.change command document.old (target_in self.old)
-            (history_at C.change document.old self.old) document.new (history_at C.change document.new self.new)) }
+            (shape_at C.change document.old self.old) document.new (shape_at C.change document.new self.new)) }
         ensures unchanged { IfErr result (λ _. history_at C.change document.new self.new ≡ history_at C.change document.old self.old) }
+        ensures kept { IfErr result (λ _. entry_outlines self.new ≡ entry_outlines self.old) }
     {
         command.redo(document);
         match self.merge(alloc, &command, document) {
@@ -118,6 +121,7 @@ impl<C: Command> Sequence<C> {
         requires fits { (C.change command.now).fits_undo document.now }
         ensures merged { MergesInto C.change command.now document.now self.old result self.new }
         ensures joined { TakesIn C.change command.now document.now (target_in self.old) result (target_in self.new) }
+        ensures outlined { MergesOutlines self.old result self.new }
     {
         // The offer is lent where it was made: it is larger than most commands.
         self.merge_offered(alloc, command, &command.offer(), document)
@@ -137,6 +141,7 @@ impl<C: Command> Sequence<C> {
         requires fits { (C.change command.now).fits_undo document.now }
         ensures merged { MergesInto C.change command.now document.now self.old result self.new }
         ensures joined { TakesIn C.change command.now document.now (target_in self.old) result (target_in self.new) }
+        ensures outlined { MergesOutlines self.old result self.new }
     {
         // Most commands do not follow, and pay no more than that one call.
         if let Offer::Nothing = offer {
@@ -158,6 +163,7 @@ impl<C: Command> Sequence<C> {
         requires fits { (C.change command.now).fits_undo document.now }
         ensures merged { MergesInto C.change command.now document.now self.old result self.new }
         ensures joined { TakesIn C.change command.now document.now (target_in self.old) result (target_in self.new) }
+        ensures outlined { MergesOutlines self.old result self.new }
     {
         if self.index == 0 {
             return Ok(false);
@@ -177,8 +183,9 @@ impl<C: Command> Sequence<C> {
     fn settle(&mut self)
         requires some { 0 < self.old.index }
         requires at_end { self.old.index ≡ length self.old.entries.items }
-        ensures { (d : DocumentParts) → IsHeldToLast C.change d self.old → HasTarget [] (history_at C.change d self.old)
+        ensures settled { (d : DocumentParts) → IsHeldToLast C.change d self.old → HasTarget [] (history_at C.change d self.old)
             → IsSettledAt C.change d self.old self.new }
+        ensures outlined { entry_outlines self.new ≡ left_of (reports C.change (target_in self.old)) (entry_outlines self.old) }
     {
         let below = self.index - 1;
         if self.entries[below].obsolete() {
@@ -200,6 +207,9 @@ impl<C: Command> Sequence<C> {
             (history_at C.change document.new self.new)) }
         ensures unchanged { IfErr result (λ _. history_at C.change document.new self.new
             ≡ history_at C.change ((C.change command).undone document.old) self.old) }
+        ensures outlined { IfOk result (λ _. entry_outlines self.new
+            ≡ entered_outlines (C.change command).obsolete self.old.limit (take self.old.index (entry_outlines self.old))) }
+        ensures kept { IfErr result (λ _. entry_outlines self.new ≡ entry_outlines self.old) }
     {
         if command.obsolete() {
             self.cut();
@@ -265,6 +275,7 @@ impl<C: Command> Sequence<C> {
         ensures at_end { self.new.index ≡ length self.new.entries.items }
         ensures added { (d : DocumentParts) → history_at C.change d self.new
             ≡ with_added (step_named (entry_change C.change entry).names d) [] (history_at C.change ((entry_change C.change entry).undone d) self.old) }
+        ensures outlined { entry_outlines self.new ≡ within_limit self.old.limit (entry_outlines self.old ++ outline entry ∷ []) }
     {
         self.has_free = self.is_free_with(&entry);
         self.entries.push_back_reserved(entry);

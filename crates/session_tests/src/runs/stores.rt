@@ -91,17 +91,17 @@ fn each_call_of_the_store_may_fail(rt: HostRuntime) -> Result<(), Fail> {
     Ok(())
 }
 
-const SAVED_AGAIN: &str = "open m m.tmj => ok 0/0 clean 0
-stamp 1 0 0 1 2 => ok 1/1 dirty 0
-save o.tmj => no 51 store failed
+const SAVED_AGAIN: &str = "new town 4 3 16 16 town.tsj => ok 0/0 clean 0
+stamp 1 0 0 1 5 => ok 1/1 dirty 0
+save a.tmj => no 51 store failed
 status => ok 1/1 dirty 0
-save o.tmj => saved o.tmj 384
+save a.tmj => saved a.tmj 389
 status => ok 1/1 clean 0
 undo => ok 0/1 dirty 0";
 
 #[test]
 fn a_failed_save_does_not_mark_clean(rt: HostRuntime) -> Result<(), Fail> {
-    assert!(rt; is_told(rt.alloc(), SAVED_AGAIN, 2, "")?);
+    assert!(rt; is_told(rt.alloc(), SAVED_AGAIN, 1, "")?);
     Ok(())
 }
 

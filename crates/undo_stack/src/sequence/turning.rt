@@ -3,7 +3,7 @@ ghost use Rattle.std.specs.Prelude.{◌≡◌, ◌<◌, ◌≤◌, ◌+◌, ◌-
 ghost use Rattle.map_model.specs.Document.{DocumentParts};
 ghost use Rattle.undo_stack.specs.Entries.{entry_change};
 ghost use Rattle.undo_stack.specs.Sequence.{is_stale};
-ghost use Rattle.undo_stack.specs.Held.{history_at, IsHeld, IsHeldButAt, IsSoundAt, IsDroppedAt, RedoesNext, StepsDown, StepsUp, UndoesLast};
+ghost use Rattle.undo_stack.specs.Held.{history_at, shape_at, entry_outlines, IsHeld, IsHeldButAt, IsSoundAt, IsDroppedAt, RedoesNext, StepsDown, StepsUp, UndoesLast};
 ghost use Rattle.undo_stack.specs.Moving.{positioned};
 ghost use Rattle.undo_stack.specs.Reporting.{AreRedone, AreTurned, AreUndone};
 ghost use Rattle.undo_stack.specs.Turning.{TurnsBack, TurnsOn, TurnsTo, TurnBy};
@@ -19,7 +19,7 @@ impl<C: Command> Sequence<C> {
         requires { IsHeld C.change document.old self.old }
         ensures held { IsHeld C.change document.new self.new }
         ensures reported { AreTurned C.change self.old.entries.items index document.old
-            (history_at C.change document.old self.old) (history_at C.change document.new self.new) }
+            (shape_at C.change document.old self.old) (shape_at C.change document.new self.new) }
         ensures turned { TurnsTo index (history_at C.change document.old self.old) (history_at C.change document.new self.new) }
     {
         if index < self.index {
@@ -37,7 +37,7 @@ impl<C: Command> Sequence<C> {
         requires below { steps ≤ self.old.index }
         ensures held { IsHeld C.change document.new self.new }
         ensures reported { AreUndone C.change (reverse (drop (self.old.index - steps) (take self.old.index self.old.entries.items))) document.old
-            (history_at C.change document.old self.old) (history_at C.change document.new self.new) }
+            (shape_at C.change document.old self.old) (shape_at C.change document.new self.new) }
         ensures turned { TurnBy TurnsBack steps (history_at C.change document.old self.old) (history_at C.change document.new self.new) }
     {
         let mut left = steps;
@@ -53,7 +53,7 @@ impl<C: Command> Sequence<C> {
         requires above { self.old.index + steps ≤ length (history_at C.change document.old self.old).steps }
         ensures held { IsHeld C.change document.new self.new }
         ensures reported { AreRedone C.change (take steps (drop self.old.index self.old.entries.items)) document.old
-            (history_at C.change document.old self.old) (history_at C.change document.new self.new) }
+            (shape_at C.change document.old self.old) (shape_at C.change document.new self.new) }
         ensures turned { TurnBy TurnsOn steps (history_at C.change document.old self.old) (history_at C.change document.new self.new) }
     {
         let mut left = steps;
@@ -155,7 +155,7 @@ impl<C: Command> Sequence<C> {
         requires bound { self.old.has_free ≡ false }
         ensures held { IsHeld C.change document.new self.new }
         ensures reported { AreTurned C.change self.old.entries.items index document.old
-            (history_at C.change document.old self.old) (history_at C.change document.new self.new) }
+            (shape_at C.change document.old self.old) (shape_at C.change document.new self.new) }
         ensures history { history_at C.change document.new self.new
             ≡ positioned (min index (length (history_at C.change document.old self.old).steps)) (history_at C.change document.old self.old) }
     {
@@ -169,6 +169,7 @@ impl<C: Command> Sequence<C> {
         ensures sound { IsSoundAt C.change document.new self.new }
         ensures has_free { self.new.has_free ≡ self.old.has_free }
         ensures stale { map (λ e. is_stale (entry_change C.change e)) self.new.entries.items ≡ map (λ e. is_stale (entry_change C.change e)) self.old.entries.items }
+        ensures outlined { entry_outlines self.new ≡ entry_outlines self.old }
         ensures history { history_at C.change document.new self.new
             ≡ positioned (min index self.old.index) (history_at C.change document.old self.old) }
     {
@@ -188,6 +189,7 @@ impl<C: Command> Sequence<C> {
         ensures sound { IsSoundAt C.change document.new self.new }
         ensures has_free { self.new.has_free ≡ self.old.has_free }
         ensures stale { map (λ e. is_stale (entry_change C.change e)) self.new.entries.items ≡ map (λ e. is_stale (entry_change C.change e)) self.old.entries.items }
+        ensures outlined { entry_outlines self.new ≡ entry_outlines self.old }
         ensures history { history_at C.change document.new self.new
             ≡ positioned (max (min index (length (history_at C.change document.old self.old).steps)) self.old.index)
             (history_at C.change document.old self.old) }
@@ -204,6 +206,7 @@ impl<C: Command> Sequence<C> {
         ensures sound { IsSoundAt C.change document.new self.new }
         ensures has_free { self.new.has_free ≡ self.old.has_free }
         ensures stale { map (λ e. is_stale (entry_change C.change e)) self.new.entries.items ≡ map (λ e. is_stale (entry_change C.change e)) self.old.entries.items }
+        ensures outlined { entry_outlines self.new ≡ entry_outlines self.old }
         ensures history { history_at C.change document.new self.new ≡ positioned index (history_at C.change document.old self.old) }
     {
         if self.is_worth_a_slice(index - self.index) {

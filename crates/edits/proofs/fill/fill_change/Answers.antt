@@ -21,14 +21,14 @@ fill_cells-requires c =
     let within = map_cell-within m c.args.x c.args.y start (rw value found) in
     HasCell-map m c.args.layer c.in_ok-tiles.tiles.now c.in-Some.start.0 c.in-Some.start.1 layer within.0 within.1
 
-pub new-requires : goal.new-requires
-new-requires c =
+pub alike-requires-clause-ordered : goal.alike-requires-clause-ordered
+alike-requires-clause-ordered c =
     let P : List CellEdit → Type 0 = AreInRowOrder in
     let tiles = c.in_ok-tiles.tiles.now in
     let width = c.parts.result.now.width in
     let start : ℕ × ℕ = (c.in-Some.start.0, c.in-Some.start.1) in
     let wide : 1 ≤ width = rw c.parts.ensures.value c.parts.ensures.well_formed.size.wide in
-    subst P (sym c.in-Ok.ensures)
+    subst P (sym c.in-Ok.ensures.cells)
     (difference-AreInRowOrder width tiles (covered width (fill_over width tiles c.selection.result.now start c.args.value) tiles) (length tiles) (omega arith))
 
 pub returns-in-Ok-clause-change : goal.returns-in-Ok-clause-change
@@ -42,5 +42,5 @@ returns-in-Ok-clause-change c =
     let known : is_known d.map c.args.value ≡ true = sym (rw map at c.if-not-is_known_value.ensures) in
     let layer = IsTheLayer-found d.map c.args.layer tiles (rw map at c.parts.ensures.well_formed) there in
     let width = ap (λ (m : MapParts). m.width) (c.parts.ensures.value ∙ map) in
-    fill-IsPainted d c.args.layer c.args.x c.args.y c.args.value start tiles c.parts.result.now.width c.selection.result.now (record { layer = c.args.layer; cells = c.new.result }) (rw map at found) there known layer width
-    c.selection.ensures.selection refl (c.new.ensures ∙ c.in-Ok.ensures)
+    fill-IsPainted d c.args.layer c.args.x c.args.y c.args.value start tiles c.parts.result.now.width c.selection.result.now (record { layer = c.args.layer; cells = c.alike.result }) (rw map at found) there known layer width
+    c.selection.ensures.selection refl (c.alike.ensures ∙ c.in-Ok.ensures.cells)

@@ -1,6 +1,8 @@
-use Rattle.std.proofs.Common.{◌≡◌, inl, inr, length, ◌*◌, ◌<◌, ap, sym, ◌∙◌, arith}
+use Rattle.std.proofs.Common.{◌≡◌, inl, inr, length, ◌*◌, ◌<◌, ap, sym, subst, ◌∙◌, arith}
 use Rattle.std.proofs.lemmas.Bool.{cases_lt}
 use Rattle.edits.specs.Flooding.{changes_below, taken_at}
+use Rattle.map_model.specs.Alike.{AreAlike}
+use Rattle.edits.proofs.FilledAlike.{changes-alike}
 use Rattle.edits.proofs.Fills.{changes-unmarked, false-unless, marked-within}
 use Rattle.edits.proofs.filled.changes_of.Goals as goal
 
@@ -14,8 +16,8 @@ loop-word-init c =
     ∙ sym (changes-unmarked g s c.args.value 0 (64 * first) some (omega arith)
     (λ k l m. false-unless (taken_at s k) (λ t. omega (arith, m, c.min-word.ensures, c.requires.sound.from k t))))
 
-pub returns : goal.returns
-returns c =
+pub returns-clause-cells : goal.returns-clause-cells
+returns-clause-cells c =
     let g = c.args.ground.now in
     let s = c.args.spread.now in
     let some : 0 < g.width = omega (arith, c.requires.ground.column) in
@@ -26,3 +28,9 @@ returns c =
       | inl l ↦ sym (changes-unmarked g s c.args.value (64 * s.end) size some (omega arith) (λ k a b. false-unless (taken_at s k) (λ t. omega (arith, a, c.requires.sound.to k t))))
       | inr l ↦ changes-unmarked g s c.args.value size (64 * s.end) some l (λ k a b. false-unless (taken_at s k) (λ t. omega (arith, a, marked-within g s c.args.value c.requires.free some k t)))
     ]
+
+pub returns-clause-alike : goal.returns-clause-alike
+returns-clause-alike c =
+    let g = c.args.ground.now in
+    let some : 0 < g.width = omega (arith, c.requires.ground.column) in
+    subst AreAlike (sym (returns-clause-cells c)) (changes-alike g c.args.spread.now c.args.value some c.requires.free (length g.tiles.now))

@@ -1,8 +1,11 @@
 use Rattle.std.proofs.Common.{Some}
 use Rattle.editor.specs.Editors.{machine_of}
+use Rattle.session.specs.declared.reply.Refusal.TheVariants.{NoMemory}
+use Rattle.session.specs.declared.reply.Reply.TheVariants.{Refused}
 use Rattle.editor.specs.Machine.{workspace}
+use Rattle.editor.specs.Planning.{edit_change}
 use Rattle.editor.proofs.Bound.{same-bound}
-use Rattle.session_run.proofs.Planned.{push_step, unput_step}
+use Rattle.session_run.proofs.Planned.{push_step, unasked_edit, unput_step}
 use Rattle.session_run.proofs.running.carry_out.Goals as goal
 
 pub returns-in-Some-clause-sound : goal.returns-in-Some-clause-sound
@@ -18,3 +21,11 @@ returns-in-Some-clause-step g c =
 pub returns-in-None-clause-step : goal.returns-in-None-clause-step
 returns-in-None-clause-step g c =
     unput_step c.args.line.now _ (workspace (machine_of g.C.Command.change c.plan.new.self) (g.S.MapStore.stored c.plan.new.store)) c.in-Push.edit (c.in-Push.ensures.plans c.requires.sound)
+
+pub returns-in-Some-clause-asks : goal.returns-in-Some-clause-asks
+returns-in-Some-clause-asks g c =
+    unasked_edit c.args.line.now _ _ (edit_change c.in-Push.edit) c.commit.result _ _ (c.in-Push.ensures.plans c.requires.sound).1 c.in-Push.ensures.asks
+
+pub returns-in-None-clause-asks : goal.returns-in-None-clause-asks
+returns-in-None-clause-asks g c =
+    unasked_edit c.args.line.now _ _ (edit_change c.in-Push.edit) (Refused NoMemory) _ _ (c.in-Push.ensures.plans c.requires.sound).1 c.in-Push.ensures.asks

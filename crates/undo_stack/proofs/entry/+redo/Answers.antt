@@ -1,7 +1,8 @@
 use Rattle.std.proofs.Common.{rules, ◌<◌, length, refl, ◌∙◌, ap, arith, length-set, get_or-set_other}
 use Rattle.undo_stack.specs.Entries.{entry_change, nesting}
+use Rattle.undo_stack.specs.Outlines.{outline}
 use Rattle.undo_stack.specs.Sequence.{after}
-use Rattle.undo_stack.proofs.EntryChanges.{Contents, entry_change-Command, entry_change-Macro, nesting-Command, nesting-Macro}
+use Rattle.undo_stack.proofs.EntryChanges.{Contents, entry_change-Command, entry_change-Macro, nesting-Command, nesting-Macro, outline-Command, outline-Macro}
 use Rattle.undo_stack.proofs.Sequences.{map-set_same}
 use Rattle.undo_stack.proofs.Turns.{redone_named, between_on}
 use Rattle.undo_stack.specs.declared.entry.Entry.TheVariants.{outs-Command, outs-Macro}
@@ -23,6 +24,10 @@ Entry::redo-returns-in-Command-clause-turned g t c =
 pub Entry::redo-returns-in-Command-clause-nesting : goal.Entry::redo-returns-in-Command-clause-nesting
 Entry::redo-returns-in-Command-clause-nesting g t c =
     rw (c.in-Command.is, outs-Command c.in-Command.command, nesting-Command c.in-Command.command, nesting-Command c.redo.new.self) refl
+
+pub Entry::redo-returns-in-Command-clause-outlined : goal.Entry::redo-returns-in-Command-clause-outlined
+Entry::redo-returns-in-Command-clause-outlined g t c =
+    rw (c.in-Command.is, outs-Command c.in-Command.command, outline-Command c.in-Command.command, outline-Command c.redo.new.self) refl
 
 pub Entry::redo-redo_all-requires : goal.Entry::redo-redo_all-requires
 Entry::redo-redo_all-requires g t c κs within =
@@ -60,6 +65,18 @@ Entry::redo-returns-in-Macro-clause-nesting g t c =
     let known = rw same at c.redo_all.ensures.nesting in
     rw (c.in-Macro.is, outs-Macro contents, same, nesting-Macro contents, nesting-Macro new, known) refl
 
+pub Entry::redo-returns-in-Macro-clause-outlined : goal.Entry::redo-returns-in-Macro-clause-outlined
+Entry::redo-returns-in-Macro-clause-outlined g t c =
+    let contents = c.in-Macro.contents in
+    let same = c.deref_mut.ensures.value ∙ ap (λ (b : Contents g.row.C.Denot). b.value) c.in-Macro.contents-is in
+    let new : Contents g.row.C.Denot = record {
+      ptr = contents.ptr;
+      alloc = contents.alloc;
+      value = record contents.value { children = c.redo_all.new.children };
+    } in
+    let known = rw same at c.redo_all.ensures.outlined in
+    rw (c.in-Macro.is, outs-Macro contents, same, outline-Macro contents, outline-Macro new, known) refl
+
 pub redo_all-loop-i-preserved : goal.redo_all-loop-i-preserved
 redo_all-loop-i-preserved g t c =
     let f = entry_change g.C.Command.change in
@@ -75,4 +92,5 @@ redo_all-loop-i-preserved g t c =
       (length-set es i w ∙ known.0.0, λ k d h. get_or-set_other es i k w d (omega arith) ∙ known.0.1 k d (omega arith)),
       between_on f es v w i c.loop-i.document c.redo.new.document first last known.1 at is c.redo.ensures.turned,
       map-set_same nesting es v w i is c.redo.ensures.nesting ∙ known.2,
+      map-set_same outline es v w i is c.redo.ensures.outlined ∙ known.3,
     )

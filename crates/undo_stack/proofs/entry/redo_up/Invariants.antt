@@ -1,6 +1,7 @@
 use Rattle.std.proofs.Common.{◌-◌, ◌≡◌, ◌≤◌, length, map}
 use Rattle.undo_stack.specs.Sequence.{IsMoved}
 use Rattle.undo_stack.specs.Entries.{entry_change, nesting}
+use Rattle.undo_stack.specs.Outlines.{outline}
 use Rattle.undo_stack.proofs.entry.redo_up.Given as goal
 
 abbrev pub invariant-loop-at : goal.invariant-loop-at
@@ -9,6 +10,7 @@ invariant-loop-at g l = record {
   below : l.at ≤ l.to;
   within : l.to ≤ length l.sequence;
   nesting : map nesting l.sequence ≡ map nesting l.fn.sequence;
+  outlined : map outline l.sequence ≡ map outline l.fn.sequence;
 }
 
 abbrev pub decreases-loop-at : goal.decreases-loop-at

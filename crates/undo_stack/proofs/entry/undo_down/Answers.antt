@@ -2,6 +2,7 @@ use Rattle.std.proofs.Common.{◌≡◌, ◌+◌, ◌-◌, ◌<◌, ℕ, arith, 
 use Rattle.std.proofs.lemmas.List.{get_or_default}
 use Rattle.undo_stack.specs.Sequence.{IsMoved, FitsDown, FitsUp}
 use Rattle.undo_stack.specs.Entries.{entry_change, nesting}
+use Rattle.undo_stack.specs.Outlines.{outline}
 use Rattle.undo_stack.proofs.Sequences.{map-set_same}
 use Rattle.undo_stack.proofs.Turns.{fits_last, moved_back, moved_none, moved_more}
 use Rattle.undo_stack.proofs.entry.undo_down.Goals as goal
@@ -18,6 +19,7 @@ loop-left-init g c =
       order = omega arith;
       within = omega (arith, c.requires.within, c.requires.order);
       nesting = refl;
+      outlined = refl;
     }
 
 pub undo-requires : goal.undo-requires
@@ -58,4 +60,5 @@ loop-left-preserved g c =
       order = omega (arith, c.loop-left.invariant.order);
       within = omega (arith, c.loop-left.invariant.within, length-set xs j w);
       nesting = map-set_same nesting xs v w j is c.undo.ensures.nesting ∙ c.loop-left.invariant.nesting;
+      outlined = map-set_same outline xs v w j is c.undo.ensures.outlined ∙ c.loop-left.invariant.outlined;
     }

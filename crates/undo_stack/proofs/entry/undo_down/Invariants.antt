@@ -1,6 +1,7 @@
 use Rattle.std.proofs.Common.{◌+◌, ◌≡◌, ◌≤◌, length, map}
 use Rattle.undo_stack.specs.Sequence.{IsMoved}
 use Rattle.undo_stack.specs.Entries.{entry_change, nesting}
+use Rattle.undo_stack.specs.Outlines.{outline}
 use Rattle.undo_stack.proofs.entry.undo_down.Given as goal
 
 abbrev pub invariant-loop-left : goal.invariant-loop-left
@@ -9,6 +10,7 @@ invariant-loop-left g l = record {
   order : l.to + l.left ≤ l.from;
   within : l.to + l.left ≤ length l.sequence;
   nesting : map nesting l.sequence ≡ map nesting l.fn.sequence;
+  outlined : map outline l.sequence ≡ map outline l.fn.sequence;
 }
 
 abbrev pub decreases-loop-left : goal.decreases-loop-left

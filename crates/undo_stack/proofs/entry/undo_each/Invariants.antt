@@ -1,6 +1,7 @@
 use Rattle.std.proofs.Common.{◌-◌, ◌≡◌, ◌≤◌, length, map}
 use Rattle.undo_stack.specs.Sequence.{IsMoved}
 use Rattle.undo_stack.specs.Entries.{entry_change, nesting}
+use Rattle.undo_stack.specs.Outlines.{outline}
 use Rattle.undo_stack.proofs.entry.undo_each.Given as goal
 
 abbrev pub invariant-loop-at : goal.invariant-loop-at
@@ -9,6 +10,7 @@ invariant-loop-at g l = record {
   above : l.to ≤ l.at;
   within : l.at ≤ length l.entries.items;
   nesting : map nesting l.entries.items ≡ map nesting l.fn.entries.items;
+  outlined : map outline l.entries.items ≡ map outline l.fn.entries.items;
 }
 
 abbrev pub decreases-loop-at : goal.decreases-loop-at

@@ -5,7 +5,7 @@ use Rattle.undo_stack.specs.Stacks.{history}
 use Rattle.undo_stack.specs.Turning.{IsSteady}
 use Rattle.undo_stack.proofs.Steadiness.{IsPushed-steady}
 use Rattle.editor.specs.Editors.{machine_of}
-use Rattle.editor.proofs.Lent.{active-IsSteady, left-IsHeld, left-IsSound, left-machine}
+use Rattle.editor.proofs.Lent.{active-IsSteady, left-IsHeld, left-IsSound, left-machine, put_active}
 use Rattle.editor.proofs.Lifting.{with_active-unchanged}
 use Rattle.editor.proofs.Committing.{Commits-pushed, Commits-refused}
 use Rattle.editor.proofs.editor.Editor.commit.Goals as goal
@@ -48,15 +48,17 @@ returns-in-Err-clause-commits g c =
 pub returns-in-Ok-clause-reported : goal.returns-in-Ok-clause-reported
 returns-in-Ok-clause-reported g c =
     let change = g.C.Command.change in
-    let left = left-machine change c.args.self.now _ c.push.new.self refl (c.active_mut.follows.holds c.push.new.self c.push.ensures.sound) in
-    rw c.state_of.ensures (
-      c.in-Some.stack.now,
-      c.push.new.self,
-      record {
-        before = c.in-Some.ensures.held;
-        active = sym c.in-Some.ensures.active;
-        after = c.push.ensures.sound;
-        left = left;
-        reported = c.in-Ok.ensures.reported;
-      },
-    )
+    let s = c.in-Some.stack.now in
+    let t = c.push.new.self in
+    let follows = c.active_mut.follows.holds t c.push.ensures.sound in
+    let put = put_active change c.args.self.now _ s t refl follows c.in-Some.ensures.held c.in-Some.ensures.active c.in-Some.ensures.stack c.push.ensures.sound in
+    rw c.state_of.ensures (s, t, record { put = put; reported = c.in-Ok.ensures.reported })
+
+pub returns-in-Err-clause-reported : goal.returns-in-Err-clause-reported
+returns-in-Err-clause-reported g c =
+    let change = g.C.Command.change in
+    let s = c.in-Some.stack.now in
+    let t = c.push.new.self in
+    let follows = c.active_mut.follows.holds t c.push.ensures.sound in
+    let put = put_active change c.args.self.now _ s t refl follows c.in-Some.ensures.held c.in-Some.ensures.active c.in-Some.ensures.stack c.push.ensures.sound in
+    (s, t, record { put = put; kept = c.in-Err.ensures.kept })

@@ -1,6 +1,9 @@
-use Rattle.std.proofs.Common.{◌≡◌, ◌+◌, ◌-◌, ◌++◌, ◌∷◌, ◌∙◌, [], ap, refl, arith, drop, List}
+use Rattle.std.proofs.Common.{◌≡◌, ◌+◌, ◌-◌, ◌++◌, ◌∷◌, ◌∙◌, [], ap, refl, sym, arith, drop, map, List}
+use Rattle.std.proofs.lemmas.List.{map-append}
 use Rattle.undo_stack.specs.declared.entry.Entry.{Entry}
 use Rattle.undo_stack.proofs.Held.{most_kept, most_added, all_kept, all_added}
+use Rattle.undo_stack.specs.Outlines.{outline}
+use Rattle.undo_stack.proofs.Outlines.{kept_none, outlines-added}
 use Rattle.undo_stack.proofs.Pushes.{sequence_nesting-append, sequence_nesting-drop}
 use Rattle.undo_stack.proofs.sequence.Sequence.add.Goals as goal
 
@@ -46,3 +49,15 @@ returns-then-self-ne0-clause-nesting g c =
 pub returns-else-self-ne0-clause-nesting : goal.returns-else-self-ne0-clause-nesting
 returns-else-self-ne0-clause-nesting g c =
     rw c.push_back_reserved.ensures.items (omega (arith, sequence_nesting-append c.args.self.now.entries.items c.args.entry))
+
+pub returns-then-self-ne0-clause-outlined : goal.returns-then-self-ne0-clause-outlined
+returns-then-self-ne0-clause-outlined g c =
+    let q = c.args.self.now in
+    ap (map outline) (items g c) ∙ outlines-added q.entries.items c.args.entry q.index q.limit c.requires.at_end (omega arith)
+
+pub returns-else-self-ne0-clause-outlined : goal.returns-else-self-ne0-clause-outlined
+returns-else-self-ne0-clause-outlined g c =
+    let q = c.args.self.now in
+    ap (map outline) c.push_back_reserved.ensures.items
+    ∙ map-append outline q.entries.items (c.args.entry ∷ [])
+    ∙ sym (kept_none _ q.limit (omega arith))

@@ -1,11 +1,13 @@
-use Rattle.std.proofs.Common.{◌≡◌, ◌∙◌, arith, take, [], ap, sym, true, false}
+use Rattle.std.proofs.Common.{◌≡◌, ◌∙◌, arith, take, [], ap, refl, sym, true, false}
+use Rattle.std.proofs.lemmas.List.{take-map}
 use Rattle.map_model.specs.Document.{DocumentParts}
 use Rattle.command_api.specs.Names.{IsSettled}
 use Rattle.undo_stack.specs.History.{step_named, History}
 use Rattle.undo_stack.specs.Pushing.{with_added}
 use Rattle.undo_stack.specs.Sound.{sequence_nesting}
 use Rattle.undo_stack.specs.Held.{IsCut, history_at}
-use Rattle.undo_stack.proofs.EntryChanges.{entry_change-Command, nesting-Command}
+use Rattle.undo_stack.specs.Outlines.{outline}
+use Rattle.undo_stack.proofs.EntryChanges.{entry_change-Command, nesting-Command, outline-Command}
 use Rattle.undo_stack.proofs.Pushes.{sequence_nesting-take, settled-same, undone_settled, current-cut, entered_gone, entered_added}
 use Rattle.undo_stack.proofs.Held.{cut_held, cut_seen}
 use Rattle.undo_stack.proofs.sequence.Sequence.enter.Goals as goal
@@ -91,3 +93,16 @@ returns-clause-nesting g c =
     let left : sequence_nesting c.cut-2.new.self.entries.items ≡ sequence_nesting (take q.index q.entries.items) =
     ap sequence_nesting (cut_before g c).entries in
     omega (arith, c.add.ensures.nesting, left, sequence_nesting-take q.index q.entries.items, nesting-Command c.args.command)
+
+pub returns-then-obsolete-clause-outlined : goal.returns-then-obsolete-clause-outlined
+returns-then-obsolete-clause-outlined g c =
+    let q = c.args.self.now in
+    rw (told g c, c.cut.ensures.cut.entries) (sym (take-map outline q.index q.entries.items))
+
+pub returns-clause-outlined : goal.returns-clause-outlined
+returns-clause-outlined g c =
+    let q = c.args.self.now in
+    let k = cut_before g c in
+    let told : (g.C.Command.change c.args.command).obsolete ≡ false = sym c.obsolete.ensures.answer ∙ c.if-obsolete.false in
+    let same = take-map outline q.index q.entries.items in
+    c.add.ensures.outlined ∙ rw (told, k.limit, k.entries, outline-Command c.args.command, same) refl

@@ -1,9 +1,12 @@
-use Rattle.std.proofs.Common.{◌-◌, ◌∙◌, ap, refl, arith, Bool, Ok, set, take}
+use Rattle.std.proofs.Common.{◌-◌, ◌∙◌, ap, refl, sym, arith, Bool, Ok, map, set, take}
+use Rattle.std.proofs.lemmas.List.{take-map}
 use Rattle.undo_stack.specs.Entries.{entry_change}
 use Rattle.undo_stack.specs.Held.{Becomes}
+use Rattle.undo_stack.specs.Outlines.{outline}
 use Rattle.undo_stack.specs.Pushing.{up_to}
 use Rattle.undo_stack.proofs.Joins.{last_fits}
-use Rattle.undo_stack.proofs.Held.{other_number, unchanged, refused, taken, took_in, merged_err}
+use Rattle.undo_stack.proofs.Held.{other_number, unchanged, refused, taken, took_in, merged_err, merged_err_outlines}
+use Rattle.undo_stack.proofs.Sequences.{map-set_same}
 use Rattle.undo_stack.proofs.sequence.Sequence.merge_into.Goals as goal
 
 -- the sequence once the entry below the index took the command in
@@ -57,3 +60,23 @@ returns-clause-joined g c =
     rw yes at (took_in g.C.Command.change c.args.self.now c.index_mut.result.now c.merge.new.self (omega arith) h.sound.turnable.within
     c.index_mut.ensures.value c.merge.ensures.nesting c.args.command.now c.args.document.now c.cut.new.self c.merge.result
     (same g c) c.merge.ensures.merged)
+
+pub returns-in_err-merge-clause-outlined : goal.returns-in_err-merge-clause-outlined
+returns-in_err-merge-clause-outlined g c =
+    let q = c.args.self.now in
+    let same =
+    map-set_same outline q.entries.items c.index_mut.result.now c.merge.new.self (q.index - 1) c.index_mut.ensures.value c.merge.ensures.outlined in
+    merged_err_outlines g.C.Command.change q _ c.from_residual.result c.from_residual.ensures.0 same
+
+pub returns-then-not-branch-clause-outlined : goal.returns-then-not-branch-clause-outlined
+returns-then-not-branch-clause-outlined g c =
+    let q = c.args.self.now in
+    map-set_same outline q.entries.items c.index_mut.result.now c.merge.new.self (q.index - 1) c.index_mut.ensures.value c.merge.ensures.outlined
+
+pub returns-clause-outlined : goal.returns-clause-outlined
+returns-clause-outlined g c =
+    let q = c.args.self.now in
+    let changed = set q.entries.items (q.index - 1) c.merge.new.self in
+    let same =
+    map-set_same outline q.entries.items c.index_mut.result.now c.merge.new.self (q.index - 1) c.index_mut.ensures.value c.merge.ensures.outlined in
+    ap (map outline) c.cut.ensures.cut.entries ∙ sym (take-map outline q.index changed) ∙ ap (take q.index) same

@@ -1,16 +1,18 @@
-use Rattle.std.proofs.Common.{◌≡◌, ◌∙◌, ap, refl, Bool, true, false, Some, Ok}
+use Rattle.std.proofs.Common.{◌≡◌, ◌∙◌, ap, refl, take, Bool, true, false, Some, Ok}
 use Rattle.command_api.specs.Law.{Change}
-use Rattle.undo_stack.specs.History.{step_named, current}
+use Rattle.undo_stack.specs.History.{History, step_named, current}
 use Rattle.undo_stack.specs.Pushing.{cut, step_of, IsPushed, Merges}
 use Rattle.undo_stack.specs.Entries.{entry_change}
-use Rattle.undo_stack.specs.Held.{history_at, target_in, IsTakenInto, IsUnchangedAt}
-use Rattle.undo_stack.specs.Merging.{IsEntered, SettlesTarget}
+use Rattle.undo_stack.specs.Held.{entry_outlines, history_at, outlines_at, shape_at, target_in, IsTakenInto, IsUnchangedAt}
+use Rattle.undo_stack.specs.Merging.{IsEntered, SettlesTarget, left_of}
+use Rattle.undo_stack.specs.Outlines.{entered_outlines}
 use Rattle.undo_stack.specs.Reporting.{reports, IsReportedAt}
 use Rattle.undo_stack.specs.declared.entry.Entry.TheVariants.{Command}
 use Rattle.undo_stack.proofs.EntryChanges.{entry_change-Command}
 use Rattle.undo_stack.proofs.Held.{pushed_at, reported_at}
+use Rattle.undo_stack.proofs.Outlines.{entered_next, merged_outlines}
 use Rattle.undo_stack.proofs.Pushes.{pushed_entered}
-use Rattle.undo_stack.proofs.Reports.{both_ok}
+use Rattle.undo_stack.proofs.Reports.{all_ok, both_ok}
 use Rattle.undo_stack.proofs.Sequences.{length-steps}
 use Rattle.undo_stack.proofs.Targets.{pushed_merged, merged_next}
 use Rattle.undo_stack.proofs.Turnings.{false-true}
@@ -24,7 +26,7 @@ taken g c = rw (c.in-Ok-true.is ∙ ap (λ (b : Bool). Ok b) c.in-Ok-true.field-
 settled : (g : _) (c : goal.After-settle g) → let f = g.C.Command.change in
     let e = c.redo.new.document in
     SettlesTarget e (reports f (target_in c.merge.new.self)) (history_at f e c.merge.new.self) (history_at f e c.settle.new.self)
-settled g c = (c.settle.ensures c.redo.new.document (taken g c).held (taken g c).target).settled
+settled g c = (c.settle.ensures.settled c.redo.new.document (taken g c).held (taken g c).target).settled
 
 pub settle-requires-clause-at_end : goal.settle-requires-clause-at_end
 settle-requires-clause-at_end g c =
@@ -54,10 +56,14 @@ returns-in-Ok-true-clause-reported g c =
     let t = c.merge.new.self in
     let n = history_at f e c.settle.new.self in
     let m = taken g c in
+    let p = c.settle.new.self in
+    let kept = rw (c.in-Ok-true.is ∙ ap (λ (b : Bool). Ok b) c.in-Ok-true.field-0-test) at c.merge.ensures.outlined in
+    let left = c.settle.ensures.outlined ∙ ap (left_of (reports f (target_in t))) kept in
     let joined = rw (c.in-Ok-true.is ∙ ap (λ (b : Bool). Ok b) c.in-Ok-true.field-0-test) at c.merge.ensures.joined in
     reported_at f c.args.command y q c.args.document.now e n c.redo.ensures c.requires.held.sound.turnable.within true (target_in t)
     ((λ _. m.merges), (λ _. refl)) joined
     (merged_next (reports f (target_in t)) (history_at f ((f y).undone e) q) (step_named (f y).names e) (history_at f e t) n m.next (settled g c))
+    (outlines_at p) (merged_outlines (reports f (target_in t)) q.index q.limit (entry_outlines q) (entry_outlines p) left)
 
 -- ---- the command did not merge, and was entered
 apart : (g : _) (c : goal.After-enter g) → let f = g.C.Command.change in
@@ -98,10 +104,16 @@ returns-in-Ok-false-clause-reported g c =
     let n = history_at f c.enter.new.document u in
     let m = apart g c in
     let told : reports f (Some (Command y)) ≡ (f y).obsolete = ap (λ (v : Change). v.obsolete) (entry_change-Command f y) in
-    both_ok (λ _. c.enter.new.document ≡ e)
-    (λ _. IsEntered (f y).obsolete (history_at f ((f y).undone e) c.merge.new.self) (step_named (f y).names e) n)
-    (λ _. IsReportedAt f x d (target_in q) (history_at f d q) c.enter.new.document n) c.enter.result
-    (λ _ document entered. rw document
+    let t = c.merge.new.self in
+    let kept = rw (c.in-Ok-false.is ∙ ap (λ (b : Bool). Ok b) c.in-Ok-false.field-0-test) at c.merge.ensures.outlined in
+    let index : t.index ≡ q.index = ap (λ (h : History). h.position) m.1.same in
+    let limit : t.limit ≡ q.limit = ap (λ (h : History). h.limit) m.1.same in
+    all_ok (λ _. c.enter.new.document ≡ e)
+    (λ _. IsEntered (f y).obsolete (history_at f ((f y).undone e) t) (step_named (f y).names e) n)
+    (λ _. entry_outlines u ≡ entered_outlines (f y).obsolete t.limit (take t.index (entry_outlines t)))
+    (λ _. IsReportedAt f x d (target_in q) (shape_at f d q) c.enter.new.document (shape_at f c.enter.new.document u)) c.enter.result
+    (λ _ document entered outlined. rw document
     (reported_at f x y q d e (history_at f e u) c.redo.ensures c.requires.held.sound.turnable.within false (Some (Command y))
-    ((λ q. false-true q), (λ k. absurd (m.0 k))) refl (rw told (rw (m.1.same, document) at entered).next)))
-    c.enter.ensures.document c.enter.ensures.entered
+    ((λ q. false-true q), (λ k. absurd (m.0 k))) refl (rw told (rw (m.1.same, document) at entered).next)
+    (outlines_at u) (rw told (entered_next (f y).obsolete q.index q.limit (entry_outlines q) (entry_outlines u) (rw (limit, index, kept) at outlined)))))
+    c.enter.ensures.document c.enter.ensures.entered c.enter.ensures.outlined

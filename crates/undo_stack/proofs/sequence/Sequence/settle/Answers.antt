@@ -1,17 +1,31 @@
-use Rattle.std.proofs.Common.{◌∙◌, sym, refl}
-use Rattle.undo_stack.proofs.Held.{stays, goes}
+use Rattle.std.proofs.Common.{◌∙◌, ap, map, sym, refl}
+use Rattle.undo_stack.specs.Outlines.{outline}
+use Rattle.undo_stack.proofs.Held.{stays, goes, outlines_go, outlines_stay}
 use Rattle.undo_stack.proofs.sequence.Sequence.settle.Goals as goal
 
-pub returns-then-obsolete : goal.returns-then-obsolete
-returns-then-obsolete g c d h has =
+pub returns-then-obsolete-clause-settled : goal.returns-then-obsolete-clause-settled
+returns-then-obsolete-clause-settled g c d h has =
     let r = c.requires in
     let e = c.obsolete.ensures in
     goes g.C.Command.change c.args.self.now c.index.result.now r.some r.at_end c.index.ensures e.law d _
     (record { entries = c.truncate.ensures.items; index = refl; clean = refl; limit = refl; has_free = refl })
     (sym e.answer ∙ c.if-obsolete.true) h has
 
-pub returns-else-obsolete : goal.returns-else-obsolete
-returns-else-obsolete g c d h has =
+pub returns-else-obsolete-clause-settled : goal.returns-else-obsolete-clause-settled
+returns-else-obsolete-clause-settled g c d h has =
     let r = c.requires in
     let e = c.obsolete.ensures in
     stays g.C.Command.change c.args.self.now c.index.result.now r.some r.at_end c.index.ensures e.law d (sym e.answer ∙ c.if-obsolete.false) h
+
+pub returns-then-obsolete-clause-outlined : goal.returns-then-obsolete-clause-outlined
+returns-then-obsolete-clause-outlined g c =
+    let r = c.requires in
+    let e = c.obsolete.ensures in
+    ap (map outline) c.truncate.ensures.items
+    ∙ outlines_go g.C.Command.change c.args.self.now c.index.result.now r.some r.at_end c.index.ensures e.law (sym e.answer ∙ c.if-obsolete.true)
+
+pub returns-else-obsolete-clause-outlined : goal.returns-else-obsolete-clause-outlined
+returns-else-obsolete-clause-outlined g c =
+    let r = c.requires in
+    let e = c.obsolete.ensures in
+    outlines_stay g.C.Command.change c.args.self.now c.index.result.now r.some r.at_end c.index.ensures e.law (sym e.answer ∙ c.if-obsolete.false)

@@ -1,5 +1,5 @@
 use Rattle.std.proofs.Common.{◌≡◌, ℕ, ◌+◌, ◌-◌, ◌<◌, arith, subst}
-use Rattle.undo_stack.specs.Held.{history_at}
+use Rattle.undo_stack.specs.Held.{history_at, shape_at}
 use Rattle.undo_stack.specs.Turning.{TurnsBack, TurnBy}
 use Rattle.undo_stack.proofs.Reported.{none_undone, undone_more}
 use Rattle.undo_stack.proofs.Turnings.{position-TurnsBack, turned_more}
@@ -36,5 +36,5 @@ returns-clause-reported g c =
     let f = g.C.Command.change in
     let l = c.loop-left in
     let floor = c.args.self.now.index - c.args.steps in
-    let none = none_undone f l.self.entries.items floor l.self.index l.document (history_at f l.document l.self) (omega (arith, l.invariant.floor)) in
+    let none = none_undone f l.self.entries.items floor l.self.index l.document (shape_at f l.document l.self) (omega (arith, l.invariant.floor)) in
     l.invariant.reported _ none

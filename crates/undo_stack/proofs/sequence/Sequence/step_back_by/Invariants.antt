@@ -1,6 +1,6 @@
 use Rattle.std.proofs.Common.{◌≡◌, ◌≤◌, ◌-◌, drop, reverse, take}
-use Rattle.undo_stack.specs.Held.{history_at, IsHeld}
-use Rattle.undo_stack.specs.History.{History}
+use Rattle.undo_stack.specs.Held.{history_at, IsHeld, shape_at}
+use Rattle.undo_stack.specs.Outlines.{Shape}
 use Rattle.undo_stack.specs.Reporting.{AreUndone}
 use Rattle.undo_stack.specs.Turning.{TurnsBack, TurnBy}
 use Rattle.undo_stack.proofs.sequence.Sequence.step_back_by.Given as goal
@@ -15,8 +15,8 @@ invariant-loop-left g l =
       fewer : l.left ≤ l.fn.steps;
       below : l.left ≤ p.index;
       floor : p.index - l.left ≡ q.index - l.fn.steps;
-      reported : (n : History) → AreUndone f (reverse (drop (q.index - l.fn.steps) (take p.index p.entries.items))) l.document (history_at f l.document p) n
-          → AreUndone f (reverse (drop (q.index - l.fn.steps) (take q.index q.entries.items))) l.fn.document (history_at f l.fn.document q) n;
+      reported : (n : Shape) → AreUndone f (reverse (drop (q.index - l.fn.steps) (take p.index p.entries.items))) l.document (shape_at f l.document p) n
+          → AreUndone f (reverse (drop (q.index - l.fn.steps) (take q.index q.entries.items))) l.fn.document (shape_at f l.fn.document q) n;
       turned : TurnBy TurnsBack (l.fn.steps - l.left) (history_at f l.fn.document q) (history_at f l.document p);
     }
 

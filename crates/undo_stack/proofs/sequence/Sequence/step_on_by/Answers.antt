@@ -1,5 +1,5 @@
 use Rattle.std.proofs.Common.{◌≡◌, ℕ, ◌+◌, ◌-◌, ◌<◌, arith, drop, refl, subst, take}
-use Rattle.undo_stack.specs.Held.{history_at}
+use Rattle.undo_stack.specs.Held.{history_at, shape_at}
 use Rattle.undo_stack.specs.Reporting.{AreRedone}
 use Rattle.undo_stack.specs.Turning.{TurnsOn, TurnBy}
 use Rattle.undo_stack.proofs.Reported.{redone_more}
@@ -34,6 +34,6 @@ returns-clause-reported g c =
     let f = g.C.Command.change in
     let l = c.loop-left in
     let q = l.self in
-    let h = history_at f l.document q in
+    let h = shape_at f l.document q in
     let none : 0 ≡ l.left = omega arith in
     l.invariant.reported h (subst (λ (k : ℕ). AreRedone f (take k (drop q.index q.entries.items)) l.document h h) none refl)

@@ -1,6 +1,6 @@
 use Rattle.std.proofs.Common.{◌≡◌, ℕ, ◌-◌, arith, length, min, subst}
 use Rattle.undo_stack.specs.Entries.{entry_change}
-use Rattle.undo_stack.specs.Held.{history_at}
+use Rattle.undo_stack.specs.Held.{history_at, shape_at}
 use Rattle.undo_stack.specs.Turning.{TurnsOn, TurnBy}
 use Rattle.undo_stack.proofs.Reported.{turned_down, turned_up}
 use Rattle.undo_stack.proofs.Sequences.{length-steps}
@@ -16,7 +16,7 @@ step_on_by-requires-clause-above g c =
 pub returns-then-index-self-clause-reported : goal.returns-then-index-self-clause-reported
 returns-then-index-self-clause-reported g c =
     let f = g.C.Command.change in
-    let n = history_at f c.step_back_by.new.document c.step_back_by.new.self in
+    let n = shape_at f c.step_back_by.new.document c.step_back_by.new.self in
     turned_down f c.args.document.now c.args.self.now c.args.index n (omega (arith, c.if-index-self.true)) c.step_back_by.ensures.reported
 
 pub returns-then-index-self-clause-turned : goal.returns-then-index-self-clause-turned
@@ -28,7 +28,7 @@ pub returns-else-index-self-clause-reported : goal.returns-else-index-self-claus
 returns-else-index-self-clause-reported g c =
     let f = g.C.Command.change in
     let q = c.args.self.now in
-    let n = history_at f c.step_on_by.new.document c.step_on_by.new.self in
+    let n = shape_at f c.step_on_by.new.document c.step_on_by.new.self in
     let steps : c.min.result - q.index ≡ min c.args.index (length q.entries.items) - q.index =
     omega (arith, c.min.ensures, c.len.ensures, q.entries.ok.0) in
     turned_up f c.args.document.now q c.args.index _ n c.if-index-self.false steps c.step_on_by.ensures.reported

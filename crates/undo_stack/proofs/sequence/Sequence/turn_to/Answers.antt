@@ -1,8 +1,9 @@
-use Rattle.std.proofs.Common.{◌∙◌, ℕ, ap, arith, min}
+use Rattle.std.proofs.Common.{◌∙◌, ℕ, ap, arith, length, min}
 use Rattle.undo_stack.specs.Entries.{entry_change}
-use Rattle.undo_stack.specs.Held.{history_at}
+use Rattle.undo_stack.specs.Held.{entry_outlines, history_at, shape_at}
 use Rattle.undo_stack.specs.Moving.{positioned}
 use Rattle.undo_stack.proofs.Held.{moved_held}
+use Rattle.undo_stack.proofs.Outlines.{shaped}
 use Rattle.undo_stack.proofs.Reported.{bound_turned}
 use Rattle.undo_stack.proofs.Sequences.{length-steps}
 use Rattle.undo_stack.proofs.Views.{turned_view}
@@ -32,8 +33,11 @@ returns-clause-reported g c =
     let q = c.args.self.now in
     let d = c.args.document.now in
     let h = history_at f d q in
-    let n = history_at f c.redo_to.new.document c.redo_to.new.self in
+    let e = c.redo_to.new.document in
+    let p = c.redo_to.new.self in
     let held = c.requires.held in
     let all = length-steps (entry_change f) q.entries.items q.index d in
     let is = returns-clause-history g c ∙ ap (λ (k : ℕ). positioned (min c.args.index k) h) all in
-    bound_turned f q.entries.items c.args.index d h n (held.none_free c.requires.bound) held.sound.turnable.within is
+    let kept = c.redo_to.ensures.outlined ∙ c.undo_to.ensures.outlined in
+    let next = shaped (history_at f e p) (positioned (min c.args.index (length q.entries.items)) h) (entry_outlines p) (entry_outlines q) is kept in
+    bound_turned f q.entries.items c.args.index d (shape_at f d q) (shape_at f e p) (held.none_free c.requires.bound) held.sound.turnable.within next

@@ -1,18 +1,20 @@
-use Rattle.std.proofs.Common.{◌≡◌, ◌++◌, ◌∷◌, [], ◌<◌, ◌≤◌, nat_lt, true, ◌∙◌, ap, refl, sym, arith, length, map, inl, inr, Ok, Err}
+use Rattle.std.proofs.Common.{◌≡◌, ◌++◌, ◌∷◌, [], ◌<◌, ◌≤◌, nat_lt, true, ◌∙◌, ap, refl, sym, arith, length, map, ℕ, inl, inr, Ok, Err}
 use Rattle.std.proofs.lemmas.List.{map-append}
 use Rattle.std.proofs.lemmas.Bool.{lt-ltb, le-ltb}
 use Rattle.command_api.specs.Law.{Change}
-use Rattle.undo_stack.specs.History.{current}
+use Rattle.undo_stack.specs.History.{History, current}
 use Rattle.undo_stack.specs.Macros.{BeginAnswers}
 use Rattle.undo_stack.specs.Moving.{Answer}
+use Rattle.undo_stack.specs.Outlines.{Outlines, outlines_cut}
 use Rattle.undo_stack.specs.Pushing.{cut}
 use Rattle.undo_stack.specs.Sound.{Inner}
-use Rattle.undo_stack.specs.Stacks.{history, inner_of, inners}
+use Rattle.undo_stack.specs.Stacks.{history, inner_of, inners, outlines}
 use Rattle.undo_stack.specs.declared.limits.TheConstants.{MAX_DEPTH}
 use Rattle.undo_stack.specs.declared.stack.Stack.{Stack}
 use Rattle.undo_stack.specs.declared.stack.StackFault.TheVariants.{NoMemory}
 use Rattle.undo_stack.proofs.Macros.{begun_view}
 use Rattle.undo_stack.proofs.Innermost.{opened_holds}
+use Rattle.undo_stack.proofs.Lent.{begun_outlines, levels_as}
 use Rattle.undo_stack.proofs.Views.{length-opens, current-history_in}
 use Rattle.undo_stack.proofs.stack.Stack.begin_macro.Goals as goal
 
@@ -80,3 +82,17 @@ returns-clause-step g c =
       answered = few f s (Ok tt) (omega (arith, c.len.ensures, s.sequences.levels.ok.0)) (inl refl);
       leads = rw is (begun_view (inners t) f t.document t.sequences.steps (history f s) c.args.text.now c.args.action.now whole at);
     }
+
+pub returns-clause-outlined : goal.returns-clause-outlined
+returns-clause-outlined g c =
+    let f = g.C.Command.change in
+    let s = c.args.self.now in
+    let t = c.cut.new.self in
+    let n = (history f s).position in
+    let none = ap (λ (l : Inner g.row.C.Denot). l.sequence) c.in-Ok.ensures.inner in
+    let position = ap (λ (h : History). h.position) c.take_room.ensures.same in
+    let room = c.take_room.ensures.kept in
+    let cut = c.cut.ensures.outlined ∙ ap (λ (m : ℕ). outlines_cut m (outlines c.take_room.new.self)) position ∙ ap (outlines_cut n) room in
+    let around = ap (λ ls. levels_as (outlines t).steps ls.items) c.cut.ensures.levels in
+    begun_outlines t c.in-Ok.level c.push_reserved.new.self n (outlines s) c.push_reserved.ensures.items none cut
+    (ap (λ (a : Outlines). a.levels) around ∙ ap (λ (a : Outlines). a.levels) room)

@@ -1,4 +1,5 @@
 use Rattle.undo_stack.proofs.Innermost.{Closes, closing_nesting, ended_led, inner_held, popped_holds, popped_ready}
+use Rattle.undo_stack.proofs.Lent.{ended_outlines}
 use Rattle.undo_stack.proofs.stack.Stack.end_macro.Goals as goal
 
 -- the level that was taken becomes the entry
@@ -31,3 +32,8 @@ returns-clause-step g c =
     let d = c.args.self.now.document in
     let e = rw c.innermost.ensures.value at c.add.ensures in
     (ended_led (closes_last g c) c.add.new.self e.nesting (e.held d) (e.added d)).1
+
+pub returns-clause-outlined : goal.returns-clause-outlined
+returns-clause-outlined g c =
+    let e = rw c.innermost.ensures.value at c.add.ensures in
+    ended_outlines (closes_last g c) c.add.new.self e.outlined

@@ -4,7 +4,7 @@ use Rattle.undo_stack.specs.Reporting.{AreTurned}
 use Rattle.undo_stack.specs.Stacks.{history}
 use Rattle.undo_stack.specs.Turning.{TurnsOn}
 use Rattle.undo_stack.specs.declared.stack.StackFault.TheVariants.{NothingToRedo}
-use Rattle.undo_stack.proofs.Innermost.{closed_step}
+use Rattle.undo_stack.proofs.Innermost.{closed_shape, closed_step}
 use Rattle.undo_stack.proofs.Reported.{turned_once_up}
 use Rattle.undo_stack.proofs.Views.{outside-open, redo-accepted, redo-refused, step_above}
 use Rattle.undo_stack.proofs.stack.Stack.redo.Goals as goal
@@ -53,4 +53,4 @@ returns-clause-reported g c =
     let d = c.step_on.new.document in
     let inside : q.index < length q.entries.items = omega (arith, c.requires.own.sound.turnable.within, q.entries.ok.0) in
     let turned = turned_once_up f s.document q d p inside c.step_on.ensures.reported in
-    closed_step f (AreTurned f q.entries.items (q.index + 1) s.document) s d p none turned
+    closed_shape f (AreTurned f q.entries.items (q.index + 1) s.document) s d p none turned

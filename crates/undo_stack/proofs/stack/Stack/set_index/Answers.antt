@@ -2,7 +2,8 @@ use Rattle.std.proofs.Common.{arith, sym, refl, Ok}
 use Rattle.undo_stack.specs.Entries.{entry_change}
 use Rattle.undo_stack.specs.Held.{history_at}
 use Rattle.undo_stack.specs.Turning.{TurnsTo}
-use Rattle.undo_stack.proofs.Innermost.{closed_step}
+use Rattle.undo_stack.specs.Reporting.{AreTurned}
+use Rattle.undo_stack.proofs.Innermost.{closed_shape, closed_step}
 use Rattle.undo_stack.proofs.Sequences.{length-steps}
 use Rattle.undo_stack.proofs.Turnings.{turned_to}
 use Rattle.undo_stack.proofs.Views.{outside-closed, outside-open}
@@ -27,3 +28,17 @@ returns-else-self-clause-step g c =
       answered = sym (outside-closed f s none (Ok tt));
       leads = closed_step f (TurnsTo c.args.index) s d p none turned;
     }
+
+pub returns-then-self-clause-reported : goal.returns-then-self-clause-reported
+returns-then-self-clause-reported g c =
+    let f = g.C.Command.change in
+    let s = c.args.self.now in
+    let turned = AreTurned f s.sequences.steps.entries.items c.args.index s.document in
+    closed_shape f turned s c.step_to.new.document c.step_to.new.self c.if-is_open.ensures c.step_to.ensures.reported
+
+pub returns-else-self-clause-reported : goal.returns-else-self-clause-reported
+returns-else-self-clause-reported g c =
+    let f = g.C.Command.change in
+    let s = c.args.self.now in
+    let turned = AreTurned f s.sequences.steps.entries.items c.args.index s.document in
+    closed_shape f turned s c.turn_to.new.document c.turn_to.new.self c.if-is_open.ensures c.turn_to.ensures.reported

@@ -1,13 +1,16 @@
-use Rattle.std.proofs.Common.{◌≡◌, ◌<◌, ◌∙◌, ap, arith, refl}
+use Rattle.std.proofs.Common.{◌≡◌, ◌<◌, ◌∙◌, List, ap, arith, map, refl}
 use Rattle.std.proofs.lemmas.Result.{IfOk-weaker}
 use Rattle.std.specs.VecDeque.{deque_capacity}
-use Rattle.undo_stack.specs.Held.{Becomes}
+use Rattle.undo_stack.specs.Held.{Becomes, entry_outlines}
 use Rattle.undo_stack.specs.Lending.{innermost, with_innermost_of}
+use Rattle.undo_stack.specs.Outlines.{outline}
 use Rattle.undo_stack.specs.Sound.{sequence_nesting}
 use Rattle.undo_stack.specs.Stacks.{Holds, history}
+use Rattle.undo_stack.specs.declared.level.Level.{Level}
 use Rattle.undo_stack.specs.declared.stack.Stack.{Stack}
 use Rattle.undo_stack.proofs.Held.{alike_held, alike_seen}
 use Rattle.undo_stack.proofs.Innermost.{as_history, as_holds, inner_held, innermost_led, led, same_led}
+use Rattle.undo_stack.proofs.Lent.{levels_as, same_outlines}
 use Rattle.undo_stack.proofs.stack.Stack.take_room.Goals as goal
 
 -- the stack with room for a further level
@@ -56,3 +59,9 @@ returns-clause-inner_room g c =
     let room = rw c.innermost.ensures.value at c.take_room.ensures.room in
     IfOk-weaker c.take_room.result (λ _. p.index < deque_capacity q.entries) (λ _. (innermost z).index < deque_capacity (innermost z).entries)
     (λ _ free. rw (innermost_led (holds g c) q, (same g c).index) free) room
+
+pub returns-clause-kept : goal.returns-clause-kept
+returns-clause-kept g c =
+    let s = c.args.self.now in
+    same_outlines (holds g c) s.document c.take_room.new.self (ap (map outline) (same g c).entries)
+    ∙ ap (λ (ls : List (Level g.row.C.Denot)). levels_as (entry_outlines s.sequences.steps) ls) c.reserve.ensures.items

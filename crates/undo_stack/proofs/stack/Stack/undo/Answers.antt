@@ -1,7 +1,7 @@
 use Rattle.std.proofs.Common.{◌-◌, arith, refl}
 use Rattle.undo_stack.specs.Moving.{undo_answer_at}
 use Rattle.undo_stack.specs.Reporting.{AreTurned}
-use Rattle.undo_stack.proofs.Innermost.{closed_step}
+use Rattle.undo_stack.proofs.Innermost.{closed_shape}
 use Rattle.undo_stack.proofs.Reported.{turned_once_down}
 use Rattle.undo_stack.proofs.Views.{outside-open}
 use Rattle.undo_stack.proofs.stack.Stack.undo.Goals as goal
@@ -21,4 +21,4 @@ returns-clause-reported g c =
     let d = c.step_back.new.document in
     let within = c.requires.own.sound.turnable.within in
     let turned = turned_once_down f s.document q d p (omega arith) within c.step_back.ensures.reported in
-    closed_step f (AreTurned f q.entries.items (q.index - 1) s.document) s d p none turned
+    closed_shape f (AreTurned f q.entries.items (q.index - 1) s.document) s d p none turned

@@ -1,5 +1,5 @@
-// What no clause says: that the look answers `true` at all, and for which texts.
-use crate::look::needs_nothing;
+// What no clause says of a look at the bytes: that it answers `true` at all, and for which texts.
+use tiled_maps::needs_nothing;
 
 const NEEDS_NOTHING: [&str; 8] = [
     "{ \"height\":2,\n \"infinite\":false,\n \"layers\":[\n  {\"data\":[0, 1, 2147483649, 3221225479], \"opacity\":1, \"visible\":true}],\n \"version\":\"1.8\"\n}",

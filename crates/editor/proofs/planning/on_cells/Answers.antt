@@ -1,9 +1,9 @@
-use Rattle.std.proofs.Common.{refl, rules, sym, ap, ◌∙◌}
+use Rattle.std.proofs.Common.{rules, sym, ap, ◌∙◌}
 use Rattle.std.proofs.lemmas.Int.{to_z-of_z}
 use mir.Syntax.{w32}
 use mir.Val.{SFits}
 use Rattle.undo_stack.specs.History.{current}
-use Rattle.editor.proofs.planning.on_edit.Goals as goal
+use Rattle.editor.proofs.planning.on_cells.Goals as goal
 
 pub returns-in-Erase-clause-plans : goal.returns-in-Erase-clause-plans
 returns-in-Erase-clause-plans g c =
@@ -18,9 +18,3 @@ returns-in-Fill-clause-plans g c =
     let y : SFits w32 c.in-Fill.y = search rules in
     let is = c.document-in-Fill.ensures ∙ ap current c.seek_layer-in-Fill.ensures.same in
     rw (c.in-Fill.is, sym is) (rw (to_z-of_z w32 c.in-Fill.x x, to_z-of_z w32 c.in-Fill.y y) at c.plan_fill.ensures, c.seek_layer-in-Fill.ensures.same)
-
-pub returns-in-Resize-clause-plans : goal.returns-in-Resize-clause-plans
-returns-in-Resize-clause-plans g c =
-    let dx : SFits w32 c.in-Resize.dx = search rules in
-    let dy : SFits w32 c.in-Resize.dy = search rules in
-    rw (c.in-Resize.is, sym c.document-in-Resize.ensures) (rw (to_z-of_z w32 c.in-Resize.dx dx, to_z-of_z w32 c.in-Resize.dy dy) at c.plan_resize.ensures, refl)
