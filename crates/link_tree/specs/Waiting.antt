@@ -1,6 +1,7 @@
 -- Links of a tree that wait in a visit, each for its item and the links behind it.
-use Rattle.std.specs.Prelude.{ℕ, zero, suc, List, [], ◌∷◌, ◌++◌, Option, Some, None, slice_get}
+use Rattle.std.specs.Prelude.{◌≡◌, ℕ, zero, suc, List, [], ◌∷◌, ◌++◌, Option, Some, None, slice_get}
 use Rattle.std.specs.Borrow.{Bor}
+use Rattle.link_tree.specs.declared.tree.Link.{Link}
 use Rattle.link_tree.specs.declared.tree.Tree.{Tree}
 use Rattle.link_tree.specs.declared.tree.Tree.TheVariants.{Empty, Filled'}
 use Rattle.link_tree.specs.Trees.{items, IsSized}
@@ -31,3 +32,13 @@ IsLinkAt (Some tree) = IsLink tree.now
 abbrev pub AreLinks : {T : Type 0} → List (Bor (Tree T)) → ℕ → Type 0
 AreLinks trees zero = Unit {0}
 AreLinks trees (suc k) = IsLinkAt (slice_get trees k) × AreLinks trees k
+
+-- a tree is held by this link
+abbrev pub HasLink : {T : Type 0} → Tree T → Link T → Type 0
+HasLink Empty link = ⊥
+HasLink (Filled' p x l r b n) link = (x ≡ link.item) × ((l ≡ link.left) × (r ≡ link.right))
+
+-- where a link is next, no items are too deep; where none is, no link waits unless some items are
+abbrev pub IsNext : {T : Type 0} → Tree T → ℕ → ℕ → Type 0
+IsNext Empty left depth = left ≡ 0 → depth ≡ 0
+IsNext (Filled' p x l r b n) left depth = (left ≡ 0) × IsSized r
