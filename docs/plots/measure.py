@@ -69,6 +69,36 @@ def documents(folder):
         yield count, a_line(before, uses, folder)
 
 
+def closing(folder):
+    for count in (10, 100, 1_000, 4_000):
+        before = [f'new m{at} 1 1 16 16 t.tsj' for at in range(count)]
+        closes = [f'close m{at}' for at in range(count)]
+        yield count, a_line(before, closes, folder), a_line(before, closes[::-1], folder)
+
+
+def tilesets(folder):
+    for count in (1, 16, 256):
+        before = [NEW] + [f'tileset add {at * 1_000 + 1} t{at}.tsj' for at in range(1, count)]
+        values = ' '.join(str(at % 900 + 1) for at in range(64 * 64))
+        yield count, a_line(before, [f'stamp 1 {at} 0 64 {values}' for at in range(5)], folder)
+
+
+def rows_and_columns(folder):
+    """Fills of a row and of a column of free cells, each one cell wide, on a map of as many cells a side."""
+    for side in (64, 256, 1024):
+        found = [side]
+        for which in (f'select replace 0 5 {side} 1', f'select replace 5 0 1 {side}'):
+            before = [f'new m {side} {side} 16 16 t.tsj', which]
+            found.append(a_line(before, [f'fill 1 5 5 {at % 9 + 1}' for at in range(20)], folder))
+        yield tuple(found)
+
+
+def selections(folder):
+    for count in (10, 100, 1_000, 10_000):
+        cells = [(2 * (at % 128), 2 * (at // 128)) for at in range(count)]
+        yield count, a_line([NEW], [f'select add {x} {y} 1 1' for x, y in cells], folder)
+
+
 def layers(folder):
     for count in (1, 4, 16, 64, 256):
         before = [NEW] + [f'layer add tile l{at}' for at in range(2, count + 1)]
@@ -133,8 +163,12 @@ def write_map(path, side):
 SERIES = {
     'stamps': (stamps, ['stamps', 'instructions a stamp']),
     'documents': (documents, ['open documents', 'instructions a use']),
+    'closing': (closing, ['open documents', 'closed from the first', 'closed from the last']),
     'layers': (layers, ['layers', 'instructions a stamp']),
+    'tilesets': (tilesets, ['tilesets', 'a stamp of 64 by 64']),
     'fill': (cells_of_a_fill, ['cells', 'instructions a fill', 'instructions a turn']),
+    'columns': (rows_and_columns, ['cells a side', 'a fill of a row', 'a fill of a column']),
+    'selections': (selections, ['cells chosen', 'a select of one more']),
     'objects': (objects, ['objects', 'a move of the last', 'a move of the first', 'a move of a random one']),
     'merges': (merges, ['merges', 'milliseconds', 'megabytes copied']),
     'map': (bytes_of_a_map, ['bytes', 'instructions a byte read', 'instructions a byte written']),
