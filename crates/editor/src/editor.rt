@@ -8,6 +8,7 @@ ghost use Rattle.undo_stack.specs.Turning.{IsSteady, Redoes, SetsIndex, Undoes};
 ghost use Rattle.undo_group.specs.Stacks.{group_of, AreHeld};
 ghost use Rattle.editor.specs.Asking.{PlanAsks};
 ghost use Rattle.editor.specs.Editors.{machine_of, IsHeld, IsSound};
+ghost use Rattle.editor.specs.Kinds.{PlanKinds, kinds_in};
 ghost use Rattle.editor.specs.Machine.{active_of, started_machine, workspace};
 ghost use Rattle.editor.specs.Planning.{Commits, FitsActive, FitsPlan, KeepsPlan, Plans};
 ghost use Rattle.editor.specs.Turns.{PlansTurns, ReportsPush};
@@ -80,6 +81,10 @@ impl<C: Command> Editor<C> {
         ensures sound { IsSound C.change self.old → IsSound C.change self.new }
         ensures plans { IsSound C.change self.old
             → Plans line.now (workspace (machine_of C.change self.old) (S.stored store.old)) result (workspace (machine_of C.change self.new) (S.stored store.new)) }
+
+        // And of each step of each document it is known whether it is a macro.
+        ensures kinds { IsSound C.change self.old
+            → PlanKinds line.now (machine_of C.change self.old) result (machine_of C.change self.new) (kinds_in self.old) (kinds_in self.new) }
     {
         match line {
             Line::Quiet => Planned::Quiet,
