@@ -9,7 +9,7 @@ use Rattle.map_model.specs.Document.{DocumentParts}
 use Rattle.command_api.specs.Law.{Change, IsSame, IsLawful, IsRedone}
 use Rattle.command_api.specs.Names.{Names, is_free}
 use Rattle.undo_stack.specs.History.{step_named, History, current}
-use Rattle.undo_stack.specs.Pushing.{cut, limited_to, lowered, up_to, with_added, Merges, step_of, IsPushed, next_of}
+use Rattle.undo_stack.specs.Pushing.{cut, limited_to, lowered, up_to, with_added, Merges, Vanishes, step_of, IsPushed, next_of}
 use Rattle.undo_stack.specs.Sequence.{FitsDown, IsMoved, is_stale}
 use Rattle.undo_stack.specs.Calm.{is_gone, IsLive, NoneFree}
 use Rattle.undo_stack.specs.Moving.{positioned}
@@ -431,16 +431,18 @@ module _ {C : Type 0} (f : C → Change) where
 
     pub reported_at : (merged : Bool) (entry : Option (Entry C))
         → (merged ≡ true ↔ Merges (cut (history_at f ((f y).undone e) q)) (step_named (f y).names e)) → EndsIn merged f y e (target_in q) entry
+        → Vanishes merged (reports f entry) (cut (history_at f ((f y).undone e) q)) (step_named (f y).names e)
         → n ≡ next_of merged (reports f entry) (step_named (f y).names e) (cut (history_at f ((f y).undone e) q))
         → (os : Outlines) → os ≡ outlines_next_of merged (reports f entry) q.limit (outlines_cut q.index (outlines_at q))
         → IsReportedAt f x d (target_in q) (shape_at f d q) e (record { history = n; outlines = os })
-    reported_at merged entry where_merged ends next os outlined = record {
+    reported_at merged entry where_merged ends where_gone next os outlined = record {
       command = y;
       redone = r;
       merged = merged;
       merged_where = rw same_step (subst (λ (k : History). merged ≡ true ↔ Merges (cut k) (step_named (f y).names e)) same_base where_merged);
       entry = entry;
       ends = ends;
+      gone_where = rw same_step (subst (λ (k : History). Vanishes merged (reports f entry) (cut k) (step_named (f y).names e)) same_base where_gone);
       next = rw same_step (subst (λ (k : History). n ≡ next_of merged (reports f entry) (step_named (f y).names e) (cut k)) same_base next);
       outlined = outlined;
     }

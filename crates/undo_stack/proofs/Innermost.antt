@@ -195,6 +195,7 @@ module _ (h : History) (os : List Open) (o : Open) where
             ((λ is. (merges-levelled s).0 (r.merged_where.0 is)), (λ m. r.merged_where.1 ((merges-levelled s).1 m)));
         entry = r.entry;
         ends = r.ends;
+        gone_where = rw (sym same_current) (vanishes-levelled r.merged (reports f r.entry) s r.gone_where);
         next = rw (sym same_current) (next_whole r.merged (reports f r.entry) s n r.next);
         outlined = next r.merged (reports f r.entry) r.outlined;
       }

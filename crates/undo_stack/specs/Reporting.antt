@@ -10,7 +10,7 @@ use Rattle.map_model.specs.Document.{DocumentParts}
 use Rattle.command_api.specs.Law.{Change, IsRedone, IsUndone}
 use Rattle.command_api.specs.Names.{is_free}
 use Rattle.undo_stack.specs.History.{current}
-use Rattle.undo_stack.specs.Pushing.{step_of, cut, Merges, next_of}
+use Rattle.undo_stack.specs.Pushing.{step_of, cut, Merges, Vanishes, next_of}
 use Rattle.undo_stack.specs.Entries.{entry_change}
 use Rattle.undo_stack.specs.Merging.{IsJoined}
 use Rattle.undo_stack.specs.Outlines.{Shape, outlines_cut, outlines_next_of, outlines_without, shape_positioned}
@@ -58,6 +58,7 @@ pub record IsReportedAt {C : Type 0} (f : C → Change) (x : C) (d : DocumentPar
   pub merged_where : merged ≡ true ↔ Merges (cut a.history) (step_of (f x) (current a.history))
   pub entry : Option (Entry C)
   pub ends : EndsIn merged f command e v entry
+  pub gone_where : Vanishes merged (reports f entry) (cut a.history) (step_of (f x) (current a.history))
   pub next : n.history ≡ next_of merged (reports f entry) (step_of (f x) (current a.history)) (cut a.history)
   pub outlined : n.outlines ≡ outlines_next_of merged (reports f entry) a.history.limit (outlines_cut a.history.position a.outlines)
 

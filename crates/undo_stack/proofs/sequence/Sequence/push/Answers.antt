@@ -14,7 +14,7 @@ use Rattle.undo_stack.proofs.Outlines.{entered_next, merged_outlines}
 use Rattle.undo_stack.proofs.Pushes.{pushed_entered}
 use Rattle.undo_stack.proofs.Reports.{all_ok, both_ok}
 use Rattle.undo_stack.proofs.Sequences.{length-steps}
-use Rattle.undo_stack.proofs.Targets.{pushed_merged, merged_next}
+use Rattle.undo_stack.proofs.Targets.{merged_gone, merged_next, pushed_merged}
 use Rattle.undo_stack.proofs.Turnings.{false-true}
 use Rattle.undo_stack.proofs.sequence.Sequence.push.Goals as goal
 
@@ -62,6 +62,7 @@ returns-in-Ok-true-clause-reported g c =
     let joined = rw (c.in-Ok-true.is ∙ ap (λ (b : Bool). Ok b) c.in-Ok-true.field-0-test) at c.merge.ensures.joined in
     reported_at f c.args.command y q c.args.document.now e n c.redo.ensures c.requires.held.sound.turnable.within true (target_in t)
     ((λ _. m.merges), (λ _. refl)) joined
+    (merged_gone (reports f (target_in t)) (history_at f ((f y).undone e) q) (step_named (f y).names e) (history_at f e t) n m.next (settled g c))
     (merged_next (reports f (target_in t)) (history_at f ((f y).undone e) q) (step_named (f y).names e) (history_at f e t) n m.next (settled g c))
     (outlines_at p) (merged_outlines (reports f (target_in t)) q.index q.limit (entry_outlines q) (entry_outlines p) left)
 
@@ -114,6 +115,7 @@ returns-in-Ok-false-clause-reported g c =
     (λ _. IsReportedAt f x d (target_in q) (shape_at f d q) c.enter.new.document (shape_at f c.enter.new.document u)) c.enter.result
     (λ _ document entered outlined. rw document
     (reported_at f x y q d e (history_at f e u) c.redo.ensures c.requires.held.sound.turnable.within false (Some (Command y))
-    ((λ q. false-true q), (λ k. absurd (m.0 k))) refl (rw told (rw (m.1.same, document) at entered).next)
+    ((λ q. false-true q), (λ k. absurd (m.0 k))) refl (rw told (rw (m.1.same, document) at entered).gone_where)
+    (rw told (rw (m.1.same, document) at entered).next)
     (outlines_at u) (rw told (entered_next (f y).obsolete q.index q.limit (entry_outlines q) (entry_outlines u) (rw (limit, index, kept) at outlined)))))
     c.enter.ensures.document c.enter.ensures.entered c.enter.ensures.outlined
