@@ -6,7 +6,8 @@ use Rattle.std.specs.Prelude.{◌≡◌, ℕ, List, [], ◌∷◌, ◌++◌, Boo
 use Rattle.std.specs.Str.{bytes_eq}
 use Rattle.undo_stack.specs.History.{History, Open, Step, current}
 use Rattle.undo_stack.specs.Outlines.{within_limit}
-use Rattle.undo_stack.specs.Pushing.{IsPushed, without_last}
+use Rattle.command_api.specs.Law.{Change}
+use Rattle.undo_stack.specs.Pushing.{IsPushed, step_of, without_last}
 use Rattle.undo_stack.specs.Stacks.{macros}
 use Rattle.session.specs.declared.line.Line.{Line}
 use Rattle.session.specs.declared.line.Line.TheVariants.{Begin, Clear, Close, Discard, End, New, Open as Opening}
@@ -151,20 +152,19 @@ StepKindsOf (Err fault) m reply n old new = new ≡ old
 abbrev pub StepKindsIn : List ℕ → Machine → Option Reply → Machine → List Kinds → List Kinds → Type 0
 StepKindsIn bytes = StepKindsOf (line_of bytes)
 
--- ---- plans
+-- ---- plans and commits
+-- pushing a command that does c, with this reply
+abbrev pub CommitKinds : Change → Machine → Reply → Machine → List Kinds → List Kinds → Type 0
+CommitKinds c m reply n old new =
+    RepliesKinds reply (ActiveKinds (λ h k. PushesKind h (step_of c (current h)) k) m.group.active (active_of m) (active_of n)) old new
+
 -- a plan: an edit that is left to be committed has changed no list
 abbrev pub PlanKinds : Line → Machine → Planned → Machine → List Kinds → List Kinds → Type 0
 PlanKinds line m planned.Quiet n old new = new ≡ old
 PlanKinds line m (planned.Reply reply) n old new = StepKinds line m (Some reply) n old new
 PlanKinds line m (planned.Push edit) n old new = new ≡ old
 
--- a macro that was begun, or refused
-abbrev pub BeginKinds : History → Planned → List Bool → List Bool → Type 0
-BeginKinds h (planned.Reply (Refused refusal)) ks ns = ns ≡ ks
-BeginKinds h (planned.Reply reply) ks ns = ns ≡ macros_begun h.levels h.position ks
-BeginKinds h plan ks ns = ns ≡ ks
-
--- a plan over one document, by the rule of its line
+-- a plan over one document: of a line that is done, and of any line by its rule
 abbrev pub DoneKinds : Line → History → Planned → List Bool → List Bool → Type 0
 DoneKinds line h (planned.Reply (Refused refusal)) ks ns = ns ≡ ks
 DoneKinds line h (planned.Reply reply) ks ns = ns ≡ macros_after line h ks

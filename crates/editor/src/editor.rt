@@ -8,7 +8,7 @@ ghost use Rattle.undo_stack.specs.Turning.{IsSteady, Redoes, SetsIndex, Undoes};
 ghost use Rattle.undo_group.specs.Stacks.{group_of, AreHeld};
 ghost use Rattle.editor.specs.Asking.{PlanAsks};
 ghost use Rattle.editor.specs.Editors.{machine_of, IsHeld, IsSound};
-ghost use Rattle.editor.specs.Kinds.{PlanKinds, kinds_in};
+ghost use Rattle.editor.specs.Kinds.{CommitKinds, PlanKinds, kinds_in};
 ghost use Rattle.editor.specs.Machine.{active_of, started_machine, workspace};
 ghost use Rattle.editor.specs.Planning.{Commits, FitsActive, FitsPlan, KeepsPlan, Plans};
 ghost use Rattle.editor.specs.Turns.{PlansTurns, ReportsPush};
@@ -113,6 +113,7 @@ impl<C: Command> Editor<C> {
         ensures held { IsHeld C.change self.new }
         ensures commits { Commits (active_of (machine_of C.change self.old)) (C.change command) result (machine_of C.change self.old) (machine_of C.change self.new) }
         ensures reported { ReportsPush C.change command result self.old self.new }
+        ensures kinds { CommitKinds (C.change command) (machine_of C.change self.old) result (machine_of C.change self.new) (kinds_in self.old) (kinds_in self.new) }
         ensures sound { IsSound C.change self.old → is_free (C.change command).names.vanishing ≡ false → IsSound C.change self.new }
     {
         match self.group.active_mut() {

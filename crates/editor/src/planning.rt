@@ -1,6 +1,6 @@
 // The lines about the active document: those that are edits plan their command, and change nothing.
 ghost use Rattle.std.specs.Prelude.{◌≡◌};
-ghost use Rattle.undo_stack.specs.Stacks.{history, macros, Holds};
+ghost use Rattle.undo_stack.specs.Stacks.{history, macros, outlines, Holds};
 ghost use Rattle.undo_stack.specs.Turning.{IsSteady};
 ghost use Rattle.session.specs.Spelling.{CanBeSpelled};
 ghost use Rattle.editor.specs.Steps.{rule_of};
@@ -49,7 +49,7 @@ fn seek_owner<C: Command>(stack: &mut Stack<C>, owner: Owner)
     requires { Holds C.change stack.old }
     ensures sound { Holds C.change stack.new }
     ensures same { history C.change stack.new ≡ history C.change stack.old }
-    ensures kept { macros stack.new ≡ macros stack.old }
+    ensures kept { outlines stack.new ≡ outlines stack.old }
 {
     match owner {
         Owner::Map => {}
