@@ -1,17 +1,22 @@
 -- The lists of all open documents, of which one has changed.
-use Rattle.std.proofs.Common.{◌≡◌, ℕ, List, [], ◌∷◌, ◌++◌, Bool, Option, Some, None, map, refl, sym, ◌∙◌, ap, subst, inl, inr, arith}
+use Rattle.std.proofs.Common.{◌≡◌, ℕ, List, [], ◌∷◌, ◌++◌, Bool, true, false, Option, Some, None, Result, map, refl, sym, ◌∙◌, ap, subst, inl, inr, arith}
 use Rattle.std.proofs.lemmas.List.{map-append}
 use Rattle.std.proofs.lemmas.Slice.Eq.{bytes_eq-Decides}
+use Rattle.std.specs.Option.{option_map}
+use Rattle.std.specs.Prelude.{MatchOption, if◌then◌else◌}
+use Rattle.std.specs.Str.{bytes_eq}
 use Rattle.std.specs.String.{string_bytes}
 use Rattle.std.specs.declared.string.String.{String}
-use Rattle.command_api.specs.Law.{Change}
-use Rattle.undo_stack.specs.History.{History, current}
+use Rattle.command_api.specs.Law.{Change, IsSame}
+use Rattle.undo_stack.specs.History.{History, Step, current}
+use Rattle.undo_stack.specs.Pushing.{step_of}
 use Rattle.undo_stack.specs.Stacks.{history, macros}
 use Rattle.undo_stack.specs.declared.stack.Stack.{Stack}
 use Rattle.undo_group.specs.Groups.{AreDistinct, IsGroup, OpenDocument, active_among, history_named, with_history, with_history_of}
 use Rattle.undo_group.specs.Lending.{IsLeft}
 use Rattle.undo_group.specs.Stacks.{IsReplaced, IsReplacedAt, IsTakenOut, NamedStack, document_of, documents_of, group_of, named, stack_at, stack_named}
 use Rattle.session.specs.declared.line.Line.{Line}
+use Rattle.session.specs.declared.reply.Refusal.{Refusal}
 use Rattle.session.specs.declared.reply.Reply.{Reply}
 use Rattle.session.specs.declared.reply.Reply.TheVariants.{Refused}
 use Rattle.editor.specs.declared.editor.Editor.{Editor}
@@ -20,11 +25,12 @@ use Rattle.editor.specs.declared.planned.Planned.TheVariants as planned
 use Rattle.editor.specs.Acts.{answer_of}
 use Rattle.editor.specs.Answers.{status_reply}
 use Rattle.editor.specs.Editors.{machine_of, stacks_in}
-use Rattle.editor.specs.Kinds.{ActiveKinds, AddsKinds, ChangesKinds, DocumentKinds, Kinds, LineKinds, LosesKinds, PlanKinds, RepliesKinds, TurnsKinds}
-use Rattle.editor.specs.Kinds.{kinds, kinds_in}
+use Rattle.editor.specs.Kinds.{ActiveKinds, AddsKinds, ChangesKinds, CommitKinds, DocumentKinds, EditsKinds, Kinds, LineKinds, LosesKinds, PlanKinds, PushesKind, RepliesKinds, StepKinds, TurnsKinds}
+use Rattle.editor.specs.Kinds.{kinds, kinds_in, macros_at, macros_named}
 use Rattle.editor.specs.Machine.{Machine, active_of, with_active}
-use Rattle.editor.specs.Planning.{PlansEdit, PlansOn}
+use Rattle.editor.specs.Planning.{IsEditOf, PlansEdit, PlansOn}
 use Rattle.editor.specs.Steps.{Edits, OnActive, OnDocuments, OnFiles, Rule, rule_of}
+use Rattle.editor.proofs.Committing.{step_of-same}
 use Rattle.editor.proofs.Lent.{left-machine}
 
 -- what a stack shows
@@ -65,6 +71,40 @@ module _ {C : Type 0} (f : C → Change) where
         is = ap (map kinds_of) r.is ∙ map-append kinds_of r.first (named name t ∷ r.rest);
         changed = subst (λ (x : Stack C). Changes (macros x) (macros t)) (sym same) changed;
       }
+
+-- ---- the list of the active stack
+some-eq : {A : Type 0} (v w : A) → Some v ≡ Some w → v ≡ w
+some-eq v w q = cc
+
+module _ {C : Type 0} where
+  found-macros : (name : List ℕ) (ss : List (NamedStack C)) (s : Stack C) → stack_named name ss ≡ Some s → macros_named name (map kinds_of ss) ≡ macros s
+  found-macros name [] s at = absurd cc
+  found-macros name (x ∷ ss) s at = by_test (bytes_eq name x.name) at
+    where
+      by_test : (b : Bool) → (if b then Some x.stack else stack_named name ss) ≡ Some s → (if b then macros x.stack else macros_named name (map kinds_of ss)) ≡ macros s
+      by_test true e = ap macros (some-eq x.stack s e)
+      by_test false e = found-macros name ss s e
+
+  no-macros : (name : List ℕ) (ss : List (NamedStack C)) → stack_named name ss ≡ None → macros_named name (map kinds_of ss) ≡ []
+  no-macros name [] at = refl
+  no-macros name (x ∷ ss) at = by_test (bytes_eq name x.name) at
+    where
+      by_test : (b : Bool) → (if b then Some x.stack else stack_named name ss) ≡ None → (if b then macros x.stack else macros_named name (map kinds_of ss)) ≡ []
+      by_test true e = absurd cc
+      by_test false e = no-macros name ss e
+
+  found-macros_at : (name : Option (List ℕ)) (ss : List (NamedStack C)) (s : Stack C) → stack_at name ss ≡ Some s → macros_at name (map kinds_of ss) ≡ macros s
+  found-macros_at None ss s at = absurd cc
+  found-macros_at (Some name) ss s at = found-macros name ss s at
+
+  no-macros_at : (name : Option (List ℕ)) (ss : List (NamedStack C)) → stack_at name ss ≡ None → macros_at name (map kinds_of ss) ≡ []
+  no-macros_at None ss at = refl
+  no-macros_at (Some name) ss at = no-macros name ss at
+
+  pub active-macros : {A : Type 0} (now : A → Stack C) (r : Option A) (name : Option (List ℕ)) (ss : List (NamedStack C)) → option_map now r ≡ stack_at name ss
+      → MatchOption r (macros_at name (map kinds_of ss) ≡ []) (λ a. macros (now a) ≡ macros_at name (map kinds_of ss))
+  active-macros now None name ss e = no-macros_at name ss (sym e)
+  active-macros now (Some a) name ss e = sym (found-macros_at name ss (now a) (sym e))
 
 -- ---- the history that a machine's active document gets
 history_named-with : (name : List ℕ) (n h : History) (ds : List OpenDocument) → history_named name ds ≡ Some h → history_named name (with_history name n ds) ≡ Some n
@@ -178,3 +218,42 @@ module _ {C : Type 0} (f : C → Change) (old new : Editor C) (s t : Stack C) (s
       push_kept (OnDocuments act) d = d
       push_kept (OnActive act) d = d
       push_kept (Edits names other) d = d
+
+-- ---- an edit that was committed in a command w that does the same as c
+weaker-RepliesKinds : (reply : Reply) (P Q : List Kinds → List Kinds → Type 0) (old new : List Kinds) → (P old new → Q old new) → RepliesKinds reply P old new → RepliesKinds reply Q old new
+weaker-RepliesKinds (Refused refusal) P Q old new more k = k
+weaker-RepliesKinds reply P Q old new more k = more k
+
+weaker-ActiveKinds : (P Q : History → History → List Bool → List Bool → Type 0) (name : Option (List ℕ)) (o k : Option History) (old new : List Kinds)
+    → ((h n : History) (ks ns : List Bool) → o ≡ Some h → P h n ks ns → Q h n ks ns) → ActiveKinds P name o k old new → ActiveKinds Q name o k old new
+weaker-ActiveKinds P Q (Some name) (Some h) (Some n) old new more a = record {
+  before = a.before;
+  after = a.after;
+  first = a.first;
+  rest = a.rest;
+  was = a.was;
+  is = a.is;
+  changed = more h n a.before a.after refl a.changed;
+}
+weaker-ActiveKinds P Q name o k old new more a = absurd a
+
+committed : (line : Line) (rule : Rule) (old new : Machine) (c w : Change) (reply : Reply) (os ns : List Kinds) → IsEditOf rule (active_of old) c → IsSame c w
+    → CommitKinds w old reply new os ns → RepliesKinds reply (LineKinds line rule old new) os ns
+committed line (OnFiles act) old new c w reply os ns edits same k = absurd edits
+committed line (OnDocuments act) old new c w reply os ns edits same k = absurd edits
+committed line (OnActive act) old new c w reply os ns edits same k = absurd edits
+committed line (Edits names edit) old new c w reply os ns edits same k =
+    let P : History → History → List Bool → List Bool → Type 0 = λ h n. PushesKind h (step_of w (current h)) n in
+    weaker-RepliesKinds reply (ActiveKinds P old.group.active (active_of old) (active_of new)) (LineKinds line (Edits names edit) old new) os ns
+    (weaker-ActiveKinds P (TurnsKinds line (Edits names edit)) old.group.active (active_of old) (active_of new) os ns pushed) k
+  where
+    pushed : (h n : History) (xs ys : List Bool) → active_of old ≡ Some h → PushesKind h (step_of w (current h)) n xs ys → TurnsKinds line (Edits names edit) h n xs ys
+    pushed h n xs ys at p =
+        let E : Option History → Type 0 = λ o. IsEditOf (Edits names edit) o c in
+        let R : Result Step Refusal → Type 0 = λ a. EditsKinds a h n xs ys in
+        let S : Step → Type 0 = λ s. PushesKind h s n xs ys in
+        subst R (sym (subst E at edits)) (subst S (step_of-same c w (current h) same) p)
+
+pub commit_line : (line : Line) (old new : Machine) (c w : Change) (reply : Reply) (os ns : List Kinds) → IsEditOf (rule_of line) (active_of old) c → IsSame c w
+    → CommitKinds w old reply new os ns → StepKinds line old (Some reply) new os ns
+commit_line line old new c w reply os ns edits same k = committed line (rule_of line) old new c w reply os ns edits same k
