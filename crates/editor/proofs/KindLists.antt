@@ -203,8 +203,8 @@ module _ {C : Type 0} (f : C → Change) (old new : Editor C) (s t : Stack C) (s
     where
       -- the plan of an edit replies with a refusal alone
       no_reply : (r : Reply) → PlansEdit (answer_of names (edit (current (history f s)))) (current (history f s)) (planned.Reply r) → IsRefusal r
-      no_reply r (inl e) = subst IsRefusal (sym e) tt
-      no_reply r (inr p) = subst IsRefusal (sym p.2) tt
+      no_reply r (inl e) = subst (λ (x : Reply). IsRefusal x) (sym e) tt
+      no_reply r (inr p) = subst (λ (x : Reply). IsRefusal x) (sym p.2) tt
 
   pub plan_kinds : (line : Line) (plan : Planned) → PlansOn (rule_of line) (history f s) plan (history f t)
       → DocumentKinds line (rule_of line) (history f s) plan (macros s) (macros t)
@@ -243,7 +243,7 @@ committed line (OnFiles act) old new c w reply os ns edits same k = absurd edits
 committed line (OnDocuments act) old new c w reply os ns edits same k = absurd edits
 committed line (OnActive act) old new c w reply os ns edits same k = absurd edits
 committed line (Edits names edit) old new c w reply os ns edits same k =
-    let P : History → History → List Bool → List Bool → Type 0 = λ h n. PushesKind h (step_of w (current h)) n in
+    let P : History → History → List Bool → List Bool → Type 0 = λ h n xs ys. PushesKind h (step_of w (current h)) n xs ys in
     weaker-RepliesKinds reply (ActiveKinds P old.group.active (active_of old) (active_of new)) (LineKinds line (Edits names edit) old new) os ns
     (weaker-ActiveKinds P (TurnsKinds line (Edits names edit)) old.group.active (active_of old) (active_of new) os ns pushed) k
   where

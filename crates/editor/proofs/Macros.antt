@@ -124,7 +124,7 @@ module _ {C : Type 0} (f : C → Change) where
 
   bound-reverse : (vs : List (Entry C)) → AreBoundIn vs → AreBoundIn (reverse vs)
   bound-reverse [] b = tt
-  bound-reverse (v ∷ vs) b = subst AreBoundIn (sym (reverse-append (v ∷ []) vs)) (bound-append (reverse vs) (v ∷ []) (bound-reverse vs b.1) (b.0, tt))
+  bound-reverse (v ∷ vs) b = subst (λ (ws : List (Entry C)). AreBoundIn ws) (sym (reverse-append (v ∷ []) vs)) (bound-append (reverse vs) (v ∷ []) (bound-reverse vs b.1) (b.0, tt))
 
   bound-take : (n : ℕ) (vs : List (Entry C)) → AreBoundIn vs → AreBoundIn (take n vs)
   bound-take zero vs b = tt

@@ -33,4 +33,4 @@ pub commit_kinds : {C : Type 0} (f : C → Change) (old new : Editor C) (s t : S
     → IsGroup (group_of f old.group) → Some (history f s) ≡ active_of (machine_of f old) → Some s ≡ stack_at (machine_of f old).group.active (stacks_in old)
     → IsReported f x s t → CommitKinds (f x) (machine_of f old) (state_reply (history f t)) (machine_of f new) (kinds_in old) (kinds_in new)
 commit_kinds f old new s t x same left whole active was reported =
-    active_kinds f old new s t same left whole active was (λ h k. PushesKind h (step_of (f x) (current h)) k) (push-macros f x s t reported)
+    active_kinds f old new s t same left whole active was (λ h k ks ns. PushesKind h (step_of (f x) (current h)) k ks ns) (push-macros f x s t reported)

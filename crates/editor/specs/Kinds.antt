@@ -10,7 +10,7 @@ use Rattle.command_api.specs.Law.{Change}
 use Rattle.undo_stack.specs.Pushing.{IsPushed, step_of, without_last}
 use Rattle.undo_stack.specs.Stacks.{macros}
 use Rattle.session.specs.declared.line.Line.{Line}
-use Rattle.session.specs.declared.line.Line.TheVariants.{Begin, Clear, Close, Discard, End, New, Open as Opening}
+use Rattle.session.specs.declared.line.Line.TheVariants as lines
 use Rattle.session.specs.declared.line.LineFault.{LineFault}
 use Rattle.session.specs.declared.reply.Refusal.{Refusal}
 use Rattle.session.specs.declared.reply.Reply.{Reply}
@@ -82,9 +82,9 @@ EditsKinds (Err refusal) h n ks ns = ns ≡ ks
 
 -- any other line about the active document
 abbrev pub macros_after : Line → History → List Bool → List Bool
-macros_after (Begin text action) h ks = macros_begun h.levels h.position ks
-macros_after End h ks = macros_ended h.levels h.limit ks
-macros_after Clear h ks = []
+macros_after (lines.Begin text action) h ks = macros_begun h.levels h.position ks
+macros_after lines.End h ks = macros_ended h.levels h.limit ks
+macros_after lines.Clear h ks = []
 macros_after line h ks = ks
 
 -- a line of this rule, where the history h becomes n
@@ -122,10 +122,10 @@ ActiveKinds Changes name h n old new = ⊥
 
 -- a line about the open documents or the files
 abbrev pub OthersKinds : Line → List Kinds → List Kinds → Type 0
-OthersKinds (New name width height tile_width tile_height source) old new = AddsKinds name old new
-OthersKinds (Opening name file) old new = AddsKinds name old new
-OthersKinds (Close name) old new = LosesKinds name old new
-OthersKinds (Discard name) old new = LosesKinds name old new
+OthersKinds (lines.New name width height tile_width tile_height source) old new = AddsKinds name old new
+OthersKinds (lines.Open name file) old new = AddsKinds name old new
+OthersKinds (lines.Close name) old new = LosesKinds name old new
+OthersKinds (lines.Discard name) old new = LosesKinds name old new
 OthersKinds line old new = new ≡ old
 
 -- a line of this rule
@@ -156,7 +156,7 @@ StepKindsIn bytes = StepKindsOf (line_of bytes)
 -- pushing a command that does c, with this reply
 abbrev pub CommitKinds : Change → Machine → Reply → Machine → List Kinds → List Kinds → Type 0
 CommitKinds c m reply n old new =
-    RepliesKinds reply (ActiveKinds (λ h k. PushesKind h (step_of c (current h)) k) m.group.active (active_of m) (active_of n)) old new
+    RepliesKinds reply (ActiveKinds (λ h k ks ns. PushesKind h (step_of c (current h)) k ks ns) m.group.active (active_of m) (active_of n)) old new
 
 -- a plan: an edit that is left to be committed has changed no list
 abbrev pub PlanKinds : Line → Machine → Planned → Machine → List Kinds → List Kinds → Type 0

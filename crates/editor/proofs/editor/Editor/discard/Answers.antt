@@ -1,9 +1,9 @@
-use Rattle.undo_group.specs.Groups.{removed}
-use Rattle.undo_group.specs.Stacks.{group_of}
-use Rattle.editor.specs.Editors.{machine_of, stacks_in}
+use Rattle.std.proofs.Common.{ℕ, List, map, subst}
+use Rattle.undo_group.specs.Groups.{active_history, removed}
+use Rattle.undo_group.specs.Stacks.{group_of, stacks_of}
+use Rattle.editor.specs.Editors.{stacks_in}
 use Rattle.editor.specs.Kinds.{LosesKinds, kinds_in}
-use Rattle.editor.specs.Machine.{active_of}
-use Rattle.editor.proofs.KindLists.{status_RepliesKinds, taken-LosesKinds}
+use Rattle.editor.proofs.KindLists.{kinds_of, status_RepliesKinds, taken-LosesKinds}
 use Rattle.editor.proofs.Lent.{group-IsSound}
 use Rattle.editor.proofs.Steady.{without-AreSteady}
 use Rattle.editor.proofs.editor.Editor.discard.Goals as goal
@@ -20,6 +20,7 @@ returns-clause-sound g c = λ sound.
 
 pub returns-clause-kinds : goal.returns-clause-kinds
 returns-clause-kinds g c =
-    let old = stacks_in c.args.self.now in
-    let lost = taken-LosesKinds c.as_str.result.now c.in-Ok.field-0 old _ c.in-Ok.ensures.taken in
-    rw c.status.ensures (status_RepliesKinds (active_of (machine_of g.C.Command.change _)) (LosesKinds c.as_str.result.now) (kinds_in c.args.self.now) _ lost)
+    let P : List ℕ → Type 0 = λ name. LosesKinds name (kinds_in c.args.self.now) (map kinds_of (stacks_of c.remove.new.self)) in
+    let lost = subst P c.as_str.ensures (taken-LosesKinds c.as_str.result.now _ (stacks_in c.args.self.now) (stacks_of c.remove.new.self) c.in-Ok.ensures.taken) in
+    rw c.status.ensures
+    (status_RepliesKinds (active_history (group_of g.C.Command.change c.remove.new.self)) (LosesKinds c.args.name.now) (kinds_in c.args.self.now) (map kinds_of (stacks_of c.remove.new.self)) lost)
