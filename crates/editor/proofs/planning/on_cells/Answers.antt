@@ -1,9 +1,8 @@
-use Rattle.std.proofs.Common.{rules, refl, sym, ap, ◌∙◌}
+use Rattle.std.proofs.Common.{rules, sym, ap, ◌∙◌}
 use Rattle.std.proofs.lemmas.Int.{to_z-of_z}
 use mir.Syntax.{w32}
 use mir.Val.{SFits}
 use Rattle.undo_stack.specs.History.{current}
-use Rattle.undo_stack.specs.Outlines.{macros_of}
 use Rattle.editor.proofs.planning.on_cells.Goals as goal
 
 pub returns-in-Erase-clause-plans : goal.returns-in-Erase-clause-plans
@@ -19,15 +18,3 @@ returns-in-Fill-clause-plans g c =
     let y : SFits w32 c.in-Fill.y = search rules in
     let is = c.document-in-Fill.ensures ∙ ap current c.seek_layer-in-Fill.ensures.same in
     rw (c.in-Fill.is, sym is) (rw (to_z-of_z w32 c.in-Fill.x x, to_z-of_z w32 c.in-Fill.y y) at c.plan_fill.ensures, c.seek_layer-in-Fill.ensures.same)
-
-pub returns-in-Erase-clause-kinds : goal.returns-in-Erase-clause-kinds
-returns-in-Erase-clause-kinds g c = λ steady. rw c.in-Erase.is (ap macros_of c.seek_layer.ensures.kept)
-
-pub returns-in-Fill-clause-kinds : goal.returns-in-Fill-clause-kinds
-returns-in-Fill-clause-kinds g c = λ steady. rw c.in-Fill.is (ap macros_of c.seek_layer-in-Fill.ensures.kept)
-
-pub returns-in-Select-clause-kinds : goal.returns-in-Select-clause-kinds
-returns-in-Select-clause-kinds g c = λ steady. rw c.in-Select.is refl
-
-pub returns-in-SelectNone-clause-kinds : goal.returns-in-SelectNone-clause-kinds
-returns-in-SelectNone-clause-kinds g c = λ steady. rw c.in-SelectNone.is refl

@@ -3,7 +3,6 @@ use Rattle.std.proofs.lemmas.Int.{to_z-of_z}
 use mir.Syntax.{w32}
 use mir.Val.{SFits}
 use Rattle.undo_stack.specs.History.{current}
-use Rattle.undo_stack.specs.Outlines.{macros_of}
 use Rattle.editor.proofs.planning.on_document.Goals as goal
 
 pub returns-in-Stamp-clause-plans : goal.returns-in-Stamp-clause-plans
@@ -12,6 +11,3 @@ returns-in-Stamp-clause-plans g c =
     let y : SFits w32 c.in-Stamp.y = search rules in
     let is = c.document.ensures ∙ ap current c.seek_layer.ensures.same in
     rw (c.in-Stamp.is, sym is) (rw (to_z-of_z w32 c.in-Stamp.x x, to_z-of_z w32 c.in-Stamp.y y) at c.plan_stamp.ensures, c.seek_layer.ensures.same)
-
-pub returns-in-Stamp-clause-kinds : goal.returns-in-Stamp-clause-kinds
-returns-in-Stamp-clause-kinds g c = λ steady. rw c.in-Stamp.is (ap macros_of c.seek_layer.ensures.kept)
