@@ -27,7 +27,8 @@ use Rattle.session.specs.declared.reply.Reply.TheVariants.{Refused}
 use Rattle.editor.specs.declared.planned.Planned.{Planned}
 use Rattle.editor.specs.declared.planned.Planned.TheVariants as planned
 use Rattle.editor.specs.Answers.{call_reply}
-use Rattle.editor.specs.Kinds.{DoneKinds, macros_after, macros_begun, macros_edited, macros_ended}
+use Rattle.editor.specs.Steps.{rule_of}
+use Rattle.editor.specs.Kinds.{DocumentKinds, DoneKinds, macros_after, macros_begun, macros_edited, macros_ended}
 
 -- ---- lists
 map-without_last : {A B : Type 0} (k : A → B) (xs : List A) → map k (without_last xs) ≡ without_last (map k xs)
@@ -201,8 +202,15 @@ module _ {C : Type 0} (f : C → Change) where
   end-macros s t (Err fault) lead = ap macros_of lead
 
 -- a call that keeps the list, for a line that does
-pub kept-DoneKinds : (line : Line) (h : History) (plan : Planned) (ks ns : List Bool) → macros_after line h ks ≡ ks → ns ≡ ks → DoneKinds line h plan ks ns
+kept-DoneKinds : (line : Line) (h : History) (plan : Planned) (ks ns : List Bool) → macros_after line h ks ≡ ks → ns ≡ ks → DoneKinds line h plan ks ns
 kept-DoneKinds line h planned.Quiet ks ns stay kept = kept
 kept-DoneKinds line h (planned.Reply (Refused refusal)) ks ns stay kept = kept
 kept-DoneKinds line h (planned.Reply reply) ks ns stay kept = kept ∙ sym stay
 kept-DoneKinds line h (planned.Push edit) ks ns stay kept = kept
+
+-- so it is by the rule of a line about the history
+pub kept-DocumentKinds : (line l : Line) (h : History) (plan : Planned) (ks ns : List Bool) → line ≡ l → macros_after l h ks ≡ ks
+    → (DoneKinds l h plan ks ns → DocumentKinds l (rule_of l) h plan ks ns) → ns ≡ ks → DocumentKinds line (rule_of line) h plan ks ns
+kept-DocumentKinds line l h plan ks ns is stay done kept =
+    let P : Line → Type 0 = λ x. DocumentKinds x (rule_of x) h plan ks ns in
+    subst P (sym is) (done (kept-DoneKinds l h plan ks ns stay kept))
