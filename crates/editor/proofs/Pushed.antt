@@ -25,7 +25,9 @@ push-macros f x s t r =
     let h = history f s in
     record {
       pushed = record { merged = r.merged; gone = reports f r.entry; merged_where = r.merged_where; gone_where = r.gone_where; next = r.next };
-      edited = ap macros_of r.outlined ∙ edited h.levels (outlines s).levels r.merged (reports f r.entry) h.limit h.position (outlines s).steps (levels-alike f s);
+      edited =
+          ap macros_of r.outlined
+          ∙ edited h.levels (outlines s).levels r.merged (reports f r.entry) h.limit h.position (outlines s).steps (levels-alike f s);
     }
 
 -- over an editor of which the active stack s was lent and left as t

@@ -56,8 +56,8 @@ pub unasked_edit : (line : Line) (m : Machine) (active : Option History) (c : Ch
 unasked_edit line m active c reply old new p e = rw e (unasked line m (planned.Reply reply) old (edit-IsOfActive (rule_of line) active c p))
 
 -- what the commit made of which steps are macros, the line has made of it
-pub push_kinds : (line : Line) (old mid new : Machine) (edit : Edit) (w : Change) (reply : Reply) (os ms ns : List Kinds) → IsEditOf (rule_of line) (active_of old) (edit_change edit)
-    → IsSame (edit_change edit) w → mid ≡ old → ms ≡ os → CommitKinds w mid reply new ms ns → StepKinds line old (Some reply) new os ns
+pub push_kinds : (line : Line) (old mid new : Machine) (edit : Edit) (w : Change) (reply : Reply) (os ms ns : List Kinds)
+    → IsEditOf (rule_of line) (active_of old) (edit_change edit) → IsSame (edit_change edit) w → mid ≡ old → ms ≡ os → CommitKinds w mid reply new ms ns → StepKinds line old (Some reply) new os ns
 push_kinds line old mid new edit w reply os ms ns edits same kept still k =
     let P : Machine → Type 0 = λ m. CommitKinds w m reply new ms ns in
     let Q : List Kinds → Type 0 = λ ks. CommitKinds w old reply new ks ns in

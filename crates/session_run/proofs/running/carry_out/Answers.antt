@@ -33,8 +33,10 @@ returns-in-None-clause-asks g c =
 pub returns-in-Some-clause-kinds : goal.returns-in-Some-clause-kinds
 returns-in-Some-clause-kinds g c =
     let change = g.C.Command.change in
-    push_kinds c.args.line.now (machine_of change c.args.editor.now) _ _ c.in-Push.edit (change c.in-Some.command) c.commit.result _ _ _ (c.in-Push.ensures.plans c.requires.sound).1
-    (c.requires.same c.in-Push.edit (Some c.in-Some.command) c.in-Some.ensures) c.in-Push.ensures.unchanged (c.in-Push.ensures.kinds c.requires.sound) c.commit.ensures.kinds
+    push_kinds c.args.line.now (machine_of change c.args.editor.now) _ _ c.in-Push.edit (change c.in-Some.command) c.commit.result _ _ _
+    (c.in-Push.ensures.plans c.requires.sound).1
+    (c.requires.same c.in-Push.edit (Some c.in-Some.command) c.in-Some.ensures)
+    c.in-Push.ensures.unchanged (c.in-Push.ensures.kinds c.requires.sound) c.commit.ensures.kinds
 
 pub returns-in-None-clause-kinds : goal.returns-in-None-clause-kinds
 returns-in-None-clause-kinds g c = c.in-Push.ensures.kinds c.requires.sound

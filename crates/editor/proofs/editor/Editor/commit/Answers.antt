@@ -73,7 +73,8 @@ returns-in-Ok-clause-kinds g c =
     let t = c.push.new.self in
     let follows = c.active_mut.follows.holds t c.push.ensures.sound in
     rw c.state_of.ensures
-    (commit_kinds change c.args.self.now _ s t c.args.command refl follows c.in-Some.ensures.whole c.in-Some.ensures.active c.in-Some.ensures.stack c.in-Ok.ensures.reported)
+    (commit_kinds change c.args.self.now _ s t c.args.command refl follows
+    c.in-Some.ensures.whole c.in-Some.ensures.active c.in-Some.ensures.stack c.in-Ok.ensures.reported)
 
 pub returns-in-Err-clause-kinds : goal.returns-in-Err-clause-kinds
 returns-in-Err-clause-kinds g c =
@@ -81,4 +82,5 @@ returns-in-Err-clause-kinds g c =
     let s = c.in-Some.stack.now in
     let t = c.push.new.self in
     let follows = c.active_mut.follows.holds t c.push.ensures.sound in
-    kept_kinds change c.args.self.now _ s t refl follows c.in-Some.ensures.whole c.in-Some.ensures.active c.in-Some.ensures.stack (ap macros_of c.in-Err.ensures.kept)
+    kept_kinds change c.args.self.now _ s t refl follows
+    c.in-Some.ensures.whole c.in-Some.ensures.active c.in-Some.ensures.stack (ap macros_of c.in-Err.ensures.kept)

@@ -83,5 +83,5 @@ returns-in-Some-clause-kinds g c = λ sound.
     let steady = active-IsSteady change c.args.self.now h sound c.in-Some.ensures.active in
     let within = position-within change s c.in-Some.ensures.held in
     let plans = steady-PlansOn c.args.line.now h (history change stack) c.on_document.result steady within c.on_document.ensures.plans in
-    plan_kinds change c.args.self.now _ s stack refl (c.active_mut.follows.holds stack c.on_document.ensures.sound) c.in-Some.ensures.whole c.in-Some.ensures.active
-    c.in-Some.ensures.stack c.args.line.now c.on_document.result plans (c.on_document.ensures.kinds steady)
+    plan_kinds change c.args.self.now _ s stack refl (c.active_mut.follows.holds stack c.on_document.ensures.sound)
+    c.in-Some.ensures.whole c.in-Some.ensures.active c.in-Some.ensures.stack c.args.line.now c.on_document.result plans (c.on_document.ensures.kinds steady)

@@ -46,4 +46,5 @@ returns-in-Some-clause-kinds g c =
     let change = g.C.Command.change in
     let stack = c.save_document.new.stack in
     let follows = c.active_mut.follows.holds stack c.save_document.ensures.sound in
-    kept_kinds change c.args.self.now _ c.in-Some.stack.now stack refl follows c.in-Some.ensures.whole c.in-Some.ensures.active c.in-Some.ensures.stack (ap macros_of c.save_document.ensures.kept)
+    kept_kinds change c.args.self.now _ c.in-Some.stack.now stack refl follows
+    c.in-Some.ensures.whole c.in-Some.ensures.active c.in-Some.ensures.stack (ap macros_of c.save_document.ensures.kept)

@@ -12,6 +12,7 @@ pub returns-clause-kinds : goal.returns-clause-kinds
 returns-clause-kinds c =
     let editor = c.args.self.now.editor in
     let P : GroupParts → Type 0 = λ g. option_map (λ stack. stack.now) c.active.result ≡ stack_at g.active (stacks_of c.group.result.now) in
-    let Q : List (NamedStack Edit) → Type 0 = λ ss. option_map (λ stack. stack.now) c.active.result ≡ stack_at (machine_of edit_change editor).group.active ss in
+    let Q : List (NamedStack Edit) → Type 0 =
+    λ ss. option_map (λ stack. stack.now) c.active.result ≡ stack_at (machine_of edit_change editor).group.active ss in
     active-macros (λ stack. stack.now) c.active.result (machine_of edit_change editor).group.active (stacks_in editor)
     (subst Q c.group.ensures.stacks (subst P c.group.ensures.group c.active.ensures.stack))
