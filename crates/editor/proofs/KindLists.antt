@@ -79,19 +79,21 @@ some-eq v w q = cc
 module _ {C : Type 0} where
   found-macros : (name : List ℕ) (ss : List (NamedStack C)) (s : Stack C) → stack_named name ss ≡ Some s → macros_named name (map kinds_of ss) ≡ macros s
   found-macros name [] s at = absurd cc
-  found-macros name (x ∷ ss) s at = by_test (bytes_eq name x.name) at
+  found-macros name (x ∷ ss) s at = by_test (bytes_eq name x.name) (found-macros name ss s) at
     where
-      by_test : (b : Bool) → (if b then Some x.stack else stack_named name ss) ≡ Some s → (if b then macros x.stack else macros_named name (map kinds_of ss)) ≡ macros s
-      by_test true e = ap macros (some-eq x.stack s e)
-      by_test false e = found-macros name ss s e
+      by_test : (b : Bool) → (stack_named name ss ≡ Some s → macros_named name (map kinds_of ss) ≡ macros s)
+          → (if b then Some x.stack else stack_named name ss) ≡ Some s → (if b then macros x.stack else macros_named name (map kinds_of ss)) ≡ macros s
+      by_test true rest e = ap macros (some-eq x.stack s e)
+      by_test false rest e = rest e
 
   no-macros : (name : List ℕ) (ss : List (NamedStack C)) → stack_named name ss ≡ None → macros_named name (map kinds_of ss) ≡ []
   no-macros name [] at = refl
-  no-macros name (x ∷ ss) at = by_test (bytes_eq name x.name) at
+  no-macros name (x ∷ ss) at = by_test (bytes_eq name x.name) (no-macros name ss) at
     where
-      by_test : (b : Bool) → (if b then Some x.stack else stack_named name ss) ≡ None → (if b then macros x.stack else macros_named name (map kinds_of ss)) ≡ []
-      by_test true e = absurd cc
-      by_test false e = no-macros name ss e
+      by_test : (b : Bool) → (stack_named name ss ≡ None → macros_named name (map kinds_of ss) ≡ [])
+          → (if b then Some x.stack else stack_named name ss) ≡ None → (if b then macros x.stack else macros_named name (map kinds_of ss)) ≡ []
+      by_test true rest e = absurd cc
+      by_test false rest e = rest e
 
   found-macros_at : (name : Option (List ℕ)) (ss : List (NamedStack C)) (s : Stack C) → stack_at name ss ≡ Some s → macros_at name (map kinds_of ss) ≡ macros s
   found-macros_at None ss s at = absurd cc
