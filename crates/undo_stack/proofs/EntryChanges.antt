@@ -1,10 +1,10 @@
--- What an entry does, how deep it is, and its outline, by its two forms.
+-- What an entry does, how deep it is, and its nesting, by its two forms.
 use Rattle.std.proofs.Common.{◌≡◌, ℕ, ◌+◌, List, [], ◌∷◌, map, Box, Global, refl, ap, sym, ◌∙◌}
 use Rattle.map_model.specs.Document.{DocumentParts}
 use Rattle.command_api.specs.Law.{Change}
 use Rattle.undo_stack.specs.Sequence.{sequence_change, before, after, FitsDown, FitsUp}
-use Rattle.undo_stack.specs.Entries.{entry_change, layer_change, greatest, nesting, layer_nesting}
-use Rattle.undo_stack.specs.Outlines.{Outline, Single, layer_outline, nested, outline}
+use Rattle.undo_stack.specs.Entries.{entry_change, layer_change, greatest, depth, layer_depth}
+use Rattle.undo_stack.specs.Nestings.{Nesting, Single, layer_nesting, nested, nesting}
 use Rattle.undo_stack.specs.declared.entry.MacroContents.{MacroContents}
 use Rattle.undo_stack.specs.declared.entry.Entry.{Entry, rec-roll-Entry, fold-roll-Entry, roll-Entry}
 use Rattle.undo_stack.specs.declared.entry.Entry.TheOpen as open_form
@@ -60,20 +60,20 @@ pub entry_change-Macro : {C : Type 0} (f : C → Change) (contents : Contents C)
     → entry_change f (Macro contents) ≡ sequence_change contents.value.text contents.value.action (entry_change f) contents.value.children.items
 entry_change-Macro f contents = ap (entry_change f) (sym (rolls-Macro contents)) ∙ entry_change-roll f (open_form.Macro contents)
 
-nesting-roll : {C : Type 0} (x : Entry-F C (Entry C)) → nesting (roll-Entry C x) ≡ layer_nesting (map-Entry C (Entry C) ℕ nesting x)
-nesting-roll {C} x = fold-roll-Entry C ℕ layer_nesting x
+depth-roll : {C : Type 0} (x : Entry-F C (Entry C)) → depth (roll-Entry C x) ≡ layer_depth (map-Entry C (Entry C) ℕ depth x)
+depth-roll {C} x = fold-roll-Entry C ℕ layer_depth x
 
-pub nesting-Command : {C : Type 0} (c : C) → nesting (Command c) ≡ 0
+pub depth-Command : {C : Type 0} (c : C) → depth (Command c) ≡ 0
+depth-Command c = ap depth (sym (rolls-Command c)) ∙ depth-roll (open_form.Command c)
+
+pub depth-Macro : {C : Type 0} (contents : Contents C) → depth (Macro contents) ≡ greatest (map depth contents.value.children.items) + 1
+depth-Macro contents = ap depth (sym (rolls-Macro contents)) ∙ depth-roll (open_form.Macro contents)
+
+nesting-roll : {C : Type 0} (x : Entry-F C (Entry C)) → nesting (roll-Entry C x) ≡ layer_nesting (map-Entry C (Entry C) Nesting nesting x)
+nesting-roll {C} x = fold-roll-Entry C Nesting layer_nesting x
+
+pub nesting-Command : {C : Type 0} (c : C) → nesting (Command c) ≡ Single
 nesting-Command c = ap nesting (sym (rolls-Command c)) ∙ nesting-roll (open_form.Command c)
 
-pub nesting-Macro : {C : Type 0} (contents : Contents C) → nesting (Macro contents) ≡ greatest (map nesting contents.value.children.items) + 1
+pub nesting-Macro : {C : Type 0} (contents : Contents C) → nesting (Macro contents) ≡ nested (map nesting contents.value.children.items)
 nesting-Macro contents = ap nesting (sym (rolls-Macro contents)) ∙ nesting-roll (open_form.Macro contents)
-
-outline-roll : {C : Type 0} (x : Entry-F C (Entry C)) → outline (roll-Entry C x) ≡ layer_outline (map-Entry C (Entry C) Outline outline x)
-outline-roll {C} x = fold-roll-Entry C Outline layer_outline x
-
-pub outline-Command : {C : Type 0} (c : C) → outline (Command c) ≡ Single
-outline-Command c = ap outline (sym (rolls-Command c)) ∙ outline-roll (open_form.Command c)
-
-pub outline-Macro : {C : Type 0} (contents : Contents C) → outline (Macro contents) ≡ nested (map outline contents.value.children.items)
-outline-Macro contents = ap outline (sym (rolls-Macro contents)) ∙ outline-roll (open_form.Macro contents)

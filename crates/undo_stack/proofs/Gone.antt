@@ -11,16 +11,16 @@ use Rattle.command_api.specs.Names.{is_free}
 use Rattle.undo_stack.specs.History.{Step, History, step_named, last_after}
 use Rattle.undo_stack.specs.Pushing.{up_to}
 use Rattle.undo_stack.specs.Calm.{is_gone, IsGone, NoneFree}
-use Rattle.undo_stack.specs.Held.{Becomes, IsHeld, IsHeldButAt, IsDroppedAt, entry_outlines, history_at}
-use Rattle.undo_stack.specs.Entries.{entry_change, nesting}
-use Rattle.undo_stack.specs.Outlines.{outline}
+use Rattle.undo_stack.specs.Held.{Becomes, IsHeld, IsHeldButAt, IsDroppedAt, entry_nestings, history_at}
+use Rattle.undo_stack.specs.Entries.{entry_change, depth}
+use Rattle.undo_stack.specs.Nestings.{nesting}
 use Rattle.undo_stack.specs.Sequence.{before, steps_down, steps_up, steps_of, FitsDown, FitsUp}
-use Rattle.undo_stack.specs.Sound.{IsTurnable, IsAtMost, sequence_nesting}
+use Rattle.undo_stack.specs.Sound.{IsTurnable, IsAtMost, sequence_depth}
 use Rattle.undo_stack.specs.Turning.{MayGo, Drops, without_step}
 use Rattle.undo_stack.specs.declared.entry.Entry.{Entry}
 use Rattle.undo_stack.specs.declared.sequence.Sequence.{Sequence}
-use Rattle.undo_stack.proofs.Outlines.{map-remove, shaped}
-use Rattle.undo_stack.proofs.Pushes.{greatest-append, at_most-up_to, sequence_nesting-take, sequence_nesting-drop}
+use Rattle.undo_stack.proofs.Nestings.{map-remove, shaped}
+use Rattle.undo_stack.proofs.Pushes.{greatest-append, at_most-up_to, sequence_depth-take, sequence_depth-drop}
 use Rattle.undo_stack.proofs.Sequences.{take-remove, drop-remove, before-append, steps_down-append, FitsDown-pop, length-down, take_last, drop_first}
 use Rattle.undo_stack.proofs.Sequences.{last_after-down}
 use Rattle.undo_stack.proofs.Turnings.{false-true}
@@ -32,11 +32,11 @@ pub where_some : {X : Type 0} {P : Type 0} (o : Option X) → OnSome o P → IsS
 where_some None h some = false-true some
 where_some (Some x) h some = h
 
-sequence_nesting-remove : {C : Type 0} (es : List (Entry C)) (j : ℕ) → sequence_nesting (remove es j) ≤ sequence_nesting es
-sequence_nesting-remove es j =
-    let first = sequence_nesting-take j es in
-    let last = sequence_nesting-drop (suc j) es in
-    rw (map-append nesting (take j es) (drop (suc j) es), greatest-append (map nesting (take j es)) (map nesting (drop (suc j) es)))
+sequence_depth-remove : {C : Type 0} (es : List (Entry C)) (j : ℕ) → sequence_depth (remove es j) ≤ sequence_depth es
+sequence_depth-remove es j =
+    let first = sequence_depth-take j es in
+    let last = sequence_depth-drop (suc j) es in
+    rw (map-append depth (take j es) (drop (suc j) es), greatest-append (map depth (take j es)) (map depth (drop (suc j) es)))
     (omega (arith, first, last))
 
 -- ---- a step s with some before it and some behind it
@@ -178,7 +178,7 @@ module _ {C : Type 0} (f : C → Change) (q : Sequence C) (v : Entry C) (j : ℕ
         rw next (All-append (Bound f) (take j es) (drop (j + 1) es) (All-take (Bound f) j es all) (All-drop (Bound f) (j + 1) es all)) in
         let short : length (remove es j) ≤ length es = omega arith in
         record {
-          sound = sound f q p (remove es j) j (up_to j q.clean) b d d (left_sound down up) short (sequence_nesting-remove es j) h.sound;
+          sound = sound f q p (remove es j) j (up_to j q.clean) b d d (left_sound down up) short (sequence_depth-remove es j) h.sound;
           live = rw b.entries h.live;
           none_free = none_free f q p (remove es j) j (up_to j q.clean) b bound h.none_free;
         }
@@ -198,8 +198,8 @@ module _ {C : Type 0} (f : C → Change) (q : Sequence C) (v : Entry C) (j : ℕ
       entry = v;
       was = at;
       left = rw (← goes)
-          (shaped (history_at f d p) (without_step j (history_at f d q)) (entry_outlines p) (remove (entry_outlines q) j)
-          (seen_left ∙ left_view n (history_at f d q) is) (ap (map outline) b.entries ∙ map-remove outline es j));
+          (shaped (history_at f d p) (without_step j (history_at f d q)) (entry_nestings p) (remove (entry_nestings q) j)
+          (seen_left ∙ left_view n (history_at f d q) is) (ap (map nesting) b.entries ∙ map-remove nesting es j));
       below = same_below;
       above = above;
     }

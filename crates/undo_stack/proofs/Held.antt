@@ -9,26 +9,26 @@ use Rattle.map_model.specs.Document.{DocumentParts}
 use Rattle.command_api.specs.Law.{Change, IsSame, IsLawful, IsRedone}
 use Rattle.command_api.specs.Names.{Names, is_free}
 use Rattle.undo_stack.specs.History.{step_named, History, current}
-use Rattle.undo_stack.specs.Pushing.{cut, limited_to, lowered, up_to, with_added, Merges, step_of, IsPushed, next_of}
+use Rattle.undo_stack.specs.Pushing.{cut, limited_to, lowered, up_to, with_added, Merges, Vanishes, step_of, IsPushed, next_of}
 use Rattle.undo_stack.specs.Sequence.{FitsDown, IsMoved, is_stale}
 use Rattle.undo_stack.specs.Calm.{is_gone, IsLive, NoneFree}
 use Rattle.undo_stack.specs.Moving.{positioned}
-use Rattle.undo_stack.specs.Entries.{entry_change, nesting, greatest}
-use Rattle.undo_stack.specs.Held.{Becomes, IsCut, history_at, outlines_at, shape_at, target_in, IsSoundAt, IsHeld, IsHeldToLast, IsHeldButAt, IsSetAt, IsUnchangedAt, IsTakenInto}
-use Rattle.undo_stack.specs.Held.{MergesInto, MergesOutlines, entry_outlines, IsSettledAt, IsDroppedAt}
+use Rattle.undo_stack.specs.Entries.{entry_change, depth, greatest}
+use Rattle.undo_stack.specs.Held.{Becomes, IsCut, history_at, nestings_at, shape_at, target_in, IsSoundAt, IsHeld, IsHeldToLast, IsHeldButAt, IsSetAt, IsUnchangedAt, IsTakenInto}
+use Rattle.undo_stack.specs.Held.{MergesInto, MergesNestings, entry_nestings, IsSettledAt, IsDroppedAt}
 use Rattle.undo_stack.specs.Merging.{MergesChange, MergesSequence, HasTarget, left_of}
-use Rattle.undo_stack.specs.Outlines.{Outlines, outline, outlines_cut, outlines_next_of}
+use Rattle.undo_stack.specs.Nestings.{Nestings, nesting, nestings_cut, nestings_next_of}
 use Rattle.undo_stack.specs.Reporting.{TakesIn, EndsIn, IsReportedAt, last_entry, left_by, reports}
-use Rattle.undo_stack.specs.Sound.{IsAtMost, IsTurnable, sequence_nesting}
+use Rattle.undo_stack.specs.Sound.{IsAtMost, IsTurnable, sequence_depth}
 use Rattle.undo_stack.specs.declared.entry.Entry.{Entry}
 use Rattle.undo_stack.specs.declared.limits.TheConstants.{MAX_DEPTH, MAX_LIMIT}
 use Rattle.undo_stack.specs.declared.sequence.Sequence.{Sequence}
 use Rattle.undo_stack.proofs.Calm.{Bound, Live, live_as, bound_as, bound_moved, at_number, live_again, live_around, live_gone, live_either, live_moved, live_stays}
 use Rattle.undo_stack.proofs.Joins.{take_below-set, merges_below, altered_moved, drop_below-set, settles_gone, settles_stays}
 use Rattle.undo_stack.proofs.Levels.{without_last-append}
-use Rattle.undo_stack.proofs.Outlines.{outlines-without_last}
+use Rattle.undo_stack.proofs.Nestings.{nestings-without_last}
 use Rattle.undo_stack.proofs.Pushes.{pushed_as, redone_step, done_sound, at_most-up_to, at_most-more, at_most-lowered, cut_view, cut_sound, added_view}
-use Rattle.undo_stack.proofs.Pushes.{added_fits, limited_view, sequence_nesting-append, sequence_nesting-drop, sequence_nesting-take}
+use Rattle.undo_stack.proofs.Pushes.{added_fits, limited_view, sequence_depth-append, sequence_depth-drop, sequence_depth-take}
 use Rattle.undo_stack.proofs.Reports.{takes_in, last_entry-below, last_entry-append}
 use Rattle.undo_stack.proofs.Sequences.{FitsDown-drop, length-steps, map-set_same}
 use Rattle.undo_stack.proofs.Targets.{merged_view, merges_closed, continues_closed, settles_done, up_to-unclean, at_most-unclean}
@@ -49,12 +49,12 @@ module _ {C : Type 0} (f : C → Change) where
     seen d = rw (b.entries, b.index, b.clean, b.limit) refl
 
     pub sound : (d e : DocumentParts) → IsTurnable f e es n mark → length es ≤ length q.entries.items
-        → sequence_nesting es ≤ sequence_nesting q.entries.items → IsSoundAt f d q → IsSoundAt f e p
+        → sequence_depth es ≤ sequence_depth q.entries.items → IsSoundAt f d q → IsSoundAt f e p
     sound d e turnable short flat h = record {
       turnable = rw (b.entries, b.index, b.clean) turnable;
       limit = rw b.limit h.limit;
       count = rw (b.entries, b.limit) (λ some. let most = h.count some in omega arith);
-      nesting = rw b.entries (let most = h.nesting in omega arith);
+      depth = rw b.entries (let most = h.depth in omega arith);
     }
 
     pub none_free : (NoneFree f q.entries.items → NoneFree f es) → (q.has_free ≡ false → NoneFree f q.entries.items) → p.has_free ≡ false
@@ -74,7 +74,7 @@ module _ {C : Type 0} (f : C → Change) where
       };
       limit = limit;
       count = rw none (λ some. omega arith);
-      nesting = rw none (omega arith);
+      depth = rw none (omega arith);
     };
     live = rw none (All-nil (Live f));
     none_free = λ _. rw none (All-nil (Bound f));
@@ -96,7 +96,7 @@ module _ {C : Type 0} (f : C → Change) where
           };
           limit = limit;
           count = rw entries count;
-          nesting = rw entries h.sound.nesting;
+          depth = rw entries h.sound.depth;
         };
         live = rw entries h.live;
         none_free = λ none. rw entries (h.none_free (sym has_free ∙ none));
@@ -124,7 +124,7 @@ module _ {C : Type 0} (f : C → Change) where
         let n = q.index in
         let within = h.sound.turnable.within in
         let long = length-take-le n es within in
-        let flat = sequence_nesting-take n es in
+        let flat = sequence_depth-take n es in
         record {
           sound = sound q p (take n es) n (up_to n q.clean) k d d (cut_sound f d q h.sound.turnable) (omega arith) flat h.sound;
           live = rw k.entries (All-take (Live f) n es h.live);
@@ -133,7 +133,7 @@ module _ {C : Type 0} (f : C → Change) where
 
   -- ---- the entry v below the index, in whose place w is now
   module _ (q : Sequence C) (v w : Entry C) (some : 0 < q.index) (within : q.index ≤ length q.entries.items)
-      (is : v ≡ get_or q.entries.items (q.index - 1) v) (deep : nesting w ≡ nesting v) where
+      (is : v ≡ get_or q.entries.items (q.index - 1) v) (deep : depth w ≡ depth v) where
     abbrev pub changed : List (Entry C)
     changed = set q.entries.items (q.index - 1) w
 
@@ -143,8 +143,8 @@ module _ {C : Type 0} (f : C → Change) where
     len : length (set q.entries.items (q.index - 1) w) ≡ length q.entries.items
     len = length-set q.entries.items (q.index - 1) w
 
-    flat : sequence_nesting (set q.entries.items (q.index - 1) w) ≡ sequence_nesting q.entries.items
-    flat = ap greatest (map-set_same nesting q.entries.items v w (q.index - 1) is deep)
+    flat : sequence_depth (set q.entries.items (q.index - 1) w) ≡ sequence_depth q.entries.items
+    flat = ap greatest (map-set_same depth q.entries.items v w (q.index - 1) is deep)
 
     changed_bound : (entry_change f w).names ≡ (entry_change f v).names → NoneFree f q.entries.items → NoneFree f changed
     changed_bound names all =
@@ -174,7 +174,7 @@ module _ {C : Type 0} (f : C → Change) where
             none_free = none_free q p changed n q.clean k (changed_bound same.names) h.none_free;
           };
           same = seen q p changed n q.clean k b ∙ moved_view f b b q changed n m;
-          nesting = rw k.entries (omega (arith, flat));
+          depth = rw k.entries (omega (arith, flat));
         }
 
     pub refused : (c : C) (d : DocumentParts) (p : Sequence C) → Becomes q changed q.index q.clean p
@@ -197,7 +197,7 @@ module _ {C : Type 0} (f : C → Change) where
         let mark = up_to n q.clean in
         let both = merges_changed {E = Unit {0}} c d (Ok true) h.sound.turnable.down m in
         let long : length ys ≡ n = length-take-le n changed (omega (arith, len)) in
-        let less = sequence_nesting-take n changed in
+        let less = sequence_depth-take n changed in
         let last = take_below-set es w n some within in
         let done = done_sound f d ys n mark long both.1.down (at_most-up_to n q.clean) in
         record {
@@ -209,7 +209,7 @@ module _ {C : Type 0} (f : C → Change) where
           };
           target = rw (k.entries, k.index, k.clean) (some, sym (length-steps (entry_change f) ys n d ∙ long), up_to-unclean n q.clean other);
           next = seen q p ys n mark k d ∙ merged_view f b q within d ys long both.1;
-          nesting = rw k.entries (omega (arith, flat));
+          depth = rw k.entries (omega (arith, flat));
         }
 
     -- what the target took in
@@ -231,9 +231,9 @@ module _ {C : Type 0} (f : C → Change) where
   merged_err c d q p (Ok b) e k = absurd (let bad : false ≡ true = e in let worse : ⊥ = cc in worse)
   merged_err c d q p (Err x) e k = k
 
-  pub merged_err_outlines : {E : Type 0} (q p : Sequence C) (r : Result Bool E) → IsErr r → entry_outlines p ≡ entry_outlines q → MergesOutlines q r p
-  merged_err_outlines q p (Ok b) e k = absurd (let bad : false ≡ true = e in let worse : ⊥ = cc in worse)
-  merged_err_outlines q p (Err x) e k = k
+  pub merged_err_nestings : {E : Type 0} (q p : Sequence C) (r : Result Bool E) → IsErr r → entry_nestings p ≡ entry_nestings q → MergesNestings q r p
+  merged_err_nestings q p (Ok b) e k = absurd (let bad : false ≡ true = e in let worse : ⊥ = cc in worse)
+  merged_err_nestings q p (Err x) e k = k
 
   -- ---- the target v, which goes or stays
   module _ (q : Sequence C) (v : Entry C) (some : 0 < q.index) (end : q.index ≡ length q.entries.items)
@@ -246,13 +246,13 @@ module _ {C : Type 0} (f : C → Change) where
     told : reports f (target_in q) ≡ (entry_change f v).obsolete
     told = ap (reports f) (last_entry-below q.entries.items v q.index some is (omega arith))
 
-    -- its outline goes with it
-    pub outlines_go : (entry_change f v).obsolete ≡ true
-        → map outline (take (q.index - 1) q.entries.items) ≡ left_of (reports f (target_in q)) (entry_outlines q)
-    outlines_go gone = rw (told, gone) (outlines-without_last q.entries.items v q.index some end is)
+    -- its nesting goes with it
+    pub nestings_go : (entry_change f v).obsolete ≡ true
+        → map nesting (take (q.index - 1) q.entries.items) ≡ left_of (reports f (target_in q)) (entry_nestings q)
+    nestings_go gone = rw (told, gone) (nestings-without_last q.entries.items v q.index some end is)
 
-    pub outlines_stay : (entry_change f v).obsolete ≡ false → entry_outlines q ≡ left_of (reports f (target_in q)) (entry_outlines q)
-    outlines_stay kept = rw (told, kept) refl
+    pub nestings_stay : (entry_change f v).obsolete ≡ false → entry_nestings q ≡ left_of (reports f (target_in q)) (entry_nestings q)
+    nestings_stay kept = rw (told, kept) refl
 
     pub stays : (d : DocumentParts) → (entry_change f v).obsolete ≡ false → IsHeldToLast f d q → IsSettledAt f d q q
     stays d kept h =
@@ -260,7 +260,7 @@ module _ {C : Type 0} (f : C → Change) where
         record {
           held = record { sound = h.sound; live = live_stays f q.entries.items v q.index some end is kept h.live; none_free = h.none_free };
           settled = rw (told, kept) (settles_done f false d q q.entries.items q.index (sym end) (sym end) s);
-          nesting = omega arith;
+          depth = omega arith;
         }
 
     pub goes : (d : DocumentParts) (p : Sequence C) → Becomes q (take (q.index - 1) q.entries.items) (q.index - 1) q.clean p
@@ -269,7 +269,7 @@ module _ {C : Type 0} (f : C → Change) where
         let es = q.entries.items in
         let j = q.index - 1 in
         let long : length (take j es) ≡ j = length-take-le j es (omega arith) in
-        let flat = sequence_nesting-take j es in
+        let flat = sequence_depth-take j es in
         let s = settles_gone (entry_change f) es v q.index d some end is law gone (fits d h) in
         let most = at_most-unclean q.index j q.clean (rw end h.sound.turnable.clean_within) has.2 (omega arith) in
         let done = done_sound f d (take j es) j q.clean long s.sequence.down most in
@@ -280,7 +280,7 @@ module _ {C : Type 0} (f : C → Change) where
             none_free = none_free q p (take j es) j q.clean k (All-take (Bound f) j es) h.none_free;
           };
           settled = rw (told, gone, seen q p (take j es) j q.clean k d) (settles_done f true d q (take j es) j (sym end) long s);
-          nesting = rw k.entries flat;
+          depth = rw k.entries flat;
         }
 
   -- ---- an entry x above the others, which are all done
@@ -295,7 +295,7 @@ module _ {C : Type 0} (f : C → Change) where
     -- the entry may be kept
     abbrev MayBeKept : Type 0
     MayBeKept =
-        (nesting x ≤ MAX_DEPTH) ×
+        (depth x ≤ MAX_DEPTH) ×
         IsLive (entry_change f x) ×
         (p.has_free ≡ false → (q.has_free ≡ false) × (is_free (entry_change f x).names.vanishing ≡ false))
 
@@ -308,14 +308,14 @@ module _ {C : Type 0} (f : C → Change) where
         let es = q.entries.items in
         let left : length (drop k all) ≡ m = omega (arith, length-drop k all, long) in
         let fits = added_fits f d q x (sym end) h.sound.turnable fit in
-        let flat = sequence_nesting-append es x in
-        let deep : sequence_nesting (drop k all) ≤ MAX_DEPTH = omega (arith, sequence_nesting-drop k all, flat, h.sound.nesting, may.0) in
+        let flat = sequence_depth-append es x in
+        let deep : sequence_depth (drop k all) ≤ MAX_DEPTH = omega (arith, sequence_depth-drop k all, flat, h.sound.depth, may.0) in
         record {
           sound = record {
             turnable = rw (a.0, a.1, a.2) (done_sound f d (drop k all) m mark left (FitsDown-drop (entry_change f) k all d fits) most);
             limit = rw limit h.sound.limit;
             count = rw (a.0, limit, left) few;
-            nesting = rw a.0 deep;
+            depth = rw a.0 deep;
           };
           live = rw a.0 (All-drop (Live f) k all (All-push (Live f) es x h.live may.1));
           none_free = λ none. rw a.0 (All-drop (Bound f) k all (All-push (Bound f) es x (h.none_free (may.2 none).0) (may.2 none).1));
@@ -352,7 +352,7 @@ module _ {C : Type 0} (f : C → Change) where
   -- ---- the entry v at a number was turned, and is w
   module _ (q p : Sequence C) (v w : Entry C) (j m : ℕ) (inside : j < length q.entries.items) (is : v ≡ get_or q.entries.items j v)
       (k : Becomes q (set q.entries.items j w) m q.clean p) (within : m ≤ length q.entries.items) (d e : DocumentParts)
-      (moved : IsMoved (entry_change f) q.entries.items q.index d (set q.entries.items j w) m e) (deep : nesting w ≡ nesting v)
+      (moved : IsMoved (entry_change f) q.entries.items q.index d (set q.entries.items j w) m e) (deep : depth w ≡ depth v)
       (names : (entry_change f w).names ≡ (entry_change f v).names)
       (same : is_free (entry_change f v).names.vanishing ≡ false → (entry_change f w).obsolete ≡ (entry_change f v).obsolete) where
     -- the entry is as obsolete as it was, where it is not free
@@ -367,7 +367,7 @@ module _ {C : Type 0} (f : C → Change) where
     turned_held h =
         let es = q.entries.items in
         let ts = set es j w in
-        let flat : sequence_nesting ts ≡ sequence_nesting es = ap greatest (map-set_same nesting es v w j is deep) in
+        let flat : sequence_depth ts ≡ sequence_depth es = ap greatest (map-set_same depth es v w j is deep) in
         let long = moved.same_length in
         let turnable = moved_sound f d e q ts m h.sound.turnable within moved in
         let bound : NoneFree f es → NoneFree f ts = λ all.
@@ -431,16 +431,18 @@ module _ {C : Type 0} (f : C → Change) where
 
     pub reported_at : (merged : Bool) (entry : Option (Entry C))
         → (merged ≡ true ↔ Merges (cut (history_at f ((f y).undone e) q)) (step_named (f y).names e)) → EndsIn merged f y e (target_in q) entry
+        → Vanishes merged (reports f entry) (cut (history_at f ((f y).undone e) q)) (step_named (f y).names e)
         → n ≡ next_of merged (reports f entry) (step_named (f y).names e) (cut (history_at f ((f y).undone e) q))
-        → (os : Outlines) → os ≡ outlines_next_of merged (reports f entry) q.limit (outlines_cut q.index (outlines_at q))
-        → IsReportedAt f x d (target_in q) (shape_at f d q) e (record { history = n; outlines = os })
-    reported_at merged entry where_merged ends next os outlined = record {
+        → (os : Nestings) → os ≡ nestings_next_of merged (reports f entry) q.limit (nestings_cut q.index (nestings_at q))
+        → IsReportedAt f x d (target_in q) (shape_at f d q) e (record { history = n; nestings = os })
+    reported_at merged entry where_merged ends where_gone next os nests = record {
       command = y;
       redone = r;
       merged = merged;
       merged_where = rw same_step (subst (λ (k : History). merged ≡ true ↔ Merges (cut k) (step_named (f y).names e)) same_base where_merged);
       entry = entry;
       ends = ends;
+      gone_where = rw same_step (subst (λ (k : History). Vanishes merged (reports f entry) (cut k) (step_named (f y).names e)) same_base where_gone);
       next = rw same_step (subst (λ (k : History). n ≡ next_of merged (reports f entry) (step_named (f y).names e) (cut k)) same_base next);
-      outlined = outlined;
+      nests = nests;
     }

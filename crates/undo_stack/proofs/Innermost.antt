@@ -15,13 +15,13 @@ use Rattle.undo_stack.specs.Pushing.{cut, step_of, with_added, without_last, las
 use Rattle.undo_stack.specs.Pushing.{Vanishes, with_innermost, next_of, IsPushed}
 use Rattle.undo_stack.specs.Sequence.{before, steps_down, FitsDown}
 use Rattle.undo_stack.specs.Macros.{Ends}
-use Rattle.undo_stack.specs.Entries.{entry_change, nesting}
+use Rattle.undo_stack.specs.Entries.{entry_change, depth}
 use Rattle.undo_stack.specs.Lending.{innermost_of, innermost, with_innermost_of, with_innermost_at}
-use Rattle.undo_stack.specs.Held.{IsHeld, history_at, outlines_at, shape_at, target_in}
-use Rattle.undo_stack.specs.Outlines.{Outlines, Shape, outlines_cut, outlines_next_of}
+use Rattle.undo_stack.specs.Held.{IsHeld, history_at, nestings_at, shape_at, target_in}
+use Rattle.undo_stack.specs.Nestings.{Nestings, Shape, nestings_cut, nestings_next_of}
 use Rattle.undo_stack.specs.Reporting.{IsReportedAt, reports}
-use Rattle.undo_stack.specs.Sound.{Inner, IsAtMost, start_of, sequence_nesting, level_nesting}
-use Rattle.undo_stack.specs.Stacks.{inner_of, inners, history, outlines, shape, AreHeld, AreReady, Holds, IsClosed, IsDone, IsReady, IsReported, target_entry, IsCalm}
+use Rattle.undo_stack.specs.Sound.{Inner, IsAtMost, start_of, sequence_depth, level_depth}
+use Rattle.undo_stack.specs.Stacks.{inner_of, inners, history, nestings, shape, AreHeld, AreReady, Holds, IsClosed, IsDone, IsReady, IsReported, target_entry, IsCalm}
 use Rattle.undo_stack.specs.Stacks.{LevelsAreLive}
 use Rattle.undo_stack.specs.declared.entry.Entry.{Entry}
 use Rattle.undo_stack.specs.declared.level.Level.{Level}
@@ -31,8 +31,8 @@ use Rattle.undo_stack.specs.declared.stack.Stack.{Stack}
 use Rattle.undo_stack.specs.declared.stack.sequences.Sequences.{Sequences}
 use Rattle.undo_stack.proofs.Joins.{length-without_last, length-led_to}
 use Rattle.undo_stack.proofs.Levels.{open_of, start_of-append, opens-append, innermost-append, innermost_of-append, AreHeld-pop, AreHeld-push}
-use Rattle.undo_stack.proofs.Levels.{AreReady-last, AreReady-pop, AreReady-push, level_nesting-append, level_nesting-closed, level_nesting-deep}
-use Rattle.undo_stack.proofs.Levels.{level_nesting-last, level_nesting-without_last}
+use Rattle.undo_stack.proofs.Levels.{AreReady-last, AreReady-pop, AreReady-push, level_depth-append, level_depth-closed, level_depth-deep}
+use Rattle.undo_stack.proofs.Levels.{level_depth-last, level_depth-without_last}
 use Rattle.undo_stack.proofs.Held.{empty_held, marked_held}
 use Rattle.undo_stack.proofs.Macros.{ended_answer, ended_view}
 use Rattle.undo_stack.proofs.Pushes.{done_view, done_with}
@@ -105,13 +105,13 @@ next-levelled true false s h (p ∷ os) o = ap (λ rest. record h { levels = res
 next-levelled false false s h [] o = refl
 next-levelled false false s h (p ∷ os) o = ap (λ rest. record h { levels = rest }) (with_innermost-append (λ ss. ss ++ s ∷ []) (p ∷ os) o)
 
--- where the outlines of the sequence q are those of p after a push, those of the stack t are those of s after it
+-- where the nestings of the sequence q are those of p after a push, those of the stack t are those of s after it
 abbrev pub NextLent : {C : Type 0} → (C → Change) → Stack C → Sequence C → Sequence C → Stack C → Type 0
-NextLent f s p q t = (merged gone : Bool) → outlines_at q ≡ outlines_next_of merged gone p.limit (outlines_cut p.index (outlines_at p))
-    → outlines t ≡ outlines_next_of merged gone s.sequences.steps.limit (outlines_cut s.sequences.steps.index (outlines s))
+NextLent f s p q t = (merged gone : Bool) → nestings_at q ≡ nestings_next_of merged gone p.limit (nestings_cut p.index (nestings_at p))
+    → nestings t ≡ nestings_next_of merged gone s.sequences.steps.limit (nestings_cut s.sequences.steps.index (nestings s))
 
-abbrev shape_with : History → Outlines → Shape
-shape_with h os = record { history = h; outlines = os }
+abbrev shape_with : History → Nestings → Shape
+shape_with h os = record { history = h; nestings = os }
 
 -- pushing the change c onto the history h gave n
 abbrev pub Pushes : Change → History → History → Type 0
@@ -180,10 +180,10 @@ module _ (h : History) (os : List Open) (o : Open) where
       } in
       rw (sym same_current) pushed
 
-  -- and reports the same, where the outlines of the whole are next where those of the part are
-  reported_whole : {C : Type 0} (f : C → Change) (x : C) (d e : DocumentParts) (v : Option (Entry C)) (n : History) (xs ys os ps : Outlines)
-      → ((merged gone : Bool) → ys ≡ outlines_next_of merged gone part.limit (outlines_cut part.position xs)
-      → ps ≡ outlines_next_of merged gone whole.limit (outlines_cut whole.position os))
+  -- and reports the same, where the nestings of the whole are next where those of the part are
+  reported_whole : {C : Type 0} (f : C → Change) (x : C) (d e : DocumentParts) (v : Option (Entry C)) (n : History) (xs ys os ps : Nestings)
+      → ((merged gone : Bool) → ys ≡ nestings_next_of merged gone part.limit (nestings_cut part.position xs)
+      → ps ≡ nestings_next_of merged gone whole.limit (nestings_cut whole.position os))
       → IsReportedAt f x d v (shape_with part xs) e (shape_with n ys) → IsReportedAt f x d v (shape_with whole os) e (shape_with (whole_with n) ps)
   reported_whole f x d e v n xs ys os ps next r =
       let s = step_of (f x) (current part) in
@@ -195,8 +195,9 @@ module _ (h : History) (os : List Open) (o : Open) where
             ((λ is. (merges-levelled s).0 (r.merged_where.0 is)), (λ m. r.merged_where.1 ((merges-levelled s).1 m)));
         entry = r.entry;
         ends = r.ends;
+        gone_where = rw (sym same_current) (vanishes-levelled r.merged (reports f r.entry) s r.gone_where);
         next = rw (sym same_current) (next_whole r.merged (reports f r.entry) s n r.next);
-        outlined = next r.merged (reports f r.entry) r.outlined;
+        nests = next r.merged (reports f r.entry) r.nests;
       }
 
 -- ---- a sequence of which all entries are done
@@ -239,7 +240,7 @@ module _ {C : Type 0} (f : C → Change) (s : Stack C) (none : s.sequences.level
   closed_held h = rw none at h.own
 
   pub closed_holds : IsHeld f s.document s.sequences.steps → Holds f s
-  closed_holds h = record { own = rw none h; levels = rw none tt; ready = rw none tt; nesting = rw none (omega arith) }
+  closed_holds h = record { own = rw none h; levels = rw none tt; ready = rw none tt; depth = rw none (omega arith) }
 
 -- what is said of the one sequence of a stack with no open level is said of the stack
 pub closed_step : {C : Type 0} (f : C → Change) (R : History → History → Type 0) (s : Stack C) (d : DocumentParts) (q : Sequence C)
@@ -291,7 +292,7 @@ marked_holds f s p entries index has_free most limit count h = record {
   own = marked_held f (start_of f (inners s) s.document) s.sequences.steps p entries index has_free most limit count h.own;
   levels = h.levels;
   ready = AreReady-as s.sequences.steps p s.sequences.levels.items entries index h.ready;
-  nesting = h.nesting;
+  depth = h.depth;
 }
 
 module _ {C : Type 0} (f : C → Change) (s t : Stack C) (document : t.document ≡ s.document) (steps : t.sequences.steps ≡ s.sequences.steps)
@@ -301,7 +302,7 @@ module _ {C : Type 0} (f : C → Change) (s t : Stack C) (document : t.document 
     own = rw (document, steps, levels) h.own;
     levels = rw (document, levels) h.levels;
     ready = rw (steps, levels) h.ready;
-    nesting = rw levels h.nesting;
+    depth = rw levels h.depth;
   }
 
   pub as_history : history f t ≡ history f s
@@ -347,21 +348,21 @@ module _ {C : Type 0} {f : C → Change} {s : Stack C} (h : Holds f s) (ms : Lis
   own_apart : IsHeld f (start_of f (map inner_of ms) (before (entry_change f) l.sequence.entries.items s.document)) s.sequences.steps
   own_apart = subst (λ (d : DocumentParts). IsHeld f d s.sequences.steps) (start_at f s.sequences.levels.items ms l s.document items) h.own
 
-  deep_apart : level_nesting (map inner_of ms ++ inner_of l ∷ []) ≤ MAX_DEPTH
+  deep_apart : level_depth (map inner_of ms ++ inner_of l ∷ []) ≤ MAX_DEPTH
   deep_apart =
-      let all = subst (λ (ls : List (Level C)). level_nesting (map inner_of ls) ≤ MAX_DEPTH) items h.nesting in
+      let all = subst (λ (ls : List (Level C)). level_depth (map inner_of ls) ≤ MAX_DEPTH) items h.depth in
       rw (map-append inner_of ms (l ∷ [])) at all
 
 -- a stack holds, if its levels do, of which the last one is l
 module _ {C : Type 0} (f : C → Change) (t : Stack C) (ms : List (Level C)) (l : Level C) (items : t.sequences.levels.items ≡ ms ++ l ∷ []) where
   holds_with : IsHeld f (start_of f (map inner_of ms) (before (entry_change f) l.sequence.entries.items t.document)) t.sequences.steps
       → AreHeld f ms (before (entry_change f) l.sequence.entries.items t.document) → IsHeld f t.document l.sequence → IsDone l.sequence
-      → AreReady t.sequences.steps (ms ++ l ∷ []) → level_nesting (map inner_of ms ++ inner_of l ∷ []) ≤ MAX_DEPTH → Holds f t
+      → AreReady t.sequences.steps (ms ++ l ∷ []) → level_depth (map inner_of ms ++ inner_of l ∷ []) ≤ MAX_DEPTH → Holds f t
   holds_with own around held done ready deep = record {
     own = subst (λ (d : DocumentParts). IsHeld f d t.sequences.steps) (sym (start_at f t.sequences.levels.items ms l t.document items)) own;
     levels = subst (λ (ls : List (Level C)). AreHeld f ls t.document) (sym items) (AreHeld-push f ms l t.document around held done);
     ready = subst (AreReady t.sequences.steps) (sym items) ready;
-    nesting = subst (λ (ls : List (Level C)). level_nesting (map inner_of ls) ≤ MAX_DEPTH) (sym items) (rw (map-append inner_of ms (l ∷ [])) deep);
+    depth = subst (λ (ls : List (Level C)). level_depth (map inner_of ls) ≤ MAX_DEPTH) (sym items) (rw (map-append inner_of ms (l ∷ [])) deep);
   }
 
 -- ---- a stack s that holds, of which v is the last level
@@ -440,7 +441,7 @@ module _ {C : Type 0} {f : C → Change} {s : Stack C} (h : Holds f s) {v : Leve
       landed_view : history f t ≡ outer_with (record inner { steps = ss })
       landed_view = new_view base ∙ ap (λ (k : History). outer_with (record inner { steps = k.steps })) both
 
-      landed_holds : IsHeld f d q → level_nesting (map inner_of ms ++ inner_of w ∷ []) ≤ MAX_DEPTH → Holds f t
+      landed_holds : IsHeld f d q → level_depth (map inner_of ms ++ inner_of w ∷ []) ≤ MAX_DEPTH → Holds f t
       landed_holds held deep =
           let start : DocumentParts → Type 0 = λ b. IsHeld f (start_of f (map inner_of ms) b) s.sequences.steps in
           let ready = AreReady-last s.sequences.steps ms v w (subst (AreReady s.sequences.steps) old_items h.ready) in
@@ -450,9 +451,9 @@ module _ {C : Type 0} {f : C → Change} {s : Stack C} (h : Holds f s) {v : Leve
           held done ready deep
 
     -- it is no deeper than it was
-    module _ (held : IsHeld f d q) (less : sequence_nesting q.entries.items ≤ sequence_nesting v.sequence.entries.items) where
-      deep_last : level_nesting (map inner_of ms ++ inner_of w ∷ []) ≤ MAX_DEPTH
-      deep_last = omega (arith, level_nesting-last (map inner_of ms) (inner_of v) (inner_of w) less, deep_apart h ms v old_items)
+    module _ (held : IsHeld f d q) (less : sequence_depth q.entries.items ≤ sequence_depth v.sequence.entries.items) where
+      deep_last : level_depth (map inner_of ms ++ inner_of w ∷ []) ≤ MAX_DEPTH
+      deep_last = omega (arith, level_depth-last (map inner_of ms) (inner_of v) (inner_of w) less, deep_apart h ms v old_items)
 
       -- where it holds the same, so does the stack
       same_inside : history_at f d q ≡ history_at f s.document v.sequence → Holds f t × (history f t ≡ history f s)
@@ -483,16 +484,16 @@ module _ {C : Type 0} {f : C → Change} {s : Stack C} (h : Holds f s) {v : Leve
             → IsReported f x s t
         reported_inside next r =
             let e = target_in v.sequence in
-            let xs = outlines_at v.sequence in
-            let ys = outlines_at q in
-            let os = outlines s in
-            let ps = outlines t in
+            let xs = nestings_at v.sequence in
+            let ys = nestings_at q in
+            let os = nestings s in
+            let ps = nestings t in
             let part = subst (λ (k : History). IsReportedAt f x s.document e (shape_with k xs) d (shape_with n ys)) level_row r in
             let new = outer_with (record inner { steps = n.steps }) in
             let position : v.sequence.index ≡ length inner.steps = ap (λ (k : History). k.position) level_row in
             let limit : v.sequence.limit ≡ 0 = ap (λ (k : History). k.limit) level_row in
-            let up : (merged gone : Bool) → ys ≡ outlines_next_of merged gone 0 (outlines_cut (length inner.steps) xs)
-            → ps ≡ outlines_next_of merged gone outer.limit (outlines_cut outer.position os) =
+            let up : (merged gone : Bool) → ys ≡ nestings_next_of merged gone 0 (nestings_cut (length inner.steps) xs)
+            → ps ≡ nestings_next_of merged gone outer.limit (nestings_cut outer.position os) =
             λ merged gone is. next merged gone (rw (position, limit) is) in
             subst (λ (k : History). IsReportedAt f x s.document (target_entry s) (shape_with k os) d (shape f t)) (sym old_view)
             (subst (λ (k : History). IsReportedAt f x s.document (target_entry s) (shape_with (outer_with inner) os) d (shape_with k ps)) (sym (landed_view n.steps lands))
@@ -510,7 +511,7 @@ module _ {C : Type 0} {f : C → Change} {s : Stack C} (h : Holds f s) {v : Leve
           ∙ sym (next-levelled false false st outer outer.levels inner)
           ∙ sym (ap (λ (k : History). with_added st k.levels k) old_view)
 
-      added_holds : IsHeld f d q → level_nesting (map inner_of ms ++ inner_of w ∷ []) ≤ MAX_DEPTH → Holds f t
+      added_holds : IsHeld f d q → level_depth (map inner_of ms ++ inner_of w ∷ []) ≤ MAX_DEPTH → Holds f t
       added_holds held deep = landed_holds (inner.steps ++ st ∷ []) added_lands held deep
 
 -- ---- the innermost sequence is q now, wherever it stands
@@ -555,7 +556,7 @@ module _ {C : Type 0} {f : C → Change} {s : Stack C} (h : Holds f s) where
       (λ v at last. new_innermost h last s.document q)
 
   module _ (d : DocumentParts) (q : Sequence C) (held : IsHeld f d q)
-      (less : sequence_nesting q.entries.items ≤ sequence_nesting (innermost s.sequences).entries.items) where
+      (less : sequence_depth q.entries.items ≤ sequence_depth (innermost s.sequences).entries.items) where
     -- the stack with q where the innermost sequence stands: as its own one, or in the last level
     abbrev own : Stack C
     own = record s { document = d; sequences = record s.sequences { steps = q } }
@@ -629,11 +630,11 @@ opened_holds {C} {f} {s} h l levels items none done few ready =
     let same : s.document ≡ b = sym (ap (λ (es : List (Entry C)). before (entry_change f) es s.document) none) in
     let held = empty_held f s.document l.sequence none (done.index ∙ ap length none) (rw done.clean tt) (rw done.limit (omega arith)) in
     let count = length-map ms inner_of in
-    let flat : sequence_nesting (inner_of l).sequence ≡ 0 = ap sequence_nesting none in
+    let flat : sequence_depth (inner_of l).sequence ≡ 0 = ap sequence_depth none in
     holds_with f (record s { sequences = record s.sequences { levels = levels } }) ms l items
     (subst (λ (d : DocumentParts). IsHeld f (start_of f (map inner_of ms) d) s.sequences.steps) same h.own)
     (subst (AreHeld f ms) same h.levels) held done (AreReady-push s.sequences.steps ms l h.ready ready)
-    (level_nesting-append (inners s) (inner_of l) MAX_DEPTH h.nesting (omega arith))
+    (level_depth-append (inners s) (inner_of l) MAX_DEPTH h.depth (omega arith))
 
 -- the stack without its last level, before the document of that
 abbrev pub popped : {C : Type 0} → (C → Change) → Stack C → Level C → Vec (Level C) Global → Stack C
@@ -652,12 +653,12 @@ module _ {C : Type 0} {f : C → Change} {s : Stack C} {l : Level C} {levels : V
   -- what is left holds, and has room for x
   pub popped_holds : Holds f (popped f s l levels)
   popped_holds =
-      let less = level_nesting-without_last (map inner_of levels.items) (inner_of l) in
+      let less = level_depth-without_last (map inner_of levels.items) (inner_of l) in
       record {
         own = own_apart e.holds levels.items l e.items;
         levels = (levels_apart e.holds levels.items l e.items).0;
         ready = (ready_apart e.holds levels.items l e.items).0;
-        nesting = omega (arith, less, deep_apart e.holds levels.items l e.items);
+        depth = omega (arith, less, deep_apart e.holds levels.items l e.items);
       }
 
   pub popped_ready : IsReady (innermost (popped f s l levels).sequences)
@@ -668,23 +669,23 @@ module _ {C : Type 0} {f : C → Change} {s : Stack C} {l : Level C} {levels : V
       let apart = levels_apart e.holds levels.items l e.items in
       e.closed.fits s.document (done_fits f s.document l.sequence apart.2 apart.1)
 
-  pub closing_nesting : nesting x ≤ MAX_DEPTH
-  closing_nesting =
-      let deep = level_nesting-deep (map inner_of levels.items) (inner_of l) in
+  pub closing_depth : depth x ≤ MAX_DEPTH
+  closing_depth =
+      let deep = level_depth-deep (map inner_of levels.items) (inner_of l) in
       omega (arith, e.closed.deep, deep_apart e.holds levels.items l e.items, deep)
 
   -- x goes into the level around it
   closing_deep : (v : Level C) (at : ℕ) (q : Sequence C) → IsLastOf levels.items v at
-      → sequence_nesting q.entries.items ≤ max (sequence_nesting v.sequence.entries.items) (nesting x)
-      → level_nesting (map inner_of (take at levels.items) ++ inner_of (record v { sequence = q }) ∷ []) ≤ MAX_DEPTH
+      → sequence_depth q.entries.items ≤ max (sequence_depth v.sequence.entries.items) (depth x)
+      → level_depth (map inner_of (take at levels.items) ++ inner_of (record v { sequence = q }) ∷ []) ≤ MAX_DEPTH
   closing_deep v at q last less =
       let ms = take at levels.items in
       let deep = deep_apart e.holds levels.items l e.items in
       let around : map inner_of levels.items ≡ map inner_of ms ++ inner_of v ∷ [] =
       ap (map inner_of) (last_items levels.items v at last) ∙ map-append inner_of ms (v ∷ []) in
-      let whole = subst (λ (ls : List (Inner C)). level_nesting (ls ++ inner_of l ∷ []) ≤ MAX_DEPTH) around deep in
+      let whole = subst (λ (ls : List (Inner C)). level_depth (ls ++ inner_of l ∷ []) ≤ MAX_DEPTH) around deep in
       let same = e.closed.deep in
-      let most = level_nesting-closed (map inner_of ms) (inner_of v) (inner_of l) (inner_of (record v { sequence = q })) (omega arith) in
+      let most = level_depth-closed (map inner_of ms) (inner_of v) (inner_of l) (inner_of (record v { sequence = q })) (omega arith) in
       omega arith
 
   -- the history that the end of the level leads to
@@ -703,7 +704,7 @@ module _ {C : Type 0} {f : C → Change} {s : Stack C} {l : Level C} {levels : V
 
   -- the innermost sequence takes x in, and is q then
   pub ended_led : (q : Sequence C)
-      → sequence_nesting q.entries.items ≤ max (sequence_nesting (innermost (popped f s l levels).sequences).entries.items) (nesting x)
+      → sequence_depth q.entries.items ≤ max (sequence_depth (innermost (popped f s l levels).sequences).entries.items) (depth x)
       → ((entry_change f x).fits_undo s.document
       → IsHeld f ((entry_change f x).undone s.document) (innermost (popped f s l levels).sequences) → IsHeld f s.document q)
       → history_at f s.document q

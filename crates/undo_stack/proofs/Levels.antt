@@ -7,7 +7,7 @@ use Rattle.undo_stack.specs.History.{Open, innermost}
 use Rattle.undo_stack.specs.Pushing.{without_last}
 use Rattle.undo_stack.specs.Sequence.{before, steps_down}
 use Rattle.undo_stack.specs.Entries.{entry_change}
-use Rattle.undo_stack.specs.Sound.{Inner, start_of, opens, sequence_nesting, level_nesting}
+use Rattle.undo_stack.specs.Sound.{Inner, start_of, opens, sequence_depth, level_depth}
 use Rattle.undo_stack.specs.Stacks.{inner_of, AreHeld, AreReady, IsDone, IsReady}
 use Rattle.undo_stack.specs.Lending.{innermost_of}
 use Rattle.undo_stack.specs.Held.{IsHeld}
@@ -28,33 +28,33 @@ pub opens-append : {C : Type 0} (f : C → Change) (ls : List (Inner C)) (l : In
 opens-append f [] l d = refl
 opens-append f (m ∷ ls) l d = rw (start_of-append f ls l d, opens-append f ls l d) refl
 
-pub level_nesting-append : {C : Type 0} (ls : List (Inner C)) (l : Inner C) (n : ℕ) → level_nesting ls ≤ n → length ls + sequence_nesting l.sequence + 1 ≤ n
-    → level_nesting (ls ++ l ∷ []) ≤ n
-level_nesting-append [] l n h g = omega arith
-level_nesting-append (m ∷ ls) l n h g =
-    let below : level_nesting ls ≤ n - 1 = omega arith in
-    let rest = level_nesting-append ls l (n - 1) below (omega arith) in
+pub level_depth-append : {C : Type 0} (ls : List (Inner C)) (l : Inner C) (n : ℕ) → level_depth ls ≤ n → length ls + sequence_depth l.sequence + 1 ≤ n
+    → level_depth (ls ++ l ∷ []) ≤ n
+level_depth-append [] l n h g = omega arith
+level_depth-append (m ∷ ls) l n h g =
+    let below : level_depth ls ≤ n - 1 = omega arith in
+    let rest = level_depth-append ls l (n - 1) below (omega arith) in
     omega arith
 
-pub level_nesting-without_last : {C : Type 0} (ls : List (Inner C)) (l : Inner C) → level_nesting ls ≤ level_nesting (ls ++ l ∷ [])
-level_nesting-without_last [] l = omega arith
-level_nesting-without_last (m ∷ ls) l = let rest = level_nesting-without_last ls l in omega arith
+pub level_depth-without_last : {C : Type 0} (ls : List (Inner C)) (l : Inner C) → level_depth ls ≤ level_depth (ls ++ l ∷ [])
+level_depth-without_last [] l = omega arith
+level_depth-without_last (m ∷ ls) l = let rest = level_depth-without_last ls l in omega arith
 
-pub level_nesting-last : {C : Type 0} (ls : List (Inner C)) (l m : Inner C) → sequence_nesting m.sequence ≤ sequence_nesting l.sequence
-    → level_nesting (ls ++ m ∷ []) ≤ level_nesting (ls ++ l ∷ [])
-level_nesting-last [] l m h = omega arith
-level_nesting-last (k ∷ ls) l m h = let rest = level_nesting-last ls l m h in omega arith
+pub level_depth-last : {C : Type 0} (ls : List (Inner C)) (l m : Inner C) → sequence_depth m.sequence ≤ sequence_depth l.sequence
+    → level_depth (ls ++ m ∷ []) ≤ level_depth (ls ++ l ∷ [])
+level_depth-last [] l m h = omega arith
+level_depth-last (k ∷ ls) l m h = let rest = level_depth-last ls l m h in omega arith
 
 -- an entry that is one deeper than the last level was put into the one around it
-pub level_nesting-closed : {C : Type 0} (ls : List (Inner C)) (v l m : Inner C)
-    → sequence_nesting m.sequence ≤ max (sequence_nesting v.sequence) (sequence_nesting l.sequence + 1)
-    → level_nesting (ls ++ m ∷ []) ≤ level_nesting ((ls ++ v ∷ []) ++ l ∷ [])
-level_nesting-closed [] v l m h = omega arith
-level_nesting-closed (k ∷ ls) v l m h = let rest = level_nesting-closed ls v l m h in omega arith
+pub level_depth-closed : {C : Type 0} (ls : List (Inner C)) (v l m : Inner C)
+    → sequence_depth m.sequence ≤ max (sequence_depth v.sequence) (sequence_depth l.sequence + 1)
+    → level_depth (ls ++ m ∷ []) ≤ level_depth ((ls ++ v ∷ []) ++ l ∷ [])
+level_depth-closed [] v l m h = omega arith
+level_depth-closed (k ∷ ls) v l m h = let rest = level_depth-closed ls v l m h in omega arith
 
-pub level_nesting-deep : {C : Type 0} (ls : List (Inner C)) (l : Inner C) → sequence_nesting l.sequence + 1 ≤ level_nesting (ls ++ l ∷ [])
-level_nesting-deep [] l = omega arith
-level_nesting-deep (m ∷ ls) l = let rest = level_nesting-deep ls l in omega arith
+pub level_depth-deep : {C : Type 0} (ls : List (Inner C)) (l : Inner C) → sequence_depth l.sequence + 1 ≤ level_depth (ls ++ l ∷ [])
+level_depth-deep [] l = omega arith
+level_depth-deep (m ∷ ls) l = let rest = level_depth-deep ls l in omega arith
 
 -- levels that are held, and ready for those in them
 pub AreHeld-pop : {C : Type 0} (f : C → Change) (ms : List (Level C)) (v : Level C) (d : DocumentParts) → AreHeld f (ms ++ v ∷ []) d

@@ -8,7 +8,7 @@ pub mod Views
 pub mod Texts
 mod Actions
 pub mod Pushes
-pub mod Outlines
+pub mod Nestings
 mod Reported
 mod Lent
 pub mod Levels

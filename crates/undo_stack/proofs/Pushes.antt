@@ -10,9 +10,9 @@ use Rattle.undo_stack.specs.History.{Step, step_named, History, last_after, curr
 use Rattle.undo_stack.specs.Pushing.{step_of, up_to, lowered, limited_to, with_added, dropped, cut, Merges, IsPushed}
 use Rattle.undo_stack.specs.Sequence.{before, steps_down, FitsDown}
 use Rattle.undo_stack.specs.Merging.{IsEntered}
-use Rattle.undo_stack.specs.Entries.{entry_change, nesting, greatest}
+use Rattle.undo_stack.specs.Entries.{entry_change, depth, greatest}
 use Rattle.undo_stack.specs.Held.{history_at}
-use Rattle.undo_stack.specs.Sound.{IsTurnable, IsAtMost, sequence_nesting}
+use Rattle.undo_stack.specs.Sound.{IsTurnable, IsAtMost, sequence_depth}
 use Rattle.undo_stack.specs.declared.entry.Entry.{Entry}
 use Rattle.undo_stack.specs.declared.sequence.Sequence.{Sequence}
 use Rattle.undo_stack.proofs.Sequences.{before-append, steps_down-append, FitsDown-push, last_after-down, length-down, take-steps, last_after-take}
@@ -61,23 +61,23 @@ pub at_most-lowered : (k : ℕ) (clean : Option ℕ) (n : ℕ) → IsAtMost clea
 at_most-lowered k None n h = tt
 at_most-lowered k (Some m) n h = at_most_lowered_if (leb k m) k n m h
 
--- the nesting of some of the entries, and of more
+-- the depth of some of the entries, and of more
 pub greatest-append : (ns ms : List ℕ) → greatest (ns ++ ms) ≡ max (greatest ns) (greatest ms)
 greatest-append [] ms = omega arith
 greatest-append (n ∷ ns) ms = let h = greatest-append ns ms in omega arith
 
-pub sequence_nesting-append : {C : Type 0} (es : List (Entry C)) (x : Entry C) → sequence_nesting (es ++ x ∷ []) ≡ max (sequence_nesting es) (nesting x)
-sequence_nesting-append es x = let h = greatest-append (map nesting es) (nesting x ∷ []) in rw (map-append nesting es (x ∷ [])) (omega arith)
+pub sequence_depth-append : {C : Type 0} (es : List (Entry C)) (x : Entry C) → sequence_depth (es ++ x ∷ []) ≡ max (sequence_depth es) (depth x)
+sequence_depth-append es x = let h = greatest-append (map depth es) (depth x ∷ []) in rw (map-append depth es (x ∷ [])) (omega arith)
 
-pub sequence_nesting-take : {C : Type 0} (k : ℕ) (es : List (Entry C)) → sequence_nesting (take k es) ≤ sequence_nesting es
-sequence_nesting-take zero es = omega arith
-sequence_nesting-take (suc k) [] = omega arith
-sequence_nesting-take (suc k) (x ∷ es) = let h = sequence_nesting-take k es in omega arith
+pub sequence_depth-take : {C : Type 0} (k : ℕ) (es : List (Entry C)) → sequence_depth (take k es) ≤ sequence_depth es
+sequence_depth-take zero es = omega arith
+sequence_depth-take (suc k) [] = omega arith
+sequence_depth-take (suc k) (x ∷ es) = let h = sequence_depth-take k es in omega arith
 
-pub sequence_nesting-drop : {C : Type 0} (k : ℕ) (es : List (Entry C)) → sequence_nesting (drop k es) ≤ sequence_nesting es
-sequence_nesting-drop zero es = omega arith
-sequence_nesting-drop (suc k) [] = omega arith
-sequence_nesting-drop (suc k) (x ∷ es) = let h = sequence_nesting-drop k es in omega arith
+pub sequence_depth-drop : {C : Type 0} (k : ℕ) (es : List (Entry C)) → sequence_depth (drop k es) ≤ sequence_depth es
+sequence_depth-drop zero es = omega arith
+sequence_depth-drop (suc k) [] = omega arith
+sequence_depth-drop (suc k) (x ∷ es) = let h = sequence_depth-drop k es in omega arith
 
 -- ---- entries that are all done
 -- the history of the sequence q at the document d, but with these entries, which are all done, this index and this clean index

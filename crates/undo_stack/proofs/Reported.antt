@@ -9,14 +9,14 @@ use Rattle.command_api.specs.Law.{Change, IsRedone, IsUndone}
 use Rattle.command_api.specs.Names.{Names, is_free}
 use Rattle.undo_stack.specs.Calm.{NoneFree, is_gone}
 use Rattle.undo_stack.specs.Entries.{entry_change}
-use Rattle.undo_stack.specs.Held.{IsDroppedAt, IsSetAt, RedoesNext, StepsDown, StepsUp, UndoesLast, entry_outlines, history_at, shape_at}
+use Rattle.undo_stack.specs.Held.{IsDroppedAt, IsSetAt, RedoesNext, StepsDown, StepsUp, UndoesLast, entry_nestings, history_at, shape_at}
 use Rattle.undo_stack.specs.Moving.{positioned}
-use Rattle.undo_stack.specs.Outlines.{Shape, outline, shape_positioned}
+use Rattle.undo_stack.specs.Nestings.{Shape, nesting, shape_positioned}
 use Rattle.undo_stack.specs.Reporting.{AreRedone, AreTurned, AreUndone, GoesBy, IsRedoneIn, IsUndoneIn, left_by}
 use Rattle.undo_stack.specs.declared.entry.Entry.{Entry}
 use Rattle.undo_stack.specs.declared.sequence.Sequence.{Sequence}
 use Rattle.undo_stack.proofs.Calm.{Bound, at_number}
-use Rattle.undo_stack.proofs.Outlines.{shaped}
+use Rattle.undo_stack.proofs.Nestings.{shaped}
 use Rattle.undo_stack.proofs.Sequences.{drop_first, drop_past, map-set_same, take_last}
 
 -- as many as there are
@@ -63,15 +63,15 @@ module _ {C : Type 0} (f : C → Change) where
       let here : w ≡ get_or ts at w = sym (get_or-set_same q.entries.items at w w inside) in
       ap (λ (n : Names). is_free n.vanishing) (sym names) ∙ at_number f (Bound f) ts w at long here (rw put.entries at none)
 
-  -- the outlines of a sequence in which an entry was put in the place of another one
-  outlines_put : (at : ℕ) (v w : Entry C) (q m : Sequence C) → IsSetAt at v w q m → entry_outlines m ≡ entry_outlines q
-  outlines_put at v w q m put = ap (map outline) put.entries ∙ map-set_same outline q.entries.items v w at put.was put.outlined
+  -- the nestings of a sequence in which an entry was put in the place of another one
+  nestings_put : (at : ℕ) (v w : Entry C) (q m : Sequence C) → IsSetAt at v w q m → entry_nestings m ≡ entry_nestings q
+  nestings_put at v w q m put = ap (map nesting) put.entries ∙ map-set_same nesting q.entries.items v w at put.was put.nests
 
   -- the shape of a sequence in which an entry was turned, by its history
   shape_put : (d e : DocumentParts) (at i : ℕ) (v w : Entry C) (q m : Sequence C) → IsSetAt at v w q m
       → history_at f e m ≡ positioned i (history_at f d q) → shape_at f e m ≡ shape_positioned i (shape_at f d q)
   shape_put d e at i v w q m put seen =
-      shaped (history_at f e m) (positioned i (history_at f d q)) (entry_outlines m) (entry_outlines q) seen (outlines_put at v w q m put)
+      shaped (history_at f e m) (positioned i (history_at f d q)) (entry_nestings m) (entry_nestings q) seen (nestings_put at v w q m put)
 
   -- the entry below the index was undone, and its step stays, since it is not free
   pub down_kept : (d e : DocumentParts) (q m : Sequence C) (u : UndoesLast f d q e m)

@@ -5,7 +5,7 @@ use Rattle.map_model.specs.Document.{DocumentParts}
 use Rattle.command_api.specs.Law.{Change}
 use Rattle.undo_stack.specs.History.{Step, History, last_after}
 use Rattle.undo_stack.specs.Pushing.{cut, without_last, last_step, led_to, up_to, target, before_target, vanishing_of, Continues, Merges, with_target_at}
-use Rattle.undo_stack.specs.Pushing.{next_of, IsPushed}
+use Rattle.undo_stack.specs.Pushing.{Vanishes, next_of, IsPushed}
 use Rattle.undo_stack.specs.Sequence.{before, steps_down}
 use Rattle.undo_stack.specs.Entries.{entry_change}
 use Rattle.undo_stack.specs.Held.{history_at}
@@ -44,6 +44,14 @@ pushed_merged gone h s m n merges is t =
       gone_where = rw (vanishing, start) at t.gone_where;
       next = merged_next gone h s m n is t;
     }
+
+pub merged_gone : (gone : Bool) (h : History) (s : Step) (m n : History) → m ≡ with_target_at s.after [] (cut (closed h)) → SettlesTarget s.after gone m n
+    → Vanishes true gone (cut (closed h)) s
+merged_gone gone h s m n is t =
+    let ss = take h.position h.steps in
+    let vanishing = ap (λ (x : History). vanishing_of (target x)) is ∙ vanishing_of-led_to s.after ss in
+    let start = ap before_target is ∙ ap (last_after h.base) (without_last-led_to s.after ss) in
+    rw (vanishing, start) at t.gone_where
 
 -- a clean position that is not here is not here either once those past it are lost
 up_to_if : (b : Bool) (k n : ℕ) → (Some k ≡ Some n → ⊥) → (if b then Some k else None) ≡ Some n → ⊥

@@ -1,7 +1,7 @@
 -- What an entry does, and how deep macros stand in one another.
 use Rattle.std.specs.Prelude.{ℕ, ◌+◌, max, Bool, List, [], ◌∷◌}
 use Rattle.command_api.specs.Law.{Change}
-use Rattle.undo_stack.specs.Outlines.{is_nested, outline}
+use Rattle.undo_stack.specs.Nestings.{is_nested, nesting}
 use Rattle.undo_stack.specs.Sequence.{sequence_change}
 use Rattle.undo_stack.specs.declared.entry.Entry.{Entry, rec-Entry, fold-Entry}
 use Rattle.undo_stack.specs.declared.entry.Entry.TheOpen.{Entry-F, Command, Macro}
@@ -20,15 +20,15 @@ abbrev pub greatest : List ℕ → ℕ
 greatest [] = 0
 greatest (n ∷ ns) = max n (greatest ns)
 
--- one layer of an entry whose entries have these nestings
-abbrev pub layer_nesting : {C : Type 0} → Entry-F C ℕ → ℕ
-layer_nesting (Command c) = 0
-layer_nesting (Macro contents) = greatest contents.value.children.items + 1
+-- one layer of an entry whose entries have these depths
+abbrev pub layer_depth : {C : Type 0} → Entry-F C ℕ → ℕ
+layer_depth (Command c) = 0
+layer_depth (Macro contents) = greatest contents.value.children.items + 1
 
 -- how many macros stand in one another in an entry
-abbrev pub nesting : {C : Type 0} → Entry C → ℕ
-nesting {C} = fold-Entry C ℕ layer_nesting
+abbrev pub depth : {C : Type 0} → Entry C → ℕ
+depth {C} = fold-Entry C ℕ layer_depth
 
 -- whether an entry is a macro
 abbrev pub is_macro : {C : Type 0} → Entry C → Bool
-is_macro e = is_nested (outline e)
+is_macro e = is_nested (nesting e)

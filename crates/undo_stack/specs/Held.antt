@@ -10,9 +10,9 @@ use Rattle.undo_stack.specs.Pushing.{cut, up_to, without_last, Merges, with_targ
 use Rattle.undo_stack.specs.Calm.{AreLive, IsLive, NoneFree, is_gone}
 use Rattle.undo_stack.specs.Entries.{entry_change}
 use Rattle.undo_stack.specs.Merging.{HasTarget, SettlesTarget}
-use Rattle.undo_stack.specs.Outlines.{Outline, Outlines, Shape, outline}
+use Rattle.undo_stack.specs.Nestings.{Nesting, Nestings, Shape, nesting}
 use Rattle.undo_stack.specs.Reporting.{IsRedoneIn, IsUndoneIn, last_entry, left_by, reports}
-use Rattle.undo_stack.specs.Sound.{history_of, IsTurnable, sequence_nesting}
+use Rattle.undo_stack.specs.Sound.{history_of, IsTurnable, sequence_depth}
 use Rattle.undo_stack.specs.Turning.{Drops}
 use Rattle.undo_stack.specs.declared.entry.Entry.{Entry}
 use Rattle.undo_stack.specs.declared.limits.TheConstants.{MAX_DEPTH, MAX_LIMIT}
@@ -34,15 +34,15 @@ IsCut q p = Becomes q (take q.index q.entries.items) q.index (up_to q.index q.cl
 abbrev pub history_at : {C : Type 0} → (C → Change) → DocumentParts → Sequence C → History
 history_at f d q = history_of f d q.entries.items q.index q.clean q.limit []
 
--- the outlines of its entries, and these as the outlines of a history with no open level
-abbrev pub entry_outlines : {C : Type 0} → Sequence C → List Outline
-entry_outlines q = map outline q.entries.items
+-- the nestings of its entries, and these as the nestings of a history with no open level
+abbrev pub entry_nestings : {C : Type 0} → Sequence C → List Nesting
+entry_nestings q = map nesting q.entries.items
 
-abbrev pub outlines_at : {C : Type 0} → Sequence C → Outlines
-outlines_at q = record { steps = map outline q.entries.items; levels = [] }
+abbrev pub nestings_at : {C : Type 0} → Sequence C → Nestings
+nestings_at q = record { steps = map nesting q.entries.items; levels = [] }
 
 abbrev pub shape_at : {C : Type 0} → (C → Change) → DocumentParts → Sequence C → Shape
-shape_at f d q = record { history = history_at f d q; outlines = outlines_at q }
+shape_at f d q = record { history = history_at f d q; nestings = nestings_at q }
 
 -- the entry that is the target once the entries above the index are gone
 abbrev pub target_in : {C : Type 0} → Sequence C → Option (Entry C)
@@ -53,7 +53,7 @@ pub record IsSoundAt {C : Type 0} (f : C → Change) (d : DocumentParts) (q : Se
   pub turnable : IsTurnable f d q.entries.items q.index q.clean
   pub limit : q.limit ≤ MAX_LIMIT
   pub count : 0 < q.limit → length q.entries.items ≤ q.limit
-  pub nesting : sequence_nesting q.entries.items ≤ MAX_DEPTH
+  pub depth : sequence_depth q.entries.items ≤ MAX_DEPTH
 
 -- so is the sequence, and where has_free is false, it has no free command
 pub record IsHeldBut {C : Type 0} (f : C → Change) (d : DocumentParts) (es : List (Entry C)) (q : Sequence C) : Type 0 where
@@ -73,7 +73,7 @@ IsHeldToLast f d q = IsHeldBut f d (without_last q.entries.items) q
 pub record IsUnchangedAt {C : Type 0} (f : C → Change) (b : DocumentParts) (q p : Sequence C) : Type 0 where
   pub held : IsHeld f b p
   pub same : history_at f b p ≡ history_at f b q
-  pub nesting : sequence_nesting p.entries.items ≤ sequence_nesting q.entries.items
+  pub depth : sequence_depth p.entries.items ≤ sequence_depth q.entries.items
 
 -- the target of q took the command c in, which led to d, and the entries above it went
 pub record IsTakenInto {C : Type 0} (f : C → Change) (c : C) (d : DocumentParts) (q p : Sequence C) : Type 0 where
@@ -81,7 +81,7 @@ pub record IsTakenInto {C : Type 0} (f : C → Change) (c : C) (d : DocumentPart
   pub held : IsHeldToLast f d p
   pub target : HasTarget [] (history_at f d p)
   pub next : history_at f d p ≡ with_target_at d [] (cut (history_at f ((f c).undone d) q))
-  pub nesting : sequence_nesting p.entries.items ≤ sequence_nesting q.entries.items
+  pub depth : sequence_depth p.entries.items ≤ sequence_depth q.entries.items
 
 -- merging the command c, which led to d, made p of the sequence q
 abbrev pub MergesInto : {E C : Type 0} → (C → Change) → C → DocumentParts → Sequence C → Result Bool E → Sequence C → Type 0
@@ -89,17 +89,17 @@ MergesInto f c d q (Ok true) p = IsTakenInto f c d q p
 MergesInto f c d q (Ok false) p = (Merges (cut (history_at f ((f c).undone d) q)) (step_named (f c).names d) → ⊥) × IsUnchangedAt f ((f c).undone d) q p
 MergesInto f c d q (Err e) p = IsUnchangedAt f ((f c).undone d) q p
 
--- a merge keeps the outlines of q in p, of which the entries above the index go where it is done
-abbrev pub MergesOutlines : {E C : Type 0} → Sequence C → Result Bool E → Sequence C → Type 0
-MergesOutlines q (Ok true) p = entry_outlines p ≡ take q.index (entry_outlines q)
-MergesOutlines q (Ok false) p = entry_outlines p ≡ entry_outlines q
-MergesOutlines q (Err e) p = entry_outlines p ≡ entry_outlines q
+-- a merge keeps the nestings of q in p, of which the entries above the index go where it is done
+abbrev pub MergesNestings : {E C : Type 0} → Sequence C → Result Bool E → Sequence C → Type 0
+MergesNestings q (Ok true) p = entry_nestings p ≡ take q.index (entry_nestings q)
+MergesNestings q (Ok false) p = entry_nestings p ≡ entry_nestings q
+MergesNestings q (Err e) p = entry_nestings p ≡ entry_nestings q
 
 -- p is the sequence q, which led to d, without its target where that is obsolete
 pub record IsSettledAt {C : Type 0} (f : C → Change) (d : DocumentParts) (q p : Sequence C) : Type 0 where
   pub held : IsHeld f d p
   pub settled : SettlesTarget d (reports f (target_in q)) (history_at f d q) (history_at f d p)
-  pub nesting : sequence_nesting p.entries.items ≤ sequence_nesting q.entries.items
+  pub depth : sequence_depth p.entries.items ≤ sequence_depth q.entries.items
 
 -- the sequence is held, but the entry at a number was just turned, and is looked at only where it is not free
 pub record IsHeldButAt {C : Type 0} (f : C → Change) (d : DocumentParts) (at : ℕ) (q : Sequence C) : Type 0 where
@@ -118,10 +118,10 @@ pub record IsDroppedAt {C : Type 0} (f : C → Change) (d : DocumentParts) (at :
   pub below : take at p.entries.items ≡ take at q.entries.items
   pub above : q.index ≡ at + 1 → drop p.index p.entries.items ≡ drop (at + 1) q.entries.items
 
--- the entry at a number, which was v, is w in p, with the same outline, and all others are as in q
+-- the entry at a number, which was v, is w in p, with the same nesting, and all others are as in q
 pub record IsSetAt {C : Type 0} (at : ℕ) (v w : Entry C) (q p : Sequence C) : Type 0 where
   pub was : v ≡ get_or q.entries.items at v
-  pub outlined : outline w ≡ outline v
+  pub nests : nesting w ≡ nesting v
   pub entries : p.entries.items ≡ set q.entries.items at w
 
 -- undoing the entry below the index, which led to d, made p of the sequence q, and e of the document

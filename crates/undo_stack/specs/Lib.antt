@@ -6,7 +6,7 @@ pub mod Calm
 pub mod Macros
 pub mod Reading
 pub mod Sequence
-pub mod Outlines
+pub mod Nestings
 pub mod Entries
 pub mod Sound
 pub mod Stacks

@@ -4,16 +4,16 @@
 -- step is gone exactly where that entry reports that it is obsolete.
 --
 -- Of a turn only the step of a free command may go: exactly where the command reports, after its turn, that it is obsolete.
--- Each step that stays keeps its outline, so no step goes that stands in a closed macro.
+-- Each step that stays keeps its nesting, so no step goes that stands in a closed macro.
 use Rattle.std.specs.Prelude.{◌≡◌, ◌↔◌, ◌+◌, ◌-◌, ℕ, List, [], ◌∷◌, take, drop, reverse, Option, Some, None, Bool, true, false, Result, Ok, Err}
 use Rattle.map_model.specs.Document.{DocumentParts}
 use Rattle.command_api.specs.Law.{Change, IsRedone, IsUndone}
 use Rattle.command_api.specs.Names.{is_free}
 use Rattle.undo_stack.specs.History.{current}
-use Rattle.undo_stack.specs.Pushing.{step_of, cut, Merges, next_of}
+use Rattle.undo_stack.specs.Pushing.{step_of, cut, Merges, Vanishes, next_of}
 use Rattle.undo_stack.specs.Entries.{entry_change}
 use Rattle.undo_stack.specs.Merging.{IsJoined}
-use Rattle.undo_stack.specs.Outlines.{Shape, outlines_cut, outlines_next_of, outlines_without, shape_positioned}
+use Rattle.undo_stack.specs.Nestings.{Shape, nestings_cut, nestings_next_of, nestings_without, shape_positioned}
 use Rattle.undo_stack.specs.Turning.{without_step}
 use Rattle.undo_stack.specs.declared.entry.Entry.{Entry}
 use Rattle.undo_stack.specs.declared.entry.Entry.TheVariants.{Command}
@@ -58,12 +58,13 @@ pub record IsReportedAt {C : Type 0} (f : C → Change) (x : C) (d : DocumentPar
   pub merged_where : merged ≡ true ↔ Merges (cut a.history) (step_of (f x) (current a.history))
   pub entry : Option (Entry C)
   pub ends : EndsIn merged f command e v entry
+  pub gone_where : Vanishes merged (reports f entry) (cut a.history) (step_of (f x) (current a.history))
   pub next : n.history ≡ next_of merged (reports f entry) (step_of (f x) (current a.history)) (cut a.history)
-  pub outlined : n.outlines ≡ outlines_next_of merged (reports f entry) a.history.limit (outlines_cut a.history.position a.outlines)
+  pub nests : n.nestings ≡ nestings_next_of merged (reports f entry) a.history.limit (nestings_cut a.history.position a.nestings)
 
 -- a without the step at a number, where that is gone, else next
 abbrev pub left_by : Bool → ℕ → Shape → Shape → Shape
-left_by true at a next = record { history = without_step at a.history; outlines = outlines_without at a.outlines }
+left_by true at a next = record { history = without_step at a.history; nestings = nestings_without at a.nestings }
 left_by false at a next = next
 
 -- whether the step of an entry, which is that of a free command or not, is gone after a turn

@@ -4,7 +4,7 @@ use Rattle.map_model.specs.Document.{DocumentParts}
 use Rattle.command_api.specs.Law.{Change}
 use Rattle.undo_stack.specs.History.{Open, History}
 use Rattle.undo_stack.specs.Sequence.{before, steps_down, steps_of, FitsDown, FitsUp}
-use Rattle.undo_stack.specs.Entries.{entry_change, nesting, greatest}
+use Rattle.undo_stack.specs.Entries.{entry_change, depth, greatest}
 use Rattle.undo_stack.specs.declared.entry.Entry.{Entry}
 
 -- an open level: its two texts, and its entries
@@ -51,10 +51,10 @@ pub record IsTurnable {C : Type 0} (f : C → Change) (d : DocumentParts) (es : 
   pub up : FitsUp (entry_change f) (drop n es) d
 
 -- how many macros stand in one another in these entries
-abbrev pub sequence_nesting : {C : Type 0} → List (Entry C) → ℕ
-sequence_nesting es = greatest (map nesting es)
+abbrev pub sequence_depth : {C : Type 0} → List (Entry C) → ℕ
+sequence_depth es = greatest (map depth es)
 
 -- how deep the first of these levels is as an entry, once all are closed
-abbrev pub level_nesting : {C : Type 0} → List (Inner C) → ℕ
-level_nesting [] = 0
-level_nesting (l ∷ ls) = max (sequence_nesting l.sequence) (level_nesting ls) + 1
+abbrev pub level_depth : {C : Type 0} → List (Inner C) → ℕ
+level_depth [] = 0
+level_depth (l ∷ ls) = max (sequence_depth l.sequence) (level_depth ls) + 1

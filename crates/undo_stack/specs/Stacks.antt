@@ -7,13 +7,13 @@ use Rattle.command_api.specs.Law.{Change}
 use Rattle.command_api.specs.Names.{untagged, Never}
 use Rattle.undo_stack.specs.History.{History}
 use Rattle.undo_stack.specs.Calm.{AreLive, IsLive}
-use Rattle.undo_stack.specs.Entries.{entry_change, nesting}
-use Rattle.undo_stack.specs.Held.{IsHeld, entry_outlines, target_in}
+use Rattle.undo_stack.specs.Entries.{entry_change, depth}
+use Rattle.undo_stack.specs.Held.{IsHeld, entry_nestings, target_in}
 use Rattle.undo_stack.specs.Lending.{innermost}
-use Rattle.undo_stack.specs.Outlines.{Outlines, Shape, macros_of, nested, outline}
+use Rattle.undo_stack.specs.Nestings.{Nestings, Shape, macros_of, nested, nesting}
 use Rattle.undo_stack.specs.Reporting.{AreTurned, IsReportedAt}
 use Rattle.undo_stack.specs.Sequence.{before, FitsDown}
-use Rattle.undo_stack.specs.Sound.{Inner, history_of, level_nesting, sequence_nesting, start_of}
+use Rattle.undo_stack.specs.Sound.{Inner, history_of, level_depth, sequence_depth, start_of}
 use Rattle.undo_stack.specs.declared.entry.Entry.{Entry}
 use Rattle.undo_stack.specs.declared.level.Level.{Level}
 use Rattle.undo_stack.specs.declared.limits.TheConstants.{MAX_DEPTH}
@@ -31,16 +31,16 @@ inners s = map inner_of s.sequences.levels.items
 abbrev pub history : {C : Type 0} → (C → Change) → Stack C → History
 history f s = history_of f s.document s.sequences.steps.entries.items s.sequences.steps.index s.sequences.steps.clean s.sequences.steps.limit (inners s)
 
--- the outlines of its steps and of those of its open levels
-abbrev pub outlines : {C : Type 0} → Stack C → Outlines
-outlines s = record { steps = entry_outlines s.sequences.steps; levels = map (λ l. entry_outlines l.sequence) s.sequences.levels.items }
+-- the nestings of its steps and of those of its open levels
+abbrev pub nestings : {C : Type 0} → Stack C → Nestings
+nestings s = record { steps = entry_nestings s.sequences.steps; levels = map (λ l. entry_nestings l.sequence) s.sequences.levels.items }
 
 abbrev pub shape : {C : Type 0} → (C → Change) → Stack C → Shape
-shape f s = record { history = history f s; outlines = outlines s }
+shape f s = record { history = history f s; nestings = nestings s }
 
 -- of each step whether it is a macro, and last of the open one where there is one
 abbrev pub macros : {C : Type 0} → Stack C → List Bool
-macros s = macros_of (outlines s)
+macros s = macros_of (nestings s)
 
 -- the entry e is what the level l is once it is closed
 pub record IsClosed {C : Type 0} (f : C → Change) (l : Inner C) (e : Entry C) : Type 0 where
@@ -48,8 +48,8 @@ pub record IsClosed {C : Type 0} (f : C → Change) (l : Inner C) (e : Entry C) 
   pub undone : (d : DocumentParts) → (entry_change f e).undone d ≡ before (entry_change f) l.sequence d
   pub fits : (d : DocumentParts) → FitsDown (entry_change f) l.sequence d → (entry_change f e).fits_undo d
   pub live : IsLive (entry_change f e)
-  pub outlined : outline e ≡ nested (map outline l.sequence)
-  pub deep : nesting e ≡ sequence_nesting l.sequence + 1
+  pub nests : nesting e ≡ nested (map nesting l.sequence)
+  pub deep : depth e ≡ sequence_depth l.sequence + 1
 
 -- all entries of a sequence are done, and it has no limit and no clean index, as that of a macro
 pub record IsDone {C : Type 0} (q : Sequence C) : Type 0 where
@@ -77,7 +77,7 @@ pub record Holds {C : Type 0} (f : C → Change) (s : Stack C) : Type 0 where
   pub own : IsHeld f (start_of f (inners s) s.document) s.sequences.steps
   pub levels : AreHeld f s.sequences.levels.items s.document
   pub ready : AreReady s.sequences.steps s.sequences.levels.items
-  pub nesting : level_nesting (inners s) ≤ MAX_DEPTH
+  pub depth : level_depth (inners s) ≤ MAX_DEPTH
 
 -- none of the entries of these levels is a command that reports itself obsolete
 abbrev pub LevelsAreLive : {C : Type 0} → (C → Change) → List (Level C) → Type 0
@@ -98,6 +98,6 @@ abbrev pub IsReported : {C : Type 0} → (C → Change) → C → Stack C → St
 IsReported f x s t = IsReportedAt f x s.document (target_entry s) (shape f s) t.document (shape f t)
 
 -- turning the entries of the stack s up to the number i gave t, and the step of each is gone exactly where its command is free
--- and reports, after its turn, that it is obsolete; each that stays keeps its outline
+-- and reports, after its turn, that it is obsolete; each that stays keeps its nesting
 abbrev pub IsTurnReported : {C : Type 0} → (C → Change) → ℕ → Stack C → Stack C → Type 0
 IsTurnReported f i s t = AreTurned f s.sequences.steps.entries.items i s.document (shape f s) (shape f t)

@@ -3,9 +3,9 @@ ghost use Rattle.command_api.specs.Law.{IsRedone, IsUndone, IsLawful};
 ghost use Rattle.command_api.specs.Names.{is_free};
 ghost use Rattle.command_api.specs.Offers.{IsOfferOf, shown_of};
 ghost use Rattle.undo_stack.specs.Calm.{is_gone, IsGone, IsLive};
-ghost use Rattle.undo_stack.specs.Entries.{entry_change, is_macro, nesting};
+ghost use Rattle.undo_stack.specs.Entries.{entry_change, is_macro, depth};
 ghost use Rattle.undo_stack.specs.Merging.{MergesChange};
-ghost use Rattle.undo_stack.specs.Outlines.{outline};
+ghost use Rattle.undo_stack.specs.Nestings.{nesting};
 ghost use Rattle.undo_stack.specs.Sequence.{sequence_change, FitsDown, FitsUp, IsMoved};
 
 use command_api::{Command, Offer};
@@ -56,8 +56,8 @@ impl<C: Command> Entry<C> {
     pub fn redo(&mut self, document: &mut Document)
         requires { (entry_change C.change self.old).fits_redo document.old }
         ensures turned { IsRedone (entry_change C.change self.old) (entry_change C.change self.new) document.old document.new }
-        ensures nesting { nesting self.new ≡ nesting self.old }
-        ensures outlined { outline self.new ≡ outline self.old }
+        ensures depth { depth self.new ≡ depth self.old }
+        ensures nests { nesting self.new ≡ nesting self.old }
     {
         match self {
             Entry::Command(command) => command.redo(document),
@@ -71,8 +71,8 @@ impl<C: Command> Entry<C> {
     pub fn undo(&mut self, document: &mut Document)
         requires { (entry_change C.change self.old).fits_undo document.old }
         ensures turned { IsUndone (entry_change C.change self.old) (entry_change C.change self.new) document.old document.new }
-        ensures nesting { nesting self.new ≡ nesting self.old }
-        ensures outlined { outline self.new ≡ outline self.old }
+        ensures depth { depth self.new ≡ depth self.old }
+        ensures nests { nesting self.new ≡ nesting self.old }
     {
         match self {
             Entry::Command(command) => command.undo(document),
@@ -140,8 +140,8 @@ impl<C: Command> Entry<C> {
         requires newer { (C.change newer.now).fits_undo document.now }
         requires older { (entry_change C.change self.old).fits_undo ((C.change newer.now).undone document.now) }
         ensures merged { MergesChange (entry_change C.change self.old) (C.change newer.now) document.now result (entry_change C.change self.new) }
-        ensures nesting { nesting self.new ≡ nesting self.old }
-        ensures outlined { outline self.new ≡ outline self.old }
+        ensures depth { depth self.new ≡ depth self.old }
+        ensures nests { nesting self.new ≡ nesting self.old }
     {
         match self {
             Entry::Command(older) => merge_commands(older, alloc, newer, offer, document),
@@ -176,8 +176,8 @@ fn redo_all<C: Command>(children: &mut Vec<Entry<C>>, document: &mut Document)
     ensures turned { IsRedone
         (sequence_change [] [] (entry_change C.change) children.old.items)
         (sequence_change [] [] (entry_change C.change) children.new.items) document.old document.new }
-    ensures nesting { map nesting children.new.items ≡ map nesting children.old.items }
-    ensures outlined { map outline children.new.items ≡ map outline children.old.items }
+    ensures depth { map depth children.new.items ≡ map depth children.old.items }
+    ensures nests { map nesting children.new.items ≡ map nesting children.old.items }
 {
     for i in 0..children.len() {
         children[i].redo(document);
@@ -191,8 +191,8 @@ fn undo_all<C: Command>(children: &mut Vec<Entry<C>>, document: &mut Document)
     ensures turned { IsUndone
         (sequence_change [] [] (entry_change C.change) children.old.items)
         (sequence_change [] [] (entry_change C.change) children.new.items) document.old document.new }
-    ensures nesting { map nesting children.new.items ≡ map nesting children.old.items }
-    ensures outlined { map outline children.new.items ≡ map outline children.old.items }
+    ensures depth { map depth children.new.items ≡ map depth children.old.items }
+    ensures nests { map nesting children.new.items ≡ map nesting children.old.items }
 {
     for i in (0..children.len()).rev() {
         children[i].undo(document);
@@ -211,8 +211,8 @@ pub fn undo_down<C: Command>(
     requires down { FitsDown (entry_change C.change) (take from sequence.old) document.old }
     requires up { FitsUp (entry_change C.change) (drop from sequence.old) document.old }
     ensures moved { IsMoved (entry_change C.change) sequence.old from document.old sequence.new to document.new }
-    ensures nesting { map nesting sequence.new ≡ map nesting sequence.old }
-    ensures outlined { map outline sequence.new ≡ map outline sequence.old }
+    ensures depth { map depth sequence.new ≡ map depth sequence.old }
+    ensures nests { map nesting sequence.new ≡ map nesting sequence.old }
 {
     // Counted by the turns that are left: a loop over the number takes more instructions a turn.
     let mut left = from - to;
@@ -234,8 +234,8 @@ pub fn redo_up<C: Command>(
     requires down { FitsDown (entry_change C.change) (take from sequence.old) document.old }
     requires up { FitsUp (entry_change C.change) (drop from sequence.old) document.old }
     ensures moved { IsMoved (entry_change C.change) sequence.old from document.old sequence.new to document.new }
-    ensures nesting { map nesting sequence.new ≡ map nesting sequence.old }
-    ensures outlined { map outline sequence.new ≡ map outline sequence.old }
+    ensures depth { map depth sequence.new ≡ map depth sequence.old }
+    ensures nests { map nesting sequence.new ≡ map nesting sequence.old }
 {
     let mut at = from;
     while at < to {
@@ -256,8 +256,8 @@ pub fn undo_each<C: Command>(
     requires down { FitsDown (entry_change C.change) (take from entries.old.items) document.old }
     requires up { FitsUp (entry_change C.change) (drop from entries.old.items) document.old }
     ensures moved { IsMoved (entry_change C.change) entries.old.items from document.old entries.new.items to document.new }
-    ensures nesting { map nesting entries.new.items ≡ map nesting entries.old.items }
-    ensures outlined { map outline entries.new.items ≡ map outline entries.old.items }
+    ensures depth { map depth entries.new.items ≡ map depth entries.old.items }
+    ensures nests { map nesting entries.new.items ≡ map nesting entries.old.items }
 {
     let mut at = from;
     while at > to {
@@ -278,8 +278,8 @@ pub fn redo_each<C: Command>(
     requires down { FitsDown (entry_change C.change) (take from entries.old.items) document.old }
     requires up { FitsUp (entry_change C.change) (drop from entries.old.items) document.old }
     ensures moved { IsMoved (entry_change C.change) entries.old.items from document.old entries.new.items to document.new }
-    ensures nesting { map nesting entries.new.items ≡ map nesting entries.old.items }
-    ensures outlined { map outline entries.new.items ≡ map outline entries.old.items }
+    ensures depth { map depth entries.new.items ≡ map depth entries.old.items }
+    ensures nests { map nesting entries.new.items ≡ map nesting entries.old.items }
 {
     let mut at = from;
     while at < to {

@@ -6,13 +6,13 @@ ghost use Rattle.command_api.specs.Offers.{IsOfferOf, shown_of};
 ghost use Rattle.undo_stack.specs.History.{current, step_named};
 ghost use Rattle.undo_stack.specs.Pushing.{IsPushed, step_of, up_to, lowered, with_added};
 ghost use Rattle.undo_stack.specs.Calm.{IsLive};
-ghost use Rattle.undo_stack.specs.Entries.{entry_change, nesting};
-ghost use Rattle.undo_stack.specs.Held.{Becomes, IsCut, history_at, shape_at, entry_outlines, target_in, IsHeld, IsHeldToLast};
-ghost use Rattle.undo_stack.specs.Held.{MergesInto, MergesOutlines, IsSettledAt};
+ghost use Rattle.undo_stack.specs.Entries.{entry_change, depth};
+ghost use Rattle.undo_stack.specs.Held.{Becomes, IsCut, history_at, shape_at, entry_nestings, target_in, IsHeld, IsHeldToLast};
+ghost use Rattle.undo_stack.specs.Held.{MergesInto, MergesNestings, IsSettledAt};
 ghost use Rattle.undo_stack.specs.Merging.{HasTarget, IsEntered, left_of};
-ghost use Rattle.undo_stack.specs.Outlines.{entered_outlines, within_limit, outline};
+ghost use Rattle.undo_stack.specs.Nestings.{entered_nestings, within_limit, nesting};
 ghost use Rattle.undo_stack.specs.Reporting.{TakesIn, IsReportedAt, reports};
-ghost use Rattle.undo_stack.specs.Sound.{sequence_nesting};
+ghost use Rattle.undo_stack.specs.Sound.{sequence_depth};
 ghost use Rattle.undo_stack.specs.declared.limits.TheConstants.{MAX_DEPTH};
 
 mod turning;
@@ -92,11 +92,11 @@ impl<C: Command> Sequence<C> {
             (history_at C.change document.old self.old)
             (step_of (C.change command) (current (history_at C.change document.old self.old)))
             (history_at C.change document.new self.new)) }
-        ensures nesting { sequence_nesting self.new.entries.items ≤ sequence_nesting self.old.entries.items }
+        ensures depth { sequence_depth self.new.entries.items ≤ sequence_depth self.old.entries.items }
         ensures reported { IfOk result (λ _. IsReportedAt C.change command document.old (target_in self.old)
             (shape_at C.change document.old self.old) document.new (shape_at C.change document.new self.new)) }
         ensures unchanged { IfErr result (λ _. history_at C.change document.new self.new ≡ history_at C.change document.old self.old) }
-        ensures kept { IfErr result (λ _. entry_outlines self.new ≡ entry_outlines self.old) }
+        ensures kept { IfErr result (λ _. entry_nestings self.new ≡ entry_nestings self.old) }
     {
         command.redo(document);
         match self.merge(alloc, &command, document) {
@@ -121,7 +121,7 @@ impl<C: Command> Sequence<C> {
         requires fits { (C.change command.now).fits_undo document.now }
         ensures merged { MergesInto C.change command.now document.now self.old result self.new }
         ensures joined { TakesIn C.change command.now document.now (target_in self.old) result (target_in self.new) }
-        ensures outlined { MergesOutlines self.old result self.new }
+        ensures nests { MergesNestings self.old result self.new }
     {
         // The offer is lent where it was made: it is larger than most commands.
         self.merge_offered(alloc, command, &command.offer(), document)
@@ -141,7 +141,7 @@ impl<C: Command> Sequence<C> {
         requires fits { (C.change command.now).fits_undo document.now }
         ensures merged { MergesInto C.change command.now document.now self.old result self.new }
         ensures joined { TakesIn C.change command.now document.now (target_in self.old) result (target_in self.new) }
-        ensures outlined { MergesOutlines self.old result self.new }
+        ensures nests { MergesNestings self.old result self.new }
     {
         // Most commands do not follow, and pay no more than that one call.
         if let Offer::Nothing = offer {
@@ -163,7 +163,7 @@ impl<C: Command> Sequence<C> {
         requires fits { (C.change command.now).fits_undo document.now }
         ensures merged { MergesInto C.change command.now document.now self.old result self.new }
         ensures joined { TakesIn C.change command.now document.now (target_in self.old) result (target_in self.new) }
-        ensures outlined { MergesOutlines self.old result self.new }
+        ensures nests { MergesNestings self.old result self.new }
     {
         if self.index == 0 {
             return Ok(false);
@@ -185,7 +185,7 @@ impl<C: Command> Sequence<C> {
         requires at_end { self.old.index ≡ length self.old.entries.items }
         ensures settled { (d : DocumentParts) → IsHeldToLast C.change d self.old → HasTarget [] (history_at C.change d self.old)
             → IsSettledAt C.change d self.old self.new }
-        ensures outlined { entry_outlines self.new ≡ left_of (reports C.change (target_in self.old)) (entry_outlines self.old) }
+        ensures nests { entry_nestings self.new ≡ left_of (reports C.change (target_in self.old)) (entry_nestings self.old) }
     {
         let below = self.index - 1;
         if self.entries[below].obsolete() {
@@ -200,16 +200,16 @@ impl<C: Command> Sequence<C> {
         requires fits { (C.change command).fits_undo document.old }
         ensures held { IsHeld C.change document.new self.new }
         ensures document { IfOk result (λ _. document.new ≡ document.old) }
-        ensures nesting { sequence_nesting self.new.entries.items ≤ sequence_nesting self.old.entries.items }
+        ensures depth { sequence_depth self.new.entries.items ≤ sequence_depth self.old.entries.items }
         ensures entered { IfOk result (λ _. IsEntered (C.change command).obsolete
             (history_at C.change ((C.change command).undone document.old) self.old)
             (step_named (C.change command).names document.old)
             (history_at C.change document.new self.new)) }
         ensures unchanged { IfErr result (λ _. history_at C.change document.new self.new
             ≡ history_at C.change ((C.change command).undone document.old) self.old) }
-        ensures outlined { IfOk result (λ _. entry_outlines self.new
-            ≡ entered_outlines (C.change command).obsolete self.old.limit (take self.old.index (entry_outlines self.old))) }
-        ensures kept { IfErr result (λ _. entry_outlines self.new ≡ entry_outlines self.old) }
+        ensures nests { IfOk result (λ _. entry_nestings self.new
+            ≡ entered_nestings (C.change command).obsolete self.old.limit (take self.old.index (entry_nestings self.old))) }
+        ensures kept { IfErr result (λ _. entry_nestings self.new ≡ entry_nestings self.old) }
     {
         if command.obsolete() {
             self.cut();
@@ -267,15 +267,15 @@ impl<C: Command> Sequence<C> {
         requires at_end { self.old.index ≡ length self.old.entries.items }
         requires count { 0 < self.old.limit → length self.old.entries.items ≤ self.old.limit }
         requires room { self.old.index < deque_capacity self.old.entries }
-        requires nesting { nesting entry ≤ MAX_DEPTH }
+        requires depth { depth entry ≤ MAX_DEPTH }
         requires live { IsLive (entry_change C.change entry) }
         ensures held { (d : DocumentParts) → (entry_change C.change entry).fits_undo d
             → IsHeld C.change ((entry_change C.change entry).undone d) self.old → IsHeld C.change d self.new }
-        ensures nesting { sequence_nesting self.new.entries.items ≤ max (sequence_nesting self.old.entries.items) (nesting entry) }
+        ensures depth { sequence_depth self.new.entries.items ≤ max (sequence_depth self.old.entries.items) (depth entry) }
         ensures at_end { self.new.index ≡ length self.new.entries.items }
         ensures added { (d : DocumentParts) → history_at C.change d self.new
             ≡ with_added (step_named (entry_change C.change entry).names d) [] (history_at C.change ((entry_change C.change entry).undone d) self.old) }
-        ensures outlined { entry_outlines self.new ≡ within_limit self.old.limit (entry_outlines self.old ++ outline entry ∷ []) }
+        ensures nests { entry_nestings self.new ≡ within_limit self.old.limit (entry_nestings self.old ++ nesting entry ∷ []) }
     {
         self.has_free = self.is_free_with(&entry);
         self.entries.push_back_reserved(entry);

@@ -2,10 +2,10 @@ ghost use Rattle.std.specs.Prelude.{◌≡◌, ◌+◌, ◌-◌, ◌≤◌, ◌<
 ghost use Rattle.undo_stack.specs.History.{new_history, current, count, is_clean};
 ghost use Rattle.undo_stack.specs.Pushing.{IsPushed, step_of};
 ghost use Rattle.undo_stack.specs.Moving.{MarksClean, UnmarksClean, SetsLimit, Clears};
-ghost use Rattle.undo_stack.specs.Outlines.{no_outlines};
+ghost use Rattle.undo_stack.specs.Nestings.{no_nestings};
 ghost use Rattle.undo_stack.specs.Turning.{Undoes, Redoes, SetsIndex};
 ghost use Rattle.undo_stack.specs.Reading.{text_at, action_of, undo_text_of, redo_text_of};
-ghost use Rattle.undo_stack.specs.Stacks.{history, macros, outlines, Holds, IsCalm, IsReported, IsTurnReported};
+ghost use Rattle.undo_stack.specs.Stacks.{history, macros, nestings, Holds, IsCalm, IsReported, IsTurnReported};
 ghost use Rattle.undo_stack.specs.declared.limits.TheConstants.{MAX_LIMIT};
 
 mod actions;
@@ -60,7 +60,7 @@ impl<C: Command> Stack<C> {
         requires { limit ≤ MAX_LIMIT }
         ensures sound { Holds C.change result }
         ensures history { history C.change result ≡ new_history document limit }
-        ensures outlined { outlines result ≡ no_outlines }
+        ensures nests { nestings result ≡ no_nestings }
     {
         Stack {
             document,
@@ -127,7 +127,7 @@ impl<C: Command> Stack<C> {
         requires { Holds C.change self.old }
         ensures sound { Holds C.change self.new }
         ensures same { history C.change self.new ≡ history C.change self.old }
-        ensures kept { outlines self.new ≡ outlines self.old }
+        ensures kept { nestings self.new ≡ nestings self.old }
     {
         self.document.seek_layer(layer);
     }
@@ -137,7 +137,7 @@ impl<C: Command> Stack<C> {
         requires { Holds C.change self.old }
         ensures sound { Holds C.change self.new }
         ensures same { history C.change self.new ≡ history C.change self.old }
-        ensures kept { outlines self.new ≡ outlines self.old }
+        ensures kept { nestings self.new ≡ nestings self.old }
     {
         self.document.seek_object(object);
     }
@@ -254,7 +254,7 @@ impl<C: Command> Stack<C> {
             (history C.change self.new)) }
         ensures reported { IfOk result (λ _. IsReported C.change command self.old self.new) }
         ensures unchanged { IfErr result (λ _. history C.change self.new ≡ history C.change self.old) }
-        ensures kept { IfErr result (λ _. outlines self.new ≡ outlines self.old) }
+        ensures kept { IfErr result (λ _. nestings self.new ≡ nestings self.old) }
     {
         self.sequences
             .innermost()
@@ -273,7 +273,7 @@ impl<C: Command> Stack<C> {
         ensures sound { Holds C.change self.new }
         ensures reported { IfOk result (λ _. IsTurnReported C.change ((history C.change self.old).position - 1) self.old self.new) }
         ensures step { Undoes (history C.change self.old) result (history C.change self.new) }
-        ensures kept { IfErr result (λ _. outlines self.new ≡ outlines self.old) }
+        ensures kept { IfErr result (λ _. nestings self.new ≡ nestings self.old) }
     {
         if self.sequences.is_open() {
             return Err(StackFault::MacroOpen);
@@ -295,7 +295,7 @@ impl<C: Command> Stack<C> {
         ensures sound { Holds C.change self.new }
         ensures reported { IfOk result (λ _. IsTurnReported C.change ((history C.change self.old).position + 1) self.old self.new) }
         ensures step { Redoes (history C.change self.old) result (history C.change self.new) }
-        ensures kept { IfErr result (λ _. outlines self.new ≡ outlines self.old) }
+        ensures kept { IfErr result (λ _. nestings self.new ≡ nestings self.old) }
     {
         if self.sequences.is_open() {
             return Err(StackFault::MacroOpen);
@@ -316,7 +316,7 @@ impl<C: Command> Stack<C> {
         ensures sound { Holds C.change self.new }
         ensures reported { IfOk result (λ _. IsTurnReported C.change index self.old self.new) }
         ensures step { SetsIndex index (history C.change self.old) result (history C.change self.new) }
-        ensures kept { IfErr result (λ _. outlines self.new ≡ outlines self.old) }
+        ensures kept { IfErr result (λ _. nestings self.new ≡ nestings self.old) }
     {
         if self.sequences.is_open() {
             return Err(StackFault::MacroOpen);
@@ -336,7 +336,7 @@ impl<C: Command> Stack<C> {
         requires { Holds C.change self.old }
         ensures sound { Holds C.change self.new }
         ensures step { MarksClean (history C.change self.old) result (history C.change self.new) }
-        ensures kept { outlines self.new ≡ outlines self.old }
+        ensures kept { nestings self.new ≡ nestings self.old }
     {
         if self.sequences.is_open() {
             return Err(StackFault::MacroOpen);
@@ -350,7 +350,7 @@ impl<C: Command> Stack<C> {
         requires { Holds C.change self.old }
         ensures sound { Holds C.change self.new }
         ensures step { UnmarksClean (history C.change self.old) (history C.change self.new) }
-        ensures kept { outlines self.new ≡ outlines self.old }
+        ensures kept { nestings self.new ≡ nestings self.old }
     {
         self.sequences.steps.clean = None;
     }
@@ -363,7 +363,7 @@ impl<C: Command> Stack<C> {
         requires sound { Holds C.change self.old }
         ensures sound { Holds C.change self.new }
         ensures step { SetsLimit limit (history C.change self.old) result (history C.change self.new) }
-        ensures kept { outlines self.new ≡ outlines self.old }
+        ensures kept { nestings self.new ≡ nestings self.old }
     {
         if self.count() != 0 {
             return Err(StackFault::NotEmpty);
@@ -378,7 +378,7 @@ impl<C: Command> Stack<C> {
         requires { Holds C.change self.old }
         ensures sound { Holds C.change self.new }
         ensures step { Clears (history C.change self.old) (history C.change self.new) }
-        ensures outlined { outlines self.new ≡ no_outlines }
+        ensures nests { nestings self.new ≡ no_nestings }
     {
         // One document, the steps and the macros that are open are all that a stack keeps.
         let Stack {

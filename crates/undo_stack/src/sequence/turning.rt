@@ -3,7 +3,7 @@ ghost use Rattle.std.specs.Prelude.{◌≡◌, ◌<◌, ◌≤◌, ◌+◌, ◌-
 ghost use Rattle.map_model.specs.Document.{DocumentParts};
 ghost use Rattle.undo_stack.specs.Entries.{entry_change};
 ghost use Rattle.undo_stack.specs.Sequence.{is_stale};
-ghost use Rattle.undo_stack.specs.Held.{history_at, shape_at, entry_outlines, IsHeld, IsHeldButAt, IsSoundAt, IsDroppedAt, RedoesNext, StepsDown, StepsUp, UndoesLast};
+ghost use Rattle.undo_stack.specs.Held.{history_at, shape_at, entry_nestings, IsHeld, IsHeldButAt, IsSoundAt, IsDroppedAt, RedoesNext, StepsDown, StepsUp, UndoesLast};
 ghost use Rattle.undo_stack.specs.Moving.{positioned};
 ghost use Rattle.undo_stack.specs.Reporting.{AreRedone, AreTurned, AreUndone};
 ghost use Rattle.undo_stack.specs.Turning.{TurnsBack, TurnsOn, TurnsTo, TurnBy};
@@ -169,7 +169,7 @@ impl<C: Command> Sequence<C> {
         ensures sound { IsSoundAt C.change document.new self.new }
         ensures has_free { self.new.has_free ≡ self.old.has_free }
         ensures stale { map (λ e. is_stale (entry_change C.change e)) self.new.entries.items ≡ map (λ e. is_stale (entry_change C.change e)) self.old.entries.items }
-        ensures outlined { entry_outlines self.new ≡ entry_outlines self.old }
+        ensures nests { entry_nestings self.new ≡ entry_nestings self.old }
         ensures history { history_at C.change document.new self.new
             ≡ positioned (min index self.old.index) (history_at C.change document.old self.old) }
     {
@@ -189,7 +189,7 @@ impl<C: Command> Sequence<C> {
         ensures sound { IsSoundAt C.change document.new self.new }
         ensures has_free { self.new.has_free ≡ self.old.has_free }
         ensures stale { map (λ e. is_stale (entry_change C.change e)) self.new.entries.items ≡ map (λ e. is_stale (entry_change C.change e)) self.old.entries.items }
-        ensures outlined { entry_outlines self.new ≡ entry_outlines self.old }
+        ensures nests { entry_nestings self.new ≡ entry_nestings self.old }
         ensures history { history_at C.change document.new self.new
             ≡ positioned (max (min index (length (history_at C.change document.old self.old).steps)) self.old.index)
             (history_at C.change document.old self.old) }
@@ -206,7 +206,7 @@ impl<C: Command> Sequence<C> {
         ensures sound { IsSoundAt C.change document.new self.new }
         ensures has_free { self.new.has_free ≡ self.old.has_free }
         ensures stale { map (λ e. is_stale (entry_change C.change e)) self.new.entries.items ≡ map (λ e. is_stale (entry_change C.change e)) self.old.entries.items }
-        ensures outlined { entry_outlines self.new ≡ entry_outlines self.old }
+        ensures nests { entry_nestings self.new ≡ entry_nestings self.old }
         ensures history { history_at C.change document.new self.new ≡ positioned index (history_at C.change document.old self.old) }
     {
         if self.is_worth_a_slice(index - self.index) {

@@ -4,8 +4,8 @@ ghost use Rattle.std.specs.VecDeque.{deque_capacity};
 ghost use Rattle.undo_stack.specs.Macros.{Begins, Ends};
 ghost use Rattle.undo_stack.specs.Pushing.{cut};
 ghost use Rattle.undo_stack.specs.Lending.{innermost};
-ghost use Rattle.undo_stack.specs.Outlines.{OutlinesLead, outlines_begun, outlines_cut, outlines_ended};
-ghost use Rattle.undo_stack.specs.Stacks.{history, outlines, Holds, IsReady};
+ghost use Rattle.undo_stack.specs.Nestings.{NestingsLead, nestings_begun, nestings_cut, nestings_ended};
+ghost use Rattle.undo_stack.specs.Stacks.{history, nestings, Holds, IsReady};
 
 use super::{Stack, StackFault};
 use crate::level::Level;
@@ -23,8 +23,8 @@ impl<C: Command> Stack<C> {
         requires { Holds C.change self.old }
         ensures sound { Holds C.change self.new }
         ensures step { Begins text.now action.now (history C.change self.old) result (history C.change self.new) }
-        ensures outlined { OutlinesLead result (outlines self.old)
-            (outlines_begun (history C.change self.old).position (outlines self.old)) (outlines self.new) }
+        ensures nests { NestingsLead result (nestings self.old)
+            (nestings_begun (history C.change self.old).position (nestings self.old)) (nestings self.new) }
     {
         if self.sequences.levels.len() >= MAX_DEPTH {
             return Err(StackFault::TooDeep);
@@ -50,8 +50,8 @@ impl<C: Command> Stack<C> {
         requires { Holds C.change self.old }
         ensures sound { Holds C.change self.new }
         ensures step { Ends (history C.change self.old) result (history C.change self.new) }
-        ensures outlined { OutlinesLead result (outlines self.old)
-            (outlines_ended (history C.change self.old).limit (outlines self.old)) (outlines self.new) }
+        ensures nests { NestingsLead result (nestings self.old)
+            (nestings_ended (history C.change self.old).limit (nestings self.old)) (nestings self.new) }
     {
         let Some(level) = self.sequences.levels.pop() else {
             return Err(StackFault::NoMacroOpen);
@@ -66,7 +66,7 @@ impl<C: Command> Stack<C> {
         requires { Holds C.change self.old }
         ensures sound { Holds C.change self.new }
         ensures same { history C.change self.new ≡ history C.change self.old }
-        ensures kept { outlines self.new ≡ outlines self.old }
+        ensures kept { nestings self.new ≡ nestings self.old }
         ensures count { length self.new.sequences.levels.items ≡ length self.old.sequences.levels.items }
         ensures room { IfOk result (λ _. vec_len self.new.sequences.levels < vec_capacity self.new.sequences.levels) }
         ensures inner_room { IfOk result (λ _. let q = innermost self.new.sequences in q.index < deque_capacity q.entries) }
@@ -81,7 +81,7 @@ impl<C: Command> Stack<C> {
         requires room { let q = innermost self.old.sequences in q.index < deque_capacity q.entries }
         ensures sound { Holds C.change self.new }
         ensures cut { history C.change self.new ≡ cut (history C.change self.old) }
-        ensures outlined { outlines self.new ≡ outlines_cut (history C.change self.old).position (outlines self.old) }
+        ensures nests { nestings self.new ≡ nestings_cut (history C.change self.old).position (nestings self.old) }
         ensures ready { IsReady (innermost self.new.sequences) }
         ensures levels { self.new.sequences.levels ≡ self.old.sequences.levels }
         ensures document { self.new.document ≡ self.old.document }

@@ -1,8 +1,8 @@
 use Rattle.std.proofs.Common.{rules, ◌<◌, length, refl, ◌∙◌, ap, arith, length-set, get_or-set_other}
-use Rattle.undo_stack.specs.Entries.{entry_change, nesting}
-use Rattle.undo_stack.specs.Outlines.{outline}
+use Rattle.undo_stack.specs.Entries.{entry_change, depth}
+use Rattle.undo_stack.specs.Nestings.{nesting}
 use Rattle.undo_stack.specs.Sequence.{after}
-use Rattle.undo_stack.proofs.EntryChanges.{Contents, entry_change-Command, entry_change-Macro, nesting-Command, nesting-Macro, outline-Command, outline-Macro}
+use Rattle.undo_stack.proofs.EntryChanges.{Contents, entry_change-Command, entry_change-Macro, depth-Command, depth-Macro, nesting-Command, nesting-Macro}
 use Rattle.undo_stack.proofs.Sequences.{map-set_same}
 use Rattle.undo_stack.proofs.Turns.{redone_named, between_on}
 use Rattle.undo_stack.specs.declared.entry.Entry.TheVariants.{outs-Command, outs-Macro}
@@ -21,13 +21,13 @@ Entry::redo-returns-in-Command-clause-turned g t c =
     let known = rw (c.in-Command.is, outs-Command old) at c.redo.ensures in
     rw (c.in-Command.is, outs-Command old, entry_change-Command f old, entry_change-Command f c.redo.new.self) known
 
-pub Entry::redo-returns-in-Command-clause-nesting : goal.Entry::redo-returns-in-Command-clause-nesting
-Entry::redo-returns-in-Command-clause-nesting g t c =
-    rw (c.in-Command.is, outs-Command c.in-Command.command, nesting-Command c.in-Command.command, nesting-Command c.redo.new.self) refl
+pub Entry::redo-returns-in-Command-clause-depth : goal.Entry::redo-returns-in-Command-clause-depth
+Entry::redo-returns-in-Command-clause-depth g t c =
+    rw (c.in-Command.is, outs-Command c.in-Command.command, depth-Command c.in-Command.command, depth-Command c.redo.new.self) refl
 
-pub Entry::redo-returns-in-Command-clause-outlined : goal.Entry::redo-returns-in-Command-clause-outlined
-Entry::redo-returns-in-Command-clause-outlined g t c =
-    rw (c.in-Command.is, outs-Command c.in-Command.command, outline-Command c.in-Command.command, outline-Command c.redo.new.self) refl
+pub Entry::redo-returns-in-Command-clause-nests : goal.Entry::redo-returns-in-Command-clause-nests
+Entry::redo-returns-in-Command-clause-nests g t c =
+    rw (c.in-Command.is, outs-Command c.in-Command.command, nesting-Command c.in-Command.command, nesting-Command c.redo.new.self) refl
 
 pub Entry::redo-redo_all-requires : goal.Entry::redo-redo_all-requires
 Entry::redo-redo_all-requires g t c κs within =
@@ -53,8 +53,8 @@ Entry::redo-returns-in-Macro-clause-turned g t c =
     let turned = redone_named (entry_change f) v.text v.action v.children.items new.value.children.items c.args.document.now c.redo_all.new.document known in
     rw (c.in-Macro.is, outs-Macro contents, same, entry_change-Macro f contents, entry_change-Macro f new) turned
 
-pub Entry::redo-returns-in-Macro-clause-nesting : goal.Entry::redo-returns-in-Macro-clause-nesting
-Entry::redo-returns-in-Macro-clause-nesting g t c =
+pub Entry::redo-returns-in-Macro-clause-depth : goal.Entry::redo-returns-in-Macro-clause-depth
+Entry::redo-returns-in-Macro-clause-depth g t c =
     let contents = c.in-Macro.contents in
     let same = c.deref_mut.ensures.value ∙ ap (λ (b : Contents g.row.C.Denot). b.value) c.in-Macro.contents-is in
     let new : Contents g.row.C.Denot = record {
@@ -62,11 +62,11 @@ Entry::redo-returns-in-Macro-clause-nesting g t c =
       alloc = contents.alloc;
       value = record contents.value { children = c.redo_all.new.children };
     } in
-    let known = rw same at c.redo_all.ensures.nesting in
-    rw (c.in-Macro.is, outs-Macro contents, same, nesting-Macro contents, nesting-Macro new, known) refl
+    let known = rw same at c.redo_all.ensures.depth in
+    rw (c.in-Macro.is, outs-Macro contents, same, depth-Macro contents, depth-Macro new, known) refl
 
-pub Entry::redo-returns-in-Macro-clause-outlined : goal.Entry::redo-returns-in-Macro-clause-outlined
-Entry::redo-returns-in-Macro-clause-outlined g t c =
+pub Entry::redo-returns-in-Macro-clause-nests : goal.Entry::redo-returns-in-Macro-clause-nests
+Entry::redo-returns-in-Macro-clause-nests g t c =
     let contents = c.in-Macro.contents in
     let same = c.deref_mut.ensures.value ∙ ap (λ (b : Contents g.row.C.Denot). b.value) c.in-Macro.contents-is in
     let new : Contents g.row.C.Denot = record {
@@ -74,8 +74,8 @@ Entry::redo-returns-in-Macro-clause-outlined g t c =
       alloc = contents.alloc;
       value = record contents.value { children = c.redo_all.new.children };
     } in
-    let known = rw same at c.redo_all.ensures.outlined in
-    rw (c.in-Macro.is, outs-Macro contents, same, outline-Macro contents, outline-Macro new, known) refl
+    let known = rw same at c.redo_all.ensures.nests in
+    rw (c.in-Macro.is, outs-Macro contents, same, nesting-Macro contents, nesting-Macro new, known) refl
 
 pub redo_all-loop-i-preserved : goal.redo_all-loop-i-preserved
 redo_all-loop-i-preserved g t c =
@@ -91,6 +91,6 @@ redo_all-loop-i-preserved g t c =
     let at : i < length es = omega arith in (
       (length-set es i w ∙ known.0.0, λ k d h. get_or-set_other es i k w d (omega arith) ∙ known.0.1 k d (omega arith)),
       between_on f es v w i c.loop-i.document c.redo.new.document first last known.1 at is c.redo.ensures.turned,
-      map-set_same nesting es v w i is c.redo.ensures.nesting ∙ known.2,
-      map-set_same outline es v w i is c.redo.ensures.outlined ∙ known.3,
+      map-set_same depth es v w i is c.redo.ensures.depth ∙ known.2,
+      map-set_same nesting es v w i is c.redo.ensures.nests ∙ known.3,
     )

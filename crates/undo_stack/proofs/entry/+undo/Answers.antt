@@ -1,8 +1,8 @@
 use Rattle.std.proofs.Common.{rules, ◌≡◌, ℕ, ◌+◌, ◌-◌, ◌<◌, length, refl, ◌∙◌, ap, subst, get_or, arith, length-set, get_or-set_other}
-use Rattle.undo_stack.specs.Entries.{entry_change, nesting}
-use Rattle.undo_stack.specs.Outlines.{outline}
+use Rattle.undo_stack.specs.Entries.{entry_change, depth}
+use Rattle.undo_stack.specs.Nestings.{nesting}
 use Rattle.undo_stack.specs.Sequence.{Between, before}
-use Rattle.undo_stack.proofs.EntryChanges.{Contents, entry_change-Command, entry_change-Macro, nesting-Command, nesting-Macro, outline-Command, outline-Macro}
+use Rattle.undo_stack.proofs.EntryChanges.{Contents, entry_change-Command, entry_change-Macro, depth-Command, depth-Macro, nesting-Command, nesting-Macro}
 use Rattle.undo_stack.proofs.Sequences.{map-set_same}
 use Rattle.undo_stack.proofs.Turns.{undone_named, between_back, between_last}
 use Rattle.undo_stack.specs.declared.entry.Entry.TheVariants.{outs-Command, outs-Macro}
@@ -22,13 +22,13 @@ Entry::undo-returns-in-Command-clause-turned g t c =
     let known = rw (c.in-Command.is, outs-Command old) at c.undo.ensures in
     rw (c.in-Command.is, outs-Command old, entry_change-Command f old, entry_change-Command f c.undo.new.self) known
 
-pub Entry::undo-returns-in-Command-clause-nesting : goal.Entry::undo-returns-in-Command-clause-nesting
-Entry::undo-returns-in-Command-clause-nesting g t c =
-    rw (c.in-Command.is, outs-Command c.in-Command.command, nesting-Command c.in-Command.command, nesting-Command c.undo.new.self) refl
+pub Entry::undo-returns-in-Command-clause-depth : goal.Entry::undo-returns-in-Command-clause-depth
+Entry::undo-returns-in-Command-clause-depth g t c =
+    rw (c.in-Command.is, outs-Command c.in-Command.command, depth-Command c.in-Command.command, depth-Command c.undo.new.self) refl
 
-pub Entry::undo-returns-in-Command-clause-outlined : goal.Entry::undo-returns-in-Command-clause-outlined
-Entry::undo-returns-in-Command-clause-outlined g t c =
-    rw (c.in-Command.is, outs-Command c.in-Command.command, outline-Command c.in-Command.command, outline-Command c.undo.new.self) refl
+pub Entry::undo-returns-in-Command-clause-nests : goal.Entry::undo-returns-in-Command-clause-nests
+Entry::undo-returns-in-Command-clause-nests g t c =
+    rw (c.in-Command.is, outs-Command c.in-Command.command, nesting-Command c.in-Command.command, nesting-Command c.undo.new.self) refl
 
 pub Entry::undo-undo_all-requires : goal.Entry::undo-undo_all-requires
 Entry::undo-undo_all-requires g t c κs within =
@@ -54,8 +54,8 @@ Entry::undo-returns-in-Macro-clause-turned g t c =
     let turned = undone_named (entry_change f) v.text v.action v.children.items new.value.children.items c.args.document.now c.undo_all.new.document known in
     rw (c.in-Macro.is, outs-Macro contents, same, entry_change-Macro f contents, entry_change-Macro f new) turned
 
-pub Entry::undo-returns-in-Macro-clause-nesting : goal.Entry::undo-returns-in-Macro-clause-nesting
-Entry::undo-returns-in-Macro-clause-nesting g t c =
+pub Entry::undo-returns-in-Macro-clause-depth : goal.Entry::undo-returns-in-Macro-clause-depth
+Entry::undo-returns-in-Macro-clause-depth g t c =
     let contents = c.in-Macro.contents in
     let same = c.deref_mut.ensures.value ∙ ap (λ (b : Contents g.row.C.Denot). b.value) c.in-Macro.contents-is in
     let new : Contents g.row.C.Denot = record {
@@ -63,11 +63,11 @@ Entry::undo-returns-in-Macro-clause-nesting g t c =
       alloc = contents.alloc;
       value = record contents.value { children = c.undo_all.new.children };
     } in
-    let known = rw same at c.undo_all.ensures.nesting in
-    rw (c.in-Macro.is, outs-Macro contents, same, nesting-Macro contents, nesting-Macro new, known) refl
+    let known = rw same at c.undo_all.ensures.depth in
+    rw (c.in-Macro.is, outs-Macro contents, same, depth-Macro contents, depth-Macro new, known) refl
 
-pub Entry::undo-returns-in-Macro-clause-outlined : goal.Entry::undo-returns-in-Macro-clause-outlined
-Entry::undo-returns-in-Macro-clause-outlined g t c =
+pub Entry::undo-returns-in-Macro-clause-nests : goal.Entry::undo-returns-in-Macro-clause-nests
+Entry::undo-returns-in-Macro-clause-nests g t c =
     let contents = c.in-Macro.contents in
     let same = c.deref_mut.ensures.value ∙ ap (λ (b : Contents g.row.C.Denot). b.value) c.in-Macro.contents-is in
     let new : Contents g.row.C.Denot = record {
@@ -75,8 +75,8 @@ Entry::undo-returns-in-Macro-clause-outlined g t c =
       alloc = contents.alloc;
       value = record contents.value { children = c.undo_all.new.children };
     } in
-    let known = rw same at c.undo_all.ensures.outlined in
-    rw (c.in-Macro.is, outs-Macro contents, same, outline-Macro contents, outline-Macro new, known) refl
+    let known = rw same at c.undo_all.ensures.nests in
+    rw (c.in-Macro.is, outs-Macro contents, same, nesting-Macro contents, nesting-Macro new, known) refl
 
 pub undo_all-undo-requires : goal.undo_all-undo-requires
 undo_all-undo-requires g t c κs within =
@@ -113,6 +113,6 @@ undo_all-loop-i-preserved g t c =
     let known = subst (λ (n : ℕ). Between f es n c.loop-i.document first last) same old.1 in (
       (length-set es (i - 1) w ∙ old.0.0, λ k d h. get_or-set_other es (i - 1) k w d (omega arith) ∙ old.0.1 k d (omega arith)),
       between_back f es v w (i - 1) c.loop-i.document c.undo.new.document first last known at is c.undo.ensures.turned,
-      map-set_same nesting es v w (i - 1) is c.undo.ensures.nesting ∙ old.2,
-      map-set_same outline es v w (i - 1) is c.undo.ensures.outlined ∙ old.3,
+      map-set_same depth es v w (i - 1) is c.undo.ensures.depth ∙ old.2,
+      map-set_same nesting es v w (i - 1) is c.undo.ensures.nests ∙ old.3,
     )

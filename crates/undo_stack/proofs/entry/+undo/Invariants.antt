@@ -1,7 +1,7 @@
 use Rattle.std.proofs.Common.{◌≡◌, map}
 use Rattle.undo_stack.specs.Sequence.{Between, before}
-use Rattle.undo_stack.specs.Entries.{entry_change, nesting}
-use Rattle.undo_stack.specs.Outlines.{outline}
+use Rattle.undo_stack.specs.Entries.{entry_change, depth}
+use Rattle.undo_stack.specs.Nestings.{nesting}
 use Rattle.undo_stack.proofs.entry.+undo.Given as goal
 
 abbrev pub invariant-undo_all-loop-i : goal.invariant-undo_all-loop-i
@@ -10,5 +10,5 @@ invariant-undo_all-loop-i g l =
     let first = before f l.initial.children.items l.initial.document in
     goal.unvisited-undo_all-loop-i g l ×
     Between f l.children.items l.i l.document first l.initial.document ×
-    (map nesting l.children.items ≡ map nesting l.initial.children.items) ×
-    (map outline l.children.items ≡ map outline l.initial.children.items)
+    (map depth l.children.items ≡ map depth l.initial.children.items) ×
+    (map nesting l.children.items ≡ map nesting l.initial.children.items)

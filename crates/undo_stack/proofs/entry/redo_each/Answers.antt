@@ -1,12 +1,12 @@
 use Rattle.std.proofs.Common.{◌<◌, arith, length, length-set, refl, ◌∙◌}
-use Rattle.undo_stack.specs.Entries.{entry_change, nesting}
-use Rattle.undo_stack.specs.Outlines.{outline}
+use Rattle.undo_stack.specs.Entries.{entry_change, depth}
+use Rattle.undo_stack.specs.Nestings.{nesting}
 use Rattle.undo_stack.proofs.Sequences.{map-set_same}
 use Rattle.undo_stack.proofs.Turns.{fits_next, moved_on, moved_none, moved_more}
 use Rattle.undo_stack.proofs.entry.redo_each.Goals as goal
 
 pub loop-at-init : goal.loop-at-init
-loop-at-init g c = record { moved = moved_none _ _ _ _ c.requires.down c.requires.up; below = c.requires.order; within = c.requires.within; nesting = refl; outlined = refl }
+loop-at-init g c = record { moved = moved_none _ _ _ _ c.requires.down c.requires.up; below = c.requires.order; within = c.requires.within; depth = refl; nests = refl }
 
 pub redo-requires : goal.redo-requires
 redo-requires g c =
@@ -30,6 +30,6 @@ loop-at-preserved g c =
       moved = moved_more f _ _ _ _ _ _ _ _ _ m above;
       below = omega arith;
       within = omega (arith, c.loop-at.invariant.within, length-set xs j w);
-      nesting = map-set_same nesting xs v w j c.index_mut.ensures.value c.redo.ensures.nesting ∙ c.loop-at.invariant.nesting;
-      outlined = map-set_same outline xs v w j c.index_mut.ensures.value c.redo.ensures.outlined ∙ c.loop-at.invariant.outlined;
+      depth = map-set_same depth xs v w j c.index_mut.ensures.value c.redo.ensures.depth ∙ c.loop-at.invariant.depth;
+      nests = map-set_same nesting xs v w j c.index_mut.ensures.value c.redo.ensures.nests ∙ c.loop-at.invariant.nests;
     }

@@ -1,8 +1,8 @@
 use Rattle.std.proofs.Common.{◌≡◌, ◌+◌, ◌-◌, ◌<◌, ℕ, arith, length, length-set, refl, subst, ◌∙◌, take, drop, slice_index_or}
 use Rattle.std.proofs.lemmas.List.{get_or_default}
 use Rattle.undo_stack.specs.Sequence.{IsMoved, FitsDown, FitsUp}
-use Rattle.undo_stack.specs.Entries.{entry_change, nesting}
-use Rattle.undo_stack.specs.Outlines.{outline}
+use Rattle.undo_stack.specs.Entries.{entry_change, depth}
+use Rattle.undo_stack.specs.Nestings.{nesting}
 use Rattle.undo_stack.proofs.Sequences.{map-set_same}
 use Rattle.undo_stack.proofs.Turns.{fits_last, moved_back, moved_none, moved_more}
 use Rattle.undo_stack.proofs.entry.undo_down.Goals as goal
@@ -18,8 +18,8 @@ loop-left-init g c =
       moved = subst (λ (n : ℕ). IsMoved f xs c.args.from d xs n d) same none;
       order = omega arith;
       within = omega (arith, c.requires.within, c.requires.order);
-      nesting = refl;
-      outlined = refl;
+      depth = refl;
+      nests = refl;
     }
 
 pub undo-requires : goal.undo-requires
@@ -59,6 +59,6 @@ loop-left-preserved g c =
       moved = moved_more f c.args.sequence.now xs _ c.args.from (j + 1) j c.args.document.now d e before one;
       order = omega (arith, c.loop-left.invariant.order);
       within = omega (arith, c.loop-left.invariant.within, length-set xs j w);
-      nesting = map-set_same nesting xs v w j is c.undo.ensures.nesting ∙ c.loop-left.invariant.nesting;
-      outlined = map-set_same outline xs v w j is c.undo.ensures.outlined ∙ c.loop-left.invariant.outlined;
+      depth = map-set_same depth xs v w j is c.undo.ensures.depth ∙ c.loop-left.invariant.depth;
+      nests = map-set_same nesting xs v w j is c.undo.ensures.nests ∙ c.loop-left.invariant.nests;
     }

@@ -2,12 +2,12 @@ use Rattle.std.proofs.Common.{◌+◌, ◌∙◌, List, ap, map, subst, sym}
 use Rattle.std.specs.Box.{with_value}
 use Rattle.command_api.specs.Law.{Change}
 use Rattle.command_api.specs.Names.{untagged, Never}
-use Rattle.undo_stack.specs.Entries.{entry_change, greatest, nesting}
-use Rattle.undo_stack.specs.Outlines.{nested, outline}
+use Rattle.undo_stack.specs.Entries.{entry_change, greatest, depth}
+use Rattle.undo_stack.specs.Nestings.{nested, nesting}
 use Rattle.undo_stack.specs.Sequence.{before}
 use Rattle.undo_stack.specs.declared.entry.Entry.{Entry}
 use Rattle.undo_stack.specs.declared.entry.MacroContents.{MacroContents}
-use Rattle.undo_stack.proofs.EntryChanges.{Contents, entry_change-Macro, nesting-Macro, outline-Macro}
+use Rattle.undo_stack.proofs.EntryChanges.{Contents, entry_change-Macro, depth-Macro, nesting-Macro}
 use Rattle.undo_stack.proofs.level.Level.into_entry.Goals as goal
 
 pub returns : goal.returns
@@ -23,6 +23,6 @@ returns g c =
       undone = λ d. ap (λ (k : Change). k.undone d) change ∙ ap (λ (es : List (Entry g.row.C.Denot)). before (entry_change f) es d) items;
       fits = λ d h. subst (λ (k : Change). k.fits_undo d) (sym change) (rw items h);
       live = ap (λ (k : Change). k.obsolete) change;
-      outlined = outline-Macro m ∙ ap (λ (es : List (Entry g.row.C.Denot)). nested (map outline es)) items;
-      deep = nesting-Macro m ∙ ap (λ (es : List (Entry g.row.C.Denot)). greatest (map nesting es) + 1) items;
+      nests = nesting-Macro m ∙ ap (λ (es : List (Entry g.row.C.Denot)). nested (map nesting es)) items;
+      deep = depth-Macro m ∙ ap (λ (es : List (Entry g.row.C.Denot)). greatest (map depth es) + 1) items;
     }

@@ -2,9 +2,9 @@ use Rattle.std.proofs.Common.{◌≡◌, ◌+◌, ◌-◌, ◌++◌, ◌∷◌, 
 use Rattle.std.proofs.lemmas.List.{map-append}
 use Rattle.undo_stack.specs.declared.entry.Entry.{Entry}
 use Rattle.undo_stack.proofs.Held.{most_kept, most_added, all_kept, all_added}
-use Rattle.undo_stack.specs.Outlines.{outline}
-use Rattle.undo_stack.proofs.Outlines.{kept_none, outlines-added}
-use Rattle.undo_stack.proofs.Pushes.{sequence_nesting-append, sequence_nesting-drop}
+use Rattle.undo_stack.specs.Nestings.{nesting}
+use Rattle.undo_stack.proofs.Nestings.{kept_none, nestings-added}
+use Rattle.undo_stack.proofs.Pushes.{sequence_depth-append, sequence_depth-drop}
 use Rattle.undo_stack.proofs.sequence.Sequence.add.Goals as goal
 
 items : (g : _) (c : goal.After-drop_surplus g)
@@ -19,7 +19,7 @@ returns-then-self-ne0-clause-held g c =
     let r = c.requires in
     let e = c.drop_surplus.ensures in
     most_kept g.C.Command.change c.args.self.now c.drop_surplus.new.self c.args.entry r.at_end e.limit (omega arith)
-    (items g c, e.index, e.clean) (r.nesting, r.live, rw e.has_free c.is_free_with-self.ensures)
+    (items g c, e.index, e.clean) (r.depth, r.live, rw e.has_free c.is_free_with-self.ensures)
 
 pub returns-then-self-ne0-clause-added : goal.returns-then-self-ne0-clause-added
 returns-then-self-ne0-clause-added g c =
@@ -31,7 +31,7 @@ pub returns-else-self-ne0-clause-held : goal.returns-else-self-ne0-clause-held
 returns-else-self-ne0-clause-held g c =
     let r = c.requires in
     all_kept g.C.Command.change c.args.self.now _ c.args.entry r.at_end refl (omega arith)
-    (c.push_back_reserved.ensures.items, refl, refl) (r.nesting, r.live, c.is_free_with-self.ensures)
+    (c.push_back_reserved.ensures.items, refl, refl) (r.depth, r.live, c.is_free_with-self.ensures)
 
 pub returns-else-self-ne0-clause-added : goal.returns-else-self-ne0-clause-added
 returns-else-self-ne0-clause-added g c =
@@ -40,24 +40,24 @@ returns-else-self-ne0-clause-added g c =
     (record q { entries = c.push_back_reserved.new.self; index = q.index + 1; has_free = c.is_free_with-self.result })
     c.args.entry c.requires.at_end refl (omega arith) (c.push_back_reserved.ensures.items, refl, refl)
 
-pub returns-then-self-ne0-clause-nesting : goal.returns-then-self-ne0-clause-nesting
-returns-then-self-ne0-clause-nesting g c =
+pub returns-then-self-ne0-clause-depth : goal.returns-then-self-ne0-clause-depth
+returns-then-self-ne0-clause-depth g c =
     let q = c.args.self.now in
-    let left = sequence_nesting-drop (q.index + 1 - q.limit) (q.entries.items ++ c.args.entry ∷ []) in
-    rw (items g c) (omega (arith, left, sequence_nesting-append q.entries.items c.args.entry))
+    let left = sequence_depth-drop (q.index + 1 - q.limit) (q.entries.items ++ c.args.entry ∷ []) in
+    rw (items g c) (omega (arith, left, sequence_depth-append q.entries.items c.args.entry))
 
-pub returns-else-self-ne0-clause-nesting : goal.returns-else-self-ne0-clause-nesting
-returns-else-self-ne0-clause-nesting g c =
-    rw c.push_back_reserved.ensures.items (omega (arith, sequence_nesting-append c.args.self.now.entries.items c.args.entry))
+pub returns-else-self-ne0-clause-depth : goal.returns-else-self-ne0-clause-depth
+returns-else-self-ne0-clause-depth g c =
+    rw c.push_back_reserved.ensures.items (omega (arith, sequence_depth-append c.args.self.now.entries.items c.args.entry))
 
-pub returns-then-self-ne0-clause-outlined : goal.returns-then-self-ne0-clause-outlined
-returns-then-self-ne0-clause-outlined g c =
+pub returns-then-self-ne0-clause-nests : goal.returns-then-self-ne0-clause-nests
+returns-then-self-ne0-clause-nests g c =
     let q = c.args.self.now in
-    ap (map outline) (items g c) ∙ outlines-added q.entries.items c.args.entry q.index q.limit c.requires.at_end (omega arith)
+    ap (map nesting) (items g c) ∙ nestings-added q.entries.items c.args.entry q.index q.limit c.requires.at_end (omega arith)
 
-pub returns-else-self-ne0-clause-outlined : goal.returns-else-self-ne0-clause-outlined
-returns-else-self-ne0-clause-outlined g c =
+pub returns-else-self-ne0-clause-nests : goal.returns-else-self-ne0-clause-nests
+returns-else-self-ne0-clause-nests g c =
     let q = c.args.self.now in
-    ap (map outline) c.push_back_reserved.ensures.items
-    ∙ map-append outline q.entries.items (c.args.entry ∷ [])
+    ap (map nesting) c.push_back_reserved.ensures.items
+    ∙ map-append nesting q.entries.items (c.args.entry ∷ [])
     ∙ sym (kept_none _ q.limit (omega arith))

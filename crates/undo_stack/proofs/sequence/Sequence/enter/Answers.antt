@@ -4,11 +4,11 @@ use Rattle.map_model.specs.Document.{DocumentParts}
 use Rattle.command_api.specs.Names.{IsSettled}
 use Rattle.undo_stack.specs.History.{step_named, History}
 use Rattle.undo_stack.specs.Pushing.{with_added}
-use Rattle.undo_stack.specs.Sound.{sequence_nesting}
+use Rattle.undo_stack.specs.Sound.{sequence_depth}
 use Rattle.undo_stack.specs.Held.{IsCut, history_at}
-use Rattle.undo_stack.specs.Outlines.{outline}
-use Rattle.undo_stack.proofs.EntryChanges.{entry_change-Command, nesting-Command, outline-Command}
-use Rattle.undo_stack.proofs.Pushes.{sequence_nesting-take, settled-same, undone_settled, current-cut, entered_gone, entered_added}
+use Rattle.undo_stack.specs.Nestings.{nesting}
+use Rattle.undo_stack.proofs.EntryChanges.{entry_change-Command, depth-Command, nesting-Command}
+use Rattle.undo_stack.proofs.Pushes.{sequence_depth-take, settled-same, undone_settled, current-cut, entered_gone, entered_added}
 use Rattle.undo_stack.proofs.Held.{cut_held, cut_seen}
 use Rattle.undo_stack.proofs.sequence.Sequence.enter.Goals as goal
 
@@ -83,26 +83,26 @@ returns-clause-entered g c =
     rw told (entered_added (history_at f b q) (step_named w.names d) (history_at f d c.add.new.self) b (current-cut f b q within) settled
     (added ∙ onto))
 
-pub returns-then-obsolete-clause-nesting : goal.returns-then-obsolete-clause-nesting
-returns-then-obsolete-clause-nesting g c =
-    rw c.cut.ensures.cut.entries (sequence_nesting-take c.args.self.now.index c.args.self.now.entries.items)
+pub returns-then-obsolete-clause-depth : goal.returns-then-obsolete-clause-depth
+returns-then-obsolete-clause-depth g c =
+    rw c.cut.ensures.cut.entries (sequence_depth-take c.args.self.now.index c.args.self.now.entries.items)
 
-pub returns-clause-nesting : goal.returns-clause-nesting
-returns-clause-nesting g c =
+pub returns-clause-depth : goal.returns-clause-depth
+returns-clause-depth g c =
     let q = c.args.self.now in
-    let left : sequence_nesting c.cut-2.new.self.entries.items ≡ sequence_nesting (take q.index q.entries.items) =
-    ap sequence_nesting (cut_before g c).entries in
-    omega (arith, c.add.ensures.nesting, left, sequence_nesting-take q.index q.entries.items, nesting-Command c.args.command)
+    let left : sequence_depth c.cut-2.new.self.entries.items ≡ sequence_depth (take q.index q.entries.items) =
+    ap sequence_depth (cut_before g c).entries in
+    omega (arith, c.add.ensures.depth, left, sequence_depth-take q.index q.entries.items, depth-Command c.args.command)
 
-pub returns-then-obsolete-clause-outlined : goal.returns-then-obsolete-clause-outlined
-returns-then-obsolete-clause-outlined g c =
+pub returns-then-obsolete-clause-nests : goal.returns-then-obsolete-clause-nests
+returns-then-obsolete-clause-nests g c =
     let q = c.args.self.now in
-    rw (told g c, c.cut.ensures.cut.entries) (sym (take-map outline q.index q.entries.items))
+    rw (told g c, c.cut.ensures.cut.entries) (sym (take-map nesting q.index q.entries.items))
 
-pub returns-clause-outlined : goal.returns-clause-outlined
-returns-clause-outlined g c =
+pub returns-clause-nests : goal.returns-clause-nests
+returns-clause-nests g c =
     let q = c.args.self.now in
     let k = cut_before g c in
     let told : (g.C.Command.change c.args.command).obsolete ≡ false = sym c.obsolete.ensures.answer ∙ c.if-obsolete.false in
-    let same = take-map outline q.index q.entries.items in
-    c.add.ensures.outlined ∙ rw (told, k.limit, k.entries, outline-Command c.args.command, same) refl
+    let same = take-map nesting q.index q.entries.items in
+    c.add.ensures.nests ∙ rw (told, k.limit, k.entries, nesting-Command c.args.command, same) refl

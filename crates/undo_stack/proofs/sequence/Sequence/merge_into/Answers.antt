@@ -2,10 +2,10 @@ use Rattle.std.proofs.Common.{◌-◌, ◌∙◌, ap, refl, sym, arith, Bool, Ok
 use Rattle.std.proofs.lemmas.List.{take-map}
 use Rattle.undo_stack.specs.Entries.{entry_change}
 use Rattle.undo_stack.specs.Held.{Becomes}
-use Rattle.undo_stack.specs.Outlines.{outline}
+use Rattle.undo_stack.specs.Nestings.{nesting}
 use Rattle.undo_stack.specs.Pushing.{up_to}
 use Rattle.undo_stack.proofs.Joins.{last_fits}
-use Rattle.undo_stack.proofs.Held.{other_number, unchanged, refused, taken, took_in, merged_err, merged_err_outlines}
+use Rattle.undo_stack.proofs.Held.{other_number, unchanged, refused, taken, took_in, merged_err, merged_err_nestings}
 use Rattle.undo_stack.proofs.Sequences.{map-set_same}
 use Rattle.undo_stack.proofs.sequence.Sequence.merge_into.Goals as goal
 
@@ -33,7 +33,7 @@ returns-in_err-merge-clause-merged g c =
     let h = c.requires.held in
     let kept = rw c.in_err-merge.was at c.merge.ensures.merged in
     merged_err f x d q _ c.from_residual.result c.from_residual.ensures.0
-    (unchanged f q c.index_mut.result.now c.merge.new.self (omega arith) h.sound.turnable.within c.index_mut.ensures.value c.merge.ensures.nesting
+    (unchanged f q c.index_mut.result.now c.merge.new.self (omega arith) h.sound.turnable.within c.index_mut.ensures.value c.merge.ensures.depth
     x d _ (record { entries = refl; index = refl; clean = refl; limit = refl; has_free = refl }) kept h)
 
 pub returns-then-not-branch-clause-merged : goal.returns-then-not-branch-clause-merged
@@ -41,7 +41,7 @@ returns-then-not-branch-clause-merged g c =
     let h = c.requires.held in
     let no = rw (c.in_ok-merge.was ∙ ap (λ (b : Bool). Ok b) c.if-not-branch.true) at c.merge.ensures.merged in
     refused g.C.Command.change c.args.self.now c.index_mut.result.now c.merge.new.self (omega arith) h.sound.turnable.within
-    c.index_mut.ensures.value c.merge.ensures.nesting c.args.command.now c.args.document.now _
+    c.index_mut.ensures.value c.merge.ensures.depth c.args.command.now c.args.document.now _
     (record { entries = refl; index = refl; clean = refl; limit = refl; has_free = refl }) no h
 
 pub returns-clause-merged : goal.returns-clause-merged
@@ -50,7 +50,7 @@ returns-clause-merged g c =
     let h = c.requires.held in
     let yes = rw (c.in_ok-merge.was ∙ ap (λ (b : Bool). Ok b) c.if-not-branch.false) at c.merge.ensures.merged in
     taken g.C.Command.change q c.index_mut.result.now c.merge.new.self (omega arith) h.sound.turnable.within
-    c.index_mut.ensures.value c.merge.ensures.nesting c.args.command.now c.args.document.now c.cut.new.self
+    c.index_mut.ensures.value c.merge.ensures.depth c.args.command.now c.args.document.now c.cut.new.self
     (same g c) (other_number q.clean q.index c.if-eq.ensures) yes h
 
 pub returns-clause-joined : goal.returns-clause-joined
@@ -58,25 +58,25 @@ returns-clause-joined g c =
     let h = c.requires.held in
     let yes = c.in_ok-merge.was ∙ ap (λ (b : Bool). Ok b) c.if-not-branch.false in
     rw yes at (took_in g.C.Command.change c.args.self.now c.index_mut.result.now c.merge.new.self (omega arith) h.sound.turnable.within
-    c.index_mut.ensures.value c.merge.ensures.nesting c.args.command.now c.args.document.now c.cut.new.self c.merge.result
+    c.index_mut.ensures.value c.merge.ensures.depth c.args.command.now c.args.document.now c.cut.new.self c.merge.result
     (same g c) c.merge.ensures.merged)
 
-pub returns-in_err-merge-clause-outlined : goal.returns-in_err-merge-clause-outlined
-returns-in_err-merge-clause-outlined g c =
+pub returns-in_err-merge-clause-nests : goal.returns-in_err-merge-clause-nests
+returns-in_err-merge-clause-nests g c =
     let q = c.args.self.now in
     let same =
-    map-set_same outline q.entries.items c.index_mut.result.now c.merge.new.self (q.index - 1) c.index_mut.ensures.value c.merge.ensures.outlined in
-    merged_err_outlines g.C.Command.change q _ c.from_residual.result c.from_residual.ensures.0 same
+    map-set_same nesting q.entries.items c.index_mut.result.now c.merge.new.self (q.index - 1) c.index_mut.ensures.value c.merge.ensures.nests in
+    merged_err_nestings g.C.Command.change q _ c.from_residual.result c.from_residual.ensures.0 same
 
-pub returns-then-not-branch-clause-outlined : goal.returns-then-not-branch-clause-outlined
-returns-then-not-branch-clause-outlined g c =
+pub returns-then-not-branch-clause-nests : goal.returns-then-not-branch-clause-nests
+returns-then-not-branch-clause-nests g c =
     let q = c.args.self.now in
-    map-set_same outline q.entries.items c.index_mut.result.now c.merge.new.self (q.index - 1) c.index_mut.ensures.value c.merge.ensures.outlined
+    map-set_same nesting q.entries.items c.index_mut.result.now c.merge.new.self (q.index - 1) c.index_mut.ensures.value c.merge.ensures.nests
 
-pub returns-clause-outlined : goal.returns-clause-outlined
-returns-clause-outlined g c =
+pub returns-clause-nests : goal.returns-clause-nests
+returns-clause-nests g c =
     let q = c.args.self.now in
     let changed = set q.entries.items (q.index - 1) c.merge.new.self in
     let same =
-    map-set_same outline q.entries.items c.index_mut.result.now c.merge.new.self (q.index - 1) c.index_mut.ensures.value c.merge.ensures.outlined in
-    ap (map outline) c.cut.ensures.cut.entries ∙ sym (take-map outline q.index changed) ∙ ap (take q.index) same
+    map-set_same nesting q.entries.items c.index_mut.result.now c.merge.new.self (q.index - 1) c.index_mut.ensures.value c.merge.ensures.nests in
+    ap (map nesting) c.cut.ensures.cut.entries ∙ sym (take-map nesting q.index changed) ∙ ap (take q.index) same

@@ -1,6 +1,6 @@
 use Rattle.std.proofs.Common.{◌∙◌, ap, map, sym, refl}
-use Rattle.undo_stack.specs.Outlines.{outline}
-use Rattle.undo_stack.proofs.Held.{stays, goes, outlines_go, outlines_stay}
+use Rattle.undo_stack.specs.Nestings.{nesting}
+use Rattle.undo_stack.proofs.Held.{stays, goes, nestings_go, nestings_stay}
 use Rattle.undo_stack.proofs.sequence.Sequence.settle.Goals as goal
 
 pub returns-then-obsolete-clause-settled : goal.returns-then-obsolete-clause-settled
@@ -17,15 +17,15 @@ returns-else-obsolete-clause-settled g c d h has =
     let e = c.obsolete.ensures in
     stays g.C.Command.change c.args.self.now c.index.result.now r.some r.at_end c.index.ensures e.law d (sym e.answer ∙ c.if-obsolete.false) h
 
-pub returns-then-obsolete-clause-outlined : goal.returns-then-obsolete-clause-outlined
-returns-then-obsolete-clause-outlined g c =
+pub returns-then-obsolete-clause-nests : goal.returns-then-obsolete-clause-nests
+returns-then-obsolete-clause-nests g c =
     let r = c.requires in
     let e = c.obsolete.ensures in
-    ap (map outline) c.truncate.ensures.items
-    ∙ outlines_go g.C.Command.change c.args.self.now c.index.result.now r.some r.at_end c.index.ensures e.law (sym e.answer ∙ c.if-obsolete.true)
+    ap (map nesting) c.truncate.ensures.items
+    ∙ nestings_go g.C.Command.change c.args.self.now c.index.result.now r.some r.at_end c.index.ensures e.law (sym e.answer ∙ c.if-obsolete.true)
 
-pub returns-else-obsolete-clause-outlined : goal.returns-else-obsolete-clause-outlined
-returns-else-obsolete-clause-outlined g c =
+pub returns-else-obsolete-clause-nests : goal.returns-else-obsolete-clause-nests
+returns-else-obsolete-clause-nests g c =
     let r = c.requires in
     let e = c.obsolete.ensures in
-    outlines_stay g.C.Command.change c.args.self.now c.index.result.now r.some r.at_end c.index.ensures e.law (sym e.answer ∙ c.if-obsolete.false)
+    nestings_stay g.C.Command.change c.args.self.now c.index.result.now r.some r.at_end c.index.ensures e.law (sym e.answer ∙ c.if-obsolete.false)

@@ -1,6 +1,6 @@
 use Rattle.std.proofs.Common.{◌≡◌, ◌≤◌, ◌-◌, drop, reverse, take}
 use Rattle.undo_stack.specs.Held.{history_at, IsHeld, shape_at}
-use Rattle.undo_stack.specs.Outlines.{Shape}
+use Rattle.undo_stack.specs.Nestings.{Shape}
 use Rattle.undo_stack.specs.Reporting.{AreUndone}
 use Rattle.undo_stack.specs.Turning.{TurnsBack, TurnBy}
 use Rattle.undo_stack.proofs.sequence.Sequence.step_back_by.Given as goal

@@ -1,6 +1,6 @@
 use Rattle.std.proofs.Common.{◌≤◌, ◌+◌, ◌-◌, drop, length, take}
 use Rattle.undo_stack.specs.Held.{history_at, IsHeld, shape_at}
-use Rattle.undo_stack.specs.Outlines.{Shape}
+use Rattle.undo_stack.specs.Nestings.{Shape}
 use Rattle.undo_stack.specs.Reporting.{AreRedone}
 use Rattle.undo_stack.specs.Turning.{TurnsOn, TurnBy}
 use Rattle.undo_stack.proofs.sequence.Sequence.step_on_by.Given as goal

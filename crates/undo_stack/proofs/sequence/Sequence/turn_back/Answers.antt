@@ -31,7 +31,7 @@ returns-clause-held g c =
     let u = c.undo.ensures in
     turned_held g.C.Command.change q _ c.index_mut.result.now c.undo.new.self (q.index - 1) (q.index - 1) (omega (arith, t.within))
     c.index_mut.ensures.value (record { entries = refl; index = refl; clean = refl; limit = refl; has_free = refl }) (omega (arith, t.within))
-    c.args.document.now c.undo.new.document (moved g c) u.nesting u.turned.names u.turned.obsolete c.requires.held
+    c.args.document.now c.undo.new.document (moved g c) u.depth u.turned.names u.turned.obsolete c.requires.held
 
 pub returns-clause-history : goal.returns-clause-history
 returns-clause-history g c =

@@ -31,7 +31,7 @@ returns-clause-held g c =
     let u = c.redo.ensures in
     turned_held g.C.Command.change q _ c.index_mut.result.now c.redo.new.self q.index (q.index + 1) r.above
     c.index_mut.ensures.value (record { entries = refl; index = refl; clean = refl; limit = refl; has_free = refl }) (omega arith)
-    c.args.document.now c.redo.new.document (moved g c) u.nesting u.turned.names u.turned.obsolete r.held
+    c.args.document.now c.redo.new.document (moved g c) u.depth u.turned.names u.turned.obsolete r.held
 
 pub returns-clause-history : goal.returns-clause-history
 returns-clause-history g c =

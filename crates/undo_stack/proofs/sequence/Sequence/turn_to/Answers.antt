@@ -1,9 +1,9 @@
 use Rattle.std.proofs.Common.{◌∙◌, ℕ, ap, arith, length, min}
 use Rattle.undo_stack.specs.Entries.{entry_change}
-use Rattle.undo_stack.specs.Held.{entry_outlines, history_at, shape_at}
+use Rattle.undo_stack.specs.Held.{entry_nestings, history_at, shape_at}
 use Rattle.undo_stack.specs.Moving.{positioned}
 use Rattle.undo_stack.proofs.Held.{moved_held}
-use Rattle.undo_stack.proofs.Outlines.{shaped}
+use Rattle.undo_stack.proofs.Nestings.{shaped}
 use Rattle.undo_stack.proofs.Reported.{bound_turned}
 use Rattle.undo_stack.proofs.Sequences.{length-steps}
 use Rattle.undo_stack.proofs.Views.{turned_view}
@@ -38,6 +38,6 @@ returns-clause-reported g c =
     let held = c.requires.held in
     let all = length-steps (entry_change f) q.entries.items q.index d in
     let is = returns-clause-history g c ∙ ap (λ (k : ℕ). positioned (min c.args.index k) h) all in
-    let kept = c.redo_to.ensures.outlined ∙ c.undo_to.ensures.outlined in
-    let next = shaped (history_at f e p) (positioned (min c.args.index (length q.entries.items)) h) (entry_outlines p) (entry_outlines q) is kept in
+    let kept = c.redo_to.ensures.nests ∙ c.undo_to.ensures.nests in
+    let next = shaped (history_at f e p) (positioned (min c.args.index (length q.entries.items)) h) (entry_nestings p) (entry_nestings q) is kept in
     bound_turned f q.entries.items c.args.index d (shape_at f d q) (shape_at f e p) (held.none_free c.requires.bound) held.sound.turnable.within next

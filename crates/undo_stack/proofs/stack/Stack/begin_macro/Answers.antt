@@ -5,16 +5,16 @@ use Rattle.command_api.specs.Law.{Change}
 use Rattle.undo_stack.specs.History.{History, current}
 use Rattle.undo_stack.specs.Macros.{BeginAnswers}
 use Rattle.undo_stack.specs.Moving.{Answer}
-use Rattle.undo_stack.specs.Outlines.{Outlines, outlines_cut}
+use Rattle.undo_stack.specs.Nestings.{Nestings, nestings_cut}
 use Rattle.undo_stack.specs.Pushing.{cut}
 use Rattle.undo_stack.specs.Sound.{Inner}
-use Rattle.undo_stack.specs.Stacks.{history, inner_of, inners, outlines}
+use Rattle.undo_stack.specs.Stacks.{history, inner_of, inners, nestings}
 use Rattle.undo_stack.specs.declared.limits.TheConstants.{MAX_DEPTH}
 use Rattle.undo_stack.specs.declared.stack.Stack.{Stack}
 use Rattle.undo_stack.specs.declared.stack.StackFault.TheVariants.{NoMemory}
 use Rattle.undo_stack.proofs.Macros.{begun_view}
 use Rattle.undo_stack.proofs.Innermost.{opened_holds}
-use Rattle.undo_stack.proofs.Lent.{begun_outlines, levels_as}
+use Rattle.undo_stack.proofs.Lent.{begun_nestings, levels_as}
 use Rattle.undo_stack.proofs.Views.{length-opens, current-history_in}
 use Rattle.undo_stack.proofs.stack.Stack.begin_macro.Goals as goal
 
@@ -83,8 +83,8 @@ returns-clause-step g c =
       leads = rw is (begun_view (inners t) f t.document t.sequences.steps (history f s) c.args.text.now c.args.action.now whole at);
     }
 
-pub returns-clause-outlined : goal.returns-clause-outlined
-returns-clause-outlined g c =
+pub returns-clause-nests : goal.returns-clause-nests
+returns-clause-nests g c =
     let f = g.C.Command.change in
     let s = c.args.self.now in
     let t = c.cut.new.self in
@@ -92,7 +92,7 @@ returns-clause-outlined g c =
     let none = ap (λ (l : Inner g.row.C.Denot). l.sequence) c.in-Ok.ensures.inner in
     let position = ap (λ (h : History). h.position) c.take_room.ensures.same in
     let room = c.take_room.ensures.kept in
-    let cut = c.cut.ensures.outlined ∙ ap (λ (m : ℕ). outlines_cut m (outlines c.take_room.new.self)) position ∙ ap (outlines_cut n) room in
-    let around = ap (λ ls. levels_as (outlines t).steps ls.items) c.cut.ensures.levels in
-    begun_outlines t c.in-Ok.level c.push_reserved.new.self n (outlines s) c.push_reserved.ensures.items none cut
-    (ap (λ (a : Outlines). a.levels) around ∙ ap (λ (a : Outlines). a.levels) room)
+    let cut = c.cut.ensures.nests ∙ ap (λ (m : ℕ). nestings_cut m (nestings c.take_room.new.self)) position ∙ ap (nestings_cut n) room in
+    let around = ap (λ ls. levels_as (nestings t).steps ls.items) c.cut.ensures.levels in
+    begun_nestings t c.in-Ok.level c.push_reserved.new.self n (nestings s) c.push_reserved.ensures.items none cut
+    (ap (λ (a : Nestings). a.levels) around ∙ ap (λ (a : Nestings). a.levels) room)

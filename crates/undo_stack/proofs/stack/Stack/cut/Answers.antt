@@ -3,8 +3,8 @@ use Rattle.std.proofs.lemmas.List.{length-take-le}
 use Rattle.undo_stack.specs.Pushing.{cut}
 use Rattle.undo_stack.proofs.Held.{cut_held, cut_seen}
 use Rattle.undo_stack.proofs.Innermost.{closed_held, closed_history, closed_holds, open_ready, open_uncut}
-use Rattle.undo_stack.specs.Held.{entry_outlines}
-use Rattle.undo_stack.proofs.Lent.{cut_outlines, open_outlines}
+use Rattle.undo_stack.specs.Held.{entry_nestings}
+use Rattle.undo_stack.proofs.Lent.{cut_nestings, open_nestings}
 use Rattle.undo_stack.proofs.stack.Stack.cut.Goals as goal
 
 pub returns-then-is_open-clause-cut : goal.returns-then-is_open-clause-cut
@@ -41,10 +41,10 @@ returns-clause-ready g c =
       room = rw (k.index, c.cut.ensures.room) (rw c.if-is_open.ensures at c.requires.room);
     }
 
-pub returns-then-is_open-clause-outlined : goal.returns-then-is_open-clause-outlined
-returns-then-is_open-clause-outlined g c =
+pub returns-then-is_open-clause-nests : goal.returns-then-is_open-clause-nests
+returns-then-is_open-clause-nests g c =
     let s = c.args.self.now in
-    open_outlines s.sequences.levels.items (entry_outlines s.sequences.steps) s.sequences.steps.index c.if-is_open.ensures
+    open_nestings s.sequences.levels.items (entry_nestings s.sequences.steps) s.sequences.steps.index c.if-is_open.ensures
 
-pub returns-clause-outlined : goal.returns-clause-outlined
-returns-clause-outlined g c = cut_outlines c.args.self.now c.cut.new.self c.if-is_open.ensures c.cut.ensures.cut.entries
+pub returns-clause-nests : goal.returns-clause-nests
+returns-clause-nests g c = cut_nestings c.args.self.now c.cut.new.self c.if-is_open.ensures c.cut.ensures.cut.entries

@@ -1,5 +1,5 @@
-use Rattle.undo_stack.proofs.Innermost.{Closes, closing_nesting, ended_led, inner_held, popped_holds, popped_ready}
-use Rattle.undo_stack.proofs.Lent.{ended_outlines}
+use Rattle.undo_stack.proofs.Innermost.{Closes, closing_depth, ended_led, inner_held, popped_holds, popped_ready}
+use Rattle.undo_stack.proofs.Lent.{ended_nestings}
 use Rattle.undo_stack.proofs.stack.Stack.end_macro.Goals as goal
 
 -- the level that was taken becomes the entry
@@ -15,8 +15,8 @@ add-requires-clause-room g c = rw c.innermost.ensures.value (popped_ready (close
 pub add-requires-clause-count : goal.add-requires-clause-count
 add-requires-clause-count g c = rw c.innermost.ensures.value (inner_held (popped_holds (closes g c))).sound.count
 
-pub add-requires-clause-nesting : goal.add-requires-clause-nesting
-add-requires-clause-nesting g c = closing_nesting (closes g c)
+pub add-requires-clause-depth : goal.add-requires-clause-depth
+add-requires-clause-depth g c = closing_depth (closes g c)
 
 closes_last : (g : _) (c : goal.After-self-1 g) → Closes g.C.Command.change c.args.self.now c.in-Some.level c.pop.new.self c.into_entry-entry.result
 closes_last g c = record { holds = c.requires; items = c.in-Some.ensures.items; closed = c.into_entry-entry.ensures }
@@ -25,15 +25,15 @@ pub returns-clause-sound : goal.returns-clause-sound
 returns-clause-sound g c =
     let d = c.args.self.now.document in
     let e = rw c.innermost.ensures.value at c.add.ensures in
-    (ended_led (closes_last g c) c.add.new.self e.nesting (e.held d) (e.added d)).0
+    (ended_led (closes_last g c) c.add.new.self e.depth (e.held d) (e.added d)).0
 
 pub returns-clause-step : goal.returns-clause-step
 returns-clause-step g c =
     let d = c.args.self.now.document in
     let e = rw c.innermost.ensures.value at c.add.ensures in
-    (ended_led (closes_last g c) c.add.new.self e.nesting (e.held d) (e.added d)).1
+    (ended_led (closes_last g c) c.add.new.self e.depth (e.held d) (e.added d)).1
 
-pub returns-clause-outlined : goal.returns-clause-outlined
-returns-clause-outlined g c =
+pub returns-clause-nests : goal.returns-clause-nests
+returns-clause-nests g c =
     let e = rw c.innermost.ensures.value at c.add.ensures in
-    ended_outlines (closes_last g c) c.add.new.self e.outlined
+    ended_nestings (closes_last g c) c.add.new.self e.nests

@@ -1,16 +1,16 @@
 use Rattle.std.proofs.Common.{◌≡◌, ◌<◌, ◌∙◌, List, ap, arith, map, refl}
 use Rattle.std.proofs.lemmas.Result.{IfOk-weaker}
 use Rattle.std.specs.VecDeque.{deque_capacity}
-use Rattle.undo_stack.specs.Held.{Becomes, entry_outlines}
+use Rattle.undo_stack.specs.Held.{Becomes, entry_nestings}
 use Rattle.undo_stack.specs.Lending.{innermost, with_innermost_of}
-use Rattle.undo_stack.specs.Outlines.{outline}
-use Rattle.undo_stack.specs.Sound.{sequence_nesting}
+use Rattle.undo_stack.specs.Nestings.{nesting}
+use Rattle.undo_stack.specs.Sound.{sequence_depth}
 use Rattle.undo_stack.specs.Stacks.{Holds, history}
 use Rattle.undo_stack.specs.declared.level.Level.{Level}
 use Rattle.undo_stack.specs.declared.stack.Stack.{Stack}
 use Rattle.undo_stack.proofs.Held.{alike_held, alike_seen}
 use Rattle.undo_stack.proofs.Innermost.{as_history, as_holds, inner_held, innermost_led, led, same_led}
-use Rattle.undo_stack.proofs.Lent.{levels_as, same_outlines}
+use Rattle.undo_stack.proofs.Lent.{levels_as, same_nestings}
 use Rattle.undo_stack.proofs.stack.Stack.take_room.Goals as goal
 
 -- the stack with room for a further level
@@ -34,7 +34,7 @@ alike g c =
     let q = c.take_room.new.self in
     let p = innermost (reserved g c).sequences in
     let k = same g c in
-    let flat : sequence_nesting q.entries.items ≡ sequence_nesting p.entries.items = ap sequence_nesting k.entries in
+    let flat : sequence_depth q.entries.items ≡ sequence_depth p.entries.items = ap sequence_depth k.entries in
     same_led (holds g c) d q (alike_held f p q k d (inner_held (holds g c))) (omega arith) (alike_seen f p q k d)
 
 pub take_room-requires : goal.take_room-requires
@@ -63,5 +63,5 @@ returns-clause-inner_room g c =
 pub returns-clause-kept : goal.returns-clause-kept
 returns-clause-kept g c =
     let s = c.args.self.now in
-    same_outlines (holds g c) s.document c.take_room.new.self (ap (map outline) (same g c).entries)
-    ∙ ap (λ (ls : List (Level g.row.C.Denot)). levels_as (entry_outlines s.sequences.steps) ls) c.reserve.ensures.items
+    same_nestings (holds g c) s.document c.take_room.new.self (ap (map nesting) (same g c).entries)
+    ∙ ap (λ (ls : List (Level g.row.C.Denot)). levels_as (entry_nestings s.sequences.steps) ls) c.reserve.ensures.items
