@@ -16,6 +16,7 @@ use crate::block::Block;
 use crate::laying::laid_cells;
 use command_api::EditFault;
 use link_chain::Chain;
+use link_tree::LinkTree;
 use map_model::limits::{MAX_GROUPS, MAX_PIXELS};
 use map_model::{Body, Canvas, Cells, Document, Layer, LayerCells, MapParts, Object, is_size};
 use std::alloc::{AllocError, Global};
@@ -58,7 +59,7 @@ fn stays(object: &Object, shift: &Shift) -> bool
 }
 
 // Whether a shift leaves each object of a list within its limits.
-fn each_stays(objects: &Chain<Object>, shift: &Shift) -> bool
+fn each_stays(objects: &LinkTree<Object>, shift: &Shift) -> bool
     requires right { IsShift shift.now.right }
     requires down { IsShift shift.now.down }
     ensures { result ≡ list_all (stays shift.now.right shift.now.down) objects.now }

@@ -16,3 +16,5 @@ mod looks;
 mod paints;
 #[cfg(test)]
 mod stacks;
+#[cfg(test)]
+mod trees;

@@ -10,6 +10,7 @@ ghost use Rattle.map_model.specs.Keeping.{layer_level};
 
 use crate::trail::{Step, Trail};
 use link_chain::Chain;
+use link_tree::LinkTree;
 use map_model::limits::MAX_GROUPS;
 use map_model::{Body, Layer, MapParts, Object, Property, Tileset, names};
 use std::alloc::{AllocError, Global};
@@ -38,7 +39,7 @@ fn second_number(alloc: Global, numbers: &[u32]) -> Result<Option<usize>, AllocE
     second_place(alloc, numbers)
 }
 
-fn push_ids(objects: &Chain<Object>, ids: &mut Vec<u32>) -> Result<(), AllocError>
+fn push_ids(objects: &LinkTree<Object>, ids: &mut Vec<u32>) -> Result<(), AllocError>
     ensures { OnOk result (ids.new.items ≡ ids.old.items ++ object_ids_in (Objects objects.now)) }
 {
     for object in objects.iter() {
@@ -226,7 +227,7 @@ fn names_are_distinct<T: Trail>(
 
 fn object_names_are_distinct<T: Trail>(
     alloc: Global,
-    objects: &Chain<Object>,
+    objects: &LinkTree<Object>,
     trail: &mut T,
 ) -> Result<bool, AllocError>
     ensures { IfOk result (λ answer. answer ≡ list_all are_named_apart (lists_in (Objects objects.now))) }

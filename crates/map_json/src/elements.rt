@@ -1,20 +1,21 @@
 // Arrays whose elements are read one after the other.
-ghost use Rattle.std.specs.Prelude.{◌≡◌, ◌*◌, ◌≤◌, [], option_map, length, Ok, Result, IfOk, IfErr, IsSomeAnd};
+ghost use Rattle.std.specs.Prelude.{◌≡◌, ◌*◌, ◌≤◌, [], ◌∷◌, ◌++◌, option_map, length, Result, OnOk};
 ghost use Rattle.serde_json.specs.Data.{Data};
 ghost use Rattle.serde_json.specs.Find.{as_array, get_member};
 ghost use Rattle.serde_json.specs.View.{view as data_of, items_view};
 ghost use Rattle.map_model.specs.declared.limits.TheConstants.{MAX_CELLS, MAX_OBJECTS};
 ghost use Rattle.map_json.specs.Members.{without};
-ghost use Rattle.map_json.specs.Steps.{Fails, Gives, required, absent_means};
+ghost use Rattle.map_json.specs.Steps.{Gives, GivesBy, required, absent_means};
 ghost use Rattle.map_json.specs.Elements.{each, elements_at};
 
 use crate::fault::{MapFault, MapRefusal};
 use crate::json_object::JsonObject;
 use crate::size::Size;
 use crate::trail::{Step, Trail};
-use link_chain::{Chain, Loose};
+use link_chain::Chain;
+use link_tree::LinkTree;
 use serde_json::Value;
-use std::alloc::Global;
+use std::alloc::{AllocError, Global};
 
 /// What an array of a file has as its elements.
 pub trait Element {
@@ -33,6 +34,60 @@ pub trait Element {
         ensures { Gives result (reads size (data_of value)) };
 }
 
+/// A list of links that the elements of an array are put into.
+pub trait ElementList<E> {
+    ghost use Rattle.std.specs.Prelude.{List};
+
+    ghost listed: { Self → List E };
+
+    fn none(alloc: Global) -> Self
+        ensures { listed result ≡ [] };
+
+    fn count(&self) -> usize
+        ensures { result ≡ length (listed self.now) };
+
+    /// Puts an element behind the others, in a link of its own.
+    fn add(&mut self, alloc: Global, element: E) -> Result<(), AllocError>
+        requires { length (listed self.old) ≤ MAX_OBJECTS }
+        ensures { OnOk result (listed self.new ≡ listed self.old ++ element ∷ []) };
+}
+
+impl<E: Drop> ElementList<E> for Chain<E> {
+    ghost listed = { λ elements. elements };
+
+    fn none(alloc: Global) -> Chain<E> {
+        Chain::new(alloc)
+    }
+
+    fn count(&self) -> usize {
+        self.len()
+    }
+
+    fn add(&mut self, alloc: Global, element: E) -> Result<(), AllocError> {
+        let link = link_chain::Loose::new(alloc, element).map_err(|_| AllocError)?;
+        self.insert(self.len(), link);
+        Ok(())
+    }
+}
+
+impl<E: Drop> ElementList<E> for LinkTree<E> {
+    ghost listed = { λ elements. elements };
+
+    fn none(_alloc: Global) -> LinkTree<E> {
+        LinkTree::new()
+    }
+
+    fn count(&self) -> usize {
+        self.len()
+    }
+
+    fn add(&mut self, alloc: Global, element: E) -> Result<(), AllocError> {
+        let link = link_tree::Loose::new(alloc, element).map_err(|_| AllocError)?;
+        self.insert(self.len(), link);
+        Ok(())
+    }
+}
+
 /// The elements of a value, where it is an array.
 pub fn array_of(value: Value) -> Option<Vec<Value>>
     ensures { option_map (λ values. items_view values.items) result ≡ as_array (data_of value) }
@@ -43,52 +98,37 @@ pub fn array_of(value: Value) -> Option<Vec<Value>>
     }
 }
 
-// An element in a link of its own.
-fn linked<E: Element + Drop, T: Trail>(
-    alloc: Global,
-    size: Size,
-    value: Value,
-    trail: &mut T,
-) -> Result<Loose<E>, MapFault>
-    requires { size.width * size.height ≤ MAX_CELLS }
-    ensures ok { IfOk result (λ loose. IsSomeAnd loose (λ element. E.reads size (data_of value) ≡ Ok element)) }
-    ensures err { IfErr result (λ fault. Fails fault (E.reads size (data_of value))) }
-{
-    let element = E::read(alloc, size, value, trail)?;
-    Loose::new(alloc, element).map_err(|_| MapFault::Memory)
-}
-
-fn each<E: Element + Drop, T: Trail>(
+fn each<E: Element + Drop, L: ElementList<E> + Drop, T: Trail>(
     alloc: Global,
     size: Size,
     values: Vec<Value>,
     trail: &mut T,
-) -> Result<Chain<E>, MapFault>
+) -> Result<L, MapFault>
     requires size { size.width * size.height ≤ MAX_CELLS }
     requires few { length values.items ≤ MAX_OBJECTS }
-    ensures { Gives result (each (E.reads size) (items_view values.items)) }
+    ensures { GivesBy L.listed result (each (E.reads size) (items_view values.items)) }
 {
-    let mut found = Chain::new(alloc);
+    let mut found = L::none(alloc);
     for value in values {
-        trail.enter(Step::Element(found.len()));
-        let link = linked(alloc, size, value, trail)?;
+        trail.enter(Step::Element(found.count()));
+        let element = E::read(alloc, size, value, trail)?;
+        found.add(alloc, element)?;
         trail.leave();
-        found.insert(found.len(), link);
     }
     Ok(found)
 }
 
 #[tactic(auto, using(crate::proofs::Loops::lengths))]
-fn elements<E: Element + Drop, T: Trail>(
+fn elements<E: Element + Drop, L: ElementList<E> + Drop, T: Trail>(
     alloc: Global,
     size: Size,
     most: usize,
     value: Value,
     trail: &mut T,
-) -> Result<Chain<E>, MapFault>
+) -> Result<L, MapFault>
     requires size { size.width * size.height ≤ MAX_CELLS }
     requires few { most ≤ MAX_OBJECTS }
-    ensures { Gives result (elements_at most (E.reads size) (data_of value)) }
+    ensures { GivesBy L.listed result (elements_at most (E.reads size) (data_of value)) }
 {
     let values = array_of(value).ok_or(MapRefusal::MemberOfAnotherKind)?;
     if values.len() > most {
@@ -98,17 +138,17 @@ fn elements<E: Element + Drop, T: Trail>(
 }
 
 /// The elements of an array that must be there, at most so many. It is taken out, and read at its place.
-pub fn required_elements<E: Element + Drop, T: Trail>(
+pub fn required_elements<E: Element + Drop, L: ElementList<E> + Drop, T: Trail>(
     alloc: Global,
     size: Size,
     most: usize,
     members: &mut JsonObject,
     name: &str,
     trail: &mut T,
-) -> Result<Chain<E>, MapFault>
+) -> Result<L, MapFault>
     requires size { size.width * size.height ≤ MAX_CELLS }
     requires few { most ≤ MAX_OBJECTS }
-    ensures value { Gives result
+    ensures value { GivesBy L.listed result
         (required (elements_at most (E.reads size)) (get_member name.now members.old)) }
     ensures left { members.new ≡ without name.now members.old }
 {
@@ -134,7 +174,7 @@ pub fn elements_or_none<E: Element + Drop, T: Trail>(
     ensures left { members.new ≡ without name.now members.old }
 {
     let found = match members.enter(name, trail) {
-        Some(value) => elements(alloc, size, most, value, trail)?,
+        Some(value) => elements::<E, Chain<E>, T>(alloc, size, most, value, trail)?,
         None => Chain::new(alloc),
     };
     trail.leave();

@@ -17,6 +17,7 @@ use crate::size::Size;
 use base64::encoded_len;
 use base64::engine::general_purpose::STANDARD;
 use link_chain::Chain;
+use link_tree::LinkTree;
 use map_model::{
     Body, Encoding, Layer, MapParts, MapText, Object, PropValue, Property, Tileset, names,
 };
@@ -244,6 +245,20 @@ fn put_tiles(
     put_shape(alloc, size, encoding, members)
 }
 
+fn array_of_objects(
+    alloc: Global,
+    size: Size,
+    objects: &LinkTree<Object>,
+) -> Result<Value, AllocError>
+    ensures { IfOk result (λ value. data_of value ≡ array_by object_tree objects.now) }
+{
+    let mut values = Vec::with_capacity(alloc, objects.len())?;
+    for object in objects.iter() {
+        values.push(object.tree(alloc, size)?)?;
+    }
+    Ok(Value::from(values))
+}
+
 // Puts the members of a layer's kind, with an empty array for numbers and for the layers of a group.
 fn put_body(
     alloc: Global,
@@ -261,7 +276,7 @@ fn put_body(
         Body::Objects(objects) => members.put(
             alloc,
             names::OBJECTS,
-            array_by(alloc, size, objects)?,
+            array_of_objects(alloc, size, objects)?,
         ),
         Body::Other => Ok(()),
         Body::Group(_) => members.put(alloc, names::LAYERS, Value::from(Vec::new(alloc))),

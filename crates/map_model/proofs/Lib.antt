@@ -2,6 +2,7 @@ pub mod GroupBodies
 pub mod Trees
 pub mod TreeChanges
 pub mod CanvasLaws
+pub mod ChangedObjects
 pub mod CanvasSteps
 pub mod CanvasTrees
 pub mod CellEdits

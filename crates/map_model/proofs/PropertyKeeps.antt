@@ -9,21 +9,18 @@ use Rattle.std.specs.FinSet as set
 use Rattle.region.specs.Cells.{cell_cmp}
 use Rattle.serde_json.specs.Data.{no_members}
 use Rattle.map_model.specs.declared.limits.TheConstants.{MAX_PROPERTIES}
-use Rattle.map_model.specs.declared.parts.Body.{Body}
-use Rattle.map_model.specs.declared.parts.Body.TheVariants.{Tiles, Objects, Other, Group'}
 use Rattle.map_model.specs.declared.parts.Layer.{Layer}
 use Rattle.map_model.specs.declared.parts.MapParts.{MapParts}
 use Rattle.map_model.specs.declared.parts.Object.{Object}
 use Rattle.map_model.specs.declared.parts.Property.{Property}
-use Rattle.map_model.specs.declared.parts.PropValue.{PropValue}
 use Rattle.map_model.specs.declared.place.ObjectPlace.{ObjectPlace}
 use Rattle.map_model.specs.declared.place.OwnerPlace.{OwnerPlace}
 use Rattle.map_model.specs.declared.place.OwnerPlace.TheVariants as places
 use Rattle.map_model.specs.declared.setting.Setting.{Setting}
-use Rattle.map_model.specs.Document.{document_of, IsSelectionOf}
+use Rattle.map_model.specs.Document.{IsSelectionOf}
 use Rattle.map_model.specs.Keeping.{map_level, object_level, property_level, property_names}
 use Rattle.map_model.specs.Lists.{Each, Distinct, change_at, or_empty}
-use Rattle.map_model.specs.Objects.{body_with_objects, layer_with_objects, object_at, objects_in, objects_of}
+use Rattle.map_model.specs.Objects.{layer_with_objects, object_at}
 use Rattle.map_model.specs.Lookups.{layer_of}
 use Rattle.map_model.specs.Properties.{has_name, layer_properties, layer_with_properties, level_of, new_property, object_properties, object_with_properties, owner_level, properties_of, property_at, property_with_setting, setting_of, with_properties, with_property, with_property_at, without_property_at, IsSetting}
 use Rattle.map_model.specs.WellFormed.{AreProperties, IsProperty, IsValue, IsWellFormed, names_of_property}
@@ -32,8 +29,6 @@ use Rattle.map_model.proofs.Keeps.{changed-keeps, layer_of-IsLayer, object_ids-I
 use Rattle.map_model.proofs.Lookups.{level_of-low, level_of-with_layer}
 use Rattle.map_model.proofs.NewMaps.{unread-test}
 use Rattle.map_model.proofs.ObjectKeeps.{length-change_at, Each-change_at, group_in-objects, object_at-IsObject, with_object-keeps_there}
-use Rattle.map_model.proofs.LensLaws.{change_at-along, some-eq}
-use Rattle.map_model.proofs.PropertyLaws.{properties-laws, update-along}
 
 -- a write at a place is a change of the element there
 pub set-at_place : {X : Type 0} (f : X → X) (xs : List X) (k : ℕ) (x : X) → slice_get xs k ≡ Some x → slice_set xs k (f x) ≡ change_at k f xs
@@ -41,11 +36,6 @@ set-at_place f [] zero x e = refl
 set-at_place f [] (suc k) x e = refl
 set-at_place f (y ∷ ys) zero x e = let is : x ≡ y = cc in ap (λ z. f z ∷ ys) is
 set-at_place f (y ∷ ys) (suc k) x e = ap (λ zs. y ∷ zs) (set-at_place f ys k x e)
-
--- two changes that agree on the owner's properties
-pub with_properties-along : (owner : OwnerPlace) (f g : List Property → List Property) (ps : List Property) (m : MapParts) → properties_of m owner ≡ Some ps → f ps ≡ g ps
-    → with_properties owner f m ≡ with_properties owner g m
-with_properties-along owner f g ps m e same = ap (λ d. d.map) (update-along (properties-laws owner) f g ps (document_of m) e same)
 
 -- ---- the properties of an owner of a well-formed map
 mapped : {X Y : Type 0} (f : X → Y) (o : Option X) (y : Y) → option_map f o ≡ Some y → (x : X) × ((o ≡ Some x) × (f x ≡ y))
@@ -231,50 +221,11 @@ owner_level-with_properties places.Map f m (places.Object place) = refl
 owner_level-with_properties (places.Layer own) f m (places.Object place) = ap object_level (level_of-with_layer own (layer_with_properties f) (λ l. refl) (λ l. refl) m place.layer)
 owner_level-with_properties (places.Object own) f m (places.Object place) = ap object_level (placed_level own f m place.layer)
 
--- ---- what is left behind the lent properties
-module _ (owner : OwnerPlace) (at : ℕ) (ps : List Property) (m : MapParts) (e : properties_of m owner ≡ Some ps) where
-  pub lent-insert : (loose : Option Property) (new : List Property) → IsSomeAnd loose (λ p. new ≡ insert ps at p)
-      → IsSomeAnd loose (λ p. with_properties owner (λ own. new) m ≡ with_property_at owner at p m)
-  lent-insert None new h = absurd h
-  lent-insert (Some p) new is = with_properties-along owner (λ own. new) (λ qs. insert qs at p) ps m e is
-
-  pub lent-remove : (new : List Property) → new ≡ remove ps at → with_properties owner (λ own. new) m ≡ without_property_at owner at m
-  lent-remove new is = with_properties-along owner (λ own. new) (λ qs. remove qs at) ps m e is
-
-  pub lent-setting : (s : Setting) (p : Property) (kind : List ℕ) (value : PropValue) → slice_get ps at ≡ Some p → kind ≡ s.kind → value ≡ s.value
-      → with_properties owner (λ own. slice_set ps at (record p { kind = kind; value = value })) m ≡ with_property owner at (property_with_setting s) m
-  lent-setting s p kind value there k v =
-      with_properties-along owner (λ own. slice_set ps at (record p { kind = kind; value = value })) (change_at at (property_with_setting s)) ps m e
-      (rw (k, v) (set-at_place (property_with_setting s) ps at p there))
-
 -- ---- where a property may be put in
 module _ (at : ℕ) (m : MapParts) where
   pub room_in_layer : (id : ℕ) → (l : Layer) → layer_of m id ≡ Some l → IsSomeAnd (properties_of m (places.Layer id)) (λ ps. at ≤ length ps) → IsWellFormed m → (at ≤ length l.properties) × (length l.properties ≤ MAX_PROPERTIES)
   room_in_layer id l e place h = (rw e at place, (layer_of-IsLayer m id l e h).properties.few)
 
-  pub room_in_object : (place : ObjectPlace) (l : Layer) → layer_of m place.layer ≡ Some l → IsSomeAnd (properties_of m (places.Object place)) (λ ps. at ≤ length ps) → IsWellFormed m
-      → IsSomeAnd (option_and_then (λ os. slice_get os place.at) (objects_of l)) (λ o. (at ≤ length o.properties) × (length o.properties ≤ MAX_PROPERTIES))
-  room_in_object place l e room h = by_object (object_at m place) refl (ap (λ o. option_and_then (λ os. slice_get os place.at) (option_and_then objects_of o)) (sym e)) room
-    where
-      by_object : (o : Option Object) → object_at m place ≡ o → option_and_then (λ os. slice_get os place.at) (objects_of l) ≡ object_at m place → IsSomeAnd (option_map object_properties (object_at m place)) (λ ps. at ≤ length ps)
-          → IsSomeAnd (option_and_then (λ os. slice_get os place.at) (objects_of l)) (λ o. (at ≤ length o.properties) × (length o.properties ≤ MAX_PROPERTIES))
-      by_object None f own r = absurd (rw f at r)
-      by_object (Some o) f own r = rw (own, f) (rw f at r, (object_at-IsObject m place o f h).properties.few)
-
--- ---- what is left behind the lent properties of an object
-module _ (k : ℕ) (ps : List Property) where
-  pub lent-object : (f : List Property → List Property) (b : Body) (new : List Property) → option_map object_properties (option_and_then (λ os. slice_get os k) (objects_in b)) ≡ Some ps → new ≡ f ps
-      → body_with_objects (change_at k (object_with_properties (λ own. new))) b ≡ body_with_objects (change_at k (object_with_properties f)) b
-  lent-object f (Tiles e cells) new has is = refl
-  lent-object f (Objects os) new has is =
-      ap Objects (change_at-along (object_with_properties (λ own. new)) (object_with_properties f) os k
-      (λ o there. let own : o.properties ≡ ps = some-eq o.properties ps (sym (ap (option_map object_properties) there) ∙ has) in
-      λ i. record o { properties = (is ∙ ap f (sym own)) i }))
-  lent-object f Other new has is = refl
-  lent-object f (Group' s r) new has is = refl
-
-  pub lent-object_with : {X : Type 0} (f : X → List Property → List Property) (item : Option X) (b : Body) (new : List Property) → option_map object_properties (option_and_then (λ os. slice_get os k) (objects_in b)) ≡ Some ps
-      → IsSomeAnd item (λ x. new ≡ f x ps)
-      → IsSomeAnd item (λ x. body_with_objects (change_at k (object_with_properties (λ own. new))) b ≡ body_with_objects (change_at k (object_with_properties (f x))) b)
-  lent-object_with f None b new has h = h
-  lent-object_with f (Some x) b new has h = lent-object (f x) b new has h
+  pub room_in_object : (place : ObjectPlace) (o : Object) → object_at m place ≡ Some o → IsSomeAnd (properties_of m (places.Object place)) (λ ps. at ≤ length ps) → IsWellFormed m
+      → (at ≤ length o.properties) × (length o.properties ≤ MAX_PROPERTIES)
+  room_in_object place o e room h = (rw e at room, (object_at-IsObject m place o e h).properties.few)

@@ -21,7 +21,6 @@ pub mod Sizes
 pub mod Properties
 pub mod Readable
 pub mod PropertyLenses
-pub mod Lending
 pub mod Steps
 pub mod Given
 pub mod Groups

@@ -12,6 +12,7 @@ ghost use Rattle.map_model.specs.WellFormed.{IsPixels, IsPlacing};
 use crate::contents::Cells;
 use crate::parts::{Body, Layer, Object, Placing};
 use link_chain::Chain;
+use link_tree::LinkTree;
 use region::Region;
 use std::marker::Model;
 use std::mem;
@@ -94,13 +95,17 @@ impl Placing {
 }
 
 // Moves objects by so many pixels.
-fn move_objects(objects: &mut Chain<Object>, right: i64, down: i64)
+fn move_objects(objects: &mut LinkTree<Object>, right: i64, down: i64)
     requires { Each (MayBeMoved right down) objects.old }
     ensures { objects.new ≡ map (object_moved right down) objects.old }
 {
     for at in 0..objects.len() {
-        let placing = &mut objects.get_mut(at).placing;
-        *placing = placing.moved(right, down);
+        objects.change_at(
+            at,
+            |object: &mut Object|
+                requires { IsPlacing (placing_moved right down object.old.placing) }
+            { object.placing = object.placing.moved(right, down) },
+        );
     }
 }
 

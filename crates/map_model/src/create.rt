@@ -7,6 +7,7 @@ ghost use Rattle.map_model.specs.NewMap.{new_layer, empty_layer, empty_object_la
 use crate::contents::{Cells, Kept, MapText};
 use crate::parts::{Body, Encoding, Layer, LayerKind, Object, Placing};
 use link_chain::{Chain, Loose};
+use link_tree::LinkTree;
 use serde_json::{Value, json};
 use std::alloc::{AllocError, Global};
 use tile_id::Gid;
@@ -83,7 +84,7 @@ fn object_layer(alloc: Global, id: u32, name: MapText) -> Result<Layer, AllocErr
         visible: true,
         properties: Chain::new(alloc),
         kept: kept_by_object_layer(alloc)?,
-        body: Body::Objects(Chain::new(alloc)),
+        body: Body::Objects(LinkTree::new()),
     })
 }
 

@@ -2,7 +2,10 @@
 ghost use Rattle.std.specs.Prelude.{◌≡◌, ◌<◌, ◌≤◌, Some, IfSome, IsSomeAnd, length, slice_get, option_and_then, position};
 ghost use Rattle.std.specs.Option.{option_copied, option_map};
 ghost use Rattle.std.specs.List.{insert, remove};
+ghost use Rattle.std.specs.Fn.{FnOnceTakesAtMut};
 ghost use Rattle.map_model.specs.declared.limits.TheConstants.{MAX_GROUPS, MAX_OBJECTS};
+ghost use Rattle.map_model.specs.declared.parts.Object.{Object};
+ghost use Rattle.map_model.specs.Changing.{ChangesObject, ChangesObjectIn};
 ghost use Rattle.map_model.specs.Lists.{Distinct, change_at, first_some};
 ghost use Rattle.map_model.specs.Objects.{body_with_objects, found_in_layer, has_object_id, layer_with_objects, object_placing, object_with_placing, objects_in, objects_of};
 ghost use Rattle.map_model.specs.Groups.{change_among, drawn, layer_among, tree};
@@ -12,12 +15,13 @@ ghost use Rattle.map_model.specs.WellFormed.{layer_ids};
 use crate::groups::change_layer;
 use crate::parts::{Body, Layer, Object, Placing};
 use crate::place::ObjectPlace;
-use link_chain::{Chain, Loose};
+use link_chain::Chain;
+use link_tree::{LinkTree, Loose};
 use std::mem;
 
 impl Body {
     /// The objects of an object layer, or `None` for another kind of layer.
-    pub fn objects(&self) -> Option<&Chain<Object>>
+    pub fn objects(&self) -> Option<&LinkTree<Object>>
         ensures { option_copied result ≡ objects_in self.now }
     {
         match self {
@@ -55,20 +59,6 @@ impl Body {
             Body::Group(_) => unreachable!(),
         }
     }
-
-    // Gives the object at a place of an object layer another placing, and hands the old one back.
-    fn place_object(&mut self, at: usize, placing: Placing) -> Placing
-        requires { IsSomeAnd (objects_in self.old) (λ os. at < length os) }
-        ensures given { option_map object_placing (option_and_then (λ os. slice_get os at) (objects_in self.old)) ≡ Some result }
-        ensures body { self.new ≡ body_with_objects (change_at at (object_with_placing placing)) self.old }
-    {
-        match self {
-            Body::Objects(objects) => mem::replace(&mut objects.get_mut(at).placing, placing),
-            Body::Tiles(_, _) => unreachable!(),
-            Body::Other => unreachable!(),
-            Body::Group(_) => unreachable!(),
-        }
-    }
 }
 
 /// Puts an object in at a place.
@@ -101,6 +91,44 @@ pub fn take_object_in(layers: &mut Chain<Layer>, place: ObjectPlace) -> Loose<Ob
     )
 }
 
+// Changes the object at a place of an object layer.
+fn change_in_body<R, F: FnOnce(&mut Object) -> R>(body: &mut Body, at: usize, change: F) -> R
+    requires place { IsSomeAnd (objects_in body.old) (λ os. at < length os) }
+    requires callable { (o : Object) → option_and_then (λ os. slice_get os at) (objects_in body.old) ≡ Some o → FnOnceTakesAtMut F.FnOnce change o }
+    ensures { ChangesObjectIn F.FnOnce change at body.old result body.new }
+{
+    match body {
+        Body::Objects(objects) => objects.change_at(at, change),
+        Body::Tiles(_, _) => unreachable!(),
+        Body::Other => unreachable!(),
+        Body::Group(_) => unreachable!(),
+    }
+}
+
+/// Changes the object at a place.
+pub fn change_object<R, F: FnOnce(&mut Object) -> R>(
+    layers: &mut Chain<Layer>,
+    place: ObjectPlace,
+    change: F,
+) -> R
+    requires distinct { Distinct (layer_ids layers.old) }
+    requires there { IsSomeAnd (option_and_then objects_of (layer_among place.layer MAX_GROUPS layers.old)) (λ os. place.at < length os) }
+    requires callable { (o : Object) → option_and_then (λ os. slice_get os place.at) (option_and_then objects_of (layer_among place.layer MAX_GROUPS layers.old)) ≡ Some o
+        → FnOnceTakesAtMut F.FnOnce change o }
+    ensures { ChangesObject F.FnOnce change place layers.old result layers.new }
+{
+    change_layer(
+        layers,
+        place.layer,
+        |layer: &mut Layer| -> R
+            requires place { IsSomeAnd (objects_of layer.old) (λ os. place.at < length os) }
+            requires callable { (o : Object) → option_and_then (λ os. slice_get os place.at) (objects_of layer.old) ≡ Some o → FnOnceTakesAtMut F.FnOnce change o }
+            ensures body { ChangesObjectIn F.FnOnce change place.at layer.old.body result layer.new.body }
+            ensures keeps { layer.new ≡ record layer.old { body = layer.new.body } }
+        { change_in_body(&mut layer.body, place.at, change) },
+    )
+}
+
 /// Gives the object at a place another placing, and hands the old one back.
 #[inline(never)]
 pub fn place_object_in(layers: &mut Chain<Layer>, place: ObjectPlace, placing: Placing) -> Placing
@@ -109,15 +137,13 @@ pub fn place_object_in(layers: &mut Chain<Layer>, place: ObjectPlace, placing: P
     ensures given { option_map object_placing (option_and_then (λ os. slice_get os place.at) (option_and_then objects_of (layer_among place.layer MAX_GROUPS layers.old))) ≡ Some result }
     ensures layers { layers.new ≡ change_among place.layer MAX_GROUPS (layer_with_objects (change_at place.at (object_with_placing placing))) layers.old }
 {
-    change_layer(
-        layers,
-        place.layer,
-        |layer| layer.body.place_object(place.at, placing),
-    )
+    change_object(layers, place, |object| {
+        mem::replace(&mut object.placing, placing)
+    })
 }
 
 // The object with an id in a list of objects, behind its place there: one walk.
-fn find_object(objects: &Chain<Object>, id: u32) -> Option<(usize, &Object)>
+fn find_object(objects: &LinkTree<Object>, id: u32) -> Option<(usize, &Object)>
     ensures place { option_map (λ found. found.0) result ≡ position (has_object_id id) objects.now }
     ensures object { IfSome result (λ found. slice_get objects.now found.0 ≡ Some found.1.now) }
 {

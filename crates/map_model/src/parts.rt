@@ -1,6 +1,7 @@
 // The records of a map.
 use crate::contents::{Cells, JsonValue, Kept, MapText};
 use link_chain::Chain;
+use link_tree::LinkTree;
 use tile_id::Gid;
 
 /// How a file spells the values of a tile layer: as numbers, or as base64.
@@ -58,7 +59,7 @@ pub enum Body {
     /// A tile layer: how a file spells it, and its values.
     Tiles(Encoding, Cells),
     /// An object layer.
-    Objects(Chain<Object>),
+    Objects(LinkTree<Object>),
     /// An image layer.
     Other,
     /// A group: the layers that stand in it.

@@ -2,65 +2,18 @@
 ghost use Rattle.std.specs.Prelude.{◌≡◌, ◌<◌, ◌≤◌, position, IfSome, IsSome, IsSomeAnd, Some, option_and_then, length, slice_get};
 ghost use Rattle.std.specs.List.{insert, remove};
 ghost use Rattle.std.specs.Option.{option_map};
-ghost use Rattle.std.specs.Borrow.{sem};
 ghost use Rattle.map_model.specs.declared.limits.TheConstants.{MAX_PROPERTIES};
-ghost use Rattle.map_model.specs.Lending.{LendsOfObject};
 ghost use Rattle.map_model.specs.Lists.{change_at};
-ghost use Rattle.map_model.specs.Objects.{body_with_objects, objects_in};
-ghost use Rattle.map_model.specs.Properties.{has_name, object_properties, object_with_properties, properties_of, property_at, property_with_setting, setting_of, with_property, with_property_at, without_property_at};
+ghost use Rattle.map_model.specs.Properties.{has_name, properties_of, property_at, property_with_setting, setting_of, with_property, with_property_at, without_property_at};
 ghost use Rattle.map_model.specs.WellFormed.{IsWellFormed};
 
 use crate::groups::change_layer;
-use crate::parts::{Body, Layer, MapParts, Property};
+use crate::objects::change_object;
+use crate::parts::{Layer, MapParts, Object, Property};
 use crate::place::OwnerPlace;
 use crate::setting::Setting;
 use link_chain::{Chain, Loose};
 use std::mem;
-
-// The properties of the object at a place of an object layer, to be changed where they stand.
-fn lend_of_object(body: &mut Body, at: usize) -> &mut Chain<Property>
-    requires { IsSomeAnd (objects_in body.old) (λ os. at < length os) }
-    ensures* writes_back { sem 𝓛 (LendsOfObject body.entry at result) }
-    ensures value { option_map object_properties (option_and_then (λ os. slice_get os at) (objects_in body.old)) ≡ Some result.now }
-{
-    match body {
-        Body::Objects(objects) => {
-            let object = objects.get_mut(at);
-            &mut object.properties
-        }
-        Body::Tiles(_, _) => unreachable!(),
-        Body::Other => unreachable!(),
-        Body::Group(_) => unreachable!(),
-    }
-}
-
-// Puts a property in at a place. Its owner is the object with a number in an object layer.
-fn insert_of_object(body: &mut Body, object: usize, at: usize, property: Loose<Property>)
-    requires { IsSomeAnd (option_and_then (λ os. slice_get os object) (objects_in body.old))
-        (λ o. (at ≤ length o.properties) × (length o.properties ≤ MAX_PROPERTIES)) }
-    ensures { IsSomeAnd property (λ p. body.new ≡ body_with_objects (change_at object (object_with_properties (λ ps. insert ps at p))) body.old) }
-{
-    lend_of_object(body, object).insert(at, property);
-}
-
-// Takes the property at a place out. Its owner is the object with a number in an object layer.
-fn take_of_object(body: &mut Body, object: usize, at: usize) -> Loose<Property>
-    requires { IsSomeAnd (option_and_then (λ os. slice_get os object) (objects_in body.old)) (λ o. at < length o.properties) }
-    ensures property { result ≡ option_and_then (λ o. slice_get o.properties at) (option_and_then (λ os. slice_get os object) (objects_in body.old)) }
-    ensures body { body.new ≡ body_with_objects (change_at object (object_with_properties (λ ps. remove ps at))) body.old }
-{
-    lend_of_object(body, object).take(at)
-}
-
-// Gives the property at a place another type and value, and hands the old ones back. Its owner is the object with a number in
-// an object layer.
-fn replace_of_object(body: &mut Body, object: usize, at: usize, setting: Setting) -> Setting
-    requires { IsSomeAnd (option_and_then (λ os. slice_get os object) (objects_in body.old)) (λ o. at < length o.properties) }
-    ensures given { option_map setting_of (option_and_then (λ o. slice_get o.properties at) (option_and_then (λ os. slice_get os object) (objects_in body.old))) ≡ Some result }
-    ensures body { body.new ≡ body_with_objects (change_at object (object_with_properties (change_at at (property_with_setting setting)))) body.old }
-{
-    replace_at(lend_of_object(body, object), at, setting)
-}
 
 /// Puts a property in at a place among its owner's.
 pub fn insert_in(parts: &mut MapParts, owner: OwnerPlace, at: usize, property: Loose<Property>)
@@ -77,13 +30,12 @@ pub fn insert_in(parts: &mut MapParts, owner: OwnerPlace, at: usize, property: L
                 requires { (at ≤ length layer.old.properties) × (length layer.old.properties ≤ MAX_PROPERTIES) }
             { layer.properties.insert(at, property) },
         ),
-        OwnerPlace::Object(place) => change_layer(
+        OwnerPlace::Object(place) => change_object(
             &mut parts.layers,
-            place.layer,
-            |layer: &mut Layer|
-                requires { IsSomeAnd (option_and_then (λ os. slice_get os place.at) (objects_in layer.old.body))
-                    (λ o. (at ≤ length o.properties) × (length o.properties ≤ MAX_PROPERTIES)) }
-            { insert_of_object(&mut layer.body, place.at, at, property) },
+            place,
+            |object: &mut Object|
+                requires { (at ≤ length object.old.properties) × (length object.old.properties ≤ MAX_PROPERTIES) }
+            { object.properties.insert(at, property) },
         ),
     }
 }
@@ -100,8 +52,8 @@ pub fn take_in(parts: &mut MapParts, owner: OwnerPlace, at: usize) -> Loose<Prop
         OwnerPlace::Layer(id) => {
             change_layer(&mut parts.layers, id, |layer| layer.properties.take(at))
         }
-        OwnerPlace::Object(place) => change_layer(&mut parts.layers, place.layer, |layer| {
-            take_of_object(&mut layer.body, place.at, at)
+        OwnerPlace::Object(place) => change_object(&mut parts.layers, place, |object| {
+            object.properties.take(at)
         }),
     }
 }
@@ -131,8 +83,8 @@ fn replace_in(parts: &mut MapParts, owner: OwnerPlace, at: usize, setting: Setti
         OwnerPlace::Layer(id) => change_layer(&mut parts.layers, id, |layer| {
             replace_at(&mut layer.properties, at, setting)
         }),
-        OwnerPlace::Object(place) => change_layer(&mut parts.layers, place.layer, |layer| {
-            replace_of_object(&mut layer.body, place.at, at, setting)
+        OwnerPlace::Object(place) => change_object(&mut parts.layers, place, |object| {
+            replace_at(&mut object.properties, at, setting)
         }),
     }
 }

@@ -13,6 +13,7 @@ use crate::limits::MAX_GROUPS;
 use crate::map::Map;
 use crate::parts::{Body, Layer, Object, Tileset};
 use link_chain::Chain;
+use link_tree::LinkTree;
 use std::alloc::Global;
 use tile_id::Gid;
 
@@ -98,7 +99,7 @@ fn is_of_object(object: &Object, low: u32, end: u32) -> bool
     }
 }
 
-fn is_in_objects(objects: &Chain<Object>, low: u32, end: u32) -> bool
+fn is_in_objects(objects: &LinkTree<Object>, low: u32, end: u32) -> bool
     ensures { result ≡ list_any (λ o. list_any (is_between low end) (gids_of o)) objects.now }
 {
     objects.iter().any(|object| is_of_object(object, low, end))

@@ -1,6 +1,7 @@
 // What is in a map, as members of an object of JSON. A member has Tiled's name where Tiled has one.
 use json::Writer;
 use link_chain::Chain;
+use link_tree::LinkTree;
 use map_model::limits::MAX_GROUPS;
 use map_model::{Body, Layer, MapParts, MapText, Object, PropValue, Property, Tileset, names};
 use serde_json::{Map, Number, Value};
@@ -138,7 +139,11 @@ fn put_objects(out: &mut Writer, layers: &Chain<Layer>, room: usize) -> Result<(
     Ok(())
 }
 
-fn put_objects_of(out: &mut Writer, layer: u32, objects: &Chain<Object>) -> Result<(), AllocError> {
+fn put_objects_of(
+    out: &mut Writer,
+    layer: u32,
+    objects: &LinkTree<Object>,
+) -> Result<(), AllocError> {
     for object in objects.iter() {
         put_object(out, layer, object)?;
     }

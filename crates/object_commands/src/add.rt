@@ -10,7 +10,7 @@ ghost use Rattle.object_commands.specs.Names.{add_object_names};
 use crate::size::sizes;
 use command_api::{Exchange, Label, Lone};
 use edits::EditFault;
-use link_chain::{Chain, Loose};
+use link_tree::{LinkTree, Loose};
 use map_model::limits::{MAX_NEXT_ID, MAX_OBJECTS};
 use map_model::{Document, Map, MapText, Object, Placing};
 use std::alloc::{AllocError, Global};
@@ -66,7 +66,7 @@ impl AddObject {
 }
 
 // The objects of the layer with an id.
-fn objects_of_layer(map: &Map, layer: u32) -> Result<&Chain<Object>, EditFault>
+fn objects_of_layer(map: &Map, layer: u32) -> Result<&LinkTree<Object>, EditFault>
     ensures { MatchResult result (λ objects. objects_or_fault (layer_of map.now layer) ≡ Ok objects.now) (λ fault. objects_or_fault (layer_of map.now layer) ≡ Err fault) }
 {
     let Some(layer) = map.layer(layer) else {

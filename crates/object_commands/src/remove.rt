@@ -6,7 +6,7 @@ ghost use Rattle.object_commands.specs.Names.{remove_object_names};
 
 use command_api::{Exchange, Label, Lone};
 use edits::EditFault;
-use link_chain::Loose;
+use link_tree::Loose;
 use map_model::{Document, Object, ObjectPlace};
 
 /// An object is removed. While it is not in the map, the command owns it, and puts it back at its old place.

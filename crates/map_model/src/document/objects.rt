@@ -11,7 +11,7 @@ use crate::objects::{insert_object_in, place_object_in, take_object_in};
 use crate::parts::{Object, Placing};
 use crate::place::ObjectPlace;
 use crate::seek::seek_in_layers;
-use link_chain::Loose;
+use link_tree::Loose;
 
 impl Document {
     /// Puts an object in at a place; those from there on stand one place higher. The map is well formed with it.

@@ -4,6 +4,7 @@ use Rattle.map_model.specs.declared.limits.TheConstants.{MAX_GROUPS}
 use Rattle.map_model.specs.Lists.{change_at}
 use Rattle.map_model.specs.Objects.{layer_with_objects}
 use Rattle.map_model.specs.Properties.{layer_with_properties, object_with_properties}
+use Rattle.map_model.proofs.ChangedObjects.{object_with}
 use Rattle.map_model.proofs.PropertyKeeps.{room_in_layer, room_in_object}
 use Rattle.map_model.proofs.TreeChanges.{changed_map, changed_with}
 use Rattle.map_model.proofs.properties.insert_in.Goals as goal
@@ -11,8 +12,8 @@ use Rattle.map_model.proofs.properties.insert_in.Goals as goal
 pub change_layer-requires-clause-callable : goal.change_layer-requires-clause-callable
 change_layer-requires-clause-callable c = λ l e p is. rw is (room_in_layer c.args.at c.args.parts.now c.in-Layer.id l e (rw c.in-Layer.is at c.requires.place) c.requires.well_formed)
 
-pub change_layer-requires-in-Object-clause-callable : goal.change_layer-requires-in-Object-clause-callable
-change_layer-requires-in-Object-clause-callable c = λ l e p is. rw is (room_in_object c.args.at c.args.parts.now c.in-Object.place l e (rw c.in-Object.is at c.requires.place) c.requires.well_formed)
+pub change_object-requires-clause-callable : goal.change_object-requires-clause-callable
+change_object-requires-clause-callable c = λ o e p is. rw is (room_in_object c.args.at c.args.parts.now c.in-Object.place o e (rw c.in-Object.is at c.requires.place) c.requires.well_formed)
 
 pub returns-in-Layer : goal.returns-in-Layer
 returns-in-Layer c =
@@ -23,8 +24,8 @@ returns-in-Layer c =
 
 pub returns-in-Object : goal.returns-in-Object
 returns-in-Object c =
-    let e = c.change_layer-in-Object.ensures in
+    let e = c.change_object.ensures in
     let m = c.args.parts.now in
     let place = c.in-Object.place in
-    rw c.in-Object.is (changed_map place.layer (λ p. layer_with_objects (change_at place.at (object_with_properties (λ ps. insert ps c.args.at p)))) c.args.property m c.change_layer-in-Object.new.layers
-    (changed_with place.layer MAX_GROUPS (λ p. layer_with_objects (change_at place.at (object_with_properties (λ ps. insert ps c.args.at p)))) c.args.property m.layers c.change_layer-in-Object.new.layers e.layer e.left e.found e.is (search rules)))
+    rw c.in-Object.is (changed_map place.layer (λ p. layer_with_objects (change_at place.at (object_with_properties (λ ps. insert ps c.args.at p)))) c.args.property m c.change_object.new.layers
+    (object_with place (λ p. object_with_properties (λ ps. insert ps c.args.at p)) c.args.property m.layers c.change_object.new.layers e.object e.left e.found e.is (search rules)))

@@ -1,0 +1,36 @@
+use Rattle.std.proofs.Common.{◌≡◌, ◌+◌, ◌++◌, ◌∷◌, length, IfOk, IfErr, ap, subst, length-append, arith, rules}
+use Rattle.link_tree.specs.Trees.{items}
+use Rattle.link_tree.specs.Waiting.{from_link, waiting}
+use Rattle.link_tree.proofs.Waits.{links-more, link-items, link-is, link-left, waiting-deeper}
+use Rattle.link_tree.proofs.iter.+go_down.Goals as goal
+
+pub go_down-requires : goal.go_down-requires
+go_down-requires g t c κs within =
+    let tree = c.args.tree.now in
+    let link = c.args.link.now in
+    let whole : length (items tree) ≡ length (items link.left ++ link.item ∷ items link.right) =
+    ap (λ xs. length xs) (link-items tree link c.requires.same) in
+    let sum : length (items link.left ++ link.item ∷ items link.right) ≡ length (items link.left) + (length (items link.right) + 1) =
+    simp length-append (omega arith) in (
+      omega (arith, whole, sum),
+      (
+        search rules,
+        (
+          search rules,
+          (
+            links-more _ _ _ (search rules) (link-is tree link c.requires.same c.requires.sized) (search rules),
+            (link-left tree link c.requires.same c.requires.sized, search rules),
+          ),
+        ),
+      ),
+    )
+
+pub returns-then-number-waits-clause-ok_items : goal.returns-then-number-waits-clause-ok_items
+returns-then-number-waits-clause-ok_items g t c =
+    let e = waiting-deeper c.args.waits.now c.args.depth.now c.args.tree c.args.link.now (search rules) c.requires.same in
+    subst (λ xs. IfOk c.go_down.result (λ next. from_link next.now ++ waiting c.go_down.new.waits c.go_down.new.depth ≡ xs)) e c.go_down.ensures.ok_items
+
+pub returns-then-number-waits-clause-err_items : goal.returns-then-number-waits-clause-err_items
+returns-then-number-waits-clause-err_items g t c =
+    let e = waiting-deeper c.args.waits.now c.args.depth.now c.args.tree c.args.link.now (search rules) c.requires.same in
+    subst (λ xs. IfErr c.go_down.result (λ deep. items deep.now ++ waiting c.go_down.new.waits c.go_down.new.depth ≡ xs)) e c.go_down.ensures.err_items

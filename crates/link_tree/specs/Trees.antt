@@ -1,0 +1,12 @@
+-- The items of a tree of links, in order.
+use Rattle.std.specs.Prelude.{◌≡◌, ◌+◌, List, [], ◌∷◌, ◌++◌, length}
+use Rattle.link_tree.specs.declared.tree.Tree.{Tree}
+use Rattle.link_tree.specs.declared.tree.Tree.TheVariants.{Empty, Filled'}
+
+abbrev pub items : {T : Type 0} → Tree T → List T
+items Empty = []
+items (Filled' p x l r b n) = items l ++ x ∷ items r
+
+abbrev pub IsSized : {T : Type 0} → Tree T → Type 0
+IsSized Empty = Unit {0}
+IsSized (Filled' p x l r b n) = (b ≡ length (items l)) × ((n ≡ length (items l) + length (items r) + 1) × (IsSized l × IsSized r))

@@ -1,0 +1,9 @@
+//! Lists of boxed links, each held as a balanced tree.
+#![tactic(auto)]
+
+mod iter;
+mod link_tree;
+mod tree;
+
+pub use iter::Iter;
+pub use link_tree::{LinkTree, Loose};
