@@ -18,7 +18,7 @@ use Rattle.editor.specs.Planning.{Commits, IsEditOf}
 use Rattle.editor.specs.Steps.{Allows, Edits, OnActive, OnDocuments, OnFiles, Rule, Step, rule_of}
 
 -- commands that do the same make the same step
-step_of-same : (c w : Change) (d : DocumentParts) → IsSame c w → step_of w d ≡ step_of c d
+pub step_of-same : (c w : Change) (d : DocumentParts) → IsSame c w → step_of w d ≡ step_of c d
 step_of-same c w d same = rw (same.names, same.redone d) refl
 
 -- an edit that was committed, where the command that it was put into does the same

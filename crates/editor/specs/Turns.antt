@@ -1,7 +1,7 @@
 -- What a line may do where steps may be those of free commands: an undo, a redo or a goto may drop such a step.
 use Rattle.std.specs.Prelude.{◌≡◌, Some}
 use Rattle.command_api.specs.Law.{Change}
-use Rattle.undo_stack.specs.Stacks.{history, outlines, Holds, IsReported}
+use Rattle.undo_stack.specs.Stacks.{history, nestings, Holds, IsReported}
 use Rattle.undo_stack.specs.Turning.{Redoes, SetsIndex, Undoes}
 use Rattle.undo_stack.specs.declared.stack.Stack.{Stack}
 use Rattle.undo_group.specs.Stacks.{stack_at, IsReplacedAt}
@@ -43,12 +43,12 @@ pub record PushesOnto {C : Type 0} (f : C → Change) (x : C) (old new : Editor 
   pub put : PutsActive f old new s t
   pub reported : IsReported f x s t
 
--- after a push that was refused the active stack has the outlines that it had
-pub record KeepsOutlines {C : Type 0} (f : C → Change) (old new : Editor C) (s t : Stack C) : Type 0 where
+-- after a push that was refused the active stack has the nestings that it had
+pub record KeepsNestings {C : Type 0} (f : C → Change) (old new : Editor C) (s t : Stack C) : Type 0 where
   pub put : PutsActive f old new s t
-  pub kept : outlines t ≡ outlines s
+  pub kept : nestings t ≡ nestings s
 
--- a push that was not refused is reported so, and one that was keeps the outlines
+-- a push that was not refused is reported so, and one that was keeps the nestings
 abbrev pub ReportsPush : {C : Type 0} → (C → Change) → C → Reply → Editor C → Editor C → Type 0
-ReportsPush {C} f x (Refused refusal) old new = (s : Stack C) × (t : Stack C) × KeepsOutlines f old new s t
+ReportsPush {C} f x (Refused refusal) old new = (s : Stack C) × (t : Stack C) × KeepsNestings f old new s t
 ReportsPush {C} f x reply old new = (s : Stack C) × (t : Stack C) × PushesOnto f x old new s t

@@ -1,4 +1,7 @@
 // An edit is the command that it holds, so that an editor whose edits are not put into boxes is of one type.
+ghost use Rattle.command_api.specs.Law.{IsRedone, IsUndone};
+ghost use Rattle.editor.specs.Planning.{edit_change};
+
 use crate::planned::Edit;
 use command_api::{Command, Offer};
 use map_model::Document;
@@ -25,6 +28,24 @@ macro_rules! with_command {
             Edit::RemoveTileset($command) => $call,
         }
     };
+}
+
+// Makes an edit of any kind. It stands by itself, so that a paint, which turns most, saves no registers for the others.
+#[inline(never)]
+fn redo_any(edit: &mut Edit, document: &mut Document)
+    requires { (edit_change edit.old).fits_redo document.old }
+    ensures { IsRedone (edit_change edit.old) (edit_change edit.new) document.old document.new }
+{
+    with_command!(edit, command => command.redo(document))
+}
+
+// Turns an edit of any kind back.
+#[inline(never)]
+fn undo_any(edit: &mut Edit, document: &mut Document)
+    requires { (edit_change edit.old).fits_undo document.old }
+    ensures { IsUndone (edit_change edit.old) (edit_change edit.new) document.old document.new }
+{
+    with_command!(edit, command => command.undo(document))
 }
 
 impl Command for Edit {
@@ -55,11 +76,17 @@ impl Command for Edit {
     }
 
     fn redo(&mut self, document: &mut Document) {
-        with_command!(self, command => command.redo(document))
+        match self {
+            Edit::Paint(paint) => paint.redo(document),
+            _ => redo_any(self, document),
+        }
     }
 
     fn undo(&mut self, document: &mut Document) {
-        with_command!(self, command => command.undo(document))
+        match self {
+            Edit::Paint(paint) => paint.undo(document),
+            _ => undo_any(self, document),
+        }
     }
 
     fn offer(&self) -> Offer<'_> {

@@ -1,13 +1,14 @@
-ghost use Rattle.std.specs.Prelude.{◌≡◌, ℕ, ◌≤◌, length, false};
+ghost use Rattle.std.specs.Prelude.{◌≡◌, ℕ, ◌≤◌, [], length, false};
 ghost use Rattle.command_api.specs.Names.{is_free};
 ghost use Rattle.session.specs.Spelling.{CanBeSpelled};
 ghost use Rattle.undo_stack.specs.declared.limits.TheConstants.{MAX_LIMIT};
 ghost use Rattle.undo_stack.specs.History.{History};
 ghost use Rattle.undo_stack.specs.Moving.{Answer, GoesTo, StepsBack, StepsOn};
 ghost use Rattle.undo_stack.specs.Turning.{IsSteady, Redoes, SetsIndex, Undoes};
-ghost use Rattle.undo_group.specs.Stacks.{group_of, AreHeld};
+ghost use Rattle.undo_group.specs.Stacks.{group_of, stacks_of, AreHeld};
 ghost use Rattle.editor.specs.Asking.{PlanAsks};
-ghost use Rattle.editor.specs.Editors.{machine_of, IsHeld, IsSound};
+ghost use Rattle.editor.specs.Editors.{machine_of, stacks_in, IsHeld, IsSound};
+ghost use Rattle.editor.specs.Kinds.{CommitKinds, PlanKinds, kinds_in};
 ghost use Rattle.editor.specs.Machine.{active_of, started_machine, workspace};
 ghost use Rattle.editor.specs.Planning.{Commits, FitsActive, FitsPlan, KeepsPlan, Plans};
 ghost use Rattle.editor.specs.Turns.{PlansTurns, ReportsPush};
@@ -47,6 +48,7 @@ impl<C: Command> Editor<C> {
         requires { limit ≤ MAX_LIMIT }
         ensures sound { IsSound C.change result }
         ensures machine { machine_of C.change result ≡ started_machine limit }
+        ensures kinds { kinds_in result ≡ [] }
     {
         Editor {
             group: Group::new(alloc),
@@ -58,6 +60,7 @@ impl<C: Command> Editor<C> {
     pub fn group(&self) -> &Group<C>
         requires { IsHeld C.change self.now }
         ensures group { group_of C.change result.now ≡ (machine_of C.change self.now).group }
+        ensures stacks { stacks_of result.now ≡ stacks_in self.now }
         ensures held { AreHeld C.change result.now }
     {
         &self.group
@@ -80,6 +83,10 @@ impl<C: Command> Editor<C> {
         ensures sound { IsSound C.change self.old → IsSound C.change self.new }
         ensures plans { IsSound C.change self.old
             → Plans line.now (workspace (machine_of C.change self.old) (S.stored store.old)) result (workspace (machine_of C.change self.new) (S.stored store.new)) }
+
+        // And of each step of each document it is known whether it is a macro.
+        ensures kinds { IsSound C.change self.old
+            → PlanKinds line.now (machine_of C.change self.old) result (machine_of C.change self.new) (kinds_in self.old) (kinds_in self.new) }
     {
         match line {
             Line::Quiet => Planned::Quiet,
@@ -108,6 +115,7 @@ impl<C: Command> Editor<C> {
         ensures held { IsHeld C.change self.new }
         ensures commits { Commits (active_of (machine_of C.change self.old)) (C.change command) result (machine_of C.change self.old) (machine_of C.change self.new) }
         ensures reported { ReportsPush C.change command result self.old self.new }
+        ensures kinds { CommitKinds (C.change command) (machine_of C.change self.old) result (machine_of C.change self.new) (kinds_in self.old) (kinds_in self.new) }
         ensures sound { IsSound C.change self.old → is_free (C.change command).names.vanishing ≡ false → IsSound C.change self.new }
     {
         match self.group.active_mut() {

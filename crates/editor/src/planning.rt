@@ -1,9 +1,11 @@
 // The lines about the active document: those that are edits plan their command, and change nothing.
 ghost use Rattle.std.specs.Prelude.{◌≡◌};
-ghost use Rattle.undo_stack.specs.Stacks.{history, Holds};
+ghost use Rattle.undo_stack.specs.Stacks.{history, macros, nestings, Holds};
+ghost use Rattle.undo_stack.specs.Turning.{IsSteady};
 ghost use Rattle.session.specs.Spelling.{CanBeSpelled};
 ghost use Rattle.editor.specs.Steps.{rule_of};
 ghost use Rattle.editor.specs.Turns.{turning_rule_of};
+ghost use Rattle.editor.specs.Kinds.{DocumentKinds};
 ghost use Rattle.editor.specs.EditLines.{IsOfCells, IsOfLayers, IsOfObjects, IsOfProperties};
 ghost use Rattle.editor.specs.Planning.{IsOfActive, IsOfHistory, PlansOn, plan_of, refused};
 
@@ -47,6 +49,7 @@ fn seek_owner<C: Command>(stack: &mut Stack<C>, owner: Owner)
     requires { Holds C.change stack.old }
     ensures sound { Holds C.change stack.new }
     ensures same { history C.change stack.new ≡ history C.change stack.old }
+    ensures kept { nestings stack.new ≡ nestings stack.old }
 {
     match owner {
         Owner::Map => {}
@@ -64,6 +67,8 @@ fn on_history<C: Command>(alloc: Global, stack: &mut Stack<C>, line: &Line<'_>) 
     requires about { IsOfHistory (rule_of line.now) }
     ensures sound { Holds C.change stack.new }
     ensures plans { PlansOn (turning_rule_of line.now) (history C.change stack.old) result (history C.change stack.new) }
+    ensures kinds { IsSteady (history C.change stack.old)
+        → DocumentKinds line.now (rule_of line.now) (history C.change stack.old) result (macros stack.old) (macros stack.new) }
 {
     match line {
         Line::Undo => {
@@ -116,6 +121,8 @@ fn on_cells<C: Command>(alloc: Global, stack: &mut Stack<C>, line: &Line<'_>) ->
     requires about { IsOfCells line.now }
     ensures sound { Holds C.change stack.new }
     ensures plans { PlansOn (turning_rule_of line.now) (history C.change stack.old) result (history C.change stack.new) }
+    ensures kinds { IsSteady (history C.change stack.old)
+        → DocumentKinds line.now (rule_of line.now) (history C.change stack.old) result (macros stack.old) (macros stack.new) }
 {
     match line {
         Line::Erase {
@@ -174,6 +181,8 @@ fn on_layers<C: Command>(alloc: Global, stack: &mut Stack<C>, line: &Line<'_>) -
     requires about { IsOfLayers line.now }
     ensures sound { Holds C.change stack.new }
     ensures plans { PlansOn (turning_rule_of line.now) (history C.change stack.old) result (history C.change stack.new) }
+    ensures kinds { IsSteady (history C.change stack.old)
+        → DocumentKinds line.now (rule_of line.now) (history C.change stack.old) result (macros stack.old) (macros stack.new) }
 {
     match line {
         Line::AddLayer { kind, name } => plan_add_layer(alloc, stack.document(), *kind, name),
@@ -205,6 +214,8 @@ fn on_objects<C: Command>(alloc: Global, stack: &mut Stack<C>, line: &Line<'_>) 
     requires about { IsOfObjects line.now }
     ensures sound { Holds C.change stack.new }
     ensures plans { PlansOn (turning_rule_of line.now) (history C.change stack.old) result (history C.change stack.new) }
+    ensures kinds { IsSteady (history C.change stack.old)
+        → DocumentKinds line.now (rule_of line.now) (history C.change stack.old) result (macros stack.old) (macros stack.new) }
 {
     match line {
         Line::AddObject {
@@ -263,6 +274,8 @@ fn on_properties<C: Command>(alloc: Global, stack: &mut Stack<C>, line: &Line<'_
     requires about { IsOfProperties line.now }
     ensures sound { Holds C.change stack.new }
     ensures plans { PlansOn (turning_rule_of line.now) (history C.change stack.old) result (history C.change stack.new) }
+    ensures kinds { IsSteady (history C.change stack.old)
+        → DocumentKinds line.now (rule_of line.now) (history C.change stack.old) result (macros stack.old) (macros stack.new) }
 {
     match line {
         Line::SetProperty {
@@ -293,6 +306,8 @@ pub fn on_document<C: Command>(alloc: Global, stack: &mut Stack<C>, line: &Line<
     requires about { IsOfActive (rule_of line.now) }
     ensures sound { Holds C.change stack.new }
     ensures plans { PlansOn (turning_rule_of line.now) (history C.change stack.old) result (history C.change stack.new) }
+    ensures kinds { IsSteady (history C.change stack.old)
+        → DocumentKinds line.now (rule_of line.now) (history C.change stack.old) result (macros stack.old) (macros stack.new) }
 {
     match line {
         // Most lines are stamps.

@@ -1,5 +1,5 @@
-ghost use Rattle.std.specs.Prelude.{◌≤◌, length, Some};
-ghost use Rattle.undo_stack.specs.Stacks.{history, Holds};
+ghost use Rattle.std.specs.Prelude.{◌≡◌, ◌≤◌, length, Some};
+ghost use Rattle.undo_stack.specs.Stacks.{history, nestings, Holds};
 ghost use Rattle.session.specs.declared.limits.TheConstants.{MAX_FILE_NAME};
 ghost use Rattle.map_store.specs.Files.{SameOthers};
 ghost use Rattle.editor.specs.Acts.{OrNoMemoryForFile, OrStoreFails, OutsideMacros, Saves};
@@ -28,6 +28,7 @@ pub fn save_document<C: Command, S: MapStore>(
     ensures saves { OutsideMacros (OrStoreFails (SameOthers file.now) (OrNoMemoryForFile (Saves file.now)))
         (S.stored store.old) (S.stored store.new) (history C.change stack.old) (Some result) (history C.change stack.new) }
     ensures unchanged { KeepsReply result (history C.change stack.old) (history C.change stack.new) }
+    ensures kept { nestings stack.new ≡ nestings stack.old }
     ensures asks { AsksOutside file.now (clean_answer (history C.change stack.old)) result (S.asked store.old) (S.asked store.new) }
 {
     if stack.depth() > 0 {

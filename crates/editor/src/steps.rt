@@ -1,13 +1,15 @@
 // Lines about the active document's history, and the replies that tell how it stands.
 ghost use Rattle.std.specs.Prelude.{◌≡◌, ◌⊎◌, Some};
+ghost use Rattle.session.specs.declared.line.Line.TheVariants.{Begin};
 ghost use Rattle.session.specs.declared.reply.Refusal.TheVariants as refusals;
 ghost use Rattle.session.specs.declared.reply.Reply.TheVariants as replies;
 ghost use Rattle.map_json.specs.Trees.{text_of};
 ghost use Rattle.undo_stack.specs.Reading.{text_at};
 ghost use Rattle.undo_stack.specs.Macros.{Begins};
-ghost use Rattle.undo_stack.specs.Stacks.{history, Holds};
+ghost use Rattle.undo_stack.specs.Stacks.{history, macros, nestings, Holds};
 ghost use Rattle.editor.specs.Acts.{LimitsTo, Calls, action_or};
 ghost use Rattle.editor.specs.Answers.{call_reply, state_reply, step_text_reply};
+ghost use Rattle.editor.specs.Kinds.{DoneKinds};
 ghost use Rattle.editor.specs.Planning.{IsDone, refused};
 ghost use Rattle.editor.specs.declared.planned.Planned.TheVariants as planned;
 
@@ -94,6 +96,7 @@ pub fn plan_begin<C: Command>(
     requires { Holds C.change stack.old }
     ensures sound { Holds C.change stack.new }
     ensures plans { IsDone (Calls (Begins text.now (action_or text.now action.now))) (history C.change stack.old) result (history C.change stack.new) }
+    ensures kinds { DoneKinds (Begin text.now action.now) (history C.change stack.old) result (macros stack.old) (macros stack.new) }
 {
     let text = text.as_str();
     let action = match action {
@@ -110,6 +113,7 @@ pub fn plan_limit<C: Command>(stack: &mut Stack<C>, limit: u32) -> Planned
     requires { Holds C.change stack.old }
     ensures sound { Holds C.change stack.new }
     ensures plans { IsDone (LimitsTo limit) (history C.change stack.old) result (history C.change stack.new) }
+    ensures kept { nestings stack.new ≡ nestings stack.old }
 {
     let limit = limit as usize;
     if stack.count() > 0 {

@@ -1,5 +1,5 @@
 -- What a call answers, and what then stands in a caller's buffer.
-use Rattle.std.specs.Prelude.{◌≡◌, ◌≤◌, ◌<◌, ◌⊎◌, ℕ, nat_eq, not, Bool, true, false, List, length, Option, None, Some, if◌then◌else◌}
+use Rattle.std.specs.Prelude.{◌≡◌, ◌≤◌, ◌<◌, ◌⊎◌, ℕ, nat_eq, not, Bool, true, false, List, [], length, Option, None, Some, if◌then◌else◌}
 use Rattle.std.specs.FinMap.{contains_key, empty, get, insert, remove}
 use Rattle.std.specs.List.{slice_get}
 use Rattle.std.specs.Option.{option_map}
@@ -11,10 +11,9 @@ use Rattle.session.specs.Words.{is_name}
 use Rattle.session.specs.declared.limits.TheConstants.{MAX_FILE_NAME}
 use Rattle.undo_stack.specs.declared.limits.TheConstants.{MAX_LIMIT}
 use Rattle.editor.specs.Machine.{active_of, started_machine}
-use Rattle.editor.specs.Steps.{StepIn}
 use Rattle.roskevad_session.specs.Buffers.{filled, written}
 use Rattle.roskevad_session.specs.Hearing.{Hears}
-use Rattle.roskevad_session.specs.Parts.{SessionParts, action_text_of, active_map, workspace_of, AreRunsOf}
+use Rattle.roskevad_session.specs.Parts.{SessionParts, StepsTo, action_text_of, active_map, is_macro_at, AreRunsOf}
 use Rattle.roskevad_session.specs.Rectangles.{cells_of}
 use Rattle.roskevad_session.specs.declared.heard.Heard.{Heard}
 use Rattle.roskevad_c.specs.Counts.{counts_of}
@@ -71,11 +70,19 @@ cells_at layer x y width height s = cells_of layer (record { x = x; y = y; width
 abbrev pub action_at : ℕ → SessionParts → Option (List ℕ)
 action_at at s = action_text_of (active_of s.machine) at
 
+-- 1 or 0: whether a step of that document is a macro
+abbrev pub number_of : Bool → ℕ
+number_of true = 1
+number_of false = 0
+
+abbrev pub macro_number_at : ℕ → SessionParts → Option ℕ
+macro_number_at at s = option_map number_of (is_macro_at at s)
+
 -- ---- what calls do
 -- a session is opened, or there was no memory for it
 abbrev pub Opened : ℕ → ℕ → Option SessionParts → Type 0
 Opened limit answer None = answer ≡ NO_MEMORY
-Opened limit answer (Some s) = (answer ≡ DONE) × (s ≡ record { machine = started_machine limit; files = empty; reply = None })
+Opened limit answer (Some s) = (answer ≡ DONE) × (s ≡ record { machine = started_machine limit; kinds = []; files = empty; reply = None })
 
 -- a session is opened, where the limit is not above the greatest
 abbrev pub Opens : ℕ → ℕ → Option SessionParts → Type 0
@@ -85,7 +92,7 @@ Opens limit answer new = (limit ≤ MAX_LIMIT → Opened limit answer new) × (M
 abbrev pub Steps : List ℕ → Option SessionParts → Option SessionParts → Type 0
 Steps line None new = new ≡ None
 Steps line (Some s) None = ⊥
-Steps line (Some s) (Some t) = StepIn line (workspace_of s) t.reply (workspace_of t)
+Steps line (Some s) (Some t) = StepsTo line s t
 
 -- a file of a name that lines can spell is put in, or there was no memory for it
 abbrev pub Stores : List ℕ → List ℕ → SessionParts → ℕ → Option SessionParts → Type 0

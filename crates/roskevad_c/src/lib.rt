@@ -23,7 +23,7 @@ ghost use Rattle.editor.specs.Machine.{active_of};
 ghost use Rattle.roskevad_session.specs.Buffers.{filled};
 ghost use Rattle.roskevad_session.specs.Parts.{active_map, clean_index_of, has_step};
 ghost use Rattle.roskevad_c.specs.Asides.{TellsAside, TellsBack};
-ghost use Rattle.roskevad_c.specs.Answers.{action_at, cells_at, file_in, is_there, last_reply, size_of, told_bytes, told_number, told_size, with_file, without, HearsLines, Opens, Puts, Steps, TellsCount, TellsOfStep, TellsOutline, TellsRun};
+ghost use Rattle.roskevad_c.specs.Answers.{action_at, cells_at, file_in, is_there, last_reply, macro_number_at, size_of, told_bytes, told_number, told_size, with_file, without, HearsLines, Opens, Puts, Steps, TellsCount, TellsOfStep, TellsOutline, TellsRun};
 
 use crate::answers::{BAD_NAME, CLOSED, DONE, NO_MEMORY, NONE, TOO_GREAT};
 use crate::asides::copy_made;
@@ -295,7 +295,8 @@ pub extern "C" fn roskevad_clean_index(alloc: Global, slot: &mut Slot) -> usize
 #[unsafe(no_mangle)]
 pub extern "C" fn roskevad_is_macro(alloc: Global, slot: &mut Slot, at: usize) -> usize
     ensures unchanged { slot.new.held.held_session ≡ slot.old.held.held_session }
-    ensures told { TellsOfStep (option_map (λ s. has_step (active_of s.machine) at) slot.old.held.held_session) result }
+    ensures there { TellsOfStep (option_map (λ s. has_step (active_of s.machine) at) slot.old.held.held_session) result }
+    ensures told { result ≡ told_number (option_map (macro_number_at at) slot.old.held.held_session) }
 {
     let Some(session) = slot.take(alloc) else {
         return CLOSED;

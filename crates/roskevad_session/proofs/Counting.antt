@@ -5,8 +5,8 @@ use Rattle.std.proofs.lemmas.List.{length-append, length-map}
 use Rattle.map_model.specs.Document.{DocumentParts}
 use Rattle.command_api.specs.Law.{Change}
 use Rattle.undo_stack.specs.Entries.{entry_change}
-use Rattle.undo_stack.specs.Held.{entry_outlines}
-use Rattle.undo_stack.specs.Outlines.{is_nested, macros_in, outline}
+use Rattle.undo_stack.specs.Held.{entry_nestings}
+use Rattle.undo_stack.specs.Nestings.{is_nested, macros_in, nesting}
 use Rattle.undo_stack.specs.Reading.{text_at}
 use Rattle.undo_stack.specs.Sequence.{steps_of}
 use Rattle.undo_stack.specs.Sound.{history_of, start_of}
@@ -27,19 +27,19 @@ texts_of : {C : Type 0} (f : C → Change) (d : DocumentParts) (es : List (Entry
 texts_of f d es n = map-steps (entry_change f) (λ s. s.names.text) (λ (y : Entry _). (entry_change f y).names.text) (λ y e. refl) es n d
 
 -- as many as there are entries
-nested_all : {C : Type 0} (es : List (Entry C)) → length (map is_nested (map outline es)) ≡ length es
-nested_all es = length-map (map outline es) is_nested ∙ length-map es outline
+nested_all : {C : Type 0} (es : List (Entry C)) → length (map is_nested (map nesting es)) ≡ length es
+nested_all es = length-map (map nesting es) is_nested ∙ length-map es nesting
 
 as_many_in : {C : Type 0} (f : C → Change) (d : DocumentParts) (es : List (Entry C)) (n at : ℕ) (clean : Option ℕ) (limit : ℕ) (ls : List (Level C))
-    → is_some (slice_get (macros_in (map (λ l. entry_outlines l.sequence) ls) (map outline es)) at)
+    → is_some (slice_get (macros_in (map (λ l. entry_nestings l.sequence) ls) (map nesting es)) at)
     ≡ is_some (text_at (history_of f d es n clean limit (map inner_of ls)) at)
 as_many_in f d es n at clean limit [] =
     let p = λ (y : Entry _). (entry_change f y).names.text in
-    let os = map outline es in
+    let os = map nesting es in
     rw (texts_of f d es n) (same_bounds (map is_nested os) (map p es) at (nested_all es ∙ sym (length-map es p)))
 as_many_in f d es n at clean limit (l ∷ ls) =
     let p = λ (y : Entry _). (entry_change f y).names.text in
-    let os = map outline es in
+    let os = map nesting es in
     let both : length (map is_nested os ++ true ∷ []) ≡ length (map p es ++ (inner_of l).text ∷ []) =
     omega (arith, length-append (map is_nested os) (true ∷ []), length-append (map p es) ((inner_of l).text ∷ []), nested_all es, length-map es p) in
     rw (texts_of f (start_of f (map inner_of (l ∷ ls)) d) es n) (same_bounds (map is_nested os ++ true ∷ []) (map p es ++ (inner_of l).text ∷ []) at both)

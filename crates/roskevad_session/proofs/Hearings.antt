@@ -10,13 +10,11 @@ use Rattle.lines.specs.Lines.{lines_of}
 use Rattle.session.specs.Replies.{refusal_of}
 use Rattle.session.specs.declared.reply.Refusal.{Refusal}
 use Rattle.session.specs.declared.reply.Reply.{Reply}
-use Rattle.editor.specs.Machine.{Workspace}
-use Rattle.editor.specs.Steps.{StepIn}
-use Rattle.session_run.specs.Runs.{Run, IsAccepted, output, reply_line}
+use Rattle.session_run.specs.Runs.{IsAccepted, output, reply_line}
 use Rattle.roskevad_session.specs.Buffers.{size_within, written}
 use Rattle.roskevad_session.specs.Counts.{unheard, with_line}
-use Rattle.roskevad_session.specs.Hearing.{Ends, HearsUpTo, is_refusal, reply_bytes, told}
-use Rattle.roskevad_session.specs.Parts.{SessionParts, workspace_of}
+use Rattle.roskevad_session.specs.Hearing.{Ends, HearsUpTo, LeadsTo, is_refusal, reply_bytes, told}
+use Rattle.roskevad_session.specs.Parts.{SessionParts, StepsTo}
 use Rattle.roskevad_session.specs.declared.heard.Heard.{Heard}
 use Rattle.roskevad_session.proofs.Pieces.{written-fits, written-larger}
 
@@ -31,25 +29,24 @@ pub record GoesOn (stops : Bool) (bytes buffer : List ℕ) (start : SessionParts
   pub replies : List Reply
   pub cut : lines_of bytes ≡ lines ++ lines_of (drop heard.bytes bytes)
   pub counted : heard.lines ≡ length lines
-  pub run : Run (workspace_of start) lines replies (workspace_of now)
+  pub run : LeadsTo start lines replies now
   pub accepted : IsTrue stops → All IsAccepted replies
   pub fits : length (output replies) ≤ length buffer
   pub size : heard.replies ≡ length (output replies)
   pub written : after ≡ output replies ++ drop (length (output replies)) buffer
 
 -- ---- a run and a step more
-run_more : (lines : List (List ℕ)) (line : List ℕ) (from now mid : Workspace) (replies : List Reply) (reply : Option Reply) → Run from lines replies now → StepIn line now reply mid
-    → Run from (lines ++ line ∷ []) (replies ++ option_to_list reply) mid
-run_more [] line from now mid replies reply r s =
-    let P : Workspace → Type 0 = λ m. StepIn line m reply mid in
-    (mid, reply, [], subst P r.1 s, (refl, refl), ap (λ (rs : List Reply). rs ++ option_to_list reply) r.0 ∙ sym (append-nil (option_to_list reply)))
-run_more (l ∷ lines) line from now mid replies reply r s = (
+run_more : (lines : List (List ℕ)) (line : List ℕ) (from now mid : SessionParts) (replies : List Reply) → LeadsTo from lines replies now → StepsTo line now mid
+    → LeadsTo from (lines ++ line ∷ []) (replies ++ option_to_list mid.reply) mid
+run_more [] line from now mid replies r s =
+    let P : SessionParts → Type 0 = λ m. StepsTo line m mid in
+    (mid, [], subst P r.1 s, (refl, refl), ap (λ (rs : List Reply). rs ++ option_to_list mid.reply) r.0 ∙ sym (append-nil (option_to_list mid.reply)))
+run_more (l ∷ lines) line from now mid replies r s = (
   r.0,
-  r.1,
-  r.2 ++ option_to_list reply,
-  r.3,
-  run_more lines line r.0 now mid r.2 reply r.4 s,
-  ap (λ (rs : List Reply). rs ++ option_to_list reply) r.5 ∙ append_assoc (option_to_list r.1) r.2 (option_to_list reply),
+  r.1 ++ option_to_list mid.reply,
+  r.2,
+  run_more lines line r.0 now mid r.1 r.3 s,
+  ap (λ (rs : List Reply). rs ++ option_to_list mid.reply) r.4 ∙ append_assoc (option_to_list r.0.reply) r.1 (option_to_list mid.reply),
 )
 
 -- ---- replies
@@ -112,7 +109,7 @@ goes_on stops bytes buffer start heard now after (inl h) room accepted = record 
   replies = [];
   cut = ap (λ (x : Heard). lines_of (drop x.bytes bytes)) (sym h.0);
   counted = ap (λ (x : Heard). x.lines) h.0;
-  run = (refl, ap workspace_of h.1);
+  run = (refl, h.1);
   accepted = λ s. All-nil IsAccepted;
   fits = omega arith;
   size = ap (λ (x : Heard). x.replies) h.0;
@@ -126,7 +123,7 @@ goes_on stops bytes buffer start heard now after (inr h) room accepted =
       replies = h.replies ++ option_to_list now.reply;
       cut = h.cut ∙ sym (append_assoc h.before (h.line ∷ []) (lines_of (drop heard.bytes bytes)));
       counted = h.lines ∙ sym (length-append h.before (h.line ∷ []));
-      run = run_more h.before h.line (workspace_of start) h.mid (workspace_of now) h.replies now.reply h.run h.step;
+      run = run_more h.before h.line start h.mid now h.replies h.run h.step;
       accepted = λ s. All-append IsAccepted h.replies (option_to_list now.reply) (h.accepted s) (accepted-last now.reply (sym h.refused ∙ accepted s));
       fits = fit;
       size = h.size ∙ ap (λ (rs : List Reply). length (output rs)) all;
@@ -136,7 +133,7 @@ goes_on stops bytes buffer start heard now after (inr h) room accepted =
 -- ---- behind a further line
 module _ (stops : Bool) (bytes buffer : List ℕ) (start : SessionParts) (heard : Heard) (now : SessionParts) (after : List ℕ) (g : GoesOn stops bytes buffer start heard now after)
     (line : List ℕ) (taken : ℕ) (cut : lines_of (drop heard.bytes bytes) ≡ line ∷ lines_of (drop taken (drop heard.bytes bytes))) (within : heard.bytes + taken ≤ length bytes)
-    (new : SessionParts) (step : StepIn line (workspace_of now) new.reply (workspace_of new)) (refused : Bool) (is_refused : refused ≡ is_refusal new.reply) where
+    (new : SessionParts) (step : StepsTo line now new) (refused : Bool) (is_refused : refused ≡ is_refusal new.reply) where
   abbrev told_before : List ℕ
   told_before = output g.replies
 
@@ -173,7 +170,7 @@ module _ (stops : Bool) (bytes buffer : List ℕ) (start : SessionParts) (heard 
         before = g.lines;
         line = line;
         replies = g.replies;
-        mid = workspace_of now;
+        mid = now;
         cut = all_cut;
         within = within;
         lines = ap (λ n. n + 1) g.counted;
@@ -197,7 +194,7 @@ module _ (stops : Bool) (bytes buffer : List ℕ) (start : SessionParts) (heard 
         before = g.lines;
         line = line;
         replies = g.replies;
-        mid = workspace_of now;
+        mid = now;
         cut = all_cut;
         within = within;
         lines = ap (λ n. n + 1) g.counted;

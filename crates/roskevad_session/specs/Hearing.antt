@@ -3,12 +3,10 @@ use Rattle.std.specs.Prelude.{◌≡◌, ◌⊎◌, ℕ, ◌+◌, ◌<◌, ◌�
 use Rattle.lines.specs.Lines.{lines_of}
 use Rattle.session.specs.Replies.{refusal_of}
 use Rattle.session.specs.declared.reply.Reply.{Reply}
-use Rattle.editor.specs.Machine.{Workspace}
-use Rattle.editor.specs.Steps.{StepIn}
-use Rattle.session_run.specs.Runs.{Run, IsAccepted, output, reply_line}
+use Rattle.session_run.specs.Runs.{IsAccepted, output, reply_line}
 use Rattle.roskevad_session.specs.Buffers.{written}
 use Rattle.roskevad_session.specs.Counts.{unheard}
-use Rattle.roskevad_session.specs.Parts.{SessionParts, workspace_of}
+use Rattle.roskevad_session.specs.Parts.{SessionParts, StepsTo}
 use Rattle.roskevad_session.specs.declared.heard.Heard.{Heard}
 
 -- whether the reply is a refusal
@@ -25,18 +23,24 @@ abbrev pub told : Bool → List Reply → Option Reply → List Reply
 told true replies reply = replies ++ option_to_list reply
 told false replies reply = replies
 
+-- lines were done, one after another, with these replies
+abbrev pub LeadsTo : SessionParts → List (List ℕ) → List Reply → SessionParts → Type 0
+LeadsTo old [] replies new = (replies ≡ []) × (new ≡ old)
+LeadsTo old (line ∷ lines) replies new = (mid : SessionParts) × (rest : List Reply)
+    × StepsTo line old mid × LeadsTo mid lines rest new × (replies ≡ option_to_list mid.reply ++ rest)
+
 -- Lines at the front of the bytes were heard, this one last, and the rest of the bytes is as `heard` says. Each is done, and the
 -- replies are those of the machine.
 pub record HearsUpTo (stops : Bool) (bytes buffer : List ℕ) (start : SessionParts) (heard : Heard) (now : SessionParts) (after : List ℕ) : Type 0 where
   pub before : List (List ℕ)
   pub line : List ℕ
   pub replies : List Reply
-  pub mid : Workspace
+  pub mid : SessionParts
   pub cut : lines_of bytes ≡ before ++ line ∷ lines_of (drop heard.bytes bytes)
   pub within : heard.bytes ≤ length bytes
   pub lines : heard.lines ≡ length before + 1
-  pub run : Run (workspace_of start) before replies mid
-  pub step : StepIn line mid now.reply (workspace_of now)
+  pub run : LeadsTo start before replies mid
+  pub step : StepsTo line mid now
   pub accepted : IsTrue stops → All IsAccepted replies
   pub refused : heard.is_refused ≡ is_refusal now.reply
   pub room : heard.has_room ≡ nat_le (length (output (replies ++ option_to_list now.reply))) (length buffer)

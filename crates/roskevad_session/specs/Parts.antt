@@ -1,5 +1,5 @@
 -- A session, as contracts see it.
-use Rattle.std.specs.Prelude.{◌≡◌, ℕ, List, [], Bool, true, false, Option, None, Some, is_some}
+use Rattle.std.specs.Prelude.{◌≡◌, ℕ, List, [], Bool, true, false, Option, None, Some, is_some, slice_get}
 use Rattle.std.specs.Ordering.{nat_cmp}
 use Rattle.std.specs.Cmp.Lexicographic.{slice_cmp}
 use Rattle.std.specs.FinMap.{code}
@@ -12,6 +12,8 @@ use Rattle.undo_stack.specs.History.{History, current}
 use Rattle.map_model.specs.declared.parts.MapParts.{MapParts}
 use Rattle.undo_stack.specs.Reading.{action_at, text_at}
 use Rattle.session.specs.declared.reply.Reply.{Reply}
+use Rattle.editor.specs.Kinds.{Kinds, StepKindsIn, macros_at}
+use Rattle.editor.specs.Steps.{StepIn}
 use Rattle.editor.specs.Machine.{Machine, Workspace, active_of, workspace}
 use Rattle.map_store.specs.Files.{Files}
 
@@ -19,15 +21,21 @@ use Rattle.map_store.specs.Files.{Files}
 abbrev pub files_code : Coded Files
 files_code = code {R = slice_cmp nat_cmp} (coded_list coded_ℕ) (coded_list coded_ℕ)
 
--- the machine, the files, and the reply to the last line, where it had one
+-- the machine, of each step of each document whether it is a macro, the files, and the reply to the last line, where it had one
 pub record SessionParts : Type 0 where
   pub machine : Machine
+  pub kinds : List Kinds
   pub files : Files
   pub reply : Option Reply
 
 -- the machine over these files, which are stored in memory: no call of their store fails, and each does what it says
 abbrev pub workspace_of : SessionParts → Workspace
 workspace_of s = workspace s.machine (record { files = s.files; failures = 0; honest = true })
+
+-- a line leads on: the machine and the files do its step, with the reply to it, and it says which steps are macros then
+pub record StepsTo (line : List ℕ) (old new : SessionParts) : Type 0 where
+  pub step : StepIn line (workspace_of old) new.reply (workspace_of new)
+  pub kinds : StepKindsIn line old.machine new.reply new.machine old.kinds new.kinds
 
 -- ---- of the active document, where there is one
 -- its map
@@ -53,3 +61,7 @@ action_text_of (Some h) at = action_at h at
 abbrev pub AreRunsOf : Option History → List Run → Type 0
 AreRunsOf None runs = runs ≡ []
 AreRunsOf (Some h) runs = IsMaximalRuns runs × (set_of runs ≡ (current h).selection)
+
+-- whether its step with that number is a macro
+abbrev pub is_macro_at : ℕ → SessionParts → Option Bool
+is_macro_at at s = slice_get (macros_at s.machine.group.active s.kinds) at

@@ -2,10 +2,9 @@
 ghost use Rattle.std.specs.Prelude.{◌≡◌, ◌<◌, ◌≤◌, ◌++◌, ◌∷◌, [], true, false, IsTrue, drop, length};
 ghost use Rattle.std.specs.Option.{option_copied};
 ghost use Rattle.lines.specs.Lines.{lines_of};
-ghost use Rattle.editor.specs.Steps.{StepIn};
 ghost use Rattle.roskevad_session.specs.Buffers.{size_within, written};
 ghost use Rattle.roskevad_session.specs.Hearing.{Ends, Hears, is_refusal, reply_bytes};
-ghost use Rattle.roskevad_session.specs.Parts.{workspace_of};
+ghost use Rattle.roskevad_session.specs.Parts.{StepsTo};
 
 use crate::heard::Heard;
 use crate::memory_session::Session;
@@ -97,7 +96,7 @@ impl Session {
         head: &mut ArrayString<512>,
         replies: &mut [u8],
     ) -> Option<usize>
-        ensures step { StepIn line.now (workspace_of self.old) self.new.reply (workspace_of self.new) }
+        ensures step { StepsTo line.now self.old self.new }
         ensures size { result ≡ size_within (reply_bytes self.new.reply) replies.old }
         ensures put { replies.new ≡ written (reply_bytes self.new.reply) replies.old }
     {

@@ -32,28 +32,28 @@ impl Model for Session {
     ghost coded = { Prim.hlevel (codes, document_code, files_code) };
 
     ghost use Rattle.editor.specs.Editors.{IsSound, machine_of};
+    ghost use Rattle.editor.specs.Kinds.{kinds_in};
     ghost use Rattle.editor.specs.Planning.{edit_change};
     ghost use Rattle.map_store.specs.Stored.{files_of};
 
-    ghost view = { λ s. record { machine = machine_of edit_change s.editor; files = files_of s.store.files; reply = s.reply } };
+    ghost view = { λ s. record { machine = machine_of edit_change s.editor; kinds = kinds_in s.editor; files = files_of s.store.files; reply = s.reply } };
 
     ghost invariant = { λ s. IsSound edit_change s.editor };
 }
 
 impl Session {
-    ghost use Rattle.std.specs.Prelude.{◌≡◌, ◌≤◌, IfOk, IfErr, None, slice_get};
+    ghost use Rattle.std.specs.Prelude.{◌≡◌, ◌≤◌, [], IfOk, IfErr, None, slice_get};
     ghost use Rattle.std.specs.FinMap.{contains_key, empty, get, insert, keys, len, remove};
     ghost use Rattle.std.specs.Option.{option_copied};
     ghost use Rattle.undo_stack.specs.declared.limits.TheConstants.{MAX_LIMIT};
     ghost use Rattle.editor.specs.Machine.{started_machine};
-    ghost use Rattle.editor.specs.Steps.{StepIn};
-    ghost use Rattle.roskevad_session.specs.Parts.{workspace_of};
+    ghost use Rattle.roskevad_session.specs.Parts.{StepsTo};
 
     /// A session with no documents and no files. The limit is the undo limit of each document when it is made, at most
     /// 1,000,000, where 0 stands for none. Takes no memory.
     pub fn new(alloc: Global, limit: usize) -> Session
         requires { limit ≤ MAX_LIMIT }
-        ensures { result ≡ record { machine = started_machine limit; files = empty; reply = None } }
+        ensures { result ≡ record { machine = started_machine limit; kinds = []; files = empty; reply = None } }
     {
         Session {
             editor: Editor::new(alloc, limit),
@@ -65,7 +65,7 @@ impl Session {
 
     /// Does what a line asks for, and keeps the reply to it until the next line. The line has no newline at its end.
     pub fn step(&mut self, line: &[u8])
-        ensures { StepIn line.now (workspace_of self.old) self.new.reply (workspace_of self.new) }
+        ensures { StepsTo line.now self.old self.new }
     {
         let put = |edit: Edit| -> Option<Edit>
             ensures { result ≡ Some edit }
@@ -122,21 +122,24 @@ impl Session {
 
 // What no line tells of the active document.
 impl Session {
-    ghost use Rattle.std.specs.Prelude.{◌≡◌, List, IfOk, IfSome, None, Ok, is_some, length, slice_get};
+    ghost use Rattle.std.specs.Prelude.{◌≡◌, List, [], IfOk, IfSome, MatchOption, None, Ok, is_some, length, slice_get};
     ghost use Rattle.std.specs.Option.{option_copied, option_map};
     ghost use Rattle.map_json.specs.Outlines.{outline_text};
-    ghost use Rattle.undo_stack.specs.Stacks.{history, Holds};
+    ghost use Rattle.undo_stack.specs.Stacks.{history, macros, Holds};
+    ghost use Rattle.editor.specs.Kinds.{macros_at};
     ghost use Rattle.editor.specs.Machine.{active_of};
     ghost use Rattle.editor.specs.Planning.{edit_change};
     ghost use Rattle.region.specs.declared.runs.Run.{Run as RunOf};
     ghost use Rattle.roskevad_session.specs.Buffers.{filled};
-    ghost use Rattle.roskevad_session.specs.Parts.{action_text_of, active_map, clean_index_of, has_step, AreRunsOf};
+    ghost use Rattle.roskevad_session.specs.Parts.{action_text_of, active_map, clean_index_of, has_step, is_macro_at, AreRunsOf};
     ghost use Rattle.roskevad_session.specs.Rectangles.{cells_of};
 
     // The stack of the active document.
     fn active(&self) -> Option<&Stack<Edit>>
         ensures active { option_map (λ stack. history edit_change stack.now) result ≡ active_of self.now.machine }
         ensures held { IfSome result (λ stack. Holds edit_change stack.now) }
+        ensures kinds { MatchOption result (macros_at self.now.machine.group.active self.now.kinds ≡ [])
+            (λ stack. macros stack.now ≡ macros_at self.now.machine.group.active self.now.kinds) }
     {
         self.editor.group().active()
     }
@@ -164,7 +167,8 @@ impl Session {
     /// Whether the step with this number of the active document is a macro, where the first one has 0, and `None` past the
     /// last one or where no document is active. An open macro stands last.
     pub fn is_macro(&self, at: usize) -> Option<bool>
-        ensures { is_some result ≡ has_step (active_of self.now.machine) at }
+        ensures there { is_some result ≡ has_step (active_of self.now.machine) at }
+        ensures told { result ≡ is_macro_at at self.now }
     {
         match self.active() {
             Some(stack) => stack.is_macro(at),

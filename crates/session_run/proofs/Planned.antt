@@ -9,11 +9,13 @@ use Rattle.session.specs.declared.reply.Reply.{Reply}
 use Rattle.session.specs.declared.reply.Reply.TheVariants.{Refused}
 use Rattle.editor.specs.declared.planned.Edit.{Edit}
 use Rattle.editor.specs.declared.planned.Planned.TheVariants as planned
+use Rattle.editor.specs.Kinds.{CommitKinds, Kinds, StepKinds}
 use Rattle.editor.specs.Machine.{Machine, Workspace, active_of, workspace}
 use Rattle.editor.specs.Steps.{Edits, OnActive, OnDocuments, OnFiles, Rule, Step, rule_of}
 use Rattle.editor.specs.Planning.{Commits, IsEditOf, IsOfActive, Plans, edit_change}
 use Rattle.editor.proofs.Asking.{unasked}
 use Rattle.editor.proofs.Committing.{commit_step, uncommitted}
+use Rattle.editor.proofs.KindLists.{commit_line}
 use Rattle.session_run.specs.Asking.{LineAsks}
 
 -- equal commands do the same
@@ -52,3 +54,12 @@ edit-IsOfActive (Edits names edit) active c p = tt
 pub unasked_edit : (line : Line) (m : Machine) (active : Option History) (c : Change) (reply : Reply) (old new : List Asked)
     → IsEditOf (rule_of line) active c → new ≡ old → LineAsks line m (Some reply) old new
 unasked_edit line m active c reply old new p e = rw e (unasked line m (planned.Reply reply) old (edit-IsOfActive (rule_of line) active c p))
+
+-- what the commit made of which steps are macros, the line has made of it
+pub push_kinds : (line : Line) (old mid new : Machine) (edit : Edit) (w : Change) (reply : Reply) (os ms ns : List Kinds)
+    → IsEditOf (rule_of line) (active_of old) (edit_change edit) → IsSame (edit_change edit) w → mid ≡ old → ms ≡ os
+    → CommitKinds w mid reply new ms ns → StepKinds line old (Some reply) new os ns
+push_kinds line old mid new edit w reply os ms ns edits same kept still k =
+    let P : Machine → Type 0 = λ m. CommitKinds w m reply new ms ns in
+    let Q : List Kinds → Type 0 = λ ks. CommitKinds w old reply new ks ns in
+    commit_line line old new (edit_change edit) w reply os ns edits same (subst Q still (subst P kept k))

@@ -2,6 +2,7 @@ ghost use Rattle.std.specs.Prelude.{◌≡◌, ◌≤◌, [], Option, IsErrOf, I
 ghost use Rattle.undo_stack.specs.declared.limits.TheConstants.{MAX_LIMIT};
 ghost use Rattle.editor.specs.declared.planned.Edit.{Edit};
 ghost use Rattle.editor.specs.Editors.{IsSound, machine_of};
+ghost use Rattle.editor.specs.Kinds.{StepKinds, StepKindsIn, kinds_in};
 ghost use Rattle.editor.specs.Machine.{started_machine, workspace};
 ghost use Rattle.editor.specs.Steps.{Step, StepIn};
 ghost use Rattle.session.specs.Spelling.{CanBeSpelled};
@@ -84,6 +85,7 @@ fn carry_out<C: Command, S: MapStore, F: Fn(Edit) -> Option<C>>(
     ensures sound { IsSound C.change editor.new }
     ensures step { Step line.now
         (workspace (machine_of C.change editor.old) (S.stored store.old)) result (workspace (machine_of C.change editor.new) (S.stored store.new)) }
+    ensures kinds { StepKinds line.now (machine_of C.change editor.old) result (machine_of C.change editor.new) (kinds_in editor.old) (kinds_in editor.new) }
     ensures asks { LineAsks line.now (machine_of C.change editor.old) result (S.asked store.old) (S.asked store.new) }
 {
     match editor.plan(alloc, store, line) {
@@ -114,6 +116,7 @@ pub fn step<C: Command, S: MapStore, F: Fn(Edit) -> Option<C>>(
     ensures sound { IsSound C.change editor.new }
     ensures step { StepIn line.now
         (workspace (machine_of C.change editor.old) (S.stored store.old)) result (workspace (machine_of C.change editor.new) (S.stored store.new)) }
+    ensures kinds { StepKindsIn line.now (machine_of C.change editor.old) result (machine_of C.change editor.new) (kinds_in editor.old) (kinds_in editor.new) }
     ensures asks { AsksIn line.now (machine_of C.change editor.old) result (S.asked store.old) (S.asked store.new) }
 {
     match &parse_line(line) {

@@ -14,6 +14,7 @@ ghost use Rattle.editor.specs.Editors.{machine_of, IsHeld, IsSound};
 ghost use Rattle.editor.specs.Acts.{Answers, Closes, Creates, NotTaken, GoesOn, Named, OrNoMemory, Opens, TellsText, Uses};
 ghost use Rattle.editor.specs.Asking.{Asks};
 ghost use Rattle.editor.specs.Answers.{documents_text, is_active, starred, status_reply};
+ghost use Rattle.editor.specs.Kinds.{AddsKinds, LosesKinds, UnlessRefused, StepKinds, kinds_in};
 ghost use Rattle.editor.specs.Machine.{active_of, workspace};
 ghost use Rattle.editor.specs.Planning.{IsOfDocuments, KeepsReply};
 ghost use Rattle.editor.specs.Steps.{Step};
@@ -124,6 +125,7 @@ impl<C: Command> Editor<C> {
         ensures sound { IsSound C.change self.old → IsSound C.change self.new }
         ensures step { Step line.now (workspace (machine_of C.change self.old) (S.stored store.old)) (Some result) (workspace (machine_of C.change self.new) (S.stored store.new)) }
         ensures unchanged { KeepsReply result (machine_of C.change self.old) (machine_of C.change self.new) }
+        ensures kinds { StepKinds line.now (machine_of C.change self.old) (Some result) (machine_of C.change self.new) (kinds_in self.old) (kinds_in self.new) }
         ensures asks { Asks line.now (machine_of C.change self.old) result (S.asked store.old) (S.asked store.new) }
     {
         match line {
@@ -165,6 +167,7 @@ impl<C: Command> Editor<C> {
         ensures step { NotTaken name.now (OrNoMemory (Creates name.now sizes.width sizes.height sizes.tile_width sizes.tile_height source.now))
             (machine_of C.change self.old) (Some result) (machine_of C.change self.new) }
         ensures unchanged { KeepsReply result (machine_of C.change self.old) (machine_of C.change self.new) }
+        ensures kinds { UnlessRefused result (AddsKinds name.now) (kinds_in self.old) (kinds_in self.new) }
     {
         if self.group.get(name.as_str()).is_some() {
             return Reply::Refused(Refusal::NameTaken);
@@ -192,6 +195,7 @@ impl<C: Command> Editor<C> {
         ensures step { OrNoMemory (Opens name.now (new_history document (machine_of C.change self.old).limit))
             (machine_of C.change self.old) (Some result) (machine_of C.change self.new) }
         ensures unchanged { KeepsReply result (machine_of C.change self.old) (machine_of C.change self.new) }
+        ensures kinds { UnlessRefused result (AddsKinds name.now) (kinds_in self.old) (kinds_in self.new) }
     {
         let stack = Stack::new(alloc, document, self.limit);
         let reply = state_of(&stack);
@@ -208,6 +212,7 @@ impl<C: Command> Editor<C> {
         ensures sound { IsSound C.change self.old → IsSound C.change self.new }
         ensures step { Named name.now (Closes name.now) (machine_of C.change self.old) (Some result) (machine_of C.change self.new) }
         ensures unchanged { KeepsReply result (machine_of C.change self.old) (machine_of C.change self.new) }
+        ensures kinds { UnlessRefused result (LosesKinds name.now) (kinds_in self.old) (kinds_in self.new) }
     {
         if let Some(stack) = self.group.get(name.as_str()) {
             if !stack.is_clean() {
@@ -224,6 +229,7 @@ impl<C: Command> Editor<C> {
         ensures sound { IsSound C.change self.old → IsSound C.change self.new }
         ensures step { Named name.now (λ h. GoesOn (removed name.now)) (machine_of C.change self.old) (Some result) (machine_of C.change self.new) }
         ensures unchanged { KeepsReply result (machine_of C.change self.old) (machine_of C.change self.new) }
+        ensures kinds { UnlessRefused result (LosesKinds name.now) (kinds_in self.old) (kinds_in self.new) }
     {
         let Ok(_) = self.group.remove(name.as_str()) else {
             return Reply::Refused(Refusal::NoSuchDocument);
@@ -238,6 +244,7 @@ impl<C: Command> Editor<C> {
         ensures sound { IsSound C.change self.old → IsSound C.change self.new }
         ensures step { Uses choice.now (machine_of C.change self.old) (Some result) (machine_of C.change self.new) }
         ensures unchanged { KeepsReply result (machine_of C.change self.old) (machine_of C.change self.new) }
+        ensures kinds { kinds_in self.new ≡ kinds_in self.old }
     {
         let name = match choice {
             Some(name) => Some(name.as_str()),

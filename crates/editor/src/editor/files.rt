@@ -6,6 +6,7 @@ ghost use Rattle.map_store.specs.Files.{SameOthers};
 ghost use Rattle.editor.specs.Acts.{FilesStay, Loads, NewName, OfActive, OrNoMemoryForFile, OrStoreFails, OutsideMacros, Saves};
 ghost use Rattle.undo_group.specs.Groups.{history_named};
 ghost use Rattle.editor.specs.Asking.{AsksToSave, asked_to_open};
+ghost use Rattle.editor.specs.Kinds.{AddsKinds, UnlessRefused, kinds_in};
 ghost use Rattle.editor.specs.Machine.{active_of};
 ghost use Rattle.editor.specs.Planning.{KeepsReply};
 
@@ -35,6 +36,7 @@ impl<C: Command> Editor<C> {
         ensures step { NewName name.now (OrStoreFails FilesStay (OrNoMemoryForFile (Loads name.now file.now)))
             (S.stored store.old) (S.stored store.new) (machine_of C.change self.old) (Some result) (machine_of C.change self.new) }
         ensures unchanged { KeepsReply result (machine_of C.change self.old) (machine_of C.change self.new) }
+        ensures kinds { UnlessRefused result (AddsKinds name.now) (kinds_in self.old) (kinds_in self.new) }
         ensures asks { S.asked store.new ≡ asked_to_open file.now (history_named name.now (machine_of C.change self.old).group.documents) (S.asked store.old) }
     {
         if self.group.get(name.as_str()).is_some() {
@@ -65,6 +67,7 @@ impl<C: Command> Editor<C> {
         ensures step { OfActive (OutsideMacros (OrStoreFails (SameOthers file.now) (OrNoMemoryForFile (Saves file.now))))
             (S.stored store.old) (S.stored store.new) (machine_of C.change self.old) (Some result) (machine_of C.change self.new) }
         ensures unchanged { KeepsReply result (machine_of C.change self.old) (machine_of C.change self.new) }
+        ensures kinds { kinds_in self.new ≡ kinds_in self.old }
         ensures asks { AsksToSave file.now (active_of (machine_of C.change self.old)) result (S.asked store.old) (S.asked store.new) }
     {
         match self.group.active_mut() {

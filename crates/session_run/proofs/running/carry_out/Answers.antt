@@ -5,7 +5,7 @@ use Rattle.session.specs.declared.reply.Reply.TheVariants.{Refused}
 use Rattle.editor.specs.Machine.{workspace}
 use Rattle.editor.specs.Planning.{edit_change}
 use Rattle.editor.proofs.Bound.{same-bound}
-use Rattle.session_run.proofs.Planned.{push_step, unasked_edit, unput_step}
+use Rattle.session_run.proofs.Planned.{push_kinds, push_step, unasked_edit, unput_step}
 use Rattle.session_run.proofs.running.carry_out.Goals as goal
 
 pub returns-in-Some-clause-sound : goal.returns-in-Some-clause-sound
@@ -29,3 +29,14 @@ returns-in-Some-clause-asks g c =
 pub returns-in-None-clause-asks : goal.returns-in-None-clause-asks
 returns-in-None-clause-asks g c =
     unasked_edit c.args.line.now _ _ (edit_change c.in-Push.edit) (Refused NoMemory) _ _ (c.in-Push.ensures.plans c.requires.sound).1 c.in-Push.ensures.asks
+
+pub returns-in-Some-clause-kinds : goal.returns-in-Some-clause-kinds
+returns-in-Some-clause-kinds g c =
+    let change = g.C.Command.change in
+    push_kinds c.args.line.now (machine_of change c.args.editor.now) _ _ c.in-Push.edit (change c.in-Some.command) c.commit.result _ _ _
+    (c.in-Push.ensures.plans c.requires.sound).1
+    (c.requires.same c.in-Push.edit (Some c.in-Some.command) c.in-Some.ensures)
+    c.in-Push.ensures.unchanged (c.in-Push.ensures.kinds c.requires.sound) c.commit.ensures.kinds
+
+pub returns-in-None-clause-kinds : goal.returns-in-None-clause-kinds
+returns-in-None-clause-kinds g c = c.in-Push.ensures.kinds c.requires.sound

@@ -1,10 +1,13 @@
-use Rattle.std.proofs.Common.{refl, subst, sym, ◌∙◌}
+use Rattle.std.proofs.Common.{refl, subst, sym, ap, ◌∙◌}
 use Rattle.undo_stack.specs.History.{History, current}
+use Rattle.undo_stack.specs.Nestings.{macros_of}
 use Rattle.undo_stack.specs.Pushing.{step_of}
 use Rattle.undo_stack.specs.Stacks.{history}
 use Rattle.undo_stack.specs.Turning.{IsSteady}
 use Rattle.undo_stack.proofs.Steadiness.{IsPushed-steady}
 use Rattle.editor.specs.Editors.{machine_of}
+use Rattle.editor.proofs.KindLists.{kept_kinds}
+use Rattle.editor.proofs.Pushed.{commit_kinds}
 use Rattle.editor.proofs.Lent.{active-IsSteady, left-IsHeld, left-IsSound, left-machine, put_active}
 use Rattle.editor.proofs.Lifting.{with_active-unchanged}
 use Rattle.editor.proofs.Committing.{Commits-pushed, Commits-refused}
@@ -62,3 +65,22 @@ returns-in-Err-clause-reported g c =
     let follows = c.active_mut.follows.holds t c.push.ensures.sound in
     let put = put_active change c.args.self.now _ s t refl follows c.in-Some.ensures.held c.in-Some.ensures.active c.in-Some.ensures.stack c.push.ensures.sound in
     (s, t, record { put = put; kept = c.in-Err.ensures.kept })
+
+pub returns-in-Ok-clause-kinds : goal.returns-in-Ok-clause-kinds
+returns-in-Ok-clause-kinds g c =
+    let change = g.C.Command.change in
+    let s = c.in-Some.stack.now in
+    let t = c.push.new.self in
+    let follows = c.active_mut.follows.holds t c.push.ensures.sound in
+    rw c.state_of.ensures
+    (commit_kinds change c.args.self.now _ s t c.args.command refl follows
+    c.in-Some.ensures.whole c.in-Some.ensures.active c.in-Some.ensures.stack c.in-Ok.ensures.reported)
+
+pub returns-in-Err-clause-kinds : goal.returns-in-Err-clause-kinds
+returns-in-Err-clause-kinds g c =
+    let change = g.C.Command.change in
+    let s = c.in-Some.stack.now in
+    let t = c.push.new.self in
+    let follows = c.active_mut.follows.holds t c.push.ensures.sound in
+    kept_kinds change c.args.self.now _ s t refl follows
+    c.in-Some.ensures.whole c.in-Some.ensures.active c.in-Some.ensures.stack (ap macros_of c.in-Err.ensures.kept)

@@ -6,6 +6,7 @@ use Rattle.editor.specs.Planning.{FitsPlan, IsOfActive, KeepsPlan, PlansBy}
 use Rattle.editor.specs.Steps.{rule_of}
 use Rattle.editor.specs.Turns.{turning_rule_of}
 use Rattle.editor.proofs.Asking.{unasked}
+use Rattle.editor.proofs.KindLists.{plan_kinds}
 use Rattle.editor.proofs.Lent.{active-IsSteady, left-IsHeld, left-IsSound, left-machine, position-within}
 use Rattle.editor.proofs.Lifting.{on-FitsPlan, on-KeepsPlan, on-PlansBy}
 use Rattle.editor.proofs.Moving.{steady-PlansOn}
@@ -72,3 +73,15 @@ returns-in-Some-clause-fits g c =
     subst P (sym (left-machine change c.args.self.now _ stack refl (c.active_mut.follows.holds stack c.on_document.ensures.sound)))
     (on-FitsPlan (history change c.in-Some.stack.now) (history change stack) old c.in-Some.ensures.whole (sym c.in-Some.ensures.active)
     (turning_rule_of c.args.line.now) c.on_document.result c.on_document.ensures.plans)
+
+pub returns-in-Some-clause-kinds : goal.returns-in-Some-clause-kinds
+returns-in-Some-clause-kinds g c = λ sound.
+    let change = g.C.Command.change in
+    let s = c.in-Some.stack.now in
+    let stack = c.on_document.new.stack in
+    let h = history change s in
+    let steady = active-IsSteady change c.args.self.now h sound c.in-Some.ensures.active in
+    let within = position-within change s c.in-Some.ensures.held in
+    let plans = steady-PlansOn c.args.line.now h (history change stack) c.on_document.result steady within c.on_document.ensures.plans in
+    plan_kinds change c.args.self.now _ s stack refl (c.active_mut.follows.holds stack c.on_document.ensures.sound)
+    c.in-Some.ensures.whole c.in-Some.ensures.active c.in-Some.ensures.stack c.args.line.now c.on_document.result plans (c.on_document.ensures.kinds steady)

@@ -1,8 +1,10 @@
-use Rattle.std.proofs.Common.{Some, refl, sym, subst}
+use Rattle.std.proofs.Common.{Some, ap, refl, sym, subst}
+use Rattle.undo_stack.specs.Nestings.{macros_of}
 use Rattle.undo_stack.specs.Stacks.{history}
 use Rattle.editor.specs.Editors.{machine_of}
 use Rattle.editor.specs.Machine.{Machine}
 use Rattle.editor.specs.Planning.{KeepsReply}
+use Rattle.editor.proofs.KindLists.{kept_kinds}
 use Rattle.editor.proofs.Lent.{active-IsSteady, left-IsHeld, left-IsSound, left-machine}
 use Rattle.editor.proofs.Lifting.{on-KeepsReply, saves}
 use Rattle.editor.proofs.SteadyPlans.{saves-steady}
@@ -38,3 +40,11 @@ returns-in-Some-clause-unchanged g c =
     let P : Machine → Type 0 = λ m. KeepsReply c.save_document.result old m in
     subst P (sym (left-machine change c.args.self.now _ stack refl (c.active_mut.follows.holds stack c.save_document.ensures.sound)))
     (on-KeepsReply (history change c.in-Some.stack.now) (history change stack) old c.in-Some.ensures.whole (sym c.in-Some.ensures.active) c.save_document.result c.save_document.ensures.unchanged)
+
+pub returns-in-Some-clause-kinds : goal.returns-in-Some-clause-kinds
+returns-in-Some-clause-kinds g c =
+    let change = g.C.Command.change in
+    let stack = c.save_document.new.stack in
+    let follows = c.active_mut.follows.holds stack c.save_document.ensures.sound in
+    kept_kinds change c.args.self.now _ c.in-Some.stack.now stack refl follows
+    c.in-Some.ensures.whole c.in-Some.ensures.active c.in-Some.ensures.stack (ap macros_of c.save_document.ensures.kept)
