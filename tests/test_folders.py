@@ -14,7 +14,7 @@ import tempfile
 from pathlib import Path
 
 from lib.cases import Case, check_each, skip, unlike
-from lib.places import SESSION_MAPS, TILE_EDITOR
+from lib.places import SESSION_MAPS, TILE_EDITOR, copy_program
 from lib.refusals import refusal
 from lib.rights import NOBODY, can_lose_rights
 from lib.sessions import fault_of_reasons, fault_of_replies, joined, row_of
@@ -374,7 +374,7 @@ def fault_in(case, top, user=None):
     """What is wrong in a case whose folder is made in another one, or None."""
     prepare, folder = case.given, top / 'maps'
     folder.mkdir()
-    shutil.copy(TILE_EDITOR, top / 'program')
+    copy_program(TILE_EDITOR, top / 'program')
     rows, wanted = prepare(folder)
     for path in [top, folder, folder / 'm.tmj'] if user else []:
         os.chown(path, user, user)

@@ -18,7 +18,7 @@ from pathlib import Path
 
 from lib.cases import CORES, Case, check_each, passed, unlike
 from lib.native import interposed
-from lib.places import SESSION_MAPS, TILE_EDITOR
+from lib.places import SESSION_MAPS, TILE_EDITOR, copy_program
 from lib.refusals import refusal
 from lib.rights import NOBODY, can_lose_rights
 from lib.sessions import joined
@@ -208,7 +208,7 @@ class Saver:
         self.program, self.library = top / 'program', top / 'interpose_saves.so'
         self.user = NOBODY if os.getuid() == 0 and can_lose_rights() else None
         top.chmod(0o755)
-        shutil.copy(TILE_EDITOR, self.program)
+        copy_program(TILE_EDITOR, self.program)
         shutil.copy(interposed('interpose_saves.c'), self.library)
 
     def heard(self, place, session, env):

@@ -1,5 +1,6 @@
 """Where things stand in the repository, and which programs are tried."""
 import os
+import subprocess
 from pathlib import Path
 
 TOP = Path(__file__).resolve().parents[2]
@@ -28,6 +29,13 @@ def built(crate):
 
 TILE_EDITOR = built('tile_editor') if IS_GATE else BIN / 'tile_editor'
 MAP_REPORT = built('map_report') if IS_GATE else BIN / 'map_report'
+
+
+def copy_program(program, to):
+    """Copies a program that is to be run from there. Another process writes it: while this one has
+    it open for writing, a child that another thread starts has it open too, and no system runs a
+    file that is being written."""
+    subprocess.run(['cp', program, to], check=True)
 
 
 def files_in(folder):
