@@ -9,8 +9,8 @@
  * What rests on the caller, and what nothing checks:
  *   - A slot is all zero before its first `roskevad_open` (ROSKEVAD_CLOSED, or static storage), and after that only as a call
  *     left it. It is never copied: the address that it was opened at is the one that it is used and closed at.
- *   - One call at a time for a slot. Several threads may use it in turn, each call behind the end of the one before, as a lock
- *     has it; and two slots at the same time. Both are tested, and not proved.
+ *   - One call at a time for a slot. Several threads may use it in turn, if each call begins after the end of the one before, as
+ *     under a lock. Two slots may be used at the same time. Both are tested, and not proved.
  *   - No call from a signal handler, nor from the forked child of a process that has threads.
  *   - Each pointer is to as many bytes as its length says. What a call writes to overlaps nothing else that it is given.
  *   - No null pointer for a slot or a run; none at all for the functions `roskevad_*`, also at length 0.

@@ -323,18 +323,18 @@ def test_two_editors_in_two_threads():
 def test_what_is_said_of_threads():
     """The header, the package and its page say it in the same words."""
     words = (
-        'Several threads may use it in turn, each call behind the end of the one before, as a lock '
-        'has it; and two at the same time. Both are tested, and not proved.'
+        'Several threads may use it in turn, if each call begins after the end of the one before, '
+        'as under a lock. Two things may be used at the same time. Both are tested, and not proved.'
     )
     header = ' '.join((TOP / 'include' / 'roskevad.h').read_text().replace('\n *', '\n').split())
     page = ' '.join((TOP / 'docs' / 'library.md').read_text().split())
     package = ' '.join((Editor.__doc__ or '').split())
     for name, text, thing in (
-        ('the header', header, 'two slots'),
-        ('the page', page, 'two sessions'),
-        ('the package', package, 'two editors'),
+        ('the header', header, 'slots'),
+        ('the page', page, 'sessions'),
+        ('the package', package, 'editors'),
     ):
-        assert words.replace('two at', f'{thing} at') in text, name
+        assert words.replace('things', thing) in text, name
 
 
 def test_the_library_keeps_nothing_of_its_own():

@@ -118,9 +118,9 @@ class Editor:
     `open_file` and `save_file` find files by their names.
 
     An editor is closed by `close`, or at the end of a `with`. One call at a time is made of it: calls from several threads wait
-    for each other. Several threads may use it in turn, each call behind the end of the one before, as a lock has it; and two
-    editors at the same time. Both are tested, and not proved. A call from a signal handler, while its thread is in a call,
-    raises RuntimeError and does nothing. An editor is not copied or pickled, and not used in a fork of its process.
+    for each other. Several threads may use it in turn, if each call begins after the end of the one before, as under a lock.
+    Two editors may be used at the same time. Both are tested, and not proved. A call from a signal handler, while its thread is
+    in a call, raises RuntimeError and does nothing. An editor is not copied or pickled, and not used in a fork of its process.
     """
 
     def __init__(self, limit: int = 0, folder: Union[str, 'os.PathLike[str]'] = '.'):
