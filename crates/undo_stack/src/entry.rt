@@ -179,8 +179,10 @@ fn redo_all<C: Command>(children: &mut Vec<Entry<C>>, document: &mut Document)
     ensures depth { map depth children.new.items ≡ map depth children.old.items }
     ensures nests { map nesting children.new.items ≡ map nesting children.old.items }
 {
-    for i in 0..children.len() {
-        children[i].redo(document);
+    // Over a slice no turn looks up where the entries stand.
+    let entries = children.as_mut_slice();
+    for i in 0..entries.len() {
+        entries[i].redo(document);
     }
 }
 
@@ -194,8 +196,9 @@ fn undo_all<C: Command>(children: &mut Vec<Entry<C>>, document: &mut Document)
     ensures depth { map depth children.new.items ≡ map depth children.old.items }
     ensures nests { map nesting children.new.items ≡ map nesting children.old.items }
 {
-    for i in (0..children.len()).rev() {
-        children[i].undo(document);
+    let entries = children.as_mut_slice();
+    for i in (0..entries.len()).rev() {
+        entries[i].undo(document);
     }
 }
 

@@ -1,4 +1,5 @@
-use Rattle.std.proofs.Common.{rules, ◌<◌, length, refl, ◌∙◌, ap, arith, length-set, get_or-set_other}
+use Rattle.std.proofs.Common.{rules, ◌<◌, length, refl, ◌∙◌, ap, arith, length-set, get_or-set_other, slice_index_or}
+use Rattle.std.proofs.lemmas.List.{get_or_default}
 use Rattle.undo_stack.specs.Entries.{entry_change, depth}
 use Rattle.undo_stack.specs.Nestings.{nesting}
 use Rattle.undo_stack.specs.Sequence.{after}
@@ -80,15 +81,15 @@ Entry::redo-returns-in-Macro-clause-nests g t c =
 pub redo_all-loop-i-preserved : goal.redo_all-loop-i-preserved
 redo_all-loop-i-preserved g t c =
     let f = entry_change g.C.Command.change in
-    let es = c.loop-i.children.items in
+    let es = c.loop-i.entries in
     let i = c.loop-i.i in
-    let v = c.index_mut.result.now in
+    let at : i < length es = omega arith in
+    let v = slice_index_or es i c.index-entries-i.result in
+    let is = get_or_default es i _ v at in
     let w = c.redo.new.self in
-    let is = c.index_mut.ensures.value in
     let known = c.loop-i.invariant in
     let first = c.args.document.now in
-    let last = after f c.args.children.now.items first in
-    let at : i < length es = omega arith in (
+    let last = after f c.as_mut_slice-entries.result.now first in (
       (length-set es i w ∙ known.0.0, λ k d h. get_or-set_other es i k w d (omega arith) ∙ known.0.1 k d (omega arith)),
       between_on f es v w i c.loop-i.document c.redo.new.document first last known.1 at is c.redo.ensures.turned,
       map-set_same depth es v w i is c.redo.ensures.depth ∙ known.2,

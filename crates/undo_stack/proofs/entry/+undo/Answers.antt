@@ -1,4 +1,5 @@
-use Rattle.std.proofs.Common.{rules, ◌≡◌, ℕ, ◌+◌, ◌-◌, ◌<◌, length, refl, ◌∙◌, ap, subst, get_or, arith, length-set, get_or-set_other}
+use Rattle.std.proofs.Common.{rules, ◌≡◌, ℕ, ◌+◌, ◌-◌, ◌<◌, length, refl, ◌∙◌, ap, subst, get_or, arith, length-set, get_or-set_other, slice_index_or}
+use Rattle.std.proofs.lemmas.List.{get_or_default}
 use Rattle.undo_stack.specs.Entries.{entry_change, depth}
 use Rattle.undo_stack.specs.Nestings.{nesting}
 use Rattle.undo_stack.specs.Sequence.{Between, before}
@@ -7,7 +8,7 @@ use Rattle.undo_stack.proofs.Sequences.{map-set_same}
 use Rattle.undo_stack.proofs.Turns.{undone_named, between_back, between_last}
 use Rattle.undo_stack.specs.declared.entry.Entry.TheVariants.{outs-Command, outs-Macro}
 use Rattle.undo_stack.specs.declared.entry.Entry.{size_is-Entry, size-Entry}
-use denote.Param.Weighed.{at_most}
+use denote.Param.Weighed.{at_most, most as greatest}
 use Rattle.undo_stack.proofs.entry.+undo.Goals as goal
 
 pub Entry::undo-undo-requires : goal.Entry::undo-undo-requires
@@ -81,33 +82,35 @@ Entry::undo-returns-in-Macro-clause-nests g t c =
 pub undo_all-undo-requires : goal.undo_all-undo-requires
 undo_all-undo-requires g t c κs within =
     let f = entry_change g.C.Command.change in
-    let es = c.loop-i.children.items in
+    let es = c.loop-i.entries in
     let i = c.loop-i.i in
     let same : i ≡ i - 1 + 1 = omega arith in
     let at : i - 1 < length es = omega arith in
-    let first = before f c.args.children.now.items c.args.document.now in
+    let first = before f c.as_mut_slice-entries.result.now c.args.document.now in
     let known = subst (λ (n : ℕ). Between f es n c.loop-i.document first c.args.document.now) same c.loop-i.invariant.1 in
-    let olds = c.args.children.now.items in
-    let v = c.index_mut.result.now in
+    let entries = c.as_mut_slice-entries.result.now in
+    let v = slice_index_or es (i - 1) c.index-entries-i.result in
+    let here : v ≡ get_or es (i - 1) v = get_or_default es (i - 1) _ v at in
     let size = size-Entry g.row.C.Denot in
-    let inside : i - 1 < length olds = omega (arith, c.loop-i.invariant.0.0) in
-    let is : v ≡ get_or olds (i - 1) v = c.index_mut.ensures.value ∙ c.loop-i.invariant.0.1 (i - 1) v (omega arith) in
-    let sizes : size v ≡ size (get_or olds (i - 1) v) = ap size is in
-    let most = at_most size olds (i - 1) v inside in
-    let fits = between_last f es v (i - 1) c.loop-i.document first c.args.document.now known at c.index_mut.ensures.value in
-    (omega (arith, sizes, most), (search rules, fits))
+    let inside : i - 1 < length entries = omega (arith, c.loop-i.invariant.0.0) in
+    let is : v ≡ get_or entries (i - 1) v = here ∙ c.loop-i.invariant.0.1 (i - 1) v (omega arith) in
+    let sizes : size v ≡ size (get_or entries (i - 1) v) = ap size is in
+    let most = at_most size entries (i - 1) v inside in
+    let whole = ap (λ xs. greatest size xs) c.as_mut_slice-entries.ensures.value in
+    let fits = between_last f es v (i - 1) c.loop-i.document first c.args.document.now known at here in
+    (omega (arith, sizes, most, whole), (search rules, fits))
 
 pub undo_all-loop-i-preserved : goal.undo_all-loop-i-preserved
 undo_all-loop-i-preserved g t c =
     let f = entry_change g.C.Command.change in
-    let es = c.loop-i.children.items in
+    let es = c.loop-i.entries in
     let i = c.loop-i.i in
-    let v = c.index_mut.result.now in
-    let w = c.undo.new.self in
-    let is = c.index_mut.ensures.value in
-    let same : i ≡ i - 1 + 1 = omega arith in
     let at : i - 1 < length es = omega arith in
-    let first = before f c.args.children.now.items c.args.document.now in
+    let v = slice_index_or es (i - 1) c.index-entries-i.result in
+    let is : v ≡ get_or es (i - 1) v = get_or_default es (i - 1) _ v at in
+    let w = c.undo.new.self in
+    let same : i ≡ i - 1 + 1 = omega arith in
+    let first = before f c.as_mut_slice-entries.result.now c.args.document.now in
     let old = c.loop-i.invariant in
     let last = c.args.document.now in
     let known = subst (λ (n : ℕ). Between f es n c.loop-i.document first last) same old.1 in (

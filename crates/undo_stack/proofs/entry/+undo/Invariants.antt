@@ -7,8 +7,8 @@ use Rattle.undo_stack.proofs.entry.+undo.Given as goal
 abbrev pub invariant-undo_all-loop-i : goal.invariant-undo_all-loop-i
 invariant-undo_all-loop-i g l =
     let f = entry_change g.C.Command.change in
-    let first = before f l.initial.children.items l.initial.document in
+    let first = before f l.initial.entries l.initial.document in
     goal.unvisited-undo_all-loop-i g l ×
-    Between f l.children.items l.i l.document first l.initial.document ×
-    (map depth l.children.items ≡ map depth l.initial.children.items) ×
-    (map nesting l.children.items ≡ map nesting l.initial.children.items)
+    Between f l.entries l.i l.document first l.initial.document ×
+    (map depth l.entries ≡ map depth l.initial.entries) ×
+    (map nesting l.entries ≡ map nesting l.initial.entries)
