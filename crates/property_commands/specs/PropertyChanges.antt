@@ -64,11 +64,8 @@ property_set_exchange s = set_kind_exchange (set_property_names s.owner s.name s
 abbrev pub property_set_change : PropertySet → Change
 property_set_change s = change_of (property_set_exchange s)
 
-abbrev pub set_property_exchange : SetProperty → Exchange
-set_property_exchange c = property_set_exchange c.set.value
-
 abbrev pub set_property_change : SetProperty → Change
-set_property_change c = change_of (set_property_exchange c)
+set_property_change c = property_set_change c.set.value
 
 -- the type and the value from before that a kind of setting shows
 abbrev pub before_of : SetKind → Option Setting

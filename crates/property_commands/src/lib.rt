@@ -8,5 +8,5 @@ mod set;
 mod tilesets;
 
 pub use remove::RemoveProperty;
-pub use set::SetProperty;
+pub use set::{PropertySet, SetProperty};
 pub use tilesets::{AddTileset, RemoveTileset};

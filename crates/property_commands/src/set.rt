@@ -5,12 +5,11 @@ ghost use Rattle.map_model.specs.declared.place.OwnerPlace.{OwnerPlace};
 ghost use Rattle.map_model.specs.Given.{given_setting};
 ghost use Rattle.map_model.specs.Properties.{new_property, scalar_value, setting_with, IsSetting};
 ghost use Rattle.command_api.specs.declared.ids.TheConstants.{SET_ID};
-ghost use Rattle.command_api.specs.Exchange.{FitsExchange, IsExchanged};
+ghost use Rattle.command_api.specs.Law.{IsSame};
 ghost use Rattle.command_api.specs.Making.{IsRefusalOf, Makes};
-ghost use Rattle.command_api.specs.Offers.{IsOfferOf, shown_of};
 ghost use Rattle.command_api.specs.Tag.{OfName};
 ghost use Rattle.edits.specs.PropertyEdits.{after_set_property};
-ghost use Rattle.property_commands.specs.PropertyChanges.{IsKindFor, before_of, property_set_change, property_set_exchange, property_set_shown, set_property_change, set_property_exchange, set_property_shown};
+ghost use Rattle.property_commands.specs.PropertyChanges.{IsKindFor, before_of, property_set_change, property_set_exchange, property_set_shown, set_property_change, set_property_shown};
 ghost use Rattle.property_commands.specs.Names.{set_property_names};
 
 use crate::link::exchange_property;
@@ -49,9 +48,9 @@ impl SetKind {
     }
 }
 
-// What is set, and how.
+/// What is set, and how: the command that a `SetProperty` holds in its box.
 #[derive(Drop)]
-struct PropertySet {
+pub struct PropertySet {
     owner: Owner,
     name: MapText,
     follows: bool,
@@ -93,6 +92,13 @@ impl SetProperty {
             Ok(set) => Ok(SetProperty { set }),
             Err(_) => Err(EditFault::NoMemory),
         }
+    }
+
+    /// The box that it holds, with a command that does the same.
+    pub fn into_box(self) -> Box<PropertySet>
+        ensures { IsSame (set_property_change self) (property_set_change result.value) }
+    {
+        self.set
     }
 }
 
@@ -192,8 +198,8 @@ fn loose_property(
     Loose::new(alloc, Property::new(alloc, name, setting)).map_err(|_| AllocError)
 }
 
-impl Exchange for SetProperty {
-    ghost exchange_parts = { set_property_exchange };
+impl Exchange for PropertySet {
+    ghost exchange_parts = { property_set_exchange };
 
     fn label(&self) -> Label {
         Label {
@@ -204,18 +210,31 @@ impl Exchange for SetProperty {
     }
 
     fn is_settled(&self) -> bool {
-        self.set.is_settled()
+        match &self.kind {
+            SetKind::Replace { is_same, .. } => *is_same,
+            SetKind::Add(_) => false,
+        }
     }
 
     fn exchange(&mut self, document: &mut Document) {
-        self.set.exchange(document);
+        match &mut self.kind {
+            SetKind::Replace {
+                setting,
+                is_made,
+                ..
+            } => {
+                document.swap_setting(self.place, self.at, setting);
+                *is_made = !*is_made;
+            }
+            SetKind::Add(held) => exchange_property(document, self.place, self.at, held),
+        }
     }
 }
 
-impl Command for SetProperty {
-    ghost change = { set_property_change };
+impl Command for PropertySet {
+    ghost change = { property_set_change };
 
-    ghost shown = { set_property_shown };
+    ghost shown = { property_set_shown };
 
     fn text(&self) -> &str {
         self.label().text
@@ -246,7 +265,16 @@ impl Command for SetProperty {
     }
 
     fn offer(&self) -> Offer<'_> {
-        self.set.offer()
+        if !self.follows {
+            return Offer::Nothing;
+        }
+        Offer::Value {
+            owner: self.owner,
+            name: self.name.as_str(),
+            before: self.kind.before(),
+            kind: self.shown.kind(),
+            value: self.shown.value(),
+        }
     }
 
     fn merge(
@@ -266,66 +294,68 @@ impl Command for SetProperty {
         else {
             return Ok(false);
         };
-        if !self.set.sets(*owner, name) {
+        if !self.sets(*owner, name) {
             return Ok(false);
         }
         let shown = GivenSetting::new(alloc, kind, *value)?;
-        self.set.show(shown);
+        self.show(shown);
         Ok(true)
     }
 }
 
-impl PropertySet {
-    // Whether the property has this type and value already.
-    fn is_settled(&self) -> bool
-        ensures { result ≡ (property_set_exchange self.now).obsolete }
-    {
-        match &self.kind {
-            SetKind::Replace { is_same, .. } => *is_same,
-            SetKind::Add(_) => false,
-        }
+impl Command for SetProperty {
+    ghost change = { set_property_change };
+
+    ghost shown = { set_property_shown };
+
+    fn text(&self) -> &str {
+        self.set.text()
     }
 
+    fn action_text(&self) -> &str {
+        self.set.action_text()
+    }
+
+    fn id(&self) -> i32 {
+        self.set.id()
+    }
+
+    fn obsolete(&self) -> bool {
+        self.set.obsolete()
+    }
+
+    fn is_free(&self) -> bool {
+        self.set.is_free()
+    }
+
+    fn redo(&mut self, document: &mut Document) {
+        self.set.redo(document)
+    }
+
+    fn undo(&mut self, document: &mut Document) {
+        self.set.undo(document)
+    }
+
+    fn offer(&self) -> Offer<'_> {
+        self.set.offer()
+    }
+
+    fn merge(
+        &mut self,
+        alloc: Global,
+        newer: &Offer<'_>,
+        document: &Document,
+    ) -> Result<bool, AllocError> {
+        self.set.merge(alloc, newer, document)
+    }
+}
+
+impl PropertySet {
     // Whether this sets the owner's property with a name.
     fn sets(&self, owner: Owner, name: &str) -> bool
         ensures { IsTrue result ↔ ((property_set_exchange self.now).names.tag ≡ Some (record { kind = SET_ID; subject = OfName owner name.now })) }
     {
         owner == self.owner && name == self.name.as_str()
-    }
-
-    // Exchanges what is held and the property.
-    fn exchange(&mut self, document: &mut Document)
-        requires { FitsExchange (property_set_exchange self.old) document.old }
-        ensures { IsExchanged (property_set_exchange self.old) (property_set_exchange self.new) document.old document.new }
-    {
-        match &mut self.kind {
-            SetKind::Replace {
-                setting,
-                is_made,
-                ..
-            } => {
-                document.swap_setting(self.place, self.at, setting);
-                *is_made = !*is_made;
-            }
-            SetKind::Add(held) => exchange_property(document, self.place, self.at, held),
-        }
-    }
-
-    // What is shown to the step before: the type and the value, and those of before, where there were some.
-    fn offer(&self) -> Offer<'_>
-        ensures answer { shown_of result ≡ property_set_shown self.now }
-        ensures law { IsOfferOf (property_set_change self.now) (property_set_shown self.now) }
-    {
-        if !self.follows {
-            return Offer::Nothing;
-        }
-        Offer::Value {
-            owner: self.owner,
-            name: self.name.as_str(),
-            before: self.kind.before(),
-            kind: self.shown.kind(),
-            value: self.shown.value(),
-        }
     }
 
     // Shows another type and value than before: those that the property has got since.

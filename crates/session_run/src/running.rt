@@ -258,7 +258,7 @@ pub fn run_lines<R: Read, W: Write, S: MapStore>(
             Edit::AddObject(command) => Some(boxed(alloc, command)?),
             Edit::RemoveObject(command) => Some(boxed(alloc, command)?),
             Edit::PlaceObject(command) => Some(boxed(alloc, command)?),
-            Edit::SetProperty(command) => Some(boxed(alloc, command)?),
+            Edit::SetProperty(command) => Some(command.into_box()),
             Edit::RemoveProperty(command) => Some(boxed(alloc, command)?),
             Edit::AddTileset(command) => Some(boxed(alloc, command)?),
             Edit::RemoveTileset(command) => Some(boxed(alloc, command)?),

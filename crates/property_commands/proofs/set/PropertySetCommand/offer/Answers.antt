@@ -1,5 +1,5 @@
 use Rattle.property_commands.proofs.Settings.{set-offered, set-shown}
-use Rattle.property_commands.proofs.set.PropertySet.offer.Goals as goal
+use Rattle.property_commands.proofs.set.PropertySetCommand.offer.Goals as goal
 
 pub returns-clause-answer : goal.returns-clause-answer
 returns-clause-answer c =

@@ -6,7 +6,7 @@ use Rattle.property_commands.specs.PropertyChanges.{AllowsSetting}
 use Rattle.property_commands.specs.Names.{set_property_names}
 use Rattle.property_commands.proofs.PropertyMaking.{setting_at-get}
 use Rattle.property_commands.proofs.Settings.{set-there, setting_named-get, setting-put, AllowsSetting-put, new_link-turned}
-use Rattle.property_commands.proofs.set.PropertySet.exchange.Goals as goal
+use Rattle.property_commands.proofs.set.PropertySetExchange.exchange.Goals as goal
 
 pub swap_setting-requires-clause-there : goal.swap_setting-requires-clause-there
 swap_setting-requires-clause-there c =
