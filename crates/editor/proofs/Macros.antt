@@ -57,7 +57,7 @@ begun [] (l ∷ ls) n os long = absurd (omega arith)
 begun (h ∷ hs) [] n os long = absurd (omega arith)
 begun (h ∷ hs) (l ∷ ls) n os long = refl
 
--- the outermost macro closes
+-- the outermost macro ends
 closed : (limit : ℕ) (os l : List Nesting) → map is_nested (within_limit limit (os ++ nested l ∷ [])) ≡ within_limit limit (map is_nested os ++ true ∷ [])
 closed limit os l =
     map-within_limit is_nested limit (os ++ nested l ∷ [])

@@ -52,7 +52,7 @@ abbrev pub macros_begun : List Open → ℕ → List Bool → List Bool
 macros_begun [] position ks = take position ks ++ true ∷ []
 macros_begun (l ∷ ls) position ks = ks
 
--- end: the outermost macro closes, and is a step like the others, within the limit
+-- end: the outermost macro ends, and is a step like the others, within the limit
 abbrev pub macros_ended : List Open → ℕ → List Bool → List Bool
 macros_ended [] limit ks = ks
 macros_ended (l ∷ []) limit ks = within_limit limit ks

@@ -1,4 +1,4 @@
--- Entries without a command that is obsolete. What stands in a closed macro is not looked at.
+-- Entries without a command that is obsolete. What stands in an ended macro is not looked at.
 use Rattle.std.specs.Prelude.{◌≡◌, List, Bool, true, false, ◌&&◌}
 use Rattle.std.specs.List.{All}
 use Rattle.map_model.specs.Document.{DocumentParts}

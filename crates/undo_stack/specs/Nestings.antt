@@ -1,5 +1,5 @@
 -- How steps nest. A step is one command, or a macro of steps: that is its nesting. Merges and turns keep the nesting of each
--- step that stays, so a closed macro keeps all that stands in it.
+-- step that stays, so an ended macro keeps all that stands in it.
 use Rattle.std.specs.Prelude.{◌≡◌, ℕ, ◌-◌, List, [], ◌∷◌, ◌++◌, Bool, true, false, Ok, Err, map, take, drop, length, zero, suc}
 use Rattle.std.specs.List.{remove}
 use Rattle.undo_stack.specs.History.{History}

@@ -4,7 +4,7 @@
 -- step is gone exactly where that entry reports that it is obsolete.
 --
 -- Of a turn only the step of a free command may go: exactly where the command reports, after its turn, that it is obsolete.
--- Each step that stays keeps its nesting, so no step goes that stands in a closed macro.
+-- Each step that stays keeps its nesting, so no step goes that stands in an ended macro.
 use Rattle.std.specs.Prelude.{◌≡◌, ◌↔◌, ◌+◌, ◌-◌, ℕ, List, [], ◌∷◌, take, drop, reverse, Option, Some, None, Bool, true, false, Result, Ok, Err}
 use Rattle.map_model.specs.Document.{DocumentParts}
 use Rattle.command_api.specs.Law.{Change, IsRedone, IsUndone}
