@@ -214,7 +214,7 @@ impl<T: Drop> LinkTree<T> {
     {
         self.here = at;
         Loose {
-            link: Tree::one(self.tree.take(at)),
+            link: Tree::Filled(self.tree.take(at)),
         }
     }
 }

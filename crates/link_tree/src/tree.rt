@@ -2,7 +2,7 @@ ghost use Rattle.std.specs.Prelude.{◌≡◌, ◌+◌, ◌<◌, ◌≤◌, ◌^
 ghost use Rattle.std.specs.List.{insert, remove};
 ghost use Rattle.link_tree.specs.declared.tree.Tree.{Empty};
 ghost use Rattle.std.specs.Fn.{FnOnceTakesAtMut, FnOnceReturnsAtMut};
-ghost use Rattle.link_tree.specs.Trees.{before_top, items, IsSized};
+ghost use Rattle.link_tree.specs.Trees.{before_top, items, IsAlone, IsSized};
 ghost use Rattle.link_tree.specs.Changing.{ChangesAt, ChangesEach, Leaves, Takes, TakesEach};
 
 use std::mem;
@@ -203,14 +203,6 @@ impl<T> Tree<T> {
 }
 
 impl<T: Drop> Tree<T> {
-    /// A link alone.
-    pub(crate) fn one(link: Box<Link<T>>) -> Tree<T>
-        ensures sized { IsSized result }
-        ensures items { items result ≡ link.value.item ∷ [] }
-    {
-        Tree::between(link, Tree::Empty, Tree::Empty)
-    }
-
     // A link between two trees.
     fn between(link: Box<Link<T>>, left: Tree<T>, right: Tree<T>) -> Tree<T>
         requires left { IsSized left }
@@ -227,133 +219,110 @@ impl<T: Drop> Tree<T> {
         Tree::Filled(link)
     }
 
-    // The same, where the trees may differ by one link more than they should.
-    fn balanced(link: Box<Link<T>>, left: Tree<T>, right: Tree<T>) -> Tree<T>
-        requires left { IsSized left }
-        requires right { IsSized right }
-        requires fits { length (items left) + length (items right) + 1 < 2 ^ 64 }
-        ensures sized { IsSized result }
-        ensures items { items result ≡ items left ++ link.value.item ∷ items right }
-    {
-        let (before, behind) = (left.len(), right.len());
-        if before / 3 > behind {
-            Tree::leaning_left(link, left, right)
-        } else if behind / 3 > before {
-            Tree::leaning_right(link, left, right)
-        } else {
-            Tree::between(link, left, right)
-        }
-    }
-
-    // The same, where the left tree is too large.
+    // Turns the tree to the right, where too many links stand before its top.
     #[inline(never)]
-    fn leaning_left(link: Box<Link<T>>, left: Tree<T>, right: Tree<T>) -> Tree<T>
-        requires left { IsSized left }
-        requires right { IsSized right }
-        requires fits { length (items left) + length (items right) + 1 < 2 ^ 64 }
-        ensures sized { IsSized result }
-        ensures items { items result ≡ items left ++ link.value.item ∷ items right }
-    {
-        let Tree::Filled(mut up) = left else {
-            return Tree::between(link, left, right);
-        };
-        let (outer, inner) = (up.left.part(), up.right.part());
-        if inner.len() - inner.len() / 2 <= outer.len() {
-            return Tree::between(up, outer, Tree::between(link, inner, right));
-        }
-        match inner {
-            Tree::Empty => Tree::between(up, outer, Tree::between(link, inner, right)),
-            Tree::Filled(mut top) => {
-                let (low, high) = (top.left.part(), top.right.part());
-                Tree::between(
-                    top,
-                    Tree::between(up, outer, low),
-                    Tree::between(link, high, right),
-                )
-            }
-        }
-    }
-
-    // The same, where the right tree is too large.
-    #[inline(never)]
-    fn leaning_right(link: Box<Link<T>>, left: Tree<T>, right: Tree<T>) -> Tree<T>
-        requires left { IsSized left }
-        requires right { IsSized right }
-        requires fits { length (items left) + length (items right) + 1 < 2 ^ 64 }
-        ensures sized { IsSized result }
-        ensures items { items result ≡ items left ++ link.value.item ∷ items right }
-    {
-        let Tree::Filled(mut up) = right else {
-            return Tree::between(link, left, right);
-        };
-        let (inner, outer) = (up.left.part(), up.right.part());
-        if inner.len() - inner.len() / 2 <= outer.len() {
-            return Tree::between(up, Tree::between(link, left, inner), outer);
-        }
-        match inner {
-            Tree::Empty => Tree::between(up, Tree::between(link, left, inner), outer),
-            Tree::Filled(mut top) => {
-                let (low, high) = (top.left.part(), top.right.part());
-                Tree::between(
-                    top,
-                    Tree::between(link, left, low),
-                    Tree::between(up, high, outer),
-                )
-            }
-        }
-    }
-
-    // Turns the tree where it has too many links before its top.
-    fn lean_right(&mut self)
+    fn turn_right(&mut self)
         requires sized { IsSized self.old }
         requires fits { length (items self.old) < 2 ^ 64 }
         ensures sized { IsSized self.new }
         ensures items { items self.new ≡ items self.old }
     {
-        if let Tree::Filled(mut link) = self.part() {
-            let (left, right) = (link.left.part(), link.right.part());
-            *self = Tree::leaning_left(link, left, right);
+        let Tree::Filled(mut link) = self.part() else {
+            return;
+        };
+        let Tree::Filled(mut up) = link.left.part() else {
+            *self = Tree::Filled(link);
+            return;
+        };
+        let whole = link.size;
+        let outer = up.before;
+        let inner = up.size - outer - 1;
+        link.before = inner;
+        link.size = whole - outer - 1;
+        if inner - inner / 2 <= outer {
+            link.left = up.right.part();
+        } else if let Tree::Filled(mut top) = up.right.part() {
+            link.left = top.right.part();
+            link.before = inner - top.before - 1;
+            link.size = whole - outer - top.before - 2;
+            up.right = top.left.part();
+            up.size = outer + top.before + 1;
+            top.before = up.size;
+            top.left = Tree::Filled(up);
+            up = top;
         }
+        up.right = Tree::Filled(link);
+        up.size = whole;
+        *self = Tree::Filled(up);
     }
 
-    // Turns the tree where it has too many links behind its top.
-    fn lean_left(&mut self)
+    // Turns the tree to the left, where too many links stand behind its top.
+    #[inline(never)]
+    fn turn_left(&mut self)
         requires sized { IsSized self.old }
         requires fits { length (items self.old) < 2 ^ 64 }
         ensures sized { IsSized self.new }
         ensures items { items self.new ≡ items self.old }
     {
-        if let Tree::Filled(mut link) = self.part() {
-            let (left, right) = (link.left.part(), link.right.part());
-            *self = Tree::leaning_right(link, left, right);
+        let Tree::Filled(mut link) = self.part() else {
+            return;
+        };
+        let Tree::Filled(mut up) = link.right.part() else {
+            *self = Tree::Filled(link);
+            return;
+        };
+        let whole = link.size;
+        let before = link.before;
+        let inner = up.before;
+        link.size = before + inner + 1;
+        if inner - inner / 2 <= up.size - inner - 1 {
+            link.right = up.left.part();
+        } else if let Tree::Filled(mut top) = up.left.part() {
+            link.right = top.left.part();
+            link.size = before + top.before + 1;
+            up.left = top.right.part();
+            up.before = inner - top.before - 1;
+            up.size = up.size - top.before - 1;
+            top.right = Tree::Filled(up);
+            up = top;
         }
+        up.before = link.size;
+        up.left = Tree::Filled(link);
+        up.size = whole;
+        *self = Tree::Filled(up);
     }
 
     /// Puts a link in at a place from 0 to the length.
+    ///
+    /// How many links stand on each side is known before the link is put in, so that a call on the way is the last step of
+    /// the call before it, unless links have to be turned there.
     pub(crate) fn insert(&mut self, at: usize, loose: Box<Link<T>>)
         requires sized { IsSized self.old }
         requires place { at ≤ length (items self.old) }
         requires fits { length (items self.old) + 1 < 2 ^ 63 }
+        requires alone { IsAlone loose.value }
         ensures sized { IsSized self.new }
         ensures items { items self.new ≡ insert (items self.old) at loose.value.item }
     {
         match self {
-            Tree::Empty => *self = Tree::one(loose),
+            Tree::Empty => *self = Tree::Filled(loose),
             Tree::Filled(link) => {
                 let before = link.before;
                 let behind = link.size - before - 1;
                 link.size += 1;
                 if at <= before {
                     link.before = before + 1;
-                    link.left.insert(at, loose);
                     if (before + 1) / 3 > behind {
-                        self.lean_right();
+                        link.left.insert(at, loose);
+                        self.turn_right();
+                    } else {
+                        link.left.insert(at, loose);
                     }
+                } else if (behind + 1) / 3 > before {
+                    link.right.insert(at - before - 1, loose);
+                    self.turn_left();
                 } else {
                     link.right.insert(at - before - 1, loose);
-                    if (behind + 1) / 3 > before {
-                        self.lean_left();
-                    }
                 }
             }
         }
@@ -366,6 +335,7 @@ impl<T: Drop> Tree<T> {
         requires fits { length (items self.old) < 2 ^ 64 }
         ensures sized { IsSized self.new }
         ensures items { items self.old ≡ result.value.item ∷ items self.new }
+        ensures alone { IsAlone result.value }
     {
         match self {
             Tree::Empty => unreachable!(),
@@ -377,11 +347,13 @@ impl<T: Drop> Tree<T> {
                 let behind = link.size - before - 1;
                 link.size -= 1;
                 link.before = before - 1;
-                let first = link.left.take_first();
                 if behind / 3 > before - 1 {
-                    self.lean_left();
+                    let first = link.left.take_first();
+                    self.turn_left();
+                    first
+                } else {
+                    link.left.take_first()
                 }
-                first
             }
         }
     }
@@ -393,11 +365,13 @@ impl<T: Drop> Tree<T> {
         requires first { before_top self.old ≡ 0 }
         ensures sized { IsSized self.new }
         ensures items { items self.old ≡ result.value.item ∷ items self.new }
+        ensures alone { IsAlone result.value }
     {
         match self.part() {
             Tree::Empty => unreachable!(),
             Tree::Filled(mut link) => {
                 *self = link.right.part();
+                link.size = 1;
                 link
             }
         }
@@ -411,11 +385,14 @@ impl<T: Drop> Tree<T> {
         ensures sized { IsSized self.new }
         ensures items { items self.new ≡ remove (items self.old) (before_top self.old) }
         ensures taken { slice_get (items self.old) (before_top self.old) ≡ Some result.value.item }
+        ensures alone { IsAlone result.value }
     {
         match self.part() {
             Tree::Empty => unreachable!(),
             Tree::Filled(mut link) => {
                 let (left, right) = (link.left.part(), link.right.part());
+                link.before = 0;
+                link.size = 1;
                 *self = Tree::joined(left, right);
                 link
             }
@@ -431,11 +408,16 @@ impl<T: Drop> Tree<T> {
         ensures items { items result ≡ items left ++ items right }
     {
         let mut right = right;
-        if right.len() == 0 {
+        let (before, behind) = (left.len(), right.len());
+        if behind == 0 {
             return left;
         }
         let first = right.take_first();
-        Tree::balanced(first, left, right)
+        let mut tree = Tree::between(first, left, right);
+        if before / 3 > behind - 1 {
+            tree.turn_right();
+        }
+        tree
     }
 
     /// Takes the link at a place below the length out.
@@ -446,6 +428,7 @@ impl<T: Drop> Tree<T> {
         ensures sized { IsSized self.new }
         ensures items { items self.new ≡ remove (items self.old) at }
         ensures taken { slice_get (items self.old) at ≡ Some result.value.item }
+        ensures alone { IsAlone result.value }
     {
         match self {
             Tree::Empty => unreachable!(),
@@ -458,17 +441,19 @@ impl<T: Drop> Tree<T> {
                 link.size -= 1;
                 if at < before {
                     link.before = before - 1;
-                    let taken = link.left.take(at);
                     if behind / 3 > before - 1 {
-                        self.lean_left();
+                        let taken = link.left.take(at);
+                        self.turn_left();
+                        taken
+                    } else {
+                        link.left.take(at)
                     }
+                } else if before / 3 > behind - 1 {
+                    let taken = link.right.take(at - before - 1);
+                    self.turn_right();
                     taken
                 } else {
-                    let taken = link.right.take(at - before - 1);
-                    if before / 3 > behind - 1 {
-                        self.lean_right();
-                    }
-                    taken
+                    link.right.take(at - before - 1)
                 }
             }
         }

@@ -1,13 +1,7 @@
 use Rattle.std.proofs.Common.{arith}
 use Rattle.std.proofs.lemmas.Grind.{common_steps}
-use Rattle.link_tree.proofs.Edits.{remove-behind, get-before, get-behind}
+use Rattle.link_tree.proofs.Edits.{remove-behind, get-behind}
 use Rattle.link_tree.proofs.tree.Tree.+take.Goals as goal
-
-pub returns-then-behind-before-clause-taken : goal.returns-then-behind-before-clause-taken
-returns-then-behind-before-clause-taken g t c = grind (arith, common_steps, get-before)
-
-pub returns-else-behind-before-clause-taken : goal.returns-else-behind-before-clause-taken
-returns-else-behind-before-clause-taken g t c = grind (arith, common_steps, get-before)
 
 pub returns-then-before-behind-clause-items : goal.returns-then-before-behind-clause-items
 returns-then-before-behind-clause-items g t c = grind (arith, common_steps, remove-behind)
