@@ -307,6 +307,7 @@ impl<T: Drop> Tree<T> {
         match self {
             Tree::Empty => *self = Tree::Filled(loose),
             Tree::Filled(link) => {
+                let link = &mut **link;
                 let before = link.before;
                 let behind = link.size - before - 1;
                 link.size += 1;
@@ -340,6 +341,7 @@ impl<T: Drop> Tree<T> {
         match self {
             Tree::Empty => unreachable!(),
             Tree::Filled(link) => {
+                let link = &mut **link;
                 let before = link.before;
                 if before == 0 {
                     return self.take_outer();
@@ -433,6 +435,7 @@ impl<T: Drop> Tree<T> {
         match self {
             Tree::Empty => unreachable!(),
             Tree::Filled(link) => {
+                let link = &mut **link;
                 let before = link.before;
                 if at == before {
                     return self.take_top();
