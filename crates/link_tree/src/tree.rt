@@ -167,6 +167,7 @@ impl<T> Tree<T> {
         match self {
             Tree::Empty => {}
             Tree::Filled(link) => {
+                let link = &mut **link;
                 link.left.change_each(change);
                 changed_by(&mut link.item, change);
                 link.right.change_each(change);

@@ -8,20 +8,20 @@ use Rattle.link_tree.proofs.tree.Tree.+change_each.Goals as goal
 
 pub change_each-requires : goal.change_each-requires
 change_each-requires g t c κs within =
-    let k = c.deref_mut.result.now in
+    let k = c.deref_mut-link.result.now in
     let each = all-before (Takes g.F.Fn c.args.change.now) (items c.args.self.now) (items k.left) (items k.right) k.item (grind (arith, common_steps)) c.requires.callable in
     let fewer : length (items k.left) < length (items c.args.self.now) = grind (arith, common_steps) in
     (omega (arith, fewer), (search rules, (search rules, (search rules, each))))
 
 pub changed_by-requires : goal.changed_by-requires
 changed_by-requires g t c =
-    let k = c.deref_mut-in-Filled.result.now in
+    let k = c.deref_mut-link.result.now in
     let old = c.in-Filled.link.value in
     all-at (Takes g.F.Fn c.args.change.now) (items c.args.self.now) (items old.left) (items old.right) k.item (grind (arith, common_steps)) c.requires.callable
 
 pub change_each-requires-in-Filled : goal.change_each-requires-in-Filled
 change_each-requires-in-Filled g t c κs within =
-    let k = c.deref_mut-in-Filled-2.result.now in
+    let k = c.deref_mut-link.result.now in
     let old = c.in-Filled.link.value in
     let each = all-behind (Takes g.F.Fn c.args.change.now) (items c.args.self.now) (items old.left) (items k.right) old.item (grind (arith, common_steps)) c.requires.callable in
     let fewer : length (items k.right) < length (items c.args.self.now) = grind (arith, common_steps) in
