@@ -1,2 +1,4 @@
+mod Alone
+mod Changes
 mod Edits
 mod Waits

@@ -1,5 +1,5 @@
 -- Links of a tree that wait in a visit, each for its item and the links behind it.
-use Rattle.std.specs.Prelude.{◌≡◌, ℕ, zero, suc, List, [], ◌∷◌, ◌++◌, Option, Some, None, slice_get}
+use Rattle.std.specs.Prelude.{◌≡◌, ℕ, zero, suc, ◌<◌, List, [], ◌∷◌, ◌++◌, length, Option, Some, None, slice_get}
 use Rattle.std.specs.Borrow.{Bor}
 use Rattle.link_tree.specs.declared.tree.Link.{Link}
 use Rattle.link_tree.specs.declared.tree.Tree.{Tree}
@@ -37,6 +37,10 @@ AreLinks trees (suc k) = IsLinkAt (slice_get trees k) × AreLinks trees k
 abbrev pub HasLink : {T : Type 0} → Tree T → Link T → Type 0
 HasLink Empty link = ⊥
 HasLink (Filled' p x l r b n) link = (x ≡ link.item) × ((l ≡ link.left) × (r ≡ link.right))
+
+-- a tree has items to look up
+abbrev pub IsDeep : {T : Type 0} → Tree T → Type 0
+IsDeep tree = IsSized tree × (0 < length (items tree))
 
 -- where a link is next, no items are too deep; where none is, no link waits unless some items are
 abbrev pub IsNext : {T : Type 0} → Tree T → ℕ → ℕ → Type 0

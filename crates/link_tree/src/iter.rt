@@ -1,8 +1,8 @@
-ghost use Rattle.std.specs.Prelude.{◌≡◌, ◌+◌, ◌-◌, ◌<◌, ◌≤◌, ◌++◌, length, slice_get, Some, IfOk, IfErr};
+ghost use Rattle.std.specs.Prelude.{◌≡◌, ◌+◌, ◌-◌, ◌<◌, ◌≤◌, ◌++◌, length, slice_get, Some, MatchBool, cond};
 ghost use Rattle.std.specs.Iterator.{YieldsFirstRef, item_count};
 ghost use Rattle.link_tree.specs.declared.tree.Tree.{Empty};
 ghost use Rattle.link_tree.specs.Trees.{items, IsSized};
-ghost use Rattle.link_tree.specs.Waiting.{from_link, waiting, HasLink, IsLink, AreLinks, IsNext};
+ghost use Rattle.link_tree.specs.Waiting.{from_link, waiting, HasLink, IsLink, IsDeep, AreLinks, IsNext};
 
 use crate::tree::{Link, Tree};
 use std::marker::Model;
@@ -40,35 +40,34 @@ impl<'a, T> Model for Iter<'a, T> {
 }
 
 // Goes to the first link of a tree that holds this one, and lets those on the way wait, behind so many others. Where there
-// is no room for one, it hands back the tree that holds it.
+// is no room for one, it goes to the tree that holds it, and answers so.
 fn go_down<'a, T>(
     waits: &mut [&'a Tree<T>],
     depth: &mut usize,
+    next: &mut &'a Tree<T>,
     tree: &'a Tree<T>,
     link: &'a Link<T>,
-) -> Result<&'a Tree<T>, &'a Tree<T>>
+) -> bool
     requires room { depth.old ≤ length waits.old }
     requires links { AreLinks waits.old depth.old }
     requires sized { IsSized tree.now }
     requires same { HasLink tree.now link.now }
     ensures room { depth.new ≤ length waits.old }
     ensures links { AreLinks waits.new depth.new }
-    ensures ok_link { IfOk result (λ next. IsLink next.now) }
-    ensures ok_items { IfOk result (λ next. from_link next.now ++ waiting waits.new depth.new ≡ items tree.now ++ waiting waits.old depth.old) }
-    ensures err_sized { IfErr result (λ deep. IsSized deep.now) }
-    ensures err_some { IfErr result (λ deep. 0 < length (items deep.now)) }
-    ensures err_items { IfErr result (λ deep. items deep.now ++ waiting waits.new depth.new ≡ items tree.now ++ waiting waits.old depth.old) }
+    ensures next { MatchBool result (IsLink next.new.now) (IsDeep next.new.now) }
+    ensures items { cond result (from_link next.new.now) (items next.new.now) ++ waiting waits.new depth.new ≡ items tree.now ++ waiting waits.old depth.old }
 {
+    *next = tree;
     match &link.left {
-        Tree::Empty => Ok(tree),
+        Tree::Empty => true,
         Tree::Filled(first) => {
             let number = *depth;
             if number < waits.len() {
                 waits[number] = tree;
                 *depth = number + 1;
-                go_down(waits, depth, &link.left, first)
+                go_down(waits, depth, next, &link.left, first)
             } else {
-                Err(tree)
+                false
             }
         }
     }
@@ -130,22 +129,26 @@ impl<'a, T> Iter<'a, T> {
                 deep: tree,
                 left: 0,
             },
-            Tree::Filled(link) => match go_down(&mut waits[..], &mut depth, tree, link) {
-                Ok(next) => Iter {
-                    next,
-                    waits,
-                    depth,
-                    deep: tree,
-                    left: 0,
-                },
-                Err(deep) => Iter {
-                    next: before_first(deep),
-                    waits,
-                    depth,
-                    deep,
-                    left: deep.len(),
-                },
-            },
+            Tree::Filled(link) => {
+                let mut next = tree;
+                if go_down(&mut waits[..], &mut depth, &mut next, tree, link) {
+                    Iter {
+                        next,
+                        waits,
+                        depth,
+                        deep: tree,
+                        left: 0,
+                    }
+                } else {
+                    Iter {
+                        next: before_first(next),
+                        waits,
+                        depth,
+                        deep: next,
+                        left: next.len(),
+                    }
+                }
+            }
         }
     }
 }
@@ -184,20 +187,17 @@ impl<'a, T> Iterator for Iter<'a, T> {
                 }
                 Tree::Filled(first) => {
                     let mut depth = self.depth;
-                    match go_down(&mut self.waits[..], &mut depth, &link.right, first) {
-                        Ok(next) => {
-                            self.next = next;
-                            self.depth = depth;
-                            Some(&link.item)
-                        }
-                        Err(deep) => {
-                            self.next = before_first(deep);
-                            self.depth = depth;
-                            self.deep = deep;
-                            self.left = deep.len();
-                            Some(&link.item)
-                        }
+                    let mut next = next;
+                    let waits = &mut self.waits[..];
+                    if go_down(waits, &mut depth, &mut next, &link.right, first) {
+                        self.next = next;
+                    } else {
+                        self.next = before_first(next);
+                        self.deep = next;
+                        self.left = next.len();
                     }
+                    self.depth = depth;
+                    Some(&link.item)
                 }
             },
         }

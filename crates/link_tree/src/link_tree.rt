@@ -4,7 +4,7 @@ ghost use Rattle.std.specs.Option.{option_copied};
 ghost use Rattle.link_tree.specs.declared.tree.Tree.{Empty};
 ghost use Rattle.link_tree.specs.Trees.{items, IsSized};
 ghost use Rattle.std.specs.Fn.{FnOnceTakesAtMut};
-ghost use Rattle.link_tree.specs.Changing.{ChangesAt};
+ghost use Rattle.link_tree.specs.Changing.{ChangesAt, ChangesEach, TakesEach};
 
 use crate::iter::Iter;
 use crate::tree::{Link, Tree};
@@ -160,7 +160,8 @@ impl<T: Drop> LinkTree<T> {
         requires { (state : F) (item : _) → F.pre state item }
         ensures { IfSome result (λ found. slice_get self.now found.0 ≡ Some found.1.now) }
     {
-        let at = self.tree.place(test, 0);
+        let mut test = test;
+        let at = self.tree.place(&mut test, 0);
         if at < self.len() {
             Some((at, self.get(at)))
         } else {
@@ -175,7 +176,21 @@ impl<T: Drop> LinkTree<T> {
         ensures { ChangesAt F.FnOnce change at self.old result self.new }
     {
         self.here = at;
-        self.tree.change_at(at, change)
+        let mut change = Some(change);
+        let mut answer = None;
+        self.tree.change_at(at, &mut change, &mut answer);
+        match (change, answer) {
+            (None, Some(answer)) => answer,
+            _ => unreachable!(),
+        }
+    }
+
+    /// Changes each item where it stands, by one call of the closure.
+    pub fn change_each<F: Fn(&mut T)>(&mut self, change: F)
+        requires { TakesEach F.Fn change self.old }
+        ensures { ChangesEach F.Fn change self.old self.new }
+    {
+        self.tree.change_each(&change);
     }
 
     /// Puts the link at a place from 0 to the length; the items from there on stand one place higher.
@@ -187,7 +202,7 @@ impl<T: Drop> LinkTree<T> {
         let Loose { link } = loose;
         self.here = at;
         if let Tree::Filled(link) = link {
-            self.tree = self.tree.part().insert(at, link);
+            self.tree.insert(at, link);
         }
     }
 
@@ -197,11 +212,9 @@ impl<T: Drop> LinkTree<T> {
         ensures item { result ≡ slice_get self.old at }
         ensures rest { self.new ≡ remove self.old at }
     {
-        let (rest, link) = self.tree.part().take(at);
-        self.tree = rest;
         self.here = at;
         Loose {
-            link: Tree::one(link),
+            link: Tree::Filled(self.tree.take(at)),
         }
     }
 }

@@ -1,9 +1,9 @@
-ghost use Rattle.std.specs.Prelude.{◌≡◌, ◌+◌, ◌<◌, ◌≤◌, ◌^◌, ◌++◌, ◌∷◌, [], length, slice_get, Some};
+ghost use Rattle.std.specs.Prelude.{◌≡◌, ◌+◌, ◌<◌, ◌≤◌, ◌^◌, ◌++◌, ◌∷◌, [], length, slice_get, Some, None, IsSomeAnd};
 ghost use Rattle.std.specs.List.{insert, remove};
 ghost use Rattle.link_tree.specs.declared.tree.Tree.{Empty};
 ghost use Rattle.std.specs.Fn.{FnOnceTakesAtMut, FnOnceReturnsAtMut};
-ghost use Rattle.link_tree.specs.Trees.{items, IsSized};
-ghost use Rattle.link_tree.specs.Changing.{ChangesAt};
+ghost use Rattle.link_tree.specs.Trees.{before_top, items, IsAlone, IsSized};
+ghost use Rattle.link_tree.specs.Changing.{ChangesAt, ChangesEach, Leaves, Takes, TakesEach};
 
 use std::mem;
 
@@ -62,6 +62,39 @@ fn changed<T, R, F: FnOnce(&mut T) -> R>(item: &mut T, change: F) -> R
     change(item)
 }
 
+// Changes an item by a closure that is used again.
+#[inline(always)]
+fn changed_by<T, F: Fn(&mut T)>(item: &mut T, change: &F)
+    requires { Takes F.Fn change.now item.old }
+    ensures { Leaves F.Fn change.now item.old item.new }
+{
+    change(item)
+}
+
+// Changes an item by a closure, which is taken out of its place, and puts what it gave in the place for that.
+#[inline(always)]
+fn change_item<T, R, F: FnOnce(&mut T) -> R>(
+    item: &mut T,
+    change: &mut Option<F>,
+    answer: &mut Option<R>,
+)
+    requires open { answer.old ≡ None }
+    requires callable { IsSomeAnd change.old (λ f. FnOnceTakesAtMut F.FnOnce f item.old) }
+    ensures called { change.new ≡ None }
+    ensures changed { IsSomeAnd change.old (λ f. IsSomeAnd answer.new (λ r. FnOnceReturnsAtMut F.FnOnce f item.old r item.new)) }
+{
+    match change.take() {
+        None => unreachable!(),
+        Some(change) => {
+            let given = changed(item, change);
+            match answer.replace(given) {
+                None => {}
+                Some(_) => unreachable!(),
+            }
+        }
+    }
+}
+
 impl<T> Tree<T> {
     pub(crate) fn len(&self) -> usize
         requires { IsSized self.now }
@@ -93,37 +126,62 @@ impl<T> Tree<T> {
         }
     }
 
-    /// Changes the item at a place below the length where it stands.
-    pub(crate) fn change_at<R, F: FnOnce(&mut T) -> R>(&mut self, at: usize, change: F) -> R
+    /// Changes the item at a place below the length where it stands. The closure is lent down to it, so that no call on the
+    /// way copies what it holds.
+    pub(crate) fn change_at<R, F: FnOnce(&mut T) -> R>(
+        &mut self,
+        at: usize,
+        change: &mut Option<F>,
+        answer: &mut Option<R>,
+    )
         requires sized { IsSized self.old }
         requires place { at < length (items self.old) }
-        requires callable { (x : _) → slice_get (items self.old) at ≡ Some x → FnOnceTakesAtMut F.FnOnce change x }
+        requires open { answer.old ≡ None }
+        requires callable { IsSomeAnd change.old (λ f. (x : _) → slice_get (items self.old) at ≡ Some x → FnOnceTakesAtMut F.FnOnce f x) }
         ensures sized { IsSized self.new }
-        ensures changed { ChangesAt F.FnOnce change at (items self.old) result (items self.new) }
+        ensures called { change.new ≡ None }
+        ensures changed { IsSomeAnd change.old (λ f. IsSomeAnd answer.new (λ r. ChangesAt F.FnOnce f at (items self.old) r (items self.new))) }
     {
         match self {
             Tree::Empty => unreachable!(),
             Tree::Filled(link) => {
                 let before = link.before;
                 if at < before {
-                    link.left.change_at(at, change)
+                    link.left.change_at(at, change, answer)
                 } else if at == before {
-                    changed(&mut link.item, change)
+                    change_item(&mut link.item, change, answer)
                 } else {
-                    link.right.change_at(at - before - 1, change)
+                    link.right.change_at(at - before - 1, change, answer)
                 }
+            }
+        }
+    }
+
+    /// Changes each item where it stands.
+    pub(crate) fn change_each<F: Fn(&mut T)>(&mut self, change: &F)
+        requires sized { IsSized self.old }
+        requires callable { TakesEach F.Fn change.now (items self.old) }
+        ensures sized { IsSized self.new }
+        ensures changed { ChangesEach F.Fn change.now (items self.old) (items self.new) }
+    {
+        match self {
+            Tree::Empty => {}
+            Tree::Filled(link) => {
+                let link = &mut **link;
+                link.left.change_each(change);
+                changed_by(&mut link.item, change);
+                link.right.change_each(change);
             }
         }
     }
 
     /// The place, behind so many others, of the first item that passes a test, where each item behind one that passes
     /// passes too; behind the last one where none passes.
-    pub(crate) fn place<F: FnMut(&T) -> bool>(&self, test: F, passed: usize) -> usize
+    pub(crate) fn place<F: FnMut(&T) -> bool>(&self, test: &mut F, passed: usize) -> usize
         requires sized { IsSized self.now }
         requires fits { passed + length (items self.now) < 2 ^ 64 }
         requires callable { (state : F) (item : _) → F.pre state item }
     {
-        let mut test = test;
         match self {
             Tree::Empty => passed,
             Tree::Filled(link) => {
@@ -146,14 +204,6 @@ impl<T> Tree<T> {
 }
 
 impl<T: Drop> Tree<T> {
-    /// A link alone.
-    pub(crate) fn one(link: Box<Link<T>>) -> Tree<T>
-        ensures sized { IsSized result }
-        ensures items { items result ≡ link.value.item ∷ [] }
-    {
-        Tree::between(link, Tree::Empty, Tree::Empty)
-    }
-
     // A link between two trees.
     fn between(link: Box<Link<T>>, left: Tree<T>, right: Tree<T>) -> Tree<T>
         requires left { IsSized left }
@@ -170,122 +220,184 @@ impl<T: Drop> Tree<T> {
         Tree::Filled(link)
     }
 
-    // The same, where the trees may differ by one link more than they should.
-    fn balanced(link: Box<Link<T>>, left: Tree<T>, right: Tree<T>) -> Tree<T>
-        requires left { IsSized left }
-        requires right { IsSized right }
-        requires fits { length (items left) + length (items right) + 1 < 2 ^ 64 }
-        ensures sized { IsSized result }
-        ensures items { items result ≡ items left ++ link.value.item ∷ items right }
-    {
-        let (before, behind) = (left.len(), right.len());
-        if before / 3 > behind {
-            Tree::leaning_left(link, left, right)
-        } else if behind / 3 > before {
-            Tree::leaning_right(link, left, right)
-        } else {
-            Tree::between(link, left, right)
-        }
-    }
-
-    // The same, where the left tree is too large.
+    // Turns the tree to the right, where too many links stand before its top.
     #[inline(never)]
-    fn leaning_left(link: Box<Link<T>>, left: Tree<T>, right: Tree<T>) -> Tree<T>
-        requires left { IsSized left }
-        requires right { IsSized right }
-        requires fits { length (items left) + length (items right) + 1 < 2 ^ 64 }
-        ensures sized { IsSized result }
-        ensures items { items result ≡ items left ++ link.value.item ∷ items right }
+    fn turn_right(&mut self)
+        requires sized { IsSized self.old }
+        requires fits { length (items self.old) < 2 ^ 64 }
+        ensures sized { IsSized self.new }
+        ensures items { items self.new ≡ items self.old }
     {
-        let Tree::Filled(mut up) = left else {
-            return Tree::between(link, left, right);
+        let Tree::Filled(mut link) = self.part() else {
+            return;
         };
-        let (outer, inner) = (up.left.part(), up.right.part());
-        if inner.len() - inner.len() / 2 <= outer.len() {
-            return Tree::between(up, outer, Tree::between(link, inner, right));
+        let Tree::Filled(mut up) = link.left.part() else {
+            *self = Tree::Filled(link);
+            return;
+        };
+        let whole = link.size;
+        let outer = up.before;
+        let inner = up.size - outer - 1;
+        link.before = inner;
+        link.size = whole - outer - 1;
+        if inner - inner / 2 <= outer {
+            link.left = up.right.part();
+        } else if let Tree::Filled(mut top) = up.right.part() {
+            link.left = top.right.part();
+            link.before = inner - top.before - 1;
+            link.size = whole - outer - top.before - 2;
+            up.right = top.left.part();
+            up.size = outer + top.before + 1;
+            top.before = up.size;
+            top.left = Tree::Filled(up);
+            up = top;
         }
-        match inner {
-            Tree::Empty => Tree::between(up, outer, Tree::between(link, inner, right)),
-            Tree::Filled(mut top) => {
-                let (low, high) = (top.left.part(), top.right.part());
-                Tree::between(
-                    top,
-                    Tree::between(up, outer, low),
-                    Tree::between(link, high, right),
-                )
-            }
-        }
+        up.right = Tree::Filled(link);
+        up.size = whole;
+        *self = Tree::Filled(up);
     }
 
-    // The same, where the right tree is too large.
+    // Turns the tree to the left, where too many links stand behind its top.
     #[inline(never)]
-    fn leaning_right(link: Box<Link<T>>, left: Tree<T>, right: Tree<T>) -> Tree<T>
-        requires left { IsSized left }
-        requires right { IsSized right }
-        requires fits { length (items left) + length (items right) + 1 < 2 ^ 64 }
-        ensures sized { IsSized result }
-        ensures items { items result ≡ items left ++ link.value.item ∷ items right }
+    fn turn_left(&mut self)
+        requires sized { IsSized self.old }
+        requires fits { length (items self.old) < 2 ^ 64 }
+        ensures sized { IsSized self.new }
+        ensures items { items self.new ≡ items self.old }
     {
-        let Tree::Filled(mut up) = right else {
-            return Tree::between(link, left, right);
+        let Tree::Filled(mut link) = self.part() else {
+            return;
         };
-        let (inner, outer) = (up.left.part(), up.right.part());
-        if inner.len() - inner.len() / 2 <= outer.len() {
-            return Tree::between(up, Tree::between(link, left, inner), outer);
+        let Tree::Filled(mut up) = link.right.part() else {
+            *self = Tree::Filled(link);
+            return;
+        };
+        let whole = link.size;
+        let before = link.before;
+        let inner = up.before;
+        link.size = before + inner + 1;
+        if inner - inner / 2 <= up.size - inner - 1 {
+            link.right = up.left.part();
+        } else if let Tree::Filled(mut top) = up.left.part() {
+            link.right = top.left.part();
+            link.size = before + top.before + 1;
+            up.left = top.right.part();
+            up.before = inner - top.before - 1;
+            up.size = up.size - top.before - 1;
+            top.right = Tree::Filled(up);
+            up = top;
         }
-        match inner {
-            Tree::Empty => Tree::between(up, Tree::between(link, left, inner), outer),
-            Tree::Filled(mut top) => {
-                let (low, high) = (top.left.part(), top.right.part());
-                Tree::between(
-                    top,
-                    Tree::between(link, left, low),
-                    Tree::between(up, high, outer),
-                )
-            }
-        }
+        up.before = link.size;
+        up.left = Tree::Filled(link);
+        up.size = whole;
+        *self = Tree::Filled(up);
     }
 
-    /// The tree with a link at a place from 0 to the length.
-    pub(crate) fn insert(self, at: usize, loose: Box<Link<T>>) -> Tree<T>
-        requires sized { IsSized self }
-        requires place { at ≤ length (items self) }
-        requires fits { length (items self) + 1 < 2 ^ 64 }
-        ensures sized { IsSized result }
-        ensures items { items result ≡ insert (items self) at loose.value.item }
+    /// Puts a link in at a place from 0 to the length.
+    ///
+    /// How many links stand on each side is known before the link is put in, so that a call on the way is the last step of
+    /// the call before it, unless links have to be turned there.
+    pub(crate) fn insert(&mut self, at: usize, loose: Box<Link<T>>)
+        requires sized { IsSized self.old }
+        requires place { at ≤ length (items self.old) }
+        requires fits { length (items self.old) + 1 < 2 ^ 63 }
+        requires alone { IsAlone loose.value }
+        ensures sized { IsSized self.new }
+        ensures items { items self.new ≡ insert (items self.old) at loose.value.item }
     {
         match self {
-            Tree::Empty => Tree::between(loose, Tree::Empty, Tree::Empty),
-            Tree::Filled(mut link) => {
-                let (left, right) = (link.left.part(), link.right.part());
-                let before = left.len();
+            Tree::Empty => *self = Tree::Filled(loose),
+            Tree::Filled(link) => {
+                let link = &mut **link;
+                let before = link.before;
+                let behind = link.size - before - 1;
+                link.size += 1;
                 if at <= before {
-                    Tree::balanced(link, left.insert(at, loose), right)
+                    link.before = before + 1;
+                    if (before + 1) / 3 > behind {
+                        link.left.insert(at, loose);
+                        self.turn_right();
+                    } else {
+                        link.left.insert(at, loose);
+                    }
+                } else if (behind + 1) / 3 > before {
+                    link.right.insert(at - before - 1, loose);
+                    self.turn_left();
                 } else {
-                    Tree::balanced(link, left, right.insert(at - before - 1, loose))
+                    link.right.insert(at - before - 1, loose);
                 }
             }
         }
     }
 
-    // The tree without its first link, and that link.
-    fn take_first(self) -> (Tree<T>, Box<Link<T>>)
-        requires sized { IsSized self }
-        requires some { 0 < length (items self) }
-        requires fits { length (items self) < 2 ^ 64 }
-        ensures sized { IsSized result.0 }
-        ensures items { items self ≡ result.1.value.item ∷ items result.0 }
+    // Takes the first link out.
+    fn take_first(&mut self) -> Box<Link<T>>
+        requires sized { IsSized self.old }
+        requires some { 0 < length (items self.old) }
+        requires fits { length (items self.old) < 2 ^ 64 }
+        ensures sized { IsSized self.new }
+        ensures items { items self.old ≡ result.value.item ∷ items self.new }
+        ensures alone { IsAlone result.value }
     {
         match self {
             Tree::Empty => unreachable!(),
+            Tree::Filled(link) => {
+                let link = &mut **link;
+                let before = link.before;
+                if before == 0 {
+                    return self.take_outer();
+                }
+                let behind = link.size - before - 1;
+                link.size -= 1;
+                link.before = before - 1;
+                if behind / 3 > before - 1 {
+                    let first = link.left.take_first();
+                    self.turn_left();
+                    first
+                } else {
+                    link.left.take_first()
+                }
+            }
+        }
+    }
+
+    // Takes the top link out of a tree in which no link stands before it.
+    fn take_outer(&mut self) -> Box<Link<T>>
+        requires sized { IsSized self.old }
+        requires some { 0 < length (items self.old) }
+        requires first { before_top self.old ≡ 0 }
+        ensures sized { IsSized self.new }
+        ensures items { items self.old ≡ result.value.item ∷ items self.new }
+        ensures alone { IsAlone result.value }
+    {
+        match self.part() {
+            Tree::Empty => unreachable!(),
+            Tree::Filled(mut link) => {
+                *self = link.right.part();
+                link.size = 1;
+                link
+            }
+        }
+    }
+
+    // Takes the top link out; the trees before and behind it become one.
+    fn take_top(&mut self) -> Box<Link<T>>
+        requires sized { IsSized self.old }
+        requires some { 0 < length (items self.old) }
+        requires fits { length (items self.old) < 2 ^ 64 }
+        ensures sized { IsSized self.new }
+        ensures items { items self.new ≡ remove (items self.old) (before_top self.old) }
+        ensures taken { slice_get (items self.old) (before_top self.old) ≡ Some result.value.item }
+        ensures alone { IsAlone result.value }
+    {
+        match self.part() {
+            Tree::Empty => unreachable!(),
             Tree::Filled(mut link) => {
                 let (left, right) = (link.left.part(), link.right.part());
-                if left.len() == 0 {
-                    (right, link)
-                } else {
-                    let (left, first) = left.take_first();
-                    (Tree::balanced(link, left, right), first)
-                }
+                link.before = 0;
+                link.size = 1;
+                *self = Tree::joined(left, right);
+                link
             }
         }
     }
@@ -298,35 +410,54 @@ impl<T: Drop> Tree<T> {
         ensures sized { IsSized result }
         ensures items { items result ≡ items left ++ items right }
     {
-        if right.len() == 0 {
+        let mut right = right;
+        let (before, behind) = (left.len(), right.len());
+        if behind == 0 {
             return left;
         }
-        let (right, first) = right.take_first();
-        Tree::balanced(first, left, right)
+        let first = right.take_first();
+        let mut tree = Tree::between(first, left, right);
+        if before / 3 > behind - 1 {
+            tree.turn_right();
+        }
+        tree
     }
 
-    /// The tree without the link at a place below the length, and that link.
-    pub(crate) fn take(self, at: usize) -> (Tree<T>, Box<Link<T>>)
-        requires sized { IsSized self }
-        requires place { at < length (items self) }
-        requires fits { length (items self) < 2 ^ 64 }
-        ensures sized { IsSized result.0 }
-        ensures items { items result.0 ≡ remove (items self) at }
-        ensures taken { slice_get (items self) at ≡ Some result.1.value.item }
+    /// Takes the link at a place below the length out.
+    pub(crate) fn take(&mut self, at: usize) -> Box<Link<T>>
+        requires sized { IsSized self.old }
+        requires place { at < length (items self.old) }
+        requires fits { length (items self.old) < 2 ^ 64 }
+        ensures sized { IsSized self.new }
+        ensures items { items self.new ≡ remove (items self.old) at }
+        ensures taken { slice_get (items self.old) at ≡ Some result.value.item }
+        ensures alone { IsAlone result.value }
     {
         match self {
             Tree::Empty => unreachable!(),
-            Tree::Filled(mut link) => {
-                let (left, right) = (link.left.part(), link.right.part());
-                let before = left.len();
+            Tree::Filled(link) => {
+                let link = &mut **link;
+                let before = link.before;
+                if at == before {
+                    return self.take_top();
+                }
+                let behind = link.size - before - 1;
+                link.size -= 1;
                 if at < before {
-                    let (left, taken) = left.take(at);
-                    (Tree::balanced(link, left, right), taken)
-                } else if at == before {
-                    (Tree::joined(left, right), link)
+                    link.before = before - 1;
+                    if behind / 3 > before - 1 {
+                        let taken = link.left.take(at);
+                        self.turn_left();
+                        taken
+                    } else {
+                        link.left.take(at)
+                    }
+                } else if before / 3 > behind - 1 {
+                    let taken = link.right.take(at - before - 1);
+                    self.turn_right();
+                    taken
                 } else {
-                    let (right, taken) = right.take(at - before - 1);
-                    (Tree::balanced(link, left, right), taken)
+                    link.right.take(at - before - 1)
                 }
             }
         }

@@ -1,16 +1,13 @@
 -- Layers and objects that are put on a canvas one after another.
 use Rattle.std.proofs.Common.{append-nil, append_assoc, ◌-◌, ◌≡◌, ℕ, zero, suc, ◌+◌, ◌≤◌, ℤ, List, [], ◌∷◌, ◌++◌, length, map, take, drop, get_or, Some, refl, sym, ap, ◌∙◌, subst, arith, add-one, length-append, length-drop}
-use Rattle.std.specs.List.{flat_map, slice_get, slice_set}
+use Rattle.std.specs.List.{AllByRecursion, AllZip, flat_map, slice_get, slice_set}
 use Rattle.std.proofs.Math.Seq.{drop-append-add, drop-append_seam, take-append_seam, take-length, drop-length, set-append_seam}
 use Rattle.std.proofs.lemmas.List.{get_or-append_right, length-take-le, take-append-drop}
 use Rattle.map_model.specs.declared.canvas.Canvas.{Canvas}
 use Rattle.map_model.specs.declared.parts.Body.{Body}
 use Rattle.map_model.specs.declared.parts.Body.TheVariants.{Tiles, Objects, Other, Group'}
 use Rattle.map_model.specs.declared.parts.Layer.{Layer}
-use Rattle.map_model.specs.declared.parts.Object.{Object}
-use Rattle.map_model.specs.declared.parts.Placing.{Placing}
 use Rattle.map_model.specs.Canvas.{BodyMayBeMoved, MayBeDrawn, body_on, each_on, layers_on, lists_after, lists_in, lists_left, lists_of, lists_under, one_on, with_lists}
-use Rattle.map_model.specs.Objects.{object_moved, placing_moved}
 use Rattle.map_model.specs.Groups.{body_with_layers, drawn, group_in, inside, layer_with_layers, tree}
 use Rattle.map_model.specs.Keeping.{inner_level, layer_level}
 use Rattle.map_model.specs.Lists.{Each, or_empty}
@@ -19,27 +16,17 @@ use Rattle.map_model.proofs.GroupBodies.{objects_in-with}
 use Rattle.map_model.proofs.Listings.{Each-append, Each-prefix, Each-rest}
 use Rattle.map_model.proofs.Trees.{tree-is}
 
--- ---- a list of which the first elements are changed
-module _ {X : Type 0} (f : X → X) where
-  pub mapped-at : (xs : List X) (k : ℕ) → slice_get (map f (take k xs) ++ drop k xs) k ≡ slice_get xs k
-  mapped-at [] zero = refl
-  mapped-at [] (suc k) = refl
-  mapped-at (x ∷ xs) zero = refl
-  mapped-at (x ∷ xs) (suc k) = mapped-at xs k
+-- ---- objects that are changed one by one
+module _ {X : Type 0} where
+  pub by_each : (P Q : X → Type 0) (xs : List X) → ((x : X) → P x → Q x) → Each P xs → AllByRecursion Q xs
+  by_each P Q [] more each = tt
+  by_each P Q (x ∷ xs) more each = (more x each.0, by_each P Q xs more each.1)
 
-  pub mapped-more : (xs : List X) (k : ℕ) (x : X) → slice_get (map f (take k xs) ++ drop k xs) k ≡ Some x
-      → slice_set (map f (take k xs) ++ drop k xs) k (f x) ≡ map f (take (suc k) xs) ++ drop (suc k) xs
-  mapped-more [] zero x e = cc
-  mapped-more [] (suc k) x e = cc
-  mapped-more (y ∷ xs) zero x e = let same : x ≡ y = cc in ap (λ z. f z ∷ xs) same
-  mapped-more (y ∷ xs) (suc k) x e = ap (λ zs. f y ∷ zs) (mapped-more xs k x e)
-
-pub objects-more : (right down : ℤ) (os now : List Object) (k : ℕ) (o : Object) (p : Placing) → now ≡ map (object_moved right down) (take k os) ++ drop k os
-    → slice_get now k ≡ Some o → p ≡ placing_moved right down o.placing
-    → slice_set now k (record o { placing = p }) ≡ map (object_moved right down) (take (k + 1) os) ++ drop (k + 1) os
-objects-more right down os now k o p is e moved =
-    let there : slice_get (map (object_moved right down) (take k os) ++ drop k os) k ≡ Some o = rw (← is) e in
-    rw (is, moved, add-one) (mapped-more (object_moved right down) os k o there)
+  pub mapped-by : (R : X → X → Type 0) (f : X → X) (xs ys : List X) → ((x y : X) → R x y → y ≡ f x) → AllZip R xs ys → ys ≡ map f xs
+  mapped-by R f [] [] is zip = refl
+  mapped-by R f [] (y ∷ ys) is zip = absurd zip
+  mapped-by R f (x ∷ xs) [] is zip = absurd zip
+  mapped-by R f (x ∷ xs) (y ∷ ys) is zip = rw (is x y zip.0, mapped-by R f xs ys is zip.1) refl
 
 -- ---- layers of which the first are on a canvas
 module _ (g : ℕ → Layer → Layer) (n : Layer → ℕ) where

@@ -99,14 +99,11 @@ fn move_objects(objects: &mut LinkTree<Object>, right: i64, down: i64)
     requires { Each (MayBeMoved right down) objects.old }
     ensures { objects.new ≡ map (object_moved right down) objects.old }
 {
-    for at in 0..objects.len() {
-        objects.change_at(
-            at,
-            |object: &mut Object|
-                requires { IsPlacing (placing_moved right down object.old.placing) }
-            { object.placing = object.placing.moved(right, down) },
-        );
-    }
+    objects.change_each(
+        |object: &mut Object|
+            requires { IsPlacing (placing_moved right down object.old.placing) }
+        { object.placing = object.placing.moved(right, down) },
+    );
 }
 
 impl Body {

@@ -1,8 +1,9 @@
 // The way to an object whose layer has its ids in rising order, as it has them where objects were only added and removed.
 ghost use Rattle.std.specs.Prelude.{◌≡◌, ◌<◌, IfSome, length};
 
-use crate::parts::{Body, Layer};
+use crate::parts::{Body, Layer, Object};
 use link_chain::Chain;
+use link_tree::LinkTree;
 
 /// Goes to the object with an id, so that it is found and changed at once, in layers that may have so many groups in one
 /// another. Where the ids of a layer do not rise, or those of several layers overlap, it may miss the object. No layer changes.
@@ -43,6 +44,13 @@ fn is_likely(layer: &Layer, id: u32, room: usize) -> bool {
     false
 }
 
+// The place of the object with an id, if the ids rise. Where they do not, a search finds some other object: to go there
+// would make each later look-up of the object that was gone to before a walk.
+fn place_of_id(objects: &LinkTree<Object>, id: u32) -> Option<usize> {
+    let (at, object) = objects.search(|object| id <= object.id)?;
+    if object.id == id { Some(at) } else { None }
+}
+
 impl Body {
     // Whether an object may have the id, if the ids rise.
     fn may_have(&self, id: u32) -> bool {
@@ -62,7 +70,7 @@ impl Body {
     {
         match self {
             Body::Objects(objects) => {
-                if let Some((at, _)) = objects.search(|object| id <= object.id) {
+                if let Some(at) = place_of_id(objects, id) {
                     objects.go_to(at);
                 }
             }

@@ -1,6 +1,5 @@
-use Rattle.std.proofs.Common.{◌≡◌, ◌+◌, ◌++◌, ◌∷◌, length, IfOk, IfErr, ap, subst, length-append, arith, rules}
+use Rattle.std.proofs.Common.{◌≡◌, ◌+◌, ◌++◌, ◌∷◌, length, ap, ◌∙◌, length-append, arith, rules}
 use Rattle.link_tree.specs.Trees.{items}
-use Rattle.link_tree.specs.Waiting.{from_link, waiting}
 use Rattle.link_tree.proofs.Waits.{links-more, link-items, link-is, link-left, waiting-deeper}
 use Rattle.link_tree.proofs.iter.+go_down.Goals as goal
 
@@ -25,12 +24,6 @@ go_down-requires g t c κs within =
       ),
     )
 
-pub returns-then-number-waits-clause-ok_items : goal.returns-then-number-waits-clause-ok_items
-returns-then-number-waits-clause-ok_items g t c =
-    let e = waiting-deeper c.args.waits.now c.args.depth.now c.args.tree c.args.link.now (search rules) c.requires.same in
-    subst (λ xs. IfOk c.go_down.result (λ next. from_link next.now ++ waiting c.go_down.new.waits c.go_down.new.depth ≡ xs)) e c.go_down.ensures.ok_items
-
-pub returns-then-number-waits-clause-err_items : goal.returns-then-number-waits-clause-err_items
-returns-then-number-waits-clause-err_items g t c =
-    let e = waiting-deeper c.args.waits.now c.args.depth.now c.args.tree c.args.link.now (search rules) c.requires.same in
-    subst (λ xs. IfErr c.go_down.result (λ deep. items deep.now ++ waiting c.go_down.new.waits c.go_down.new.depth ≡ xs)) e c.go_down.ensures.err_items
+pub returns-then-number-waits-clause-items : goal.returns-then-number-waits-clause-items
+returns-then-number-waits-clause-items g t c =
+    c.go_down.ensures.items ∙ waiting-deeper c.args.waits.now c.args.depth.now c.args.tree c.args.link.now (search rules) c.requires.same

@@ -1,36 +1,20 @@
-use Rattle.std.proofs.Common.{arith}
+use Rattle.std.proofs.Common.{rules, arith}
 use Rattle.std.proofs.lemmas.Grind.{common_steps}
-use Rattle.link_tree.proofs.Edits.{get-before, get-at, get-behind, set-before, set-at, set-behind}
+use Rattle.link_tree.specs.Trees.{items}
+use Rattle.link_tree.proofs.Changes.{given-before, given-at, given-behind}
 use Rattle.link_tree.proofs.tree.Tree.+change_at.Goals as goal
 
 pub returns-then-at-before-clause-changed : goal.returns-then-at-before-clause-changed
 returns-then-at-before-clause-changed g t c =
-    let e = c.change_at.ensures.changed in
-    record {
-      item = e.item;
-      left = e.left;
-      found = grind (arith, common_steps, get-before, e.found);
-      call = e.call;
-      is = grind (arith, common_steps, set-before, e.is);
-    }
+    let k = c.in-Filled.link.value in
+    given-before g.F.FnOnce (items k.left) (items k.right) k.item c.args.at _ _ _ _ (items c.change_at.new.self) (search rules) (grind (arith, common_steps)) (search rules) (search rules)
 
 pub returns-then-at-before-2-clause-changed : goal.returns-then-at-before-2-clause-changed
 returns-then-at-before-2-clause-changed g t c =
-    record {
-      item = c.deref_mut-then-at-before-2.result.now.item;
-      left = c.changed.new.item;
-      found = grind (arith, common_steps, get-at);
-      call = c.changed.ensures;
-      is = grind (arith, common_steps, set-at);
-    }
+    let k = c.in-Filled.link.value in
+    given-at g.F.FnOnce (items k.left) (items k.right) k.item c.args.at _ _ _ _ c.change_item.new.item (search rules) (grind (arith, common_steps)) (search rules) (search rules)
 
 pub returns-else-at-before-2-clause-changed : goal.returns-else-at-before-2-clause-changed
 returns-else-at-before-2-clause-changed g t c =
-    let e = c.change_at-else-at-before-2.ensures.changed in
-    record {
-      item = e.item;
-      left = e.left;
-      found = grind (arith, common_steps, get-behind, e.found);
-      call = e.call;
-      is = grind (arith, common_steps, set-behind, e.is);
-    }
+    let k = c.in-Filled.link.value in
+    given-behind g.F.FnOnce (items k.left) (items k.right) k.item c.args.at _ _ _ _ (items c.change_at-else-at-before-2.new.self) (search rules) (grind (arith, common_steps)) (grind (arith, common_steps)) (search rules)

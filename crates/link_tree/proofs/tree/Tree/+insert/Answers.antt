@@ -3,5 +3,8 @@ use Rattle.std.proofs.lemmas.Grind.{common_steps}
 use Rattle.link_tree.proofs.Edits.{insert-behind}
 use Rattle.link_tree.proofs.tree.Tree.+insert.Goals as goal
 
-pub returns-else-at-before-clause-items : goal.returns-else-at-before-clause-items
-returns-else-at-before-clause-items g t c = grind (arith, common_steps, insert-behind)
+pub returns-then-behind-before-clause-items : goal.returns-then-behind-before-clause-items
+returns-then-behind-before-clause-items g t c = grind (arith, common_steps, insert-behind)
+
+pub returns-else-behind-before-clause-items : goal.returns-else-behind-before-clause-items
+returns-else-behind-before-clause-items g t c = grind (arith, common_steps, insert-behind)
