@@ -4,6 +4,8 @@ ghost use Rattle.serde_json.specs.Data.{Data};
 ghost use Rattle.serde_json.specs.Find.{get_member};
 ghost use Rattle.serde_json.specs.View.{view as data_of, members_view};
 ghost use Rattle.infinite_maps.specs.Cells.{is_text};
+ghost use Rattle.infinite_maps.specs.Coverage.{cover_of};
+ghost use Rattle.infinite_maps.specs.Growth.{grown};
 ghost use Rattle.infinite_maps.specs.Rectangles.{bounds};
 ghost use Rattle.infinite_maps.specs.Layers.{size, layer_cells, if_so_many, chunk_items, if_apart, old_rectangles, place_at, whole_number, with_place, chunk, chunks, with_old_bounds, with_bounds, with_right_bounds, rest_of, with_chunks, tiles, is_text_at, layer_by, layer_of, nothing};
 ghost use Rattle.infinite_maps.specs.Notes.{mark, noted_all};
@@ -263,6 +265,20 @@ fn put_all(
     serde_json::put(members, alloc, "chunks", chunks)
 }
 
+// The rectangles of new chunks, beside those of old ones.
+fn new_rectangles(
+    alloc: Global,
+    plane: Plane,
+    cells: &[u64],
+    olds: &[Rectangle],
+) -> Result<Vec<Rectangle>, AllocError>
+    ensures { IfOk result (λ found. found.items
+        ≡ grown plane cells.now (cover_of plane.columns (size plane) olds.now)) }
+{
+    let cover = cover_of(alloc, plane.columns, plane.size(), olds)?;
+    grown(alloc, plane, cells, &cover)
+}
+
 fn put_chunks(
     alloc: Global,
     plane: Plane,
@@ -275,8 +291,7 @@ fn put_chunks(
 {
     let note = copy_of(found(members, MARK))?;
     let rectangles = old_rectangles(alloc, plane, &note)?;
-    let cover = cover_of(alloc, plane.columns, plane.size(), &rectangles)?;
-    let news = grown(alloc, plane, cells, &cover)?;
+    let news = new_rectangles(alloc, plane, cells, &rectangles)?;
     put_all(alloc, plane, &note, text, cells, rectangles, &news, members)
 }
 
