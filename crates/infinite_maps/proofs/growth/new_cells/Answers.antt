@@ -18,4 +18,8 @@ loop-k-preserved c =
     let seen : is_new a.cells.now a.cover.now (place a.columns a.rectangle k) ≡ c.is_new.result
     = sym (c.is_new.ensures ∙ ap (is_new a.cells.now a.cover.now) c.place.ensures) in
     let more = λ (b : Bool) (is : c.is_new.result ≡ b). sym (one_more a.columns a.cells.now a.cover.now a.rectangle k b (seen ∙ is)) in
-    elim c.if-is_new.branch [ then-is_new+in_ok-push w ↦ rw (w.found-is, w.in_ok-push.ensures.items, c.loop-k.invariant, w.cell.ensures) (more _ w.if-is_new.true) | else-is_new w ↦ rw (w.found-is, c.loop-k.invariant) (sym (append-nil _) ∙ more _ w.if-is_new.false) ]
+    elim c.if-is_new.branch [
+      | then-is_new+in_ok-push w ↦
+          rw (w.found-is, w.in_ok-push.ensures.items, c.loop-k.invariant, w.cell.ensures) (more _ w.if-is_new.true)
+      | else-is_new w ↦ rw (w.found-is, c.loop-k.invariant) (sym (append-nil _) ∙ more _ w.if-is_new.false)
+    ]

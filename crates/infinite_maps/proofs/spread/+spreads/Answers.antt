@@ -31,9 +31,10 @@ pub items_spread-loop-item-preserved : goal.items_spread-loop-item-preserved
 items_spread-loop-item-preserved t c =
     let l = c.loop-item in
     let made = λ (v : Value). spread c.args.plane c.args.part (view v) in
-    let new : view c.in_ok-spread.field-0 ≡ made (get_or c.deref-item-items.result.now l.item-index c.item-item.result) = c.in_ok-spread.ensures ∙ ap made c.item-item.is in
-    rw c.in_ok-push.ensures.items
-    (pushed view made l.all.items c.in_ok-spread.field-0 c.deref-item-items.result.now l.item-index c.item-item.result l.invariant c.loop-item-test.true new)
+    let items = c.deref-item-items.result.now in
+    let item = c.item-item.result in
+    let new : view c.in_ok-spread.field-0 ≡ made (get_or items l.item-index item) = c.in_ok-spread.ensures ∙ ap made c.item-item.is in
+    rw c.in_ok-push.ensures.items (pushed view made l.all.items c.in_ok-spread.field-0 items l.item-index item l.invariant c.loop-item-test.true new)
 
 pub items_spread-returns : goal.items_spread-returns
 items_spread-returns t c =
