@@ -18,7 +18,7 @@ use std::alloc::Global;
 pub const MAX_DEPTH: u8 = 127;
 
 // A map with its fractions set aside, if it does not nest too deep then.
-fn fractions_aside(alloc: Global, value: &Value) -> Result<Value, Fault>
+fn whole_of(alloc: Global, value: &Value) -> Result<Value, Fault>
     ensures { MakesWhole (data_of value.now) result }
 {
     let whole = aside(alloc, Place::Map, value)?;
@@ -37,7 +37,7 @@ pub fn whole(alloc: Global, is_whole: bool, value: Value) -> Result<Value, Fault
     if is_whole {
         return Ok(value);
     }
-    fractions_aside(alloc, &value)
+    whole_of(alloc, &value)
 }
 
 /// The finite map of a map without fractions, if that is infinite.

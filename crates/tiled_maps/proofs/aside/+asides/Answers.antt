@@ -34,9 +34,10 @@ pub items_aside-loop-item-preserved : goal.items_aside-loop-item-preserved
 items_aside-loop-item-preserved t c =
     let l = c.loop-item in
     let made = λ (v : Value). aside c.args.place (view v) in
-    let new : view c.in_ok-aside.field-0 ≡ made (get_or c.deref-item-items.result.now l.item-index c.item-item.result) = c.in_ok-aside.ensures ∙ ap made c.item-item.is in
-    rw c.in_ok-push.ensures.items
-    (pushed view made l.all.items c.in_ok-aside.field-0 c.deref-item-items.result.now l.item-index c.item-item.result l.invariant c.loop-item-test.true new)
+    let items = c.deref-item-items.result.now in
+    let item = c.item-item.result in
+    let new : view c.in_ok-aside.field-0 ≡ made (get_or items l.item-index item) = c.in_ok-aside.ensures ∙ ap made c.item-item.is in
+    rw c.in_ok-push.ensures.items (pushed view made l.all.items c.in_ok-aside.field-0 items l.item-index item l.invariant c.loop-item-test.true new)
 
 pub items_aside-returns : goal.items_aside-returns
 items_aside-returns t c = ap items_of (c.loop-item.invariant ∙ map_whole (aside c.args.place) _ _ (omega (arith, c.loop-item-test.false)))
