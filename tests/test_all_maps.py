@@ -309,13 +309,10 @@ def fault_of_export(case):
     if fault:
         return fault
     _, files = heard(run.session, run.before, run.options)
-    (source.parent / 'saved.tmj').write_bytes(files['saved.tmj'])
-    again = [
-        exact_text(tiled_package.exported(source.parent / each, source.parent, f'again_{each}'))
-        for each in (name, 'saved.tmj')
-    ]
+    saved = source.with_name('saved.tmj')
+    saved.write_bytes(files['saved.tmj'])
     passed(exact_text(data) is not None)
-    return unlike(*again)
+    return tiled_package.unlike_exports(source.with_name(name), saved)
 
 
 def test_maps_of_tiled():

@@ -71,9 +71,10 @@ def answers(word, texts):
 
 
 def faults_of_answers(what, wanted, came):
-    """How trees that came as texts differ from those that are wanted."""
-    for number, (tree, text) in enumerate(zip(wanted, came)):
-        fault = unlike(exact_tree(tree), exact_text(text))
+    """How trees that came as texts differ from those that are wanted. A text that Python, too, writes
+    for the tree is not read."""
+    for number, (tree, text) in enumerate(zip(wanted, came, strict=True)):
+        fault = text != text_of(tree) and unlike(exact_tree(tree), exact_text(text))
         if fault:
             yield f'{what} {number}: {fault[:600]}'
 
@@ -83,7 +84,7 @@ def faults_of_maps(first):
     chosen = random.Random(SEED * MAPS + first)
     trees = [infinite.some_map(chosen) for _ in range(MAPS_OF_RUN)]
     finite = [set_aside(tree) for tree in trees]
-    edited = json.loads(json.dumps(finite))
+    edited = infinite.copied(finite)
     for tree in edited:
         infinite.edit(chosen, tree)
     saved = [put_back(tree) for tree in edited]

@@ -9,7 +9,6 @@ from pathlib import Path
 
 from lib import tiled_package
 from lib.any_maps import exports, in_each_format, saved_as, some_map
-from lib.asides import exact_text
 from lib.cases import Case, check_each, unlike
 from lib.json_texts import tree_of
 from lib.packings import ZSTANDARD
@@ -50,11 +49,7 @@ def test_random_maps():
 
 def fault_of_export(case):
     """The same, and Tiled exports both the same."""
-    again = [
-        exact_text(tiled_package.exported(path, path.parent, f'again_{path.name}'))
-        for path in (case.given, saved(case.given))
-    ]
-    return fault_of_saved(case) or unlike(*again)
+    return fault_of_saved(case) or tiled_package.unlike_exports(case.given, saved(case.given))
 
 
 def test_maps_of_tiled():

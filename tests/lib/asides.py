@@ -97,7 +97,7 @@ def restored(note, value):
 def back(value):
     """A tree in which what was set aside is put back."""
     if isinstance(value, list):
-        return [back(entry) for entry in value]
+        return value if are_whole(value) else [back(entry) for entry in value]
     if not isinstance(value, dict):
         return value
     members = {name: back(member) for name, member in value.items()}

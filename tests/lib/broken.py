@@ -118,6 +118,24 @@ NAMES = [
 ]
 
 
+OPENING, CLOSING = (b'[', b'{'), (b']', b'}')
+# What an entry of an array stands behind, and what is none.
+ENTRY_AFTER, NO_ENTRY = (b'[', b','), (b']', b',')
+
+
+def ends_of_values(tokens):
+    """Behind which token each value ends, by the token that it begins at; the last one for a value
+    that is not closed."""
+    ends, opened = list(range(1, len(tokens) + 1)), []
+    for at, token in enumerate(tokens):
+        if token in OPENING:
+            opened.append(at)
+            ends[at] = len(tokens)
+        elif token in CLOSING and opened:
+            ends[opened.pop()] = at + 1
+    return ends
+
+
 class Text:
     """A map's text, with the places of its tokens and of its members and entries, which may be
     broken off."""
@@ -125,45 +143,24 @@ class Text:
     def __init__(self, name, data):
         self.name, self.data = name, data
         self.tokens = [found.span() for found in TOKEN.finditer(data)]
-        self.numbers = [span for span in self.tokens if data[slice(*span)][:1] in b'-0123456789']
+        self.numbers = [span for span in self.tokens if data[span[0]] in b'-0123456789']
         self.members, self.entries = [], []
-        self.find_parts()
-
-    def token(self, at):
-        return self.data[slice(*self.tokens[at])] if at < len(self.tokens) else b''
-
-    def end_of_value(self, at):
-        """Behind which token the value ends that begins at one."""
-        depth = 0
-        for place in range(at, len(self.tokens)):
-            token = self.token(place)
-            depth += (token in (b'[', b'{')) - (token in (b']', b'}'))
-            if depth <= 0:
-                return place + 1
-        return len(self.tokens)
+        self.find_parts([data[first:behind] for first, behind in self.tokens])
 
     def span(self, first, behind):
         return self.tokens[first][0], self.tokens[behind - 1][1]
 
-    def find_parts(self):
+    def find_parts(self, tokens):
         """Members are spans of a name and a value, entries are those of a value in an array."""
-        opened = []
-        for at in range(len(self.tokens)):
-            token, before = self.token(at), self.token(at - 1) if at else b''
-            if self.token(at + 1) == b':' and at + 2 < len(self.tokens):
-                self.members.append(
-                    (self.span(at, at + 1), self.span(at + 2, self.end_of_value(at + 2)))
-                )
-            elif (
-                opened
-                and opened[-1] == b'['
-                and before in (b'[', b',')
-                and token not in (b']', b',')
-            ):
-                self.entries.append(self.span(at, self.end_of_value(at)))
-            if token in (b'[', b'{'):
+        ends, opened = ends_of_values(tokens), []
+        for at, (token, before, after) in enumerate(zip(tokens, [b'', *tokens], [*tokens[1:], b''])):
+            if after == b':' and at + 2 < len(tokens):
+                self.members.append((self.span(at, at + 1), self.span(at + 2, ends[at + 2])))
+            elif before in ENTRY_AFTER and token not in NO_ENTRY and opened and opened[-1] == b'[':
+                self.entries.append(self.span(at, ends[at]))
+            if token in OPENING:
                 opened.append(token)
-            elif token in (b']', b'}') and opened:
+            elif token in CLOSING and opened:
                 opened.pop()
 
     def at(self, span):

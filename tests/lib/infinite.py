@@ -2,7 +2,8 @@
 with one entry for each cell, and infinite maps that are made and edited by chance."""
 import base64
 import binascii
-import json
+import itertools
+import marshal
 import struct
 
 from lib.maps import cells_of, packed
@@ -50,7 +51,7 @@ def chunk_cells(chunk, is_text, count):
         return struct.unpack(f'<{count}I', plain)
     if type(data) is not list or len(data) != count:
         raise Fault('BadChunk')
-    if not all(is_whole(value, 0, (1 << 64) - 1) for value in data):
+    if {*map(type, data)} != {int} or min(data) < 0 or max(data) >= 1 << 64:
         raise Fault('BadChunk')
     return data
 
@@ -108,16 +109,17 @@ def finite_layer(layer, left, top, width, height):
     if 'chunks' not in layer or layer.get('compression', '') != '':
         return
     is_text = layer.get('encoding') == 'base64'
-    cells, taken, places = [0] * (width * height), set(), []
+    cells, taken, places = [0] * (width * height), bytearray(width * height), []
     for chunk in layer['chunks']:
         x, y, across, down = rectangle_of(chunk)
-        places.append([x - left, y - top, across, down])
-        for k, value in enumerate(chunk_cells(chunk, is_text, across * down)):
-            at = (y - top + k // across) * width + x - left + k % across
-            if at in taken:
+        x, y = x - left, y - top
+        places.append([x, y, across, down])
+        values = chunk_cells(chunk, is_text, across * down)
+        for number, row in enumerate(rows_in((x, y, x + across, y + down), width)):
+            if any(taken[row]):
                 raise Fault('Overlap')
-            taken.add(at)
-            cells[at] = value
+            taken[row] = b'\1' * across
+            cells[row] = values[number * across : (number + 1) * across]
     del layer['chunks']
     layer[MARK] = {
         'chunks': places,
@@ -144,8 +146,9 @@ def every_layer(layers):
 
 
 def copied(tree):
-    """A copy that shares nothing with a tree of JSON; its floats are written as texts that read as they are."""
-    return json.loads(json.dumps(tree))
+    """A copy that shares nothing with a tree of JSON, and in which nothing stands twice: the second
+    form of marshal knows no references."""
+    return marshal.loads(marshal.dumps(tree, 2))
 
 
 def is_infinite(tree):
@@ -285,33 +288,38 @@ def infinite_of(tree):
 # ---- what must be so of an edited map
 
 
+def places_in(x, y, width, height):
+    """The row and column of each cell of a rectangle, row by row."""
+    return itertools.product(range(y, y + height), range(x, x + width))
+
+
 def cell_places(layer):
-    """The place on the plane of each cell that a chunk of a layer covers, with its value."""
+    """The row and column on the plane of each cell that a chunk of a layer covers, with its value."""
     found = {}
     for chunk in layer['chunks']:
         x, y, width, height = rectangle_of(chunk)
         values = chunk_cells(chunk, layer.get('encoding') == 'base64', width * height)
-        for k, value in enumerate(values):
-            place = x + k % width, y + k // width
-            assert place not in found, f'two chunks cover {place}'
-            found[place] = value
+        own = dict(zip(places_in(x, y, width, height), values))
+        both = found.keys() & own.keys()
+        assert not both, f'two chunks cover {min(both)}'
+        found.update(own)
     return found
 
 
 def wrong_cells(finite, infinite):
     """Where a cell of an edited finite map is not where it stood, as text, or None."""
-    note, width = finite[MARK]['infinite'], finite['width']
+    note = finite[MARK]['infinite']
+    sides = note['x'], note['y'], finite['width'], finite['height']
     layers = zip(every_layer(finite['layers']), every_layer(infinite['layers']))
     for layer, spread in layers:
         if 'data' not in layer:
             continue
         found = cell_places(spread)
-        for at, value in enumerate(cells_of(layer)):
-            place = note['x'] + at % width, note['y'] + at // width
-            if found.pop(place, 0) != value:
-                return f'layer {layer["id"]}: the cell at {place} is not {value}'
-        if found:
-            return f'layer {layer["id"]}: cells outside the map, as at {min(found)}'
+        stood = dict(zip(places_in(*sides), cells_of(layer), strict=True))
+        came = {**dict.fromkeys(stood, 0), **found}
+        if came != stood:
+            place = min(place for place in came if came[place] != stood.get(place))
+            return f'layer {layer["id"]}: the cell at {place} was {stood.get(place)}, and is {came[place]}'
     return None
 
 
@@ -340,7 +348,7 @@ def some_chunks(chosen, is_text, is_grid):
     chunks = []
     for x, y, width, height in rectangles:
         most = chosen.choice((0, 3, (1 << 32) - 1))
-        values = [chosen.randint(0, most) for _ in range(width * height)]
+        values = chosen.choices(range(most + 1), k=width * height)
         data = data_of(values, is_text)
         chunks.append({'data': data, 'height': height, 'width': width, 'x': x, 'y': y})
     return chunks
@@ -414,17 +422,15 @@ def edit(chosen, tree):
         if 'data' not in layer:
             continue
         old, was = cells_of(layer), tree['width']
-        cells = [
-            old[y * was + x] if x < was and y < tree['height'] else 0
-            for y in range(height)
-            for x in range(width)
-        ]
+        rows = [old[y * was : y * was + min(was, width)] for y in range(min(tree['height'], height))]
+        cells = [cell for row in rows for cell in [*row, *[0] * (width - len(row))]]
+        cells += [0] * (width * height - len(cells))
         for _ in range(chosen.choice((0, 1, 5, 60))):
             cells[chosen.randrange(len(cells))] = chosen.randint(0, 9)
         layer.update(data=data_of(cells, type(layer['data']) is str), width=width, height=height)
     tree.update(width=width, height=height)
     if chosen.random() < 0.3:
-        cells = [chosen.choice((0, 0, 0, 7)) for _ in range(width * height)]
+        cells = chosen.choices((0, 0, 0, 7), k=width * height)
         layer = {'data': cells, 'height': height, 'id': 999, 'name': 'new', 'opacity': 1}
         layer.update(type='tilelayer', visible=True, width=width, x=0, y=0)
         tree['layers'].append(layer)

@@ -5,6 +5,9 @@ import shutil
 import subprocess
 from pathlib import Path
 
+from lib.asides import exact_text
+from lib.cases import unlike
+
 EXAMPLES = Path('/usr/share/doc/tiled/examples')
 
 
@@ -17,6 +20,15 @@ def exported(source, folder, name):
         ['tiled', '--export-map', 'json', source, goal], env=env, capture_output=True, timeout=120
     )
     return goal.read_bytes() if goal.exists() else None
+
+
+def unlike_exports(source, saved):
+    """How what Tiled exports of a saved map differs from what it exports of the source, or None. Most
+    sources are exports themselves, so it need not export those again."""
+    came = exact_text(exported(saved, saved.parent, f'again_{saved.name}'))
+    if came is not None and came == exact_text(source.read_bytes()):
+        return None
+    return unlike(exact_text(exported(source, source.parent, f'again_{source.name}')), came)
 
 
 def unpacked(folder):

@@ -2,3 +2,4 @@ pub mod MembersLemmas
 pub mod Walks
 pub mod Sizes
 pub mod Words
+pub mod Loops

@@ -52,6 +52,14 @@ place_at z n = number (of_integer (int_wrapping_add w64 z (pos n)))
 abbrev pub whole_number : ℕ → Data
 whole_number n = number (unsigned n)
 
+-- the place and size of a chunk
+abbrev pub with_place : Plane → Rectangle → Members → Members
+with_place p r ms =
+    put (codes "height") (whole_number (height r)) (
+    put (codes "width") (whole_number (width r)) (
+    put (codes "x") (place_at p.x r.left) (
+    put (codes "y") (place_at p.y r.top) ms)))
+
 -- a chunk with the cells that the layer has there
 unfoldable pub chunk : Plane → Bool → List ℕ → Rectangle → Data
 chunk p text cells r = object (

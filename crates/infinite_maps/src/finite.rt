@@ -5,7 +5,7 @@ ghost use Rattle.infinite_maps.specs.Infinite.{infinite_of, is_infinite};
 
 use crate::fault::Fault;
 use crate::members::{MARK, found, put_copy};
-use crate::notes::MAX_SIDE;
+use crate::notes::{MAX_SIDE, integer};
 use crate::part::Part;
 use crate::pasting::put_finite;
 use crate::plane::Plane;
@@ -43,26 +43,34 @@ fn even(place: i64) -> i64 {
     }
 }
 
+// The side of a chunk that a map names.
+fn named_side(value: &Value, name: &str) -> Option<u64> {
+    value
+        .get("editorsettings")?
+        .get("chunksize")?
+        .get(name)?
+        .as_u64()
+}
+
 // The side of a new chunk.
 fn chunk_side(value: &Value, name: &str) -> u16 {
-    let settings = value.get("editorsettings");
-    let sides = settings.and_then(|settings| settings.get("chunksize"));
-    let side = sides.and_then(|sides| sides.get(name));
-    match side.and_then(Value::as_u64) {
+    match named_side(value, name) {
         None | Some(0) => USUAL_CHUNK as u16,
         Some(side) => side.max(LEAST_CHUNK).min(MAX_SIDE as u64) as u16,
     }
 }
 
-// How many pixels objects lie away from where they lay, for so many cells of such a side.
-fn pixels(value: &Value, cells: i64, side: &str) -> i64 {
-    let orthogonal = match value.get("orientation") {
+fn is_orthogonal(value: &Value) -> bool {
+    match value.get("orientation") {
         Some(orientation) => orientation.as_str() == Some("orthogonal"),
         None => true,
-    };
-    let side = value.get(side).and_then(Value::as_i64);
-    if orthogonal {
-        cells.wrapping_mul(side.unwrap_or(0))
+    }
+}
+
+// How many pixels objects lie away from where they lay, for so many cells of such a side.
+fn pixels(value: &Value, cells: i64, side: &str) -> i64 {
+    if is_orthogonal(value) {
+        cells.wrapping_mul(integer(value.get(side)))
     } else {
         0
     }
@@ -123,26 +131,32 @@ fn plane_of(value: &Value, around: Extent) -> Option<Plane> {
     }
 }
 
-fn put_whole(
+// Puts whole numbers in, each under its name.
+fn put_wholes(
     alloc: Global,
     members: &mut Map<String, Value>,
-    name: &str,
-    whole: i64,
+    wholes: &[(&str, i64)],
 ) -> Result<(), AllocError> {
-    serde_json::put(members, alloc, name, Value::from(whole))
+    for (name, whole) in wholes {
+        serde_json::put(members, alloc, *name, Value::from(*whole))?;
+    }
+    Ok(())
 }
 
 // The note of a map that lies there.
 fn note_of(alloc: Global, value: &Value, plane: Plane) -> Result<Value, AllocError> {
+    let wholes = [
+        ("x", plane.x),
+        ("y", plane.y),
+        ("chunkwidth", plane.across as i64),
+        ("chunkheight", plane.down as i64),
+        ("lostx", plane.lost_x as i64),
+        ("losty", plane.lost_y as i64),
+        ("movedx", plane.moved_x),
+        ("movedy", plane.moved_y),
+    ];
     let mut note = Map::new(alloc);
-    put_whole(alloc, &mut note, "x", plane.x)?;
-    put_whole(alloc, &mut note, "y", plane.y)?;
-    put_whole(alloc, &mut note, "chunkwidth", plane.across as i64)?;
-    put_whole(alloc, &mut note, "chunkheight", plane.down as i64)?;
-    put_whole(alloc, &mut note, "lostx", plane.lost_x as i64)?;
-    put_whole(alloc, &mut note, "losty", plane.lost_y as i64)?;
-    put_whole(alloc, &mut note, "movedx", plane.moved_x)?;
-    put_whole(alloc, &mut note, "movedy", plane.moved_y)?;
+    put_wholes(alloc, &mut note, &wholes)?;
     put_copy(alloc, &mut note, "width", value)?;
     put_copy(alloc, &mut note, "height", value)?;
     let mut notes = Map::new(alloc);
@@ -150,17 +164,18 @@ fn note_of(alloc: Global, value: &Value, plane: Plane) -> Result<Value, AllocErr
     Ok(Value::from(notes))
 }
 
-// The members of the map itself.
+// The members of the map itself, of so many columns and rows.
 fn put_map(
     alloc: Global,
     all: &mut Map<String, Value>,
     columns: i64,
     rows: i64,
-    note: Value,
+    value: &Value,
+    plane: Plane,
 ) -> Result<(), AllocError> {
-    put_whole(alloc, all, "width", columns)?;
-    put_whole(alloc, all, "height", rows)?;
+    let note = note_of(alloc, value, plane)?;
     serde_json::put(all, alloc, MARK, note)?;
+    put_wholes(alloc, all, &[("width", columns), ("height", rows)])?;
     serde_json::put(all, alloc, "infinite", Value::from(false))
 }
 
@@ -209,9 +224,9 @@ fn finite_members(
     Ok(all)
 }
 
-// A map above the limits, of which only the sizes are told.
-fn too_large(alloc: Global, value: &Value, around: Extent) -> Result<Map<String, Value>, Fault> {
-    let plane = Plane {
+// Where a map lies of which only the sizes are told.
+fn corner_of(around: Extent) -> Plane {
+    Plane {
         x: around.left,
         y: around.top,
         columns: 0,
@@ -222,12 +237,15 @@ fn too_large(alloc: Global, value: &Value, around: Extent) -> Result<Map<String,
         lost_y: 0,
         moved_x: 0,
         moved_y: 0,
-    };
-    let note = note_of(alloc, value, plane)?;
+    }
+}
+
+// A map above the limits, of which only the sizes are told.
+fn too_large(alloc: Global, value: &Value, around: Extent) -> Result<Map<String, Value>, Fault> {
     let mut all = copied(alloc, value)?;
     let columns = around.right.wrapping_sub(around.left);
     let rows = around.bottom.wrapping_sub(around.top);
-    put_map(alloc, &mut all, columns, rows, note)?;
+    put_map(alloc, &mut all, columns, rows, value, corner_of(around))?;
     Ok(all)
 }
 
@@ -257,10 +275,9 @@ fn finite_on(
     value: &Value,
     members: &Map<String, Value>,
 ) -> Result<Map<String, Value>, Fault> {
-    let note = note_of(alloc, value, plane)?;
     let mut all = finite_members(alloc, plane, Part::Layers, members)?;
     let (columns, rows) = (plane.columns as i64, plane.rows as i64);
-    put_map(alloc, &mut all, columns, rows, note)?;
+    put_map(alloc, &mut all, columns, rows, value, plane)?;
     Ok(all)
 }
 
@@ -287,9 +304,14 @@ fn finite_of(alloc: Global, value: &Value) -> Result<Value, Fault> {
     }
 }
 
+// Whether a map is a finite one, of which the other comes back.
 fn comes_back(alloc: Global, finite: &Value, value: &Value) -> Result<bool, Fault>
-    ensures { IfOk result (λ same. IsTrue same → infinite_of (data_of finite.now) ≡ Some (data_of value.now)) }
+    ensures finite { IfOk result (λ same. IsTrue same → is_infinite (data_of finite.now) ≡ false) }
+    ensures back { IfOk result (λ same. IsTrue same → infinite_of (data_of finite.now) ≡ Some (data_of value.now)) }
 {
+    if is_infinite(finite) {
+        return Ok(false);
+    }
     match made_infinite(alloc, finite)? {
         Some(again) => Ok(is_same(alloc, &again, value)?),
         None => Ok(false),
@@ -310,8 +332,9 @@ pub fn made_finite(alloc: Global, value: &Value) -> Result<Option<Value>, Fault>
         return Ok(None);
     }
     let finite = finite_of(alloc, value)?;
-    if is_infinite(&finite) || !comes_back(alloc, &finite, value)? {
-        return Err(Fault::Unlike);
+    if comes_back(alloc, &finite, value)? {
+        Ok(Some(finite))
+    } else {
+        Err(Fault::Unlike)
     }
-    Ok(Some(finite))
 }

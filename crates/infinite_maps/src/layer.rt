@@ -4,8 +4,10 @@ ghost use Rattle.serde_json.specs.Data.{Data};
 ghost use Rattle.serde_json.specs.Find.{get_member};
 ghost use Rattle.serde_json.specs.View.{view as data_of, members_view};
 ghost use Rattle.infinite_maps.specs.Cells.{is_text};
+ghost use Rattle.infinite_maps.specs.Coverage.{cover_of};
+ghost use Rattle.infinite_maps.specs.Growth.{grown};
 ghost use Rattle.infinite_maps.specs.Rectangles.{bounds};
-ghost use Rattle.infinite_maps.specs.Layers.{size, layer_cells, if_so_many, chunk_items, if_apart, old_rectangles, place_at, whole_number, chunk, chunks, with_old_bounds, with_bounds, with_right_bounds, rest_of, with_chunks, tiles, is_text_at, layer_by, layer_of, nothing};
+ghost use Rattle.infinite_maps.specs.Layers.{size, layer_cells, if_so_many, chunk_items, if_apart, old_rectangles, place_at, whole_number, with_place, chunk, chunks, with_old_bounds, with_bounds, with_right_bounds, rest_of, with_chunks, tiles, is_text_at, layer_by, layer_of, nothing};
 ghost use Rattle.infinite_maps.specs.Notes.{mark, noted_all};
 
 use crate::cells::{cells_data, cells_of, cut};
@@ -90,6 +92,26 @@ fn place_at(from: i64, cells: u16) -> Value
     Value::from(from.wrapping_add(cells as i64))
 }
 
+// Puts the place and size of a chunk.
+fn put_place(
+    alloc: Global,
+    plane: Plane,
+    rectangle: Rectangle,
+    members: &mut Map<String, Value>,
+) -> Result<(), AllocError>
+    ensures { OnOk result (members_view members.new.entries
+        ≡ with_place plane rectangle (members_view members.old.entries)) }
+{
+    let y = place_at(plane.y, rectangle.top);
+    serde_json::put(members, alloc, "y", y)?;
+    let x = place_at(plane.x, rectangle.left);
+    serde_json::put(members, alloc, "x", x)?;
+    let width = Value::from(rectangle.width());
+    serde_json::put(members, alloc, "width", width)?;
+    let height = Value::from(rectangle.height());
+    serde_json::put(members, alloc, "height", height)
+}
+
 // A chunk with the cells that the layer has there.
 #[tactic(auto, unfolding(crate::specs::Layers::chunk))]
 fn chunk(
@@ -104,14 +126,7 @@ fn chunk(
     let cut = cut(alloc, plane.columns, cells, rectangle)?;
     let data = cells_data(alloc, text, &cut)?;
     let mut members = Map::new(alloc);
-    let y = place_at(plane.y, rectangle.top);
-    serde_json::put(&mut members, alloc, "y", y)?;
-    let x = place_at(plane.x, rectangle.left);
-    serde_json::put(&mut members, alloc, "x", x)?;
-    let width = Value::from(rectangle.width());
-    serde_json::put(&mut members, alloc, "width", width)?;
-    let height = Value::from(rectangle.height());
-    serde_json::put(&mut members, alloc, "height", height)?;
+    put_place(alloc, plane, rectangle, &mut members)?;
     serde_json::put(&mut members, alloc, "data", data)?;
     Ok(Value::from(members))
 }
@@ -229,6 +244,41 @@ fn copy_of(value: Option<&Value>) -> Result<Option<Value>, AllocError>
     }
 }
 
+// Puts the cells into chunks: those that the layer had, and new ones.
+fn put_all(
+    alloc: Global,
+    plane: Plane,
+    note: &Option<Value>,
+    text: bool,
+    cells: &[u64],
+    mut rectangles: Vec<Rectangle>,
+    news: &[Rectangle],
+    members: &mut Map<String, Value>,
+) -> Result<(), AllocError>
+    ensures { OnOk result (members_view members.new.entries
+        ≡ with_chunks plane (option_map data_of note.now) text cells.now rectangles.items news.now (members_view members.old.entries)) }
+{
+    rectangles.extend_from_slice(news)?;
+    let chunks = chunks(alloc, plane, text, cells, &rectangles)?;
+    remove_own(members);
+    put_right_bounds(alloc, plane, note, &rectangles, news, members)?;
+    serde_json::put(members, alloc, "chunks", chunks)
+}
+
+// The rectangles of new chunks, beside those of old ones.
+fn new_rectangles(
+    alloc: Global,
+    plane: Plane,
+    cells: &[u64],
+    olds: &[Rectangle],
+) -> Result<Vec<Rectangle>, AllocError>
+    ensures { IfOk result (λ found. found.items
+        ≡ grown plane cells.now (cover_of plane.columns (size plane) olds.now)) }
+{
+    let cover = cover_of(alloc, plane.columns, plane.size(), olds)?;
+    grown(alloc, plane, cells, &cover)
+}
+
 fn put_chunks(
     alloc: Global,
     plane: Plane,
@@ -240,14 +290,9 @@ fn put_chunks(
         ≡ tiles plane (get_member mark (members_view members.old.entries)) text cells.now (members_view members.old.entries)) }
 {
     let note = copy_of(found(members, MARK))?;
-    let mut rectangles = old_rectangles(alloc, plane, &note)?;
-    let cover = cover_of(alloc, plane.columns, plane.size(), &rectangles)?;
-    let news = grown(alloc, plane, cells, &cover)?;
-    rectangles.extend_from_slice(&news)?;
-    let chunks = chunks(alloc, plane, text, cells, &rectangles)?;
-    remove_own(members);
-    put_right_bounds(alloc, plane, &note, &rectangles, &news, members)?;
-    serde_json::put(members, alloc, "chunks", chunks)
+    let rectangles = old_rectangles(alloc, plane, &note)?;
+    let news = new_rectangles(alloc, plane, cells, &rectangles)?;
+    put_all(alloc, plane, &note, text, cells, rectangles, &news, members)
 }
 
 /// Puts the cells of a layer into chunks, where it has one for each cell of the map.

@@ -19,4 +19,5 @@ mod survey;
 
 pub use fault::Fault;
 pub use finite::made_finite;
+pub use same::is_within;
 pub use spread::made_infinite;

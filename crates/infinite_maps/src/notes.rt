@@ -23,7 +23,8 @@ fn natural(value: Option<&Value>) -> u64
     }
 }
 
-fn integer(value: Option<&Value>) -> i64
+/// A whole number of 64 bits; 0 where there is none.
+pub fn integer(value: Option<&Value>) -> i64
     ensures { result ≡ integer (option_map (λ value. data_of value.now) value.entry) }
 {
     match value {

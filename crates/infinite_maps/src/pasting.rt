@@ -83,23 +83,51 @@ fn put_own(
     }
 }
 
+// The members that tell where the chunks of a layer lie.
+fn put_bounds(
+    alloc: Global,
+    note: &mut Map<String, Value>,
+    members: &Map<String, Value>,
+) -> Result<(), AllocError> {
+    for name in ["width", "height", "startx", "starty"] {
+        put_own(alloc, note, members, name)?;
+    }
+    Ok(())
+}
+
+fn noted_all(alloc: Global, rectangles: &[Rectangle]) -> Result<Value, AllocError> {
+    let mut chunks = Vec::with_capacity(alloc, rectangles.len())?;
+    for rectangle in rectangles {
+        chunks.push(noted(alloc, *rectangle)?)?;
+    }
+    Ok(Value::from(chunks))
+}
+
 // The note of a layer that had these chunks.
 fn note_of(
     alloc: Global,
     members: &Map<String, Value>,
     rectangles: &[Rectangle],
 ) -> Result<Value, AllocError> {
-    let mut chunks = Vec::with_capacity(alloc, rectangles.len())?;
-    for rectangle in rectangles {
-        chunks.push(noted(alloc, *rectangle)?)?;
-    }
+    let chunks = noted_all(alloc, rectangles)?;
     let mut note = Map::new(alloc);
-    serde_json::put(&mut note, alloc, "chunks", Value::from(chunks))?;
-    put_own(alloc, &mut note, members, "width")?;
-    put_own(alloc, &mut note, members, "height")?;
-    put_own(alloc, &mut note, members, "startx")?;
-    put_own(alloc, &mut note, members, "starty")?;
+    serde_json::put(&mut note, alloc, "chunks", chunks)?;
+    put_bounds(alloc, &mut note, members)?;
     Ok(Value::from(note))
+}
+
+// Pastes the cells of a chunk, and tells where it lies.
+fn paste_chunk(
+    alloc: Global,
+    plane: Plane,
+    text: bool,
+    chunk: &Value,
+    cells: &mut [u64],
+) -> Result<Rectangle, Fault> {
+    let rectangle = extent_of(chunk)?.on(plane).ok_or(Fault::BadChunk)?;
+    let own = chunk_cells(alloc, chunk, text, rectangle)?;
+    paste(cells, plane.columns, rectangle, &own);
+    Ok(rectangle)
 }
 
 // The cells of all chunks, and where these lie.
@@ -112,10 +140,7 @@ fn pasted(
     let mut cells = vec![in alloc; 0u64; plane.size()]?;
     let mut rectangles = Vec::with_capacity(alloc, chunks.len())?;
     for chunk in chunks {
-        let rectangle = extent_of(chunk)?.on(plane).ok_or(Fault::BadChunk)?;
-        let own = chunk_cells(alloc, chunk, text, rectangle)?;
-        paste(&mut cells, plane.columns, rectangle, &own);
-        rectangles.push(rectangle)?;
+        rectangles.push(paste_chunk(alloc, plane, text, chunk, &mut cells)?)?;
     }
     Ok((cells, rectangles))
 }

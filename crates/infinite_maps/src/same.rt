@@ -9,9 +9,9 @@ use std::alloc::{AllocError, Global};
 /// How deep a text may nest.
 const MAX_DEPTH: u8 = 127;
 
-// Whether arrays and objects nest no deeper than so many levels.
+/// Whether arrays and objects nest no deeper than so many levels.
 #[cycle(levels)]
-fn is_within(levels: u8, value: &Value) -> bool
+pub fn is_within(levels: u8, value: &Value) -> bool
     ensures { result ≡ nat_le (depth (data_of value.now)) levels }
 {
     match value {

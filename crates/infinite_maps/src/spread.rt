@@ -57,10 +57,8 @@ fn spread(alloc: Global, plane: Plane, part: Part, value: &Value) -> Result<Valu
     ensures { IfOk result (λ v. data_of v ≡ spread plane part (data_of value.now)) }
 {
     match value {
-        Value::Null => Ok(Value::Null),
-        Value::Bool(truth) => Ok(Value::Bool(*truth)),
+        Value::Null | Value::Bool(_) | Value::String(_) => value.clone(),
         Value::Number(number) => Ok(moved(plane, part, *number)),
-        Value::String(text) => Ok(Value::String(text.clone()?)),
         Value::Array(items) => Ok(Value::Array(items_spread(alloc, plane, part, items)?)),
         Value::Object(members) => {
             let mut all = members_spread(alloc, plane, part, members)?;

@@ -1,6 +1,5 @@
 // Members of an object, found by name, taken out and looked through.
-ghost use Rattle.std.specs.Prelude.{◌≡◌, option_map, nat_le};
-ghost use Rattle.serde_json.specs.Data.{depth, items_depth, members_depth};
+ghost use Rattle.std.specs.Prelude.{◌≡◌, option_map};
 ghost use Rattle.serde_json.specs.Find.{get_member};
 ghost use Rattle.serde_json.specs.View.{view as data_of, items_view, members_view};
 ghost use Rattle.tiled_maps.specs.Back.{is_alone};
@@ -65,40 +64,4 @@ fn members_have_name(name: &str, members: &Map<String, Value>) -> bool
         }
     }
     false
-}
-
-/// Whether arrays and objects nest no deeper than so many levels.
-#[cycle(levels)]
-pub fn is_within(levels: u8, value: &Value) -> bool
-    ensures { result ≡ nat_le (depth (data_of value.now)) levels }
-{
-    match value {
-        Value::Null | Value::Bool(_) | Value::Number(_) | Value::String(_) => true,
-        Value::Array(items) => levels > 0 && items_are_within(levels - 1, items),
-        Value::Object(members) => levels > 0 && members_are_within(levels - 1, members),
-    }
-}
-
-#[cycle(levels)]
-fn items_are_within(levels: u8, items: &Vec<Value>) -> bool
-    ensures { result ≡ nat_le (items_depth (items_view items.now.items)) levels }
-{
-    for item in items {
-        if !is_within(levels, item) {
-            return false;
-        }
-    }
-    true
-}
-
-#[cycle(levels)]
-fn members_are_within(levels: u8, members: &Map<String, Value>) -> bool
-    ensures { result ≡ nat_le (members_depth (members_view members.now.entries)) levels }
-{
-    for (_key, member) in members.iter() {
-        if !is_within(levels, member) {
-            return false;
-        }
-    }
-    true
 }

@@ -7,9 +7,10 @@ use crate::back::back;
 use crate::fault::Fault;
 use crate::fraction::RESERVED_NAME;
 use crate::fractions::has_fraction;
-use crate::members::{has_name, is_within};
+use crate::members::has_name;
 use crate::place::Place;
 use crate::tree::{MAX_DEPTH, finite, infinite, whole};
+use infinite_maps::is_within;
 use serde_json::Value;
 use std::alloc::Global;
 

@@ -9,14 +9,25 @@ ghost use Rattle.tiled_maps.specs.Trees.{MakesWhole, MakesFinite, spread_of};
 use crate::aside::aside;
 use crate::fault::Fault;
 use crate::fractions::has_fraction;
-use crate::members::is_within;
 use crate::place::Place;
-use infinite_maps::{made_finite, made_infinite};
+use infinite_maps::{is_within, made_finite, made_infinite};
 use serde_json::Value;
 use std::alloc::Global;
 
 /// How deep a JSON text may nest.
 pub const MAX_DEPTH: u8 = 127;
+
+// A map with its fractions set aside, if it does not nest too deep then.
+fn whole_of(alloc: Global, value: &Value) -> Result<Value, Fault>
+    ensures { MakesWhole (data_of value.now) result }
+{
+    let whole = aside(alloc, Place::Map, value)?;
+    if is_within(MAX_DEPTH, &whole) {
+        Ok(whole)
+    } else {
+        Err(Fault::TooDeep)
+    }
+}
 
 /// A map with its fractions set aside, which is the map itself if it is whole.
 pub fn whole(alloc: Global, is_whole: bool, value: Value) -> Result<Value, Fault>
@@ -26,12 +37,7 @@ pub fn whole(alloc: Global, is_whole: bool, value: Value) -> Result<Value, Fault
     if is_whole {
         return Ok(value);
     }
-    let whole = aside(alloc, Place::Map, &value)?;
-    if is_within(MAX_DEPTH, &whole) {
-        Ok(whole)
-    } else {
-        Err(Fault::TooDeep)
-    }
+    whole_of(alloc, &value)
 }
 
 /// The finite map of a map without fractions, if that is infinite.

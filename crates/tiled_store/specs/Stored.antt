@@ -22,6 +22,11 @@ pub record GivesFor (file text : List ℕ) (has_set_aside : Bool) : Type 0 where
   pub given : ((own : Option (Vec ℕ Global)) × (text ≡ text_or file own) × SetsAside file (Ok own) × IsShort own) ⊎ ((text ≡ file) × SetsAside file (Err fault.NotJson))
   pub as_it_is : has_set_aside ≡ false → text ≡ file
 
+-- what is given for a file that has such a text of its own, or none
+abbrev pub Gives : List ℕ → Option (Vec ℕ Global) → Type 0
+Gives file None = (has_set_aside : Bool) → GivesFor file file has_set_aside
+Gives file (Some text) = GivesFor file text.items true
+
 -- a fault that is neither of memory nor of what is no JSON
 abbrev pub refuses : Fault → Bool
 refuses fault.Memory = false

@@ -1,8 +1,9 @@
-ghost use Rattle.std.specs.Prelude.{◌≡◌, ◌-◌, ◌^◌, ◌<◌, ◌≤◌, ◌⊎◌, ◌∷◌, [], IsErrOf, IsOk, IsTrue, Bool, true, false};
+ghost use Rattle.std.specs.Prelude.{◌≡◌, ◌-◌, ◌^◌, ◌<◌, ◌≤◌, ◌⊎◌, ◌∷◌, [], IsErrOf, IsOk, IfOk, IsTrue, Bool, true, false, Ok, None};
 ghost use Rattle.map_store.specs.Asking.{loading, storing};
 ghost use Rattle.map_store.specs.Files.{HasFailed};
 ghost use Rattle.map_store.specs.Storing.{Loads, Stores};
-ghost use Rattle.tiled_store.specs.Stored.{AtMostOnce, GivesFor, PutsFor, LoadsFrom, StoresTo};
+ghost use Rattle.tiled_maps.specs.Texts.{text_or};
+ghost use Rattle.tiled_store.specs.Stored.{AtMostOnce, Gives, GivesFor, IsRefused, PutsFor, IsNotPut, LoadsFrom, StoresTo};
 
 use crate::fault_report::FaultReport;
 use map_store::{MapStore, StoreCall, StoreFault, StoreLog};
@@ -88,6 +89,30 @@ impl<S: MapStore, T: FaultReport> TiledStore<S, T> {
         fault
     }
 
+    // What is set aside of a file, if that is a text of its own.
+    fn set_aside_of(
+        &self,
+        alloc: Global,
+        name: &str,
+        bytes: &[u8],
+    ) -> Result<Option<Vec<u8>>, StoreFault>
+        ensures plain { self.now.sets_aside ≡ false → result ≡ Ok None }
+        ensures gives { IsTrue self.now.sets_aside → IfOk result (Gives bytes.now) }
+        ensures refused { IsErrOf result StoreFault.Device → IsRefused bytes.now }
+        ensures found { IsErrOf result StoreFault.Missing → ⊥ }
+    {
+        if !self.sets_aside || stays(bytes) {
+            return Ok(None);
+        }
+        match set_aside(alloc, bytes) {
+            Ok(Some(text)) if text.len() > LONGEST => Err(self.too_long(name)),
+            Ok(own) => Ok(own),
+            Err(Fault::NotJson) => Ok(None),
+            Err(Fault::Memory) => Err(StoreFault::Memory),
+            Err(fault) => Err(self.refused(name, fault)),
+        }
+    }
+
     // Loads a file, and sets aside what is to be. A fault is not counted yet.
     fn loaded(&mut self, alloc: Global, name: &str) -> Result<Vec<u8>, StoreFault>
         ensures loads { IsTrue (S.stored self.old.store).honest → IsTrue self.old.sets_aside
@@ -101,17 +126,35 @@ impl<S: MapStore, T: FaultReport> TiledStore<S, T> {
         ensures below { S.asked self.new.store ≡ loading name.now ∷ S.asked self.old.store }
     {
         let bytes = self.store.load(alloc, name)?;
-        if !self.sets_aside || stays(bytes.as_slice()) {
-            return Ok(bytes);
-        }
-        match set_aside(alloc, bytes.as_slice()) {
-            Ok(Some(text)) if text.len() > LONGEST => Err(self.too_long(name)),
-            Ok(Some(text)) => {
+        match self.set_aside_of(alloc, name, bytes.as_slice())? {
+            Some(text) => {
                 self.has_set_aside = true;
                 Ok(text)
             }
-            Ok(None) => Ok(bytes),
-            Err(Fault::NotJson) => Ok(bytes),
+            None => Ok(bytes),
+        }
+    }
+
+    // The text in which what was set aside is put back, if that is a text of its own.
+    fn put_back_of(
+        &self,
+        alloc: Global,
+        name: &str,
+        bytes: &[u8],
+    ) -> Result<Option<Vec<u8>>, StoreFault>
+        ensures plain { self.now.sets_aside ≡ false → result ≡ Ok None }
+        ensures puts { IsTrue self.now.sets_aside
+            → IfOk result (λ own. PutsFor self.now.has_set_aside bytes.now (text_or bytes.now own)) }
+        ensures refused { IsErrOf result StoreFault.Device → IsNotPut self.now.has_set_aside bytes.now }
+        ensures found { IsErrOf result StoreFault.Missing → ⊥ }
+    {
+        if !self.sets_aside || !self.has_set_aside || stays(bytes) {
+            return Ok(None);
+        }
+        match put_back(alloc, bytes) {
+            Ok(Some(text)) if text.len() > LONGEST => Err(self.too_long(name)),
+            Ok(own) => Ok(own),
+            Err(Fault::NotJson) => Ok(None),
             Err(Fault::Memory) => Err(StoreFault::Memory),
             Err(fault) => Err(self.refused(name, fault)),
         }
@@ -131,16 +174,9 @@ impl<S: MapStore, T: FaultReport> TiledStore<S, T> {
         ensures below { AtMostOnce name.now (S.asked self.old.store) (S.asked self.new.store) }
         ensures stored { IsOk result → S.asked self.new.store ≡ storing name.now ∷ S.asked self.old.store }
     {
-        if !self.sets_aside || !self.has_set_aside || stays(bytes) {
-            return self.store.store(alloc, name, bytes);
-        }
-        match put_back(alloc, bytes) {
-            Ok(Some(text)) if text.len() > LONGEST => Err(self.too_long(name)),
-            Ok(Some(text)) => self.store.store(alloc, name, text.as_slice()),
-            Ok(None) => self.store.store(alloc, name, bytes),
-            Err(Fault::Memory) => Err(StoreFault::Memory),
-            Err(Fault::NotJson) => self.store.store(alloc, name, bytes),
-            Err(fault) => Err(self.refused(name, fault)),
+        match self.put_back_of(alloc, name, bytes)? {
+            Some(text) => self.store.store(alloc, name, text.as_slice()),
+            None => self.store.store(alloc, name, bytes),
         }
     }
 }

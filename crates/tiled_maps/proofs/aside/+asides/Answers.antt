@@ -1,14 +1,16 @@
-use Rattle.std.proofs.Common.{◌≡◌, [], ◌∷◌, ◌++◌, map, sym, ap, ◌∙◌, subst, append_assoc}
+use Rattle.std.proofs.Common.{◌≡◌, [], ◌∷◌, ◌++◌, map, get_or, sym, ap, ◌∙◌, subst, append_assoc}
 use Rattle.std.specs.List.Sorted.{IsStrictlySortedBy}
 use Rattle.std.specs.Map.{keys_of}
 use Rattle.std.specs.String.{string_cmp}
 use Rattle.std.proofs.Common.{string_bytes, arith}
 use Rattle.serde_json.specs.View.{view, members_view, items_of}
+use Rattle.serde_json.specs.declared.value.Value.{Value}
 use Rattle.serde_json.proofs.Views.{Entry, put_last}
 use Rattle.tiled_maps.specs.Aside.{aside, items_aside, members_aside}
 use Rattle.tiled_maps.specs.Places.{below}
 use Rattle.tiled_maps.proofs.Law.{members_aside-put}
 use Rattle.tiled_maps.proofs.Walks.{items_aside-items_of, map_whole}
+use Rattle.infinite_maps.proofs.Loops.{pushed}
 use Rattle.tiled_maps.proofs.aside.+asides.Goals as goal
 
 pub members_aside-loop-key-preserved : goal.members_aside-loop-key-preserved
@@ -27,6 +29,15 @@ members_aside-loop-key-preserved t c =
           ∙ rw (c.as_str-in-loop-key.ensures.value, same, l.invariant.2)
           (sym (members_aside-put c.args.place (string_bytes e.0) (view e.1) (members_view done)) ∙ ap (members_aside c.args.place) last),
     )
+
+pub items_aside-loop-item-preserved : goal.items_aside-loop-item-preserved
+items_aside-loop-item-preserved t c =
+    let l = c.loop-item in
+    let made = λ (v : Value). aside c.args.place (view v) in
+    let items = c.deref-item-items.result.now in
+    let item = c.item-item.result in
+    let new : view c.in_ok-aside.field-0 ≡ made (get_or items l.item-index item) = c.in_ok-aside.ensures ∙ ap made c.item-item.is in
+    rw c.in_ok-push.ensures.items (pushed view made l.all.items c.in_ok-aside.field-0 items l.item-index item l.invariant c.loop-item-test.true new)
 
 pub items_aside-returns : goal.items_aside-returns
 items_aside-returns t c = ap items_of (c.loop-item.invariant ∙ map_whole (aside c.args.place) _ _ (omega (arith, c.loop-item-test.false)))
