@@ -59,7 +59,10 @@ def table(lines, folder):
     )
     assert done.returncode == 0, f'status {done.returncode}, {done.stderr[:300]!r}'
     rows = [row.partition(b' => ') for row in done.stdout.split(b'\n')[:-1]]
-    return [answer for front, _, answer in rows if front.startswith((b'aside ', b'back '))]
+    answers = [answer for front, _, answer in rows if front.startswith((b'aside ', b'back '))]
+    asked = lines.count('\naside ') + lines.count('\nback ')
+    assert len(answers) == asked, f'{len(answers)} answers to {asked} lines'
+    return answers
 
 
 def answers(word, texts):
@@ -73,7 +76,7 @@ def answers(word, texts):
 def faults_of_answers(what, wanted, came):
     """How trees that came as texts differ from those that are wanted. A text that Python, too, writes
     for the tree is not read."""
-    for number, (tree, text) in enumerate(zip(wanted, came, strict=True)):
+    for number, (tree, text) in enumerate(zip(wanted, came)):
         fault = text != text_of(tree) and unlike(exact_tree(tree), exact_text(text))
         if fault:
             yield f'{what} {number}: {fault[:600]}'

@@ -114,7 +114,8 @@ def test_word_at_fault():
             lines,
         )
         page.settle()
-    for line, (_, fault, _), (reply, why) in zip(lines, made, told, strict=True):
+    assert len(told) == len(lines)
+    for line, (_, fault, _), (reply, why) in zip(lines, made, told):
         assert reply == refusal(4) and why.startswith(f'Word {fault + 1}'), (line, why)
     passed(len(lines))
 

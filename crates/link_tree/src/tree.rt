@@ -8,7 +8,7 @@ ghost use Rattle.link_tree.specs.Changing.{ChangesAt, ChangesEach, Leaves, Takes
 use std::mem;
 
 /// A tree of links. Of the two trees at a link neither has more than three times as many places for a further link as
-/// the other, so that a tree of 4,096 links is at most some 20 deep.
+/// the other, so that a tree of 4,096 links is at most 26 deep.
 #[cycle(links)]
 #[derive(Drop)]
 pub(crate) enum Tree<T> {
