@@ -160,6 +160,7 @@ impl<'a, T> Iterator for Iter<'a, T> {
 
     ghost remaining = { item_count (λ s. s) };
 
+    #[inline(always)]
     fn next(&mut self) -> Option<&'a T> {
         let next = self.next;
         match next {

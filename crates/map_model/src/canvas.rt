@@ -69,28 +69,24 @@ pub struct Canvas {
     pub down: i64,
 }
 
-// A number of pixels, where there is one, moved by others.
-fn pixels_moved(pixels: Option<i32>, by: i64) -> Option<i32>
-    requires { IfSome (option_map (λ z. z +ℤ by) pixels) IsPixels }
-    ensures { result ≡ option_map (λ z. z +ℤ by) pixels }
+// Adds pixels to a number of them, where there is one.
+fn move_pixels(pixels: &mut Option<i32>, by: i64)
+    requires { IfSome (option_map (λ z. z +ℤ by) pixels.old) IsPixels }
+    ensures { pixels.new ≡ option_map (λ z. z +ℤ by) pixels.old }
 {
-    match pixels {
-        Some(pixels) => Some((i64::from(pixels) + by) as i32),
-        None => None,
+    if let Some(pixels) = pixels {
+        *pixels = (i64::from(*pixels) + by) as i32;
     }
 }
 
 impl Placing {
-    // The numbers of an object that is moved.
-    fn moved(self, right: i64, down: i64) -> Placing
-        requires { IsPlacing (placing_moved right down self) }
-        ensures { result ≡ placing_moved right down self }
+    // Moves an object that has these numbers.
+    fn move_by(&mut self, right: i64, down: i64)
+        requires { IsPlacing (placing_moved right down self.old) }
+        ensures { self.new ≡ placing_moved right down self.old }
     {
-        Placing {
-            x: pixels_moved(self.x, right),
-            y: pixels_moved(self.y, down),
-            ..self
-        }
+        move_pixels(&mut self.x, right);
+        move_pixels(&mut self.y, down);
     }
 }
 
@@ -102,7 +98,7 @@ fn move_objects(objects: &mut LinkTree<Object>, right: i64, down: i64)
     objects.change_each(
         |object: &mut Object|
             requires { IsPlacing (placing_moved right down object.old.placing) }
-        { object.placing = object.placing.moved(right, down) },
+        { object.placing.move_by(right, down) },
     );
 }
 
