@@ -73,7 +73,7 @@ def answers(word, texts):
 def faults_of_answers(what, wanted, came):
     """How trees that came as texts differ from those that are wanted. A text that Python, too, writes
     for the tree is not read."""
-    for number, (tree, text) in enumerate(zip(wanted, came, strict=True)):
+    for number, (tree, text) in enumerate(zip(wanted, came)):
         fault = text != text_of(tree) and unlike(exact_tree(tree), exact_text(text))
         if fault:
             yield f'{what} {number}: {fault[:600]}'

@@ -315,7 +315,7 @@ def wrong_cells(finite, infinite):
         if 'data' not in layer:
             continue
         found = cell_places(spread)
-        stood = dict(zip(places_in(*sides), cells_of(layer), strict=True))
+        stood = dict(zip(places_in(*sides), cells_of(layer)))
         came = {**dict.fromkeys(stood, 0), **found}
         if came != stood:
             place = min(place for place in came if came[place] != stood.get(place))
