@@ -68,9 +68,9 @@ class Run:
 # ---- session files
 
 
-def function_of(expression):
-    """An expression over `i`."""
-    return eval(b'lambda i: ' + expression, {'__builtins__': {}})
+def function_of(expression, **known):
+    """An expression over `i`, and over what is known."""
+    return eval(b'lambda i: ' + expression, {'__builtins__': {}, **known})
 
 
 def values_of(count, expression):
@@ -89,18 +89,16 @@ def spelled(text):
     if not values:
         return text
     layout = VALUE.sub(b'%d', text.replace(b'%', b'%%'))
-    numbers = function_of(b'(' + b','.join(values) + b',)')
-    return lambda i: layout % numbers(i)
+    return function_of(b'layout % (' + b','.join(values) + b',)', layout=layout)
 
 
 def times(rows, count):
     """The bytes of these rows, each with its newline, for each `i` from 1 to a count."""
-    rows = [row if callable(row) else row + b'\n' for row in rows]
-    if not any(callable(row) for row in rows):
-        return b''.join(rows) * count
-    return b''.join(
-        row(i) + b'\n' if callable(row) else row for i in range(1, count + 1) for row in rows
-    )
+    pairs = [(row, callable(row)) for row in rows]
+    if not any(is_made for _, is_made in pairs):
+        return b''.join(row + b'\n' for row in rows) * count
+    made = [row(i) if is_made else row for i in range(1, count + 1) for row, is_made in pairs]
+    return b'\n'.join([*made, b''])
 
 
 def file_of(text):
@@ -224,7 +222,7 @@ def fault_of_files(wanted, given):
 def fault_of_reasons(replies, errors):
     """What is wrong with standard error, or None: each load and each save that failed is told in a
     line of its own."""
-    failed = sum(reply.startswith((b'no 50 ', b'no 51 ')) for reply in replies.split(b'\n'))
+    failed = sum((b'\n' + replies).count(front) for front in (b'\nno 50 ', b'\nno 51 '))
     told = errors.split(b'\n')[:-1]
     is_right = len(told) == failed and all(line.startswith(b'tile_editor: ') for line in told)
     return (
