@@ -12,7 +12,9 @@ module _ {T : Type 0} where
       let some : length (items l ++ x ∷ items r) ≡ length (items l) + (length (items r) + 1) = simp length-append (omega arith) in
       absurd (omega (arith, none, some))
 
-  pub is_alone : (k : Link T) → length (items k.left ++ k.item ∷ items k.right) ≡ 1 → k.before ≡ length (items k.left) → k.size ≡ length (items k.left) + length (items k.right) + 1 → IsAlone k
+  pub is_alone : (k : Link T) → length (items k.left ++ k.item ∷ items k.right) ≡ 1 → k.before ≡ length (items k.left)
+      → k.size ≡ length (items k.left) + length (items k.right) + 1 → IsAlone k
   is_alone k one before size =
       let whole : length (items k.left ++ k.item ∷ items k.right) ≡ length (items k.left) + (length (items k.right) + 1) = simp length-append (omega arith) in
-      (is_empty k.left (omega (arith, one, whole)), (is_empty k.right (omega (arith, one, whole)), (omega (arith, one, whole, before), omega (arith, one, whole, size))))
+      let left = is_empty k.left (omega (arith, one, whole)) in
+      let right = is_empty k.right (omega (arith, one, whole)) in (left, (right, (omega (arith, one, whole, before), omega (arith, one, whole, size))))

@@ -51,7 +51,8 @@ module _ {X : Type 0} (P : X → Type 0) where
   pub all-before : (all xs ys : List X) (x : X) → all ≡ xs ++ x ∷ ys → AllByRecursion P all → AllByRecursion P xs
   all-before all [] ys x is each = tt
   all-before [] (z ∷ xs) ys x is each = cc
-  all-before (w ∷ all) (z ∷ xs) ys x is each = let same : w ≡ z = cc in let rest : all ≡ xs ++ x ∷ ys = cc in (rw same at each.0, all-before all xs ys x rest each.1)
+  all-before (w ∷ all) (z ∷ xs) ys x is each = let same : w ≡ z = cc in
+      let rest : all ≡ xs ++ x ∷ ys = cc in (rw same at each.0, all-before all xs ys x rest each.1)
 
   pub all-at : (all xs ys : List X) (x : X) → all ≡ xs ++ x ∷ ys → AllByRecursion P all → P x
   all-at [] [] ys x is each = cc
@@ -72,5 +73,6 @@ module _ {X : Type 0} (R : X → X → Type 0) where
   around (a ∷ xs) [] ys ws x z before at behind = absurd before
   around (a ∷ xs) (c ∷ zs) ys ws x z before at behind = (before.0, around xs zs ys ws x z before.1 at behind)
 
-  pub zip-around : (old new xs zs ys ws : List X) (x z : X) → old ≡ xs ++ x ∷ ys → new ≡ zs ++ z ∷ ws → AllZip R xs zs → R x z → AllZip R ys ws → AllZip R old new
+  pub zip-around : (old new xs zs ys ws : List X) (x z : X) → old ≡ xs ++ x ∷ ys → new ≡ zs ++ z ∷ ws
+      → AllZip R xs zs → R x z → AllZip R ys ws → AllZip R old new
   zip-around old new xs zs ys ws x z was is before at behind = rw (was, is) (around xs zs ys ws x z before at behind)

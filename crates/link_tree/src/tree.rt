@@ -220,7 +220,8 @@ impl<T: Drop> Tree<T> {
         Tree::Filled(link)
     }
 
-    // Turns the tree to the right, where too many links stand before its top.
+    // Turns the tree to the right, where too many links stand before its top. The link there goes up; if its inner tree is
+    // too large to stand below the old top, that tree's own top goes up in its stead.
     #[inline(never)]
     fn turn_right(&mut self)
         requires sized { IsSized self.old }
@@ -257,7 +258,8 @@ impl<T: Drop> Tree<T> {
         *self = Tree::Filled(up);
     }
 
-    // Turns the tree to the left, where too many links stand behind its top.
+    // Turns the tree to the left, where too many links stand behind its top. The link there goes up; if its inner tree is
+    // too large to stand below the old top, that tree's own top goes up in its stead.
     #[inline(never)]
     fn turn_left(&mut self)
         requires sized { IsSized self.old }

@@ -7,14 +7,17 @@ use Rattle.link_tree.proofs.tree.Tree.+change_at.Goals as goal
 pub returns-then-at-before-clause-changed : goal.returns-then-at-before-clause-changed
 returns-then-at-before-clause-changed g t c =
     let k = c.in-Filled.link.value in
-    given-before g.F.FnOnce (items k.left) (items k.right) k.item c.args.at _ _ _ _ (items c.change_at.new.self) (search rules) (grind (arith, common_steps)) (search rules) (search rules)
+    given-before g.F.FnOnce (items k.left) (items k.right) k.item c.args.at _ _ _ _ (items c.change_at.new.self)
+    (search rules) (grind (arith, common_steps)) (search rules) (search rules)
 
 pub returns-then-at-before-2-clause-changed : goal.returns-then-at-before-2-clause-changed
 returns-then-at-before-2-clause-changed g t c =
     let k = c.in-Filled.link.value in
-    given-at g.F.FnOnce (items k.left) (items k.right) k.item c.args.at _ _ _ _ c.change_item.new.item (search rules) (grind (arith, common_steps)) (search rules) (search rules)
+    given-at g.F.FnOnce (items k.left) (items k.right) k.item c.args.at _ _ _ _ c.change_item.new.item
+    (search rules) (grind (arith, common_steps)) (search rules) (search rules)
 
 pub returns-else-at-before-2-clause-changed : goal.returns-else-at-before-2-clause-changed
 returns-else-at-before-2-clause-changed g t c =
     let k = c.in-Filled.link.value in
-    given-behind g.F.FnOnce (items k.left) (items k.right) k.item c.args.at _ _ _ _ (items c.change_at-else-at-before-2.new.self) (search rules) (grind (arith, common_steps)) (grind (arith, common_steps)) (search rules)
+    given-behind g.F.FnOnce (items k.left) (items k.right) k.item c.args.at _ _ _ _ (items c.change_at-else-at-before-2.new.self)
+    (search rules) (grind (arith, common_steps)) (grind (arith, common_steps)) (search rules)
