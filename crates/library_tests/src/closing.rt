@@ -11,7 +11,6 @@ use map_model::{Document, Map, MapText};
 use std::alloc::{AllocError, Global};
 use std::cell::Cell;
 use std::rc::Rc;
-use std::test::Fail;
 use undo_group::Group;
 use undo_stack::Stack;
 
@@ -81,14 +80,21 @@ fn close<C: Command>(group: &mut Group<C>, name: &str) -> bool
     group.remove(name).is_ok()
 }
 
-#[test]
-fn closed_document_lets_go_of_each_box_once(rt: HostRuntime) -> Result<(), Fail> {
-    let alloc = rt.alloc();
-    let first = Rc::new(alloc, Cell::new(0))?;
-    let second = Rc::new(alloc, Cell::new(0))?;
-    let below: Box<dyn Command> = new_probe(alloc, &first)?;
-    let other: Box<dyn Command> = new_probe(alloc, &second)?;
-    let mut group: Group<Box<dyn Command>> = Group::new(alloc);
+/// What came of two documents: whether they were added, how often each one's command was dropped before the first is closed,
+/// whether it was closed, and how often each was dropped behind that, and once both are gone.
+type Closed = ([bool; 2], (u32, u32), bool, (u32, u32), (u32, u32));
+
+fn closed<C: Command>(
+    alloc: Global,
+    below: C,
+    other: C,
+    first: &Rc<Cell<u32>>,
+    second: &Rc<Cell<u32>>,
+) -> Closed
+    requires below { (d : DocumentParts) → (C.change below).fits_redo d }
+    requires other { (d : DocumentParts) → (C.change other).fits_redo d }
+{
+    let mut group: Group<C> = Group::new(alloc);
     let are_open = [
         add(alloc, &mut group, "a", below).is_ok(),
         add(alloc, &mut group, "b", other).is_ok(),
@@ -98,8 +104,21 @@ fn closed_document_lets_go_of_each_box_once(rt: HostRuntime) -> Result<(), Fail>
     let between = (first.get(), second.get());
     drop(group);
     let after = (first.get(), second.get());
-    assert_eq!(rt; are_open, [true, true]);
-    assert_eq!(rt; (before, is_closed), ((0, 0), true));
-    assert_eq!(rt; (between, after), ((1, 0), (1, 1)));
-    Ok(())
+    (are_open, before, is_closed, between, after)
+}
+
+fn boxes_closed(alloc: Global) -> Option<Closed> {
+    let first = Rc::new(alloc, Cell::new(0)).ok()?;
+    let second = Rc::new(alloc, Cell::new(0)).ok()?;
+    let below = new_probe(alloc, &first).ok()?;
+    let other = new_probe(alloc, &second).ok()?;
+    let below: Box<dyn Command> = below;
+    let other: Box<dyn Command> = other;
+    Some(closed(alloc, below, other, &first, &second))
+}
+
+#[test]
+fn closed_document_lets_go_of_each_box_once(rt: HostRuntime) {
+    let wanted = ([true; 2], (0, 0), true, (1, 0), (1, 1));
+    assert_eq!(rt; boxes_closed(rt.alloc()), Some(wanted));
 }

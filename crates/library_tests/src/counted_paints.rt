@@ -185,15 +185,13 @@ fn refused_merge(
     document: Document,
 ) -> Option<((usize, usize), (u32, u32, u32), (u32, u32, u32))> {
     let mut stack: Stack<CountedPaint> = Stack::new(alloc, document, 0);
-    if !stamp(alloc, &mut stack, older, 0, false) {
-        return None;
-    }
-    let paint = new_stamp(alloc, stack.document(), newer, 1, true)?;
-    if push(&mut stack, paint).is_ok() {
-        return None;
-    }
+    let is_first = stamp(alloc, &mut stack, older, 0, false);
+    let is_refused = match new_stamp(alloc, stack.document(), newer, 1, true) {
+        Some(paint) => push(&mut stack, paint).is_err(),
+        None => false,
+    };
     let stands = (stack.index(), stack.count());
-    Some((stands, older.all(), newer.all()))
+    (is_first && is_refused).then_some((stands, older.all(), newer.all()))
 }
 
 // As each `refused_` test of stacks, this one ends well whichever growth is refused.

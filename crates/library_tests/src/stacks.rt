@@ -3,6 +3,7 @@
 ghost use Rattle.std.specs.Prelude.{◌≡◌, [], true, false, refl};
 ghost use Rattle.command_api.specs.Names.{untagged, Never, WhenEqual};
 ghost use Rattle.library_tests.specs.Still.{still};
+ghost use Rattle.map_model.specs.Document.{DocumentParts};
 ghost use Rattle.undo_stack.specs.History.{current};
 ghost use Rattle.undo_stack.specs.Stacks.{history, Holds};
 
@@ -12,7 +13,6 @@ use map_model::{Document, Layer, LayerKind, Map, MapText};
 use std::alloc::{AllocError, Global};
 use std::cell::Cell;
 use std::rc::Rc;
-use std::test::Fail;
 use undo_stack::{Stack, StackFault};
 
 // A document for commands that leave it as it is.
@@ -20,6 +20,9 @@ pub(crate) fn blank(alloc: Global) -> Result<Document, AllocError> {
     let source = MapText::new(String::new(alloc));
     Ok(Document::new(alloc, Map::create(alloc, 1, 1, 1, 1, source)?))
 }
+
+/// How often a command was redone, undone and dropped.
+type Counted = (u32, u32, u32);
 
 // How often a command was turned and dropped.
 #[derive(Drop)]
@@ -39,7 +42,7 @@ impl Counts {
         Ok(Rc::new(alloc, counts)?)
     }
 
-    pub(crate) fn all(&self) -> (u32, u32, u32) {
+    pub(crate) fn all(&self) -> Counted {
         (self.redone.get(), self.undone.get(), self.dropped.get())
     }
 
@@ -205,16 +208,40 @@ pub(crate) fn end_macro<C: Command>(stack: &mut Stack<C>) -> Result<(), StackFau
     Ok(())
 }
 
-// Each turn, and how often the two commands were turned and dropped after it. A stack that kept a copy of the document,
-// and put it back in place of turning the command, would fail these counts.
-#[test]
-fn no_whole_copies_kept(rt: HostRuntime) -> Result<(), Fail> {
-    let alloc = rt.alloc();
-    let first = Counts::new(alloc)?;
-    let second = Counts::new(alloc)?;
-    let below: Box<dyn Command> = new_probe(alloc, &first)?;
-    let above: Box<dyn Command> = new_probe(alloc, &second)?;
-    let mut stack: Stack<Box<dyn Command>> = Stack::new(alloc, blank(alloc)?, 0);
+// What a test does with a stack is a function of the commands, of any type: where they are boxes, the proof of each call is
+// long, and longer still where a box, a stack or a document may be dropped behind it. So little is alive where memory may
+// be wanting. Want of it ends each test well, so that each allocation can be refused in turn.
+fn two_counts(alloc: Global) -> Option<(Rc<Counts>, Rc<Counts>)> {
+    let first = Counts::new(alloc).ok()?;
+    let second = Counts::new(alloc).ok()?;
+    Some((first, second))
+}
+
+fn two_probes(
+    alloc: Global,
+    first: &Rc<Counts>,
+    second: &Rc<Counts>,
+) -> Option<(Box<Probe>, Box<Probe>)> {
+    let below = new_probe(alloc, first).ok()?;
+    let above = new_probe(alloc, second).ok()?;
+    Some((below, above))
+}
+
+/// A turn, and how often both commands were turned and dropped behind it.
+type Told = (bool, Counted, Counted);
+
+// Each turn, and how often the two commands were turned and dropped after it; and how the stack stands.
+fn turns_of<C: Command>(
+    alloc: Global,
+    below: C,
+    above: C,
+    first: &Rc<Counts>,
+    second: &Rc<Counts>,
+) -> Option<([Told; 7], (usize, usize, usize, bool))>
+    requires below { (d : DocumentParts) → (C.change below).fits_redo d }
+    requires above { (d : DocumentParts) → (C.change above).fits_redo d }
+{
+    let mut stack = Stack::new(alloc, blank(alloc).ok()?, 0);
     let told = [
         (undo(&mut stack).is_ok(), first.all(), second.all()),
         (push(&mut stack, below).is_ok(), first.all(), second.all()),
@@ -231,7 +258,20 @@ fn no_whole_copies_kept(rt: HostRuntime) -> Result<(), Fail> {
         stack.is_clean(),
     );
     let _ = stack.document().map();
-    drop(stack);
+    Some((told, stands))
+}
+
+fn turns_of_boxes(alloc: Global) -> Option<([Told; 7], (usize, usize, usize, bool))> {
+    let (first, second) = two_counts(alloc)?;
+    let (below, above) = two_probes(alloc, &first, &second)?;
+    let below: Box<dyn Command> = below;
+    let above: Box<dyn Command> = above;
+    turns_of(alloc, below, above, &first, &second)
+}
+
+// A stack that kept a copy of the document, and put it back in place of turning the command, would fail these counts.
+#[test]
+fn no_whole_copies_kept(rt: HostRuntime) {
     let wanted = [
         (false, (0, 0, 0), (0, 0, 0)),
         (true, (1, 0, 0), (0, 0, 0)),
@@ -241,22 +281,29 @@ fn no_whole_copies_kept(rt: HostRuntime) -> Result<(), Fail> {
         (true, (1, 1, 0), (1, 1, 0)),
         (true, (2, 1, 0), (1, 1, 0)),
     ];
-    assert_eq!(rt; told, wanted);
-    assert_eq!(rt; stands, (1, 2, 0, false));
-    Ok(())
+    assert_eq!(rt;
+        turns_of_boxes(rt.alloc()),
+        Some((wanted, (1, 2, 0, false)))
+    );
 }
 
+/// What became of three commands: whether each call was answered well, the index and the count, and how often each was
+/// turned and dropped before the stack is dropped, and behind that.
+type LetGo = ([bool; 4], (usize, usize), [Counted; 3], [Counted; 3]);
+
 // A step that is cut, a command that vanishes, and at the end the stack itself.
-#[test]
-fn each_box_is_let_go_of_once(rt: HostRuntime) -> Result<(), Fail> {
-    let alloc = rt.alloc();
-    let staying = Counts::new(alloc)?;
-    let cut = Counts::new(alloc)?;
-    let vanished = Counts::new(alloc)?;
-    let below: Box<dyn Command> = new_probe(alloc, &staying)?;
-    let above: Box<dyn Command> = new_probe(alloc, &cut)?;
-    let idle: Box<dyn Command> = new_idle(alloc, &vanished)?;
-    let mut stack: Stack<Box<dyn Command>> = Stack::new(alloc, blank(alloc)?, 0);
+fn let_go<C: Command>(
+    alloc: Global,
+    below: C,
+    above: C,
+    idle: C,
+    counts: [&Rc<Counts>; 3],
+) -> Option<LetGo>
+    requires below { (d : DocumentParts) → (C.change below).fits_redo d }
+    requires above { (d : DocumentParts) → (C.change above).fits_redo d }
+    requires idle { (d : DocumentParts) → (C.change idle).fits_redo d }
+{
+    let mut stack = Stack::new(alloc, blank(alloc).ok()?, 0);
     let are_done = [
         push(&mut stack, below).is_ok(),
         push(&mut stack, above).is_ok(),
@@ -264,93 +311,121 @@ fn each_box_is_let_go_of_once(rt: HostRuntime) -> Result<(), Fail> {
         push(&mut stack, idle).is_ok(),
     ];
     let stands = (stack.index(), stack.count());
+    let [staying, cut, vanished] = counts;
     let before = [staying.all(), cut.all(), vanished.all()];
     drop(stack);
     let behind = [staying.all(), cut.all(), vanished.all()];
-    assert_eq!(rt; (are_done, stands), ([true; 4], (1, 1)));
-    assert_eq!(rt; before, [(1, 0, 0), (1, 1, 1), (1, 0, 1)]);
-    assert_eq!(rt; behind, [(1, 0, 1), (1, 1, 1), (1, 0, 1)]);
-    Ok(())
+    Some((are_done, stands, before, behind))
+}
+
+fn boxes_let_go(alloc: Global) -> Option<LetGo> {
+    let (staying, cut) = two_counts(alloc)?;
+    let vanished = Counts::new(alloc).ok()?;
+    let idle = new_idle(alloc, &vanished).ok()?;
+    let (below, above) = two_probes(alloc, &staying, &cut)?;
+    let below: Box<dyn Command> = below;
+    let above: Box<dyn Command> = above;
+    let idle: Box<dyn Command> = idle;
+    let_go(alloc, below, above, idle, [&staying, &cut, &vanished])
+}
+
+#[test]
+fn each_box_is_let_go_of_once(rt: HostRuntime) {
+    let before = [(1, 0, 0), (1, 1, 1), (1, 0, 1)];
+    let behind = [(1, 0, 1), (1, 1, 1), (1, 0, 1)];
+    let wanted = ([true; 4], (1, 1), before, behind);
+    assert_eq!(rt; boxes_let_go(rt.alloc()), Some(wanted));
 }
 
 // What a push onto a new stack leaves where it is refused: the index, the count, and that there is nothing to redo; and
 // how often the command was turned and dropped.
-fn refused_at_first(
+fn refused_at_first<C: Command>(
     alloc: Global,
+    command: C,
     counts: &Rc<Counts>,
-    document: Document,
-) -> Option<((usize, usize), bool, (u32, u32, u32))> {
-    let command: Box<dyn Command> = new_probe(alloc, counts).ok()?;
-    let mut stack: Stack<Box<dyn Command>> = Stack::new(alloc, document, 0);
-    if push(&mut stack, command).is_ok() {
-        return None;
-    }
+) -> Option<((usize, usize), bool, Counted)>
+    requires { (d : DocumentParts) → (C.change command).fits_redo d }
+{
+    let mut stack = Stack::new(alloc, blank(alloc).ok()?, 0);
+    let is_refused = push(&mut stack, command).is_err();
     let has_no_more = redo(&mut stack).is_err();
-    Some(((stack.index(), stack.count()), has_no_more, counts.all()))
+    let stands = (stack.index(), stack.count());
+    is_refused.then_some((stands, has_no_more, counts.all()))
+}
+
+fn box_refused_at_first(alloc: Global) -> Option<((usize, usize), bool, Counted)> {
+    let counts = Counts::new(alloc).ok()?;
+    let command: Box<dyn Command> = new_probe(alloc, &counts).ok()?;
+    refused_at_first(alloc, command, &counts)
 }
 
 // What a push below an undone step leaves where it is refused: that the step is redone; and how often both commands were
 // turned and dropped.
-fn refused_below_a_step(
+fn refused_below_a_step<C: Command>(
     alloc: Global,
+    step: C,
+    command: C,
     first: &Rc<Counts>,
     second: &Rc<Counts>,
-    document: Document,
-) -> Option<(bool, (u32, u32, u32), (u32, u32, u32))> {
-    let step: Box<dyn Command> = new_probe(alloc, first).ok()?;
-    let command: Box<dyn Command> = new_probe(alloc, second).ok()?;
-    let mut stack: Stack<Box<dyn Command>> = Stack::new(alloc, document, 0);
+) -> Option<Told>
+    requires step { (d : DocumentParts) → (C.change step).fits_redo d }
+    requires command { (d : DocumentParts) → (C.change command).fits_redo d }
+{
+    let mut stack = Stack::new(alloc, blank(alloc).ok()?, 0);
     let is_there = push(&mut stack, step).is_ok() && undo(&mut stack).is_ok();
-    if !is_there || push(&mut stack, command).is_ok() {
-        return None;
-    }
+    let is_refused = push(&mut stack, command).is_err();
     let is_redone = redo(&mut stack).is_ok();
-    Some((is_redone, first.all(), second.all()))
+    let told = (is_redone, first.all(), second.all());
+    (is_there && is_refused).then_some(told)
+}
+
+fn box_refused_below_a_step(alloc: Global) -> Option<Told> {
+    let (first, second) = two_counts(alloc)?;
+    let (step, command) = two_probes(alloc, &first, &second)?;
+    let step: Box<dyn Command> = step;
+    let command: Box<dyn Command> = command;
+    refused_below_a_step(alloc, step, command, &first, &second)
 }
 
 // What a push into a macro behind a step leaves where it is refused: that the macro ends; the index, the count and the
 // depth behind that; and how often both commands were turned and dropped.
-fn refused_in_a_macro(
+fn refused_in_a_macro<C: Command>(
     alloc: Global,
+    step: C,
+    command: C,
     first: &Rc<Counts>,
     second: &Rc<Counts>,
-    document: Document,
-) -> Option<(bool, (usize, usize, usize), [(u32, u32, u32); 2])> {
-    let step: Box<dyn Command> = new_probe(alloc, first).ok()?;
-    let command: Box<dyn Command> = new_probe(alloc, second).ok()?;
-    let mut stack: Stack<Box<dyn Command>> = Stack::new(alloc, document, 0);
+) -> Option<(Told, (usize, usize, usize))>
+    requires step { (d : DocumentParts) → (C.change step).fits_redo d }
+    requires command { (d : DocumentParts) → (C.change command).fits_redo d }
+{
+    let mut stack = Stack::new(alloc, blank(alloc).ok()?, 0);
     let is_begun = push(&mut stack, step).is_ok() && begin_macro(&mut stack).is_ok();
-    if !is_begun || push(&mut stack, command).is_ok() {
-        return None;
-    }
+    let is_refused = push(&mut stack, command).is_err();
     let is_ended = end_macro(&mut stack).is_ok();
     let stands = (stack.index(), stack.count(), stack.depth());
-    Some((is_ended, stands, [first.all(), second.all()]))
+    let told = (is_ended, first.all(), second.all());
+    (is_begun && is_refused).then_some((told, stands))
 }
 
-// Want of memory for what the tests themselves make ends them well, so that each allocation can be refused in turn.
+fn box_refused_in_a_macro(alloc: Global) -> Option<(Told, (usize, usize, usize))> {
+    let (first, second) = two_counts(alloc)?;
+    let (step, command) = two_probes(alloc, &first, &second)?;
+    let step: Box<dyn Command> = step;
+    let command: Box<dyn Command> = command;
+    refused_in_a_macro(alloc, step, command, &first, &second)
+}
+
 #[test]
 fn refused_push_leaves_a_new_stack(rt: HostRuntime) {
-    let alloc = rt.alloc();
-    let (Ok(counts), Ok(document)) = (Counts::new(alloc), blank(alloc)) else {
-        return;
-    };
-    if let Some(seen) = refused_at_first(alloc, &counts, document) {
+    if let Some(seen) = box_refused_at_first(rt.alloc()) {
         assert_eq!(rt; seen, ((0, 0), true, (1, 1, 1)));
     }
 }
 
 #[test]
 fn refused_push_leaves_the_step_above(rt: HostRuntime) {
-    let alloc = rt.alloc();
-    let (Ok(first), Ok(second), Ok(document)) = (
-        Counts::new(alloc),
-        Counts::new(alloc),
-        blank(alloc),
-    ) else {
-        return;
-    };
-    if let Some(seen) = refused_below_a_step(alloc, &first, &second, document) {
+    if let Some(seen) = box_refused_below_a_step(rt.alloc()) {
         assert_eq!(rt; seen, (true, (2, 1, 0), (1, 1, 1)));
     }
 }
@@ -358,104 +433,135 @@ fn refused_push_leaves_the_step_above(rt: HostRuntime) {
 // The last growth of the test is the place in the macro.
 #[test]
 fn refused_push_leaves_a_macro(rt: HostRuntime) {
-    let alloc = rt.alloc();
-    let (Ok(first), Ok(second), Ok(document)) = (
-        Counts::new(alloc),
-        Counts::new(alloc),
-        blank(alloc),
-    ) else {
-        return;
-    };
-    if let Some(seen) = refused_in_a_macro(alloc, &first, &second, document) {
-        assert_eq!(rt; seen, (true, (2, 2, 0), [(1, 0, 0), (1, 1, 1)]));
+    if let Some(seen) = box_refused_in_a_macro(rt.alloc()) {
+        assert_eq!(rt; seen, ((true, (1, 0, 0), (1, 1, 1)), (2, 2, 0)));
     }
 }
 
-#[test]
-fn clear_lets_go_of_each_box_and_undoes_none(rt: HostRuntime) -> Result<(), Fail> {
-    let alloc = rt.alloc();
-    let below = Counts::new(alloc)?;
-    let above = Counts::new(alloc)?;
-    let first: Box<dyn Command> = new_probe(alloc, &below)?;
-    let second: Box<dyn Command> = new_probe(alloc, &above)?;
-    let mut stack: Stack<Box<dyn Command>> = Stack::new(alloc, blank(alloc)?, 0);
-    let are_pushed = [
-        push(&mut stack, first).is_ok(),
-        push(&mut stack, second).is_ok(),
+/// What is left once a stack of two commands is cleared: whether each call was answered well, how the stack stands, and how
+/// often both were turned and dropped before the stack is dropped, and behind that.
+type Cleared = ([bool; 3], (usize, usize, bool), [Counted; 2], [Counted; 2]);
+
+fn cleared<C: Command>(
+    alloc: Global,
+    below: C,
+    above: C,
+    first: &Rc<Counts>,
+    second: &Rc<Counts>,
+) -> Option<Cleared>
+    requires below { (d : DocumentParts) → (C.change below).fits_redo d }
+    requires above { (d : DocumentParts) → (C.change above).fits_redo d }
+{
+    let mut stack = Stack::new(alloc, blank(alloc).ok()?, 0);
+    let are_done = [
+        push(&mut stack, below).is_ok(),
+        push(&mut stack, above).is_ok(),
+        set_index(&mut stack, 1).is_ok(),
     ];
-    let is_set = set_index(&mut stack, 1).is_ok();
     stack.reset_clean();
     stack.clear();
     let stands = (stack.index(), stack.count(), stack.is_clean());
-    let counts = [below.all(), above.all()];
+    let before = [first.all(), second.all()];
     drop(stack);
-    assert_eq!(rt;
-        (are_pushed, is_set, stands),
-        ([true, true], true, (0, 0, true))
-    );
-    assert_eq!(rt; counts, [(1, 0, 1), (1, 1, 1)]);
-    assert_eq!(rt; counts, [below.all(), above.all()]);
-    Ok(())
+    Some((are_done, stands, before, [first.all(), second.all()]))
 }
+
+fn boxes_cleared(alloc: Global) -> Option<Cleared> {
+    let (first, second) = two_counts(alloc)?;
+    let (below, above) = two_probes(alloc, &first, &second)?;
+    let below: Box<dyn Command> = below;
+    let above: Box<dyn Command> = above;
+    cleared(alloc, below, above, &first, &second)
+}
+
+#[test]
+fn clear_lets_go_of_each_box_and_undoes_none(rt: HostRuntime) {
+    let counts = [(1, 0, 1), (1, 1, 1)];
+    let wanted = ([true; 3], (0, 0, true), counts, counts);
+    assert_eq!(rt; boxes_cleared(rt.alloc()), Some(wanted));
+}
+
+/// What is left of two commands in macros: which calls were answered well, how the stack stands, and how often both were
+/// turned and dropped before the stack is dropped, and behind that.
+type Nested = ([bool; 8], (usize, usize, usize), [Counted; 2], [Counted; 2]);
 
 // Three macros, each in the one before: the inner one with a command, the next with one too, the outer one with no other.
-#[test]
-fn each_box_in_a_macro_is_let_go_of_once(rt: HostRuntime) -> Result<(), Fail> {
-    let alloc = rt.alloc();
-    let inner = Counts::new(alloc)?;
-    let next = Counts::new(alloc)?;
-    let first: Box<dyn Command> = new_probe(alloc, &inner)?;
-    let second: Box<dyn Command> = new_probe(alloc, &next)?;
-    let mut stack: Stack<Box<dyn Command>> = Stack::new(alloc, blank(alloc)?, 0);
-    let are_begun = [
+fn nested<C: Command>(
+    alloc: Global,
+    inner: C,
+    next: C,
+    first: &Rc<Counts>,
+    second: &Rc<Counts>,
+) -> Option<Nested>
+    requires inner { (d : DocumentParts) → (C.change inner).fits_redo d }
+    requires next { (d : DocumentParts) → (C.change next).fits_redo d }
+{
+    let mut stack = Stack::new(alloc, blank(alloc).ok()?, 0);
+    let are_done = [
         begin_macro(&mut stack).is_ok(),
         begin_macro(&mut stack).is_ok(),
         begin_macro(&mut stack).is_ok(),
+        push(&mut stack, inner).is_ok() && end_macro(&mut stack).is_ok(),
+        push(&mut stack, next).is_ok() && end_macro(&mut stack).is_ok(),
+        end_macro(&mut stack).is_ok(),
+        end_macro(&mut stack).is_ok(),
+        undo(&mut stack).is_ok() && redo(&mut stack).is_ok(),
     ];
-    let is_first = push(&mut stack, first).is_ok() && end_macro(&mut stack).is_ok();
-    let is_second = push(&mut stack, second).is_ok() && end_macro(&mut stack).is_ok();
-    let are_ended = (end_macro(&mut stack).is_ok(), end_macro(&mut stack).is_ok());
-    let is_turned = undo(&mut stack).is_ok() && redo(&mut stack).is_ok();
     let stands = (stack.index(), stack.count(), stack.depth());
-    let before = [inner.all(), next.all()];
+    let before = [first.all(), second.all()];
     drop(stack);
-    let behind = [inner.all(), next.all()];
-    assert_eq!(rt; (are_begun, is_first, is_second), ([true; 3], true, true));
-    assert_eq!(rt;
-        (are_ended, is_turned, stands),
-        ((true, false), true, (1, 1, 0))
-    );
-    assert_eq!(rt; before, [(2, 1, 0); 2]);
-    assert_eq!(rt; behind, [(2, 1, 1); 2]);
-    Ok(())
+    Some((are_done, stands, before, [first.all(), second.all()]))
 }
 
-// Each macro that began ends, whichever growth is refused: the end takes no memory. The one without a command too.
+fn boxes_nested(alloc: Global) -> Option<Nested> {
+    let (first, second) = two_counts(alloc)?;
+    let (inner, next) = two_probes(alloc, &first, &second)?;
+    let inner: Box<dyn Command> = inner;
+    let next: Box<dyn Command> = next;
+    nested(alloc, inner, next, &first, &second)
+}
+
+// The last end but one is that of the outer macro, behind which none is open.
 #[test]
-fn refused_growth_leaves_macros_that_end(rt: HostRuntime) {
-    let alloc = rt.alloc();
-    let (Ok(counts), Ok(document)) = (Counts::new(alloc), blank(alloc)) else {
-        return;
-    };
-    let Ok(command) = new_probe(alloc, &counts) else {
-        return;
-    };
-    let command: Box<dyn Command> = command;
-    let mut stack: Stack<Box<dyn Command>> = Stack::new(alloc, document, 0);
-    let is_outer = begin_macro(&mut stack).is_ok();
-    let is_inner = begin_macro(&mut stack).is_ok();
-    let is_pushed = push(&mut stack, command).is_ok();
-    let is_last = begin_macro(&mut stack).is_ok();
+fn each_box_in_a_macro_is_let_go_of_once(rt: HostRuntime) {
+    let are_done = [true, true, true, true, true, true, false, true];
+    let wanted = (are_done, (1, 1, 0), [(2, 1, 0); 2], [(2, 1, 1); 2]);
+    assert_eq!(rt; boxes_nested(rt.alloc()), Some(wanted));
+}
+
+// Begins three macros, pushes a command into the second, and ends three macros: whether as many ends were answered well as
+// macros had begun, the depth behind them, and whether there is a step just where something began or was pushed.
+fn ended<C: Command>(alloc: Global, command: C) -> Option<(bool, usize, bool)>
+    requires { (d : DocumentParts) → (C.change command).fits_redo d }
+{
+    let mut stack = Stack::new(alloc, blank(alloc).ok()?, 0);
+    let are_done = [
+        begin_macro(&mut stack).is_ok(),
+        begin_macro(&mut stack).is_ok(),
+        push(&mut stack, command).is_ok(),
+        begin_macro(&mut stack).is_ok(),
+    ];
     let depth = stack.depth();
     let ends = [
         end_macro(&mut stack).is_ok(),
         end_macro(&mut stack).is_ok(),
         end_macro(&mut stack).is_ok(),
     ];
-    let wanted = [depth > 0, depth > 1, depth > 2];
-    assert_eq!(rt; ends, wanted);
-    assert_eq!(rt; stack.depth(), 0);
-    // One step, unless nothing began and the command was refused too.
-    let is_step = is_outer || is_inner || is_pushed || is_last;
-    assert_eq!(rt; stack.count() > 0, is_step);
+    let is_step = are_done != [false; 4];
+    let are_ended = ends == [depth > 0, depth > 1, depth > 2];
+    Some((are_ended, stack.depth(), is_step == (stack.count() > 0)))
+}
+
+fn box_ended(alloc: Global) -> Option<(bool, usize, bool)> {
+    let counts = Counts::new(alloc).ok()?;
+    let command: Box<dyn Command> = new_probe(alloc, &counts).ok()?;
+    ended(alloc, command)
+}
+
+// Each macro that began ends, whichever growth is refused: the end takes no memory. The one without a command too.
+#[test]
+fn refused_growth_leaves_macros_that_end(rt: HostRuntime) {
+    if let Some(seen) = box_ended(rt.alloc()) {
+        assert_eq!(rt; seen, (true, 0, true));
+    }
 }
