@@ -45,7 +45,7 @@ PAINT = {
     },
     ('edits', 'change.rt'): {
         'CellList': ['One(CellEdit)', 'Many(Vec<CellEdit>)'],
-        'KeptCells': ['Many(Vec<CellEdit>)', 'Alike(Vec<CellEdit>)', 'One(CellEdit)'],
+        'KeptCells': ['One(CellEdit)', 'Many(Vec<CellEdit>)', 'Alike(Vec<CellEdit>)'],
         'CellEdits': ['cells: KeptCells'],
         'CellChange': ['layer: u32', 'cells: CellEdits'],
     },

@@ -55,11 +55,10 @@ impl CellList {
 /// Changed cells as they are kept.
 #[derive(Drop)]
 enum KeptCells {
+    One(CellEdit),
     Many(Vec<CellEdit>),
     /// Cells that all have one value before and one after.
     Alike(Vec<CellEdit>),
-    // It stands last, since the compiler asks for the last kind first.
-    One(CellEdit),
 }
 
 impl KeptCells {
