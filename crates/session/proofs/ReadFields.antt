@@ -1,5 +1,5 @@
 -- A field that is read from words is spelled by those words.
-use Rattle.std.proofs.Common.{◌≡◌, ◌≢◌, ℕ, true, false, cond, eqb, not, List, [], ◌∷◌, ◌++◌, length, Ok, Err, Result, Option, Some, None, refl, sym, ap, ◌∙◌, subst}
+use Rattle.std.proofs.Common.{◌≡◌, ◌≢◌, ℕ, Bool, true, false, cond, eqb, not, List, [], ◌∷◌, ◌++◌, length, Ok, Err, Result, Option, Some, None, refl, sym, ap, ◌∙◌, subst}
 use Rattle.std.specs.Prelude.{codes, IfOk}
 use Rattle.std.specs.Fmt.{decimal}
 use Rattle.std.specs.Str.{IsUtf8, bytes_eq}
@@ -10,9 +10,9 @@ use Rattle.map_model.specs.declared.parts.LayerKind.TheVariants as kinds
 use Rattle.session.specs.declared.limits.TheConstants.{MAX_DOCUMENT_NAME, MAX_FILE_NAME}
 use Rattle.session.specs.declared.line.LineFault.{LineFault}
 use Rattle.session.specs.declared.line.LineFault.TheVariants.{BadWord}
-use Rattle.session.specs.Words.{words, number_of, coordinate_of, numbers_of, is_name, is_name_byte, is_text, is_text_byte, cut_at_bars, are_texts, are_rows, layer_kind_of, yes_no_of, truth_of, is_key, is_key_byte, is_color, owner_of}
-use Rattle.session.specs.Grammar.{FieldKind, Number, Coordinate, Block, Name, File, Choice, LayerSort, YesNo, Truth, Key, Color, OwnerName, FieldValue, field_at, number_at, coordinate_at, rows_at, block_at, name_at, choice_at, last_text_at, last_texts_at, layer_kind_at, yes_no_at, truth_at, key_at, color_at, owner_at, ends_at, ◌>>=◌, word_is}
-use Rattle.session.specs.Spelling.{joined_by_bars, HasNoBars, AreTexts, spaced, commas, layer_kind_word, yes_no_word, truth_word, field_words, IsField, IsName, IsText, IsKey, AreRows}
+use Rattle.session.specs.Words.{words, number_of, coordinate_of, numbers_of, is_name, is_name_byte, is_text, is_text_byte, cut_at_bars, are_texts, are_rows, layer_kind_of, yes_no_of, truth_of, is_key, is_key_byte, is_color, owner_of, choice_of}
+use Rattle.session.specs.Grammar.{FieldKind, Number, Coordinate, Block, Name, File, Choice, LayerSort, YesNo, Truth, Key, Color, OwnerName, FieldValue, field_at, word_at, passing, rows_at, block_at, last_text_at, last_texts_at, ends_at, ◌>>=◌, word_is}
+use Rattle.session.specs.Spelling.{joined_by_bars, HasNoBars, AreTexts, spaced, commas, layer_kind_word, yes_no_word, truth_word, field_words, IsField, IsName, IsChoice, IsText, IsKey, AreRows, choice_word}
 use Rattle.session.proofs.Decimals.{decimal_from}
 use Rattle.session.proofs.Coordinates.{signed_from}
 use Rattle.session.proofs.Commas.{commas_from}
@@ -38,15 +38,22 @@ pub record ReadField (kind : FieldKind) (ws : List (List ℕ)) (x : FieldValue k
   pub fits : IsField kind x.0
   pub words : ws ≡ field_words kind x.0 ++ x.1
 
-number_is_read : (ws : List (List ℕ)) → IfOk (number_at ws) (ReadField Number ws)
-unfolding number_at
-number_is_read [] = tt
-number_is_read (w ∷ ws) = if_word (number_of w) (λ n. Ok (n, ws)) (ReadField Number (w ∷ ws)) (λ n e. let at = decimal_from w n e in record { fits = at.1; words = ap (λ v. v ∷ ws) (sym at.0) })
+-- a field that is one word is read, if what a word is fits and is spelled by that word
+word_is_read : (kind : FieldKind) (value_of : List ℕ → Option (FieldValue kind)) (ws : List (List ℕ))
+    → ((w : List ℕ) (x : FieldValue kind) → Clean w → value_of w ≡ Some x → IsField kind x × (w ∷ [] ≡ field_words kind x))
+    → AllByRecursion Clean ws → IfOk (word_at value_of ws) (ReadField kind ws)
+unfolding word_at
+word_is_read kind value_of [] k h = tt
+word_is_read kind value_of (w ∷ ws) k h =
+    if_word (value_of w) (λ x. Ok (x, ws)) (ReadField kind (w ∷ ws))
+    (λ x e. let at = k w x h.0 e in record { fits = at.0; words = ap (λ vs. vs ++ ws) at.1 })
 
-coordinate_is_read : (ws : List (List ℕ)) → IfOk (coordinate_at ws) (ReadField Coordinate ws)
-unfolding coordinate_at
-coordinate_is_read [] = tt
-coordinate_is_read (w ∷ ws) = if_word (coordinate_of w) (λ z. Ok (z, ws)) (ReadField Coordinate (w ∷ ws)) (λ z e. let at = signed_from w z e in record { fits = at.1; words = ap (λ v. v ∷ ws) (sym at.0) })
+-- a word that is what it spells
+alone : {x y : List ℕ} → x ≡ y → y ∷ [] ≡ x ∷ []
+alone e = ap (λ v. v ∷ []) (sym e)
+
+number_is_read : (ws : List (List ℕ)) → AllByRecursion Clean ws → IfOk (word_at number_of ws) (ReadField Number ws)
+number_is_read ws = word_is_read Number number_of ws (λ w n c e. let at = decimal_from w n e in (at.1, alone at.0))
 
 -- the rows of a block of that width were read, and these words are left
 record ReadRows (width : ℕ) (ws : List (List ℕ)) (x : (ℕ × List ℕ) × List (List ℕ)) : Type 0 where
@@ -68,9 +75,9 @@ rows_is_read width (w ∷ ws) = if_word (numbers_of w) (λ values. cond (are_row
       words = ap (λ v. v ∷ ws) (sym at.spelled);
     }) (λ is. tt))
 
-block_is_read : (ws : List (List ℕ)) → IfOk (block_at ws) (ReadField Block ws)
+block_is_read : (ws : List (List ℕ)) → AllByRecursion Clean ws → IfOk (block_at ws) (ReadField Block ws)
 unfolding block_at
-block_is_read ws = if_bind (number_at ws) _ (ReadField Number ws) (ReadField Block ws) (number_is_read ws) (λ n t.
+block_is_read ws h = if_bind (word_at number_of ws) _ (ReadField Number ws) (ReadField Block ws) (number_is_read ws h) (λ n t.
     if_then (rows_at n.0 n.1) (ReadRows n.0 n.1) (ReadField Block ws) (rows_is_read n.0 n.1) (λ x r. record {
       fits = subst (λ w. AreRows w x.0.1) (sym r.width_is) r.fits;
       words = t.words ∙ ap (λ vs. decimal n.0 ∷ vs) r.words ∙ ap (λ w. decimal w ∷ commas x.0.1 ∷ x.1) (sym r.width_is);
@@ -93,24 +100,20 @@ is_name_from limit bytes h =
       bytes = AllPass-from_list_all is_name_byte bytes halves.1;
     }
 
--- a name up to that limit was read, and these words are left
-record ReadName (limit : ℕ) (ws : List (List ℕ)) (x : List ℕ × List (List ℕ)) : Type 0 where
-  fits : IsName limit x.0
-  words : ws ≡ x.0 ∷ x.1
+-- a word that passes is itself
+passed : (test : List ℕ → Bool) (w x : List ℕ) → passing test w ≡ Some x → (test x ≡ true) × (x ≡ w)
+passed test w x =
+    cond_both (test w) (Some w) None (λ r. r ≡ Some x → (test x ≡ true) × (x ≡ w))
+    (λ is e. let same : w ≡ x = cc in (subst (λ v. test v ≡ true) same is, sym same)) (λ is e. absurd cc)
 
-name_is_read : (limit : ℕ) (ws : List (List ℕ)) → IfOk (name_at limit ws) (ReadName limit ws)
-unfolding name_at
-name_is_read limit [] = tt
-name_is_read limit (w ∷ ws) =
-    cond_both (is_name limit w) (Ok (w, ws)) (Err BadWord) (λ r. IfOk r (ReadName limit (w ∷ ws))) (λ is. record { fits = is_name_from limit w is; words = refl }) (λ is. tt)
-
-choice_is_read : (ws : List (List ℕ)) → IfOk (choice_at ws) (ReadField Choice ws)
-unfolding choice_at
-choice_is_read [] = tt
-choice_is_read (w ∷ ws) =
-    let P : Result (Option (List ℕ) × List (List ℕ)) LineFault → Type 0 = λ r. IfOk r (ReadField Choice (w ∷ ws)) in
-    cond_both (bytes_eq w (codes "-")) (Ok (None, ws)) _ P (λ is. record { fits = tt; words = ap (λ v. v ∷ ws) ((bytes_eq-Decides w (codes "-")).0 is) }) (λ _.
-    cond_both (is_name MAX_DOCUMENT_NAME w) (Ok (Some w, ws)) (Err BadWord) P (λ is. record { fits = is_name_from MAX_DOCUMENT_NAME w is; words = refl }) (λ _. tt))
+-- the word of a choice
+choice_from : (w : List ℕ) (x : Option (List ℕ)) → choice_of w ≡ Some x → IsChoice x × (choice_word x ≡ w)
+choice_from w x =
+    let Q : Option (Option (List ℕ)) → Type 0 = λ r. r ≡ Some x → IsChoice x × (choice_word x ≡ w) in
+    cond_both (bytes_eq w (codes "-")) (Some None) _ Q
+    (λ is e. let same : None ≡ x = cc in subst (λ v. IsChoice v × (choice_word v ≡ w)) same (tt, sym ((bytes_eq-Decides w (codes "-")).0 is)))
+    (λ _. cond_both (is_name MAX_DOCUMENT_NAME w) (Some (Some w)) None Q
+    (λ is e. let same : Some w ≡ x = cc in subst (λ v. IsChoice v × (choice_word v ≡ w)) same (is_name_from MAX_DOCUMENT_NAME w is, refl)) (λ _ e. absurd cc))
 
 -- a choice between two words
 by_two : {A : Type 0} (word a b : List ℕ) (x y : A) (spelled : A → List ℕ) → spelled x ≡ a → spelled y ≡ b → (z : A) → cond (bytes_eq word a) (Some x) (cond (bytes_eq word b) (Some y) None) ≡ Some z → spelled z ≡ word
@@ -118,21 +121,6 @@ by_two {A} word a b x y spelled ea eb z =
     let Q : Option A → Type 0 = λ o. o ≡ Some z → spelled z ≡ word in
     cond_both (bytes_eq word a) (Some x) _ Q (λ is. λ e. let same : x ≡ z = cc in ap spelled (sym same) ∙ ea ∙ sym ((bytes_eq-Decides word a).0 is)) (λ _.
     cond_both (bytes_eq word b) (Some y) None Q (λ is. λ e. let same : y ≡ z = cc in ap spelled (sym same) ∙ eb ∙ sym ((bytes_eq-Decides word b).0 is)) (λ _. λ e. absurd cc))
-
-layer_kind_is_read : (ws : List (List ℕ)) → IfOk (layer_kind_at ws) (ReadField LayerSort ws)
-unfolding layer_kind_at
-layer_kind_is_read [] = tt
-layer_kind_is_read (w ∷ ws) = if_word (layer_kind_of w) (λ k. Ok (k, ws)) (ReadField LayerSort (w ∷ ws)) (λ k e. record { fits = tt; words = ap (λ v. v ∷ ws) (sym (by_two w (codes "tile") (codes "object") kinds.Tile kinds.Object layer_kind_word refl refl k e)) })
-
-yes_no_is_read : (ws : List (List ℕ)) → IfOk (yes_no_at ws) (ReadField YesNo ws)
-unfolding yes_no_at
-yes_no_is_read [] = tt
-yes_no_is_read (w ∷ ws) = if_word (yes_no_of w) (λ a. Ok (a, ws)) (ReadField YesNo (w ∷ ws)) (λ a e. record { fits = tt; words = ap (λ v. v ∷ ws) (sym (by_two w (codes "yes") (codes "no") true false yes_no_word refl refl a e)) })
-
-truth_is_read : (ws : List (List ℕ)) → IfOk (truth_at ws) (ReadField Truth ws)
-unfolding truth_at
-truth_is_read [] = tt
-truth_is_read (w ∷ ws) = if_word (truth_of w) (λ a. Ok (a, ws)) (ReadField Truth (w ∷ ws)) (λ a e. record { fits = tt; words = ap (λ v. v ∷ ws) (sym (by_two w (codes "true") (codes "false") true false truth_word refl refl a e)) })
 
 is_key_from : (bytes : List ℕ) → is_key bytes ≡ true → IsUtf8 bytes → IsKey bytes
 is_key_from bytes h u =
@@ -145,36 +133,25 @@ is_key_from bytes h u =
       utf8 = u;
     }
 
-key_is_read : (ws : List (List ℕ)) → AllByRecursion Clean ws → IfOk (key_at ws) (ReadField Key ws)
-unfolding key_at
-key_is_read [] h = tt
-key_is_read (w ∷ ws) h =
-    cond_both (is_key w) (Ok (w, ws)) (Err BadWord) (λ r. IfOk r (ReadField Key (w ∷ ws))) (λ is. record { fits = is_key_from w is h.0.utf8; words = refl }) (λ is. tt)
-
-color_is_read : (ws : List (List ℕ)) → IfOk (color_at ws) (ReadField Color ws)
-unfolding color_at
-color_is_read [] = tt
-color_is_read (w ∷ ws) =
-    cond_both (is_color w) (Ok (w, ws)) (Err BadWord) (λ r. IfOk r (ReadField Color (w ∷ ws))) (λ is. record { fits = is; words = refl }) (λ is. tt)
-
-owner_is_read : (ws : List (List ℕ)) → IfOk (owner_at ws) (ReadField OwnerName ws)
-unfolding owner_at
-owner_is_read [] = tt
-owner_is_read (w ∷ ws) = if_word (owner_of w) (λ o. Ok (o, ws)) (ReadField OwnerName (w ∷ ws)) (λ o e. let at = owner_from w o e in record { fits = at.1; words = ap (λ v. v ∷ ws) (sym at.0) })
-
 pub field_is_read : (kind : FieldKind) (ws : List (List ℕ)) → AllByRecursion Clean ws → IfOk (field_at kind ws) (ReadField kind ws)
-field_is_read Number ws h = number_is_read ws
-field_is_read Coordinate ws h = coordinate_is_read ws
-field_is_read Block ws h = block_is_read ws
-field_is_read Truth ws h = truth_is_read ws
-field_is_read Key ws h = key_is_read ws h
-field_is_read Color ws h = color_is_read ws
-field_is_read OwnerName ws h = owner_is_read ws
-field_is_read Name ws h = if_then (name_at MAX_DOCUMENT_NAME ws) (ReadName MAX_DOCUMENT_NAME ws) (ReadField Name ws) (name_is_read MAX_DOCUMENT_NAME ws) (λ x r. record { fits = r.fits; words = r.words })
-field_is_read File ws h = if_then (name_at MAX_FILE_NAME ws) (ReadName MAX_FILE_NAME ws) (ReadField File ws) (name_is_read MAX_FILE_NAME ws) (λ x r. record { fits = r.fits; words = r.words })
-field_is_read Choice ws h = choice_is_read ws
-field_is_read LayerSort ws h = layer_kind_is_read ws
-field_is_read YesNo ws h = yes_no_is_read ws
+field_is_read Number ws = number_is_read ws
+field_is_read Coordinate ws = word_is_read Coordinate coordinate_of ws (λ w z c e. let at = signed_from w z e in (at.1, alone at.0))
+field_is_read Block ws = block_is_read ws
+field_is_read Truth ws =
+    word_is_read Truth truth_of ws (λ w x c e. (tt, alone (by_two w (codes "true") (codes "false") true false truth_word refl refl x e)))
+field_is_read Key ws = word_is_read Key (passing is_key) ws (λ w x c e.
+    let at = passed is_key w x e in (is_key_from x at.0 (subst IsUtf8 (sym at.1) c.utf8), alone at.1))
+field_is_read Color ws = word_is_read Color (passing is_color) ws (λ w x c e. let at = passed is_color w x e in (at.0, alone at.1))
+field_is_read OwnerName ws = word_is_read OwnerName owner_of ws (λ w o c e. let at = owner_from w o e in (at.1, alone at.0))
+field_is_read Name ws = word_is_read Name (passing (is_name MAX_DOCUMENT_NAME)) ws (λ w x c e.
+    let at = passed (is_name MAX_DOCUMENT_NAME) w x e in (is_name_from MAX_DOCUMENT_NAME x at.0, alone at.1))
+field_is_read File ws = word_is_read File (passing (is_name MAX_FILE_NAME)) ws (λ w x c e.
+    let at = passed (is_name MAX_FILE_NAME) w x e in (is_name_from MAX_FILE_NAME x at.0, alone at.1))
+field_is_read Choice ws = word_is_read Choice choice_of ws (λ w x c e. let at = choice_from w x e in (at.0, alone at.1))
+field_is_read LayerSort ws = word_is_read LayerSort layer_kind_of ws (λ w x c e.
+    (tt, alone (by_two w (codes "tile") (codes "object") kinds.Tile kinds.Object layer_kind_word refl refl x e)))
+field_is_read YesNo ws =
+    word_is_read YesNo yes_no_of ws (λ w x c e. (tt, alone (by_two w (codes "yes") (codes "no") true false yes_no_word refl refl x e)))
 
 pub is_text_from : (bytes : List ℕ) → is_text bytes ≡ true → IsUtf8 bytes → IsText bytes
 is_text_from bytes h u =

@@ -1,5 +1,5 @@
 -- What each kind of field reads of its words.
-use Rattle.std.proofs.Common.{◌≡◌, ℕ, Bool, true, false, not, List, [], ◌∷◌, ◌++◌, length, Ok, Option, None, Some, ℤ, refl, ap, arith}
+use Rattle.std.proofs.Common.{◌≡◌, ℕ, Bool, true, false, not, List, [], ◌∷◌, ◌++◌, length, Ok, Option, None, Some, refl, ap, arith}
 use Rattle.std.specs.Prelude.{codes}
 use Rattle.std.specs.List.{AllByRecursion}
 use Rattle.std.specs.Fmt.{decimal, signed_decimal}
@@ -13,9 +13,9 @@ use Rattle.map_model.specs.declared.parts.LayerKind.{LayerKind}
 use Rattle.map_model.specs.declared.parts.LayerKind.TheVariants as kinds
 use Rattle.session.specs.declared.limits.TheConstants.{MAX_DOCUMENT_NAME, MAX_FILE_NAME, MAX_TEXT, MAX_KEY}
 use Rattle.map_model.specs.declared.limits.TheConstants.{MAX_SIDE}
-use Rattle.session.specs.Words.{words, is_name, is_name_byte, is_text, is_text_byte, are_texts, are_rows, layer_kind_of, yes_no_of, truth_of, is_key, is_key_byte, is_color, is_color_digit}
-use Rattle.session.specs.Grammar.{number_at, coordinate_at, rows_at, block_at, name_at, choice_at, last_text_at, last_texts_at, layer_kind_at, yes_no_at, truth_at, key_at, color_at, owner_at, field_at, FieldKind, Number, Coordinate, Block, Name, File, Choice, LayerSort, YesNo, Truth, Key, Color, OwnerName, FieldValue}
-use Rattle.session.specs.Spelling.{joined_by_bars, AreTexts, commas, choice_word, layer_kind_word, yes_no_word, truth_word, owner_word, field_words, IsField, IsNumber, IsCoordinate, IsName, IsChoice, IsText, IsKey, IsOwner, AreRows}
+use Rattle.session.specs.Words.{words, number_of, coordinate_of, owner_of, choice_of, is_name, is_name_byte, is_text, is_text_byte, are_texts, are_rows, layer_kind_of, yes_no_of, truth_of, is_key, is_key_byte, is_color, is_color_digit}
+use Rattle.session.specs.Grammar.{word_at, passing, rows_at, block_at, last_text_at, last_texts_at, field_at, FieldKind, Number, Coordinate, Block, Name, File, Choice, LayerSort, YesNo, Truth, Key, Color, OwnerName, FieldValue}
+use Rattle.session.specs.Spelling.{joined_by_bars, AreTexts, commas, choice_word, layer_kind_word, yes_no_word, truth_word, owner_word, field_words, IsField, IsName, IsChoice, IsText, IsKey, AreRows}
 use Rattle.session.proofs.Decimals.{number_of-decimal}
 use Rattle.session.proofs.Coordinates.{coordinate_of-signed}
 use Rattle.session.proofs.Commas.{numbers_of-commas, plain_commas}
@@ -23,15 +23,15 @@ use Rattle.session.proofs.SpacedWords.{IsPlain, Plain, Clean, clean, plain_liter
 use Rattle.session.proofs.Cutting.{text_of_words, texts_of_words}
 use Rattle.session.proofs.Bars.{cut_at_bars-joined}
 use Rattle.session.proofs.Owners.{owner_of-word, plain_owner}
-use Rattle.map_model.specs.declared.owner.Owner.{Owner}
 
-pub number_at-decimal : (n : ℕ) (ws : List (List ℕ)) → IsNumber n → number_at (decimal n ∷ ws) ≡ Ok (n, ws)
-unfolding number_at
-number_at-decimal n ws h = rw (number_of-decimal n h) refl
+-- the word of a value is read as that value
+word_at-word : {A : Type 0} (value_of : List ℕ → Option A) (w : List ℕ) (x : A) (ws : List (List ℕ)) → value_of w ≡ Some x → word_at value_of (w ∷ ws) ≡ Ok (x, ws)
+unfolding word_at
+word_at-word value_of w x ws e = rw e refl
 
-pub coordinate_at-signed : (z : ℤ) (ws : List (List ℕ)) → IsCoordinate z → coordinate_at (signed_decimal z ∷ ws) ≡ Ok (z, ws)
-unfolding coordinate_at
-coordinate_at-signed z ws h = rw (coordinate_of-signed z h) refl
+-- a word that passes is itself
+passing-itself : (test : List ℕ → Bool) (w : List ℕ) → test w ≡ true → passing test w ≡ Some w
+passing-itself test w is = rw is refl
 
 block : (width : ℕ) (values : List ℕ) → AreRows width values → are_rows width (length values) ≡ true
 block width values h = and_from _ _ (and_from _ _ (le-leb 1 width h.some) (le-leb width MAX_SIDE h.narrow)) (eq-eqb _ 0 h.rows)
@@ -42,26 +42,22 @@ rows_at-commas width values ws h = rw (numbers_of-commas values h.filled h.numbe
 
 pub block_at-words : (width : ℕ) (values : List ℕ) (ws : List (List ℕ)) → AreRows width values → block_at (decimal width ∷ commas values ∷ ws) ≡ Ok ((width, values), ws)
 unfolding block_at
-block_at-words width values ws h = rw (number_at-decimal width (commas values ∷ ws) (omega (arith, h.narrow))) (rows_at-commas width values ws h)
+block_at-words width values ws h =
+    rw (word_at-word number_of (decimal width) width (commas values ∷ ws) (number_of-decimal width (omega (arith, h.narrow)))) (rows_at-commas width values ws h)
 
 name : (limit : ℕ) (bytes : List ℕ) → IsName limit bytes → is_name limit bytes ≡ true
 name limit bytes h =
     and_from _ _ (and_from _ _ (and_from _ _ (and_from _ _ (le-leb 1 (length bytes) h.some) (le-leb (length bytes) limit h.short)) (ap not (ne_eqb _ 46 h.no_dot))) (ap not (ne_eqb _ 45 h.no_dash)))
     (list_all-from_AllPass is_name_byte bytes h.bytes)
 
-pub name_at-name : (limit : ℕ) (bytes : List ℕ) (ws : List (List ℕ)) → IsName limit bytes → name_at limit (bytes ∷ ws) ≡ Ok (bytes, ws)
-unfolding name_at
-name_at-name limit bytes ws h = rw (name limit bytes h) refl
-
 -- a name does not begin with a dash
 not_dash : (limit : ℕ) (bytes : List ℕ) → IsName limit bytes → bytes_eq bytes (codes "-") ≡ false
 not_dash limit [] h = absurd (omega (arith, h.some))
 not_dash limit (b ∷ bytes) h = rw (ne_eqb b 45 h.no_dash) refl
 
-pub choice_at-word : (choice : Option (List ℕ)) (ws : List (List ℕ)) → IsChoice choice → choice_at (choice_word choice ∷ ws) ≡ Ok (choice, ws)
-unfolding choice_at
-choice_at-word None ws h = refl
-choice_at-word (Some bytes) ws h = rw (not_dash MAX_DOCUMENT_NAME bytes h, name MAX_DOCUMENT_NAME bytes h) refl
+choice_of-word : (choice : Option (List ℕ)) → IsChoice choice → choice_of (choice_word choice) ≡ Some choice
+choice_of-word None h = refl
+choice_of-word (Some bytes) h = rw (not_dash MAX_DOCUMENT_NAME bytes h, name MAX_DOCUMENT_NAME bytes h) refl
 
 text : (bytes : List ℕ) → IsText bytes → is_text bytes ≡ true
 text bytes h =
@@ -82,42 +78,18 @@ layer_kind_of-word : (kind : LayerKind) → layer_kind_of (layer_kind_word kind)
 layer_kind_of-word kinds.Tile = refl
 layer_kind_of-word kinds.Object = refl
 
-pub layer_kind_at-word : (kind : LayerKind) (ws : List (List ℕ)) → layer_kind_at (layer_kind_word kind ∷ ws) ≡ Ok (kind, ws)
-unfolding layer_kind_at
-layer_kind_at-word kind ws = rw (layer_kind_of-word kind) refl
-
 yes_no_of-word : (answer : Bool) → yes_no_of (yes_no_word answer) ≡ Some answer
 yes_no_of-word true = refl
 yes_no_of-word false = refl
-
-pub yes_no_at-word : (answer : Bool) (ws : List (List ℕ)) → yes_no_at (yes_no_word answer ∷ ws) ≡ Ok (answer, ws)
-unfolding yes_no_at
-yes_no_at-word answer ws = rw (yes_no_of-word answer) refl
 
 truth_of-word : (truth : Bool) → truth_of (truth_word truth) ≡ Some truth
 truth_of-word true = refl
 truth_of-word false = refl
 
-truth_at-word : (truth : Bool) (ws : List (List ℕ)) → truth_at (truth_word truth ∷ ws) ≡ Ok (truth, ws)
-unfolding truth_at
-truth_at-word truth ws = rw (truth_of-word truth) refl
-
 key : (bytes : List ℕ) → IsKey bytes → is_key bytes ≡ true
 key bytes h =
     and_from _ _ (and_from _ _ (le-leb 1 (length bytes) h.some) (le-leb (length bytes) MAX_KEY h.short))
     (list_all-from_AllPass is_key_byte bytes (λ k d l. let at = h.bytes k d l in and_from _ _ (le-leb 33 _ at.0) (ap not (ne_eqb _ 127 at.1))))
-
-key_at-key : (bytes : List ℕ) (ws : List (List ℕ)) → IsKey bytes → key_at (bytes ∷ ws) ≡ Ok (bytes, ws)
-unfolding key_at
-key_at-key bytes ws h = rw (key bytes h) refl
-
-color_at-color : (bytes : List ℕ) (ws : List (List ℕ)) → is_color bytes ≡ true → color_at (bytes ∷ ws) ≡ Ok (bytes, ws)
-unfolding color_at
-color_at-color bytes ws h = rw h refl
-
-owner_at-word : (owner : Owner) (ws : List (List ℕ)) → IsOwner owner → owner_at (owner_word owner ∷ ws) ≡ Ok (owner, ws)
-unfolding owner_at
-owner_at-word owner ws h = rw (owner_of-word owner h) refl
 
 plain_truth : (truth : Bool) → Plain (truth_word truth)
 plain_truth true = plain_literal (codes "true") refl
@@ -155,18 +127,22 @@ plain_choice (Some bytes) h = plain_name MAX_DOCUMENT_NAME bytes h
 
 -- a field is read from its words
 pub field_at-words : (kind : FieldKind) (value : FieldValue kind) (ws : List (List ℕ)) → IsField kind value → field_at kind (field_words kind value ++ ws) ≡ Ok (value, ws)
-field_at-words Number n ws h = number_at-decimal n ws h
-field_at-words Coordinate z ws h = coordinate_at-signed z ws h
+field_at-words Number n ws h = word_at-word number_of (decimal n) n ws (number_of-decimal n h)
+field_at-words Coordinate z ws h = word_at-word coordinate_of (signed_decimal z) z ws (coordinate_of-signed z h)
 field_at-words Block block ws h = block_at-words block.0 block.1 ws h
-field_at-words Name bytes ws h = name_at-name MAX_DOCUMENT_NAME bytes ws h
-field_at-words File bytes ws h = name_at-name MAX_FILE_NAME bytes ws h
-field_at-words Choice choice ws h = choice_at-word choice ws h
-field_at-words LayerSort kind ws h = layer_kind_at-word kind ws
-field_at-words YesNo answer ws h = yes_no_at-word answer ws
-field_at-words Truth truth ws h = truth_at-word truth ws
-field_at-words Key bytes ws h = key_at-key bytes ws h
-field_at-words Color bytes ws h = color_at-color bytes ws h
-field_at-words OwnerName owner ws h = owner_at-word owner ws h
+field_at-words Name bytes ws h =
+    let test : List ℕ → Bool = is_name MAX_DOCUMENT_NAME in
+    word_at-word (passing test) bytes bytes ws (passing-itself test bytes (name MAX_DOCUMENT_NAME bytes h))
+field_at-words File bytes ws h =
+    let test : List ℕ → Bool = is_name MAX_FILE_NAME in
+    word_at-word (passing test) bytes bytes ws (passing-itself test bytes (name MAX_FILE_NAME bytes h))
+field_at-words Choice choice ws h = word_at-word choice_of (choice_word choice) choice ws (choice_of-word choice h)
+field_at-words LayerSort kind ws h = word_at-word layer_kind_of (layer_kind_word kind) kind ws (layer_kind_of-word kind)
+field_at-words YesNo answer ws h = word_at-word yes_no_of (yes_no_word answer) answer ws (yes_no_of-word answer)
+field_at-words Truth truth ws h = word_at-word truth_of (truth_word truth) truth ws (truth_of-word truth)
+field_at-words Key bytes ws h = word_at-word (passing is_key) bytes bytes ws (passing-itself is_key bytes (key bytes h))
+field_at-words Color bytes ws h = word_at-word (passing is_color) bytes bytes ws (passing-itself is_color bytes h)
+field_at-words OwnerName owner ws h = word_at-word owner_of (owner_word owner) owner ws (owner_of-word owner h)
 
 pub clean_field : (kind : FieldKind) (value : FieldValue kind) → IsField kind value → AllByRecursion Clean (field_words kind value)
 clean_field Number n h = (clean _ (plain_number n h), tt)

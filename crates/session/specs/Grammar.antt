@@ -11,8 +11,9 @@ use Rattle.map_model.specs.declared.parts.LayerKind.{LayerKind}
 use Rattle.map_model.specs.declared.selection.SelectionMode.{SelectionMode}
 use Rattle.map_model.specs.declared.selection.SelectionMode.TheVariants.{Replace, Add, Subtract, Intersect}
 use Rattle.map_model.specs.declared.owner.Owner.{Owner}
+use Rattle.session.specs.declared.typed_value.TypedValue.{TypedValue}
 use Rattle.session.specs.declared.typed_value.TypedValue.TheVariants as typed
-use Rattle.session.specs.Words.{words, number_of, coordinate_of, numbers_of, are_rows, is_name, is_text, cut_at_bars, are_texts, layer_kind_of, yes_no_of, truth_of, is_key, is_color, owner_of}
+use Rattle.session.specs.Words.{words, number_of, coordinate_of, numbers_of, choice_of, are_rows, is_name, is_text, cut_at_bars, are_texts, layer_kind_of, yes_no_of, truth_of, is_key, is_color, owner_of}
 
 infixl 10 ◌>>=◌
 abbrev pub ◌>>=◌ : {A B : Type 0} → Result A LineFault → (A → Result B LineFault) → Result B LineFault
@@ -24,15 +25,14 @@ abbrev pub word_is : {A : Type 0} → Option A → Result A LineFault
 word_is None = Err BadWord
 word_is (Some x) = Ok x
 
--- a number, and the words after it
-unfoldable pub number_at : List (List ℕ) → Result (ℕ × List (List ℕ)) LineFault
-number_at [] = Err BadWord
-number_at (w ∷ ws) = word_is (number_of w) >>= λ n. Ok (n, ws)
+-- the word itself, where it passes
+abbrev pub passing : (List ℕ → Bool) → List ℕ → Option (List ℕ)
+passing test word = if test word then Some word else None
 
--- a coordinate, and the words after it
-unfoldable pub coordinate_at : List (List ℕ) → Result (ℤ × List (List ℕ)) LineFault
-coordinate_at [] = Err BadWord
-coordinate_at (w ∷ ws) = word_is (coordinate_of w) >>= λ z. Ok (z, ws)
+-- what the word at the front is, and the words after it
+unfoldable pub word_at : {A : Type 0} → (List ℕ → Option A) → List (List ℕ) → Result (A × List (List ℕ)) LineFault
+word_at value_of [] = Err BadWord
+word_at value_of (w ∷ ws) = word_is (value_of w) >>= λ value. Ok (value, ws)
 
 -- the values of a block of that width, joined by commas, and the words after them
 unfoldable pub rows_at : ℕ → List (List ℕ) → Result ((ℕ × List ℕ) × List (List ℕ)) LineFault
@@ -42,20 +42,7 @@ rows_at width (w ∷ ws) =
 
 -- the width of a block and its values, and the words after them
 unfoldable pub block_at : List (List ℕ) → Result ((ℕ × List ℕ) × List (List ℕ)) LineFault
-block_at ws = number_at ws >>= λ width. rows_at width.0 width.1
-
--- a name up to that limit, and the words after it
-unfoldable pub name_at : ℕ → List (List ℕ) → Result (List ℕ × List (List ℕ)) LineFault
-name_at limit [] = Err BadWord
-name_at limit (w ∷ ws) = if is_name limit w then Ok (w, ws) else Err BadWord
-
--- a document's name, or `-` for none, and the words after it
-unfoldable pub choice_at : List (List ℕ) → Result (Option (List ℕ) × List (List ℕ)) LineFault
-choice_at [] = Err BadWord
-choice_at (w ∷ ws) =
-    if bytes_eq w (codes "-") then Ok (None, ws)
-    else if is_name MAX_DOCUMENT_NAME w then Ok (Some w, ws)
-    else Err BadWord
+block_at ws = word_at number_of ws >>= λ width. rows_at width.0 width.1
 
 -- the text that all further words make
 unfoldable pub last_text_at : List (List ℕ) → Result (List ℕ) LineFault
@@ -70,36 +57,6 @@ last_texts_at (w ∷ ws) =
     if are_texts (cut_at_bars (join_with_byte 32 (w ∷ ws))).0 (cut_at_bars (join_with_byte 32 (w ∷ ws))).1
     then Ok (cut_at_bars (join_with_byte 32 (w ∷ ws)))
     else Err BadWord
-
--- a kind of layer, and the words after it
-unfoldable pub layer_kind_at : List (List ℕ) → Result (LayerKind × List (List ℕ)) LineFault
-layer_kind_at [] = Err BadWord
-layer_kind_at (w ∷ ws) = word_is (layer_kind_of w) >>= λ kind. Ok (kind, ws)
-
--- yes or no, and the words after it
-unfoldable pub yes_no_at : List (List ℕ) → Result (Bool × List (List ℕ)) LineFault
-yes_no_at [] = Err BadWord
-yes_no_at (w ∷ ws) = word_is (yes_no_of w) >>= λ answer. Ok (answer, ws)
-
--- true or false, and the words after it
-unfoldable pub truth_at : List (List ℕ) → Result (Bool × List (List ℕ)) LineFault
-truth_at [] = Err BadWord
-truth_at (w ∷ ws) = word_is (truth_of w) >>= λ truth. Ok (truth, ws)
-
--- a property's name, and the words after it
-unfoldable pub key_at : List (List ℕ) → Result (List ℕ × List (List ℕ)) LineFault
-key_at [] = Err BadWord
-key_at (w ∷ ws) = if is_key w then Ok (w, ws) else Err BadWord
-
--- a colour, and the words after it
-unfoldable pub color_at : List (List ℕ) → Result (List ℕ × List (List ℕ)) LineFault
-color_at [] = Err BadWord
-color_at (w ∷ ws) = if is_color w then Ok (w, ws) else Err BadWord
-
--- an owner of properties, and the words after it
-unfoldable pub owner_at : List (List ℕ) → Result (Owner × List (List ℕ)) LineFault
-owner_at [] = Err BadWord
-owner_at (w ∷ ws) = word_is (owner_of w) >>= λ owner. Ok (owner, ws)
 
 -- no further word
 unfoldable pub ends_at : List (List ℕ) → Result (Unit {0}) LineFault
@@ -142,18 +99,18 @@ FieldValue OwnerName = Owner
 
 -- the field at the front of the words, and the words after it
 abbrev pub field_at : (kind : FieldKind) → List (List ℕ) → Result (FieldValue kind × List (List ℕ)) LineFault
-field_at Number ws = number_at ws
-field_at Coordinate ws = coordinate_at ws
+field_at Number ws = word_at number_of ws
+field_at Coordinate ws = word_at coordinate_of ws
 field_at Block ws = block_at ws
-field_at Name ws = name_at MAX_DOCUMENT_NAME ws
-field_at File ws = name_at MAX_FILE_NAME ws
-field_at Choice ws = choice_at ws
-field_at LayerSort ws = layer_kind_at ws
-field_at YesNo ws = yes_no_at ws
-field_at Truth ws = truth_at ws
-field_at Key ws = key_at ws
-field_at Color ws = color_at ws
-field_at OwnerName ws = owner_at ws
+field_at Name ws = word_at (passing (is_name MAX_DOCUMENT_NAME)) ws
+field_at File ws = word_at (passing (is_name MAX_FILE_NAME)) ws
+field_at Choice ws = word_at choice_of ws
+field_at LayerSort ws = word_at layer_kind_of ws
+field_at YesNo ws = word_at yes_no_of ws
+field_at Truth ws = word_at truth_of ws
+field_at Key ws = word_at (passing is_key) ws
+field_at Color ws = word_at (passing is_color) ws
+field_at OwnerName ws = word_at owner_of ws
 
 -- what may follow some words: no further word, a text that all further words make, such a text and perhaps another one
 -- behind its bars, a field and what its value leads to, that word and what it leads to or else the other form, or nothing
@@ -250,38 +207,20 @@ resize_object_form = Field Number λ object. Field Number λ width. Field Number
 abbrev pub remove_object_form : LineForm
 remove_object_form = Field Number λ object. Ends (RemoveObject object)
 
--- a value of each type
-abbrev pub string_form : Owner → List ℕ → Bool → LineForm
-string_form owner name follows = Text λ text. SetProperty owner name (typed.String text) follows
-
-abbrev pub file_form : Owner → List ℕ → Bool → LineForm
-file_form owner name follows = Text λ text. SetProperty owner name (typed.File text) follows
-
-abbrev pub int_form : Owner → List ℕ → Bool → LineForm
-int_form owner name follows = Field Coordinate λ number. Ends (SetProperty owner name (typed.Int number) follows)
-
-abbrev pub bool_form : Owner → List ℕ → Bool → LineForm
-bool_form owner name follows = Field Truth λ truth. Ends (SetProperty owner name (typed.Bool truth) follows)
-
-abbrev pub color_form : Owner → List ℕ → Bool → LineForm
-color_form owner name follows = Field Color λ color. Ends (SetProperty owner name (typed.Color color) follows)
-
-abbrev pub object_form : Owner → List ℕ → Bool → LineForm
-object_form owner name follows = Field Number λ id. Ends (SetProperty owner name (typed.Object id) follows)
-
--- the types of properties
-abbrev pub property_types : Owner → List ℕ → Bool → List (List ℕ × LineForm)
-property_types owner name follows =
-    (codes "string", string_form owner name follows)
-    ∷ (codes "int", int_form owner name follows)
-    ∷ (codes "bool", bool_form owner name follows)
-    ∷ (codes "color", color_form owner name follows)
-    ∷ (codes "file", file_form owner name follows)
-    ∷ (codes "object", object_form owner name follows)
+-- the types of properties, each with its value, which goes to the end of that line
+abbrev pub value_types : (TypedValue → Line) → List (List ℕ × LineForm)
+value_types line =
+    (codes "string", Text λ text. line (typed.String text))
+    ∷ (codes "int", Field Coordinate λ number. Ends (line (typed.Int number)))
+    ∷ (codes "bool", Field Truth λ truth. Ends (line (typed.Bool truth)))
+    ∷ (codes "color", Field Color λ color. Ends (line (typed.Color color)))
+    ∷ (codes "file", Text λ text. line (typed.File text))
+    ∷ (codes "object", Field Number λ id. Ends (line (typed.Object id)))
     ∷ []
 
 abbrev pub set_property_form : Bool → LineForm
-set_property_form follows = Field OwnerName λ owner. Field Key λ name. choose (property_types owner name follows) BadWord
+set_property_form follows =
+    Field OwnerName λ owner. Field Key λ name. choose (value_types (λ value. SetProperty owner name value follows)) BadWord
 
 abbrev pub remove_property_form : LineForm
 remove_property_form = Field OwnerName λ owner. Field Key λ name. Ends (RemoveProperty owner name)

@@ -10,7 +10,7 @@ use Rattle.map_model.specs.declared.parts.LayerKind.{LayerKind}
 use Rattle.map_model.specs.declared.parts.LayerKind.TheVariants as kinds
 use Rattle.map_model.specs.declared.owner.Owner.{Owner}
 use Rattle.map_model.specs.declared.owner.Owner.TheVariants as owners
-use Rattle.session.specs.declared.limits.TheConstants.{MAX_TEXT, MAX_KEY, MAX_COORDINATE}
+use Rattle.session.specs.declared.limits.TheConstants.{MAX_TEXT, MAX_KEY, MAX_COORDINATE, MAX_DOCUMENT_NAME}
 use Rattle.map_model.specs.declared.limits.TheConstants.{MAX_SIDE}
 
 -- the words of a text stand between its spaces
@@ -87,6 +87,13 @@ abbrev pub is_name : ℕ → List ℕ → Bool
 is_name limit word =
     nat_le 1 (length word) && nat_le (length word) limit
     && not (slice_index word 0 == 46) && not (slice_index word 0 == 45) && list_all is_name_byte word
+
+-- the document's name that a word is, or `-` for none
+abbrev pub choice_of : List ℕ → Option (Option (List ℕ))
+choice_of word =
+    if bytes_eq word (codes "-") then Some None
+    else if is_name MAX_DOCUMENT_NAME word then Some (Some word)
+    else None
 
 -- a byte of a text
 abbrev pub is_text_byte : ℕ → Bool

@@ -1,8 +1,8 @@
 ghost use Rattle.session.specs.declared.limits.TheConstants.{MAX_DOCUMENT_NAME, MAX_FILE_NAME};
-ghost use Rattle.session.specs.Grammar.{Gives, number_at, coordinate_at, rows_at, block_at, name_at, choice_at, last_text_at, last_texts_at, ends_at};
+ghost use Rattle.session.specs.Grammar.{Gives, word_at, passing, rows_at, block_at, word_is, last_text_at, last_texts_at, ends_at};
 ghost use Rattle.session.specs.declared.line.LineFault.TheVariants.{BadWord};
 ghost use Rattle.std.specs.Prelude.{◌≡◌, ◌∷◌, [], IfOk, IfErr};
-ghost use Rattle.session.specs.Words.{words_left, are_rows};
+ghost use Rattle.session.specs.Words.{words_left, are_rows, choice_of, coordinate_of, is_name, number_of};
 
 use crate::gids::Gids;
 use crate::limits::{MAX_DOCUMENT_NAME, MAX_FILE_NAME};
@@ -12,6 +12,7 @@ use crate::words::{
     are_texts_here, coordinate_before, cut, cut_at_bars, is_name_word, is_text_here, number_before,
 };
 use map_model::limits::MAX_SIDE;
+use std::marker::Model;
 
 /// Whether so many values are the rows of a block of that width.
 fn are_rows_of(width: u32, count: usize) -> bool
@@ -23,25 +24,39 @@ fn are_rows_of(width: u32, count: usize) -> bool
     count % width as usize == 0
 }
 
-/// The fields of a line that are still to be read.
+/// The fields of a line that are still to be read, seen as its words.
 #[derive(Drop)]
 pub struct Fields<'a> {
     // What is left of the line, behind a space.
-    pub(crate) rest: Option<&'a str>,
+    rest: Option<&'a str>,
+}
+
+impl<'a> Model for Fields<'a> {
+    ghost use Rattle.std.specs.Prelude.{ℕ, List, ⊤};
+    ghost use Rattle.std.specs.Coded.{coded_list, coded_ℕ};
+    ghost use Rattle.session.specs.Words.{words_left};
+
+    ghost Value = { List (List ℕ) };
+
+    ghost coded = { coded_list (coded_list coded_ℕ) };
+
+    ghost view = { λ a. words_left a.rest };
+
+    ghost invariant = { λ a. ⊤ };
 }
 
 impl<'a> Fields<'a> {
     /// The fields of what is left of a line.
     pub fn new(rest: Option<&'a str>) -> Fields<'a>
-        ensures { result.rest ≡ rest.entry }
+        ensures { result ≡ words_left rest.entry }
     {
         Fields { rest }
     }
 
     /// A word.
     pub fn word(&mut self) -> Result<&'a str, LineFault>
-        ensures ok { IfOk result (λ word. words_left self.old.rest ≡ word.now ∷ words_left self.new.rest) }
-        ensures err { IfErr result (λ fault. (fault ≡ BadWord) × (words_left self.old.rest ≡ [])) }
+        ensures ok { IfOk result (λ word. self.old ≡ word.now ∷ self.new) }
+        ensures err { IfErr result (λ fault. (fault ≡ BadWord) × (self.old ≡ [])) }
     {
         let Some(rest) = self.rest else {
             return Err(LineFault::BadWord);
@@ -53,9 +68,9 @@ impl<'a> Fields<'a> {
 
     /// A number.
     #[inline(always)]
-    #[tactic(auto, unfolding(crate::specs::Grammar::number_at))]
+    #[tactic(auto, unfolding(crate::specs::Grammar::word_at))]
     pub fn number(&mut self) -> Result<u32, LineFault>
-        ensures { Gives (λ x. (x, words_left self.new.rest)) result (number_at (words_left self.old.rest)) }
+        ensures { Gives (λ x. (x, self.new)) result (word_at number_of self.old) }
     {
         let Some(rest) = self.rest else {
             return Err(LineFault::BadWord);
@@ -68,9 +83,9 @@ impl<'a> Fields<'a> {
     }
 
     /// A coordinate.
-    #[tactic(auto, unfolding(crate::specs::Grammar::coordinate_at))]
+    #[tactic(auto, unfolding(crate::specs::Grammar::word_at))]
     pub fn coordinate(&mut self) -> Result<i32, LineFault>
-        ensures { Gives (λ x. (x, words_left self.new.rest)) result (coordinate_at (words_left self.old.rest)) }
+        ensures { Gives (λ x. (x, self.new)) result (word_at coordinate_of self.old) }
     {
         let Some(rest) = self.rest else {
             return Err(LineFault::BadWord);
@@ -85,7 +100,7 @@ impl<'a> Fields<'a> {
     // The values of a block of that width.
     #[tactic(auto, unfolding(crate::specs::Grammar::rows_at))]
     fn rows(&mut self, width: u32) -> Result<Gids<'a>, LineFault>
-        ensures { Gives (λ x. ((width, x), words_left self.new.rest)) result (rows_at width (words_left self.old.rest)) }
+        ensures { Gives (λ x. ((width, x), self.new)) result (rows_at width self.old) }
     {
         let word = self.word()?;
         let Some(values) = Gids::of_word(word) else {
@@ -100,7 +115,7 @@ impl<'a> Fields<'a> {
     /// The width of a block, and its values.
     #[tactic(auto, unfolding(crate::specs::Grammar::block_at))]
     pub fn block(&mut self) -> Result<(u32, Gids<'a>), LineFault>
-        ensures { Gives (λ x. (x, words_left self.new.rest)) result (block_at (words_left self.old.rest)) }
+        ensures { Gives (λ x. (x, self.new)) result (block_at self.old) }
     {
         let width = self.number()?;
         let values = self.rows(width)?;
@@ -108,9 +123,9 @@ impl<'a> Fields<'a> {
     }
 
     // A name of at most so many bytes.
-    #[tactic(auto, unfolding(crate::specs::Grammar::name_at))]
+    #[tactic(auto, unfolding(crate::specs::Grammar::word_at))]
     fn name(&mut self, limit: usize) -> Result<Text<'a>, LineFault>
-        ensures { Gives (λ x. (x, words_left self.new.rest)) result (name_at limit (words_left self.old.rest)) }
+        ensures { Gives (λ x. (x, self.new)) result (word_at (passing (is_name limit)) self.old) }
     {
         let word = self.word()?;
         if !is_name_word(limit, word.as_bytes()) {
@@ -121,23 +136,23 @@ impl<'a> Fields<'a> {
 
     /// A document's name.
     pub fn document_name(&mut self) -> Result<Text<'a>, LineFault>
-        ensures { Gives (λ x. (x, words_left self.new.rest)) result (name_at MAX_DOCUMENT_NAME (words_left self.old.rest)) }
+        ensures { Gives (λ x. (x, self.new)) result (word_at (passing (is_name MAX_DOCUMENT_NAME)) self.old) }
     {
         self.name(MAX_DOCUMENT_NAME)
     }
 
     /// A file's name.
     pub fn file_name(&mut self) -> Result<Text<'a>, LineFault>
-        ensures { Gives (λ x. (x, words_left self.new.rest)) result (name_at MAX_FILE_NAME (words_left self.old.rest)) }
+        ensures { Gives (λ x. (x, self.new)) result (word_at (passing (is_name MAX_FILE_NAME)) self.old) }
     {
         self.name(MAX_FILE_NAME)
     }
 
     /// A document's name, or `-` for none.
     #[inline(never)]
-    #[tactic(auto, unfolding(crate::specs::Grammar::choice_at))]
+    #[tactic(auto, unfolding(crate::specs::Grammar::word_at))]
     pub fn choice(&mut self) -> Result<Option<Text<'a>>, LineFault>
-        ensures { Gives (λ x. (x, words_left self.new.rest)) result (choice_at (words_left self.old.rest)) }
+        ensures { Gives (λ x. (x, self.new)) result (word_at choice_of self.old) }
     {
         let word = self.word()?;
         if word == "-" {
@@ -151,7 +166,7 @@ impl<'a> Fields<'a> {
 
     /// The text that is left.
     pub fn text(&mut self) -> Result<Text<'a>, LineFault>
-        ensures { Gives (λ x. x) result (last_text_at (words_left self.old.rest)) }
+        ensures { Gives (λ x. x) result (last_text_at self.old) }
     {
         let Some(text) = self.rest else {
             return Err(LineFault::BadWord);
@@ -165,7 +180,7 @@ impl<'a> Fields<'a> {
     /// The text that is left, or, where it has bars, the one in front of the first of them and the one behind.
     #[tactic(auto, unfolding(crate::specs::Grammar::last_texts_at))]
     pub fn texts(&mut self) -> Result<(Text<'a>, Option<Text<'a>>), LineFault>
-        ensures { Gives (λ x. x) result (last_texts_at (words_left self.old.rest)) }
+        ensures { Gives (λ x. x) result (last_texts_at self.old) }
     {
         let Some(rest) = self.rest else {
             return Err(LineFault::BadWord);
@@ -183,11 +198,18 @@ impl<'a> Fields<'a> {
     /// Nothing is left.
     #[tactic(auto, unfolding(crate::specs::Grammar::ends_at))]
     pub fn end(&mut self) -> Result<(), LineFault>
-        ensures { Gives (λ x. x) result (ends_at (words_left self.old.rest)) }
+        ensures { Gives (λ x. x) result (ends_at self.old) }
     {
         match self.rest {
             Some(_) => Err(LineFault::BadWord),
             None => Ok(()),
         }
     }
+}
+
+/// What a word of a line is, where it may stand there.
+pub fn known<T>(found: Option<T>) -> Result<T, LineFault>
+    ensures { Gives (λ x. x) result (word_is found) }
+{
+    found.ok_or(LineFault::BadWord)
 }

@@ -1,9 +1,9 @@
 ghost use Rattle.session.specs.declared.line.LineFault.TheVariants.{BadWord};
-ghost use Rattle.session.specs.Grammar.{choose, layer_lines, Gives, read, layer_kind_at, yes_no_at, add_layer_form, move_layer_form, remove_layer_form, rename_layer_form, show_layer_form};
+ghost use Rattle.session.specs.Grammar.{choose, layer_lines, Gives, read, add_layer_form, move_layer_form, remove_layer_form, rename_layer_form, show_layer_form};
 ghost use Rattle.std.specs.Prelude.{◌≡◌};
-ghost use Rattle.session.specs.Words.{words_left, layer_kind_of, yes_no_of};
+ghost use Rattle.session.specs.Words.{layer_kind_of, yes_no_of};
 
-use crate::fields::Fields;
+use crate::fields::{Fields, known};
 use crate::line::{Line, LineFault};
 use map_model::LayerKind;
 
@@ -18,17 +18,6 @@ fn layer_kind(word: &str) -> Option<LayerKind>
     }
 }
 
-#[tactic(auto, unfolding(crate::specs::Grammar::layer_kind_at))]
-fn layer_kind_field<'a>(fields: &mut Fields<'a>) -> Result<LayerKind, LineFault>
-    ensures { Gives (λ x. (x, words_left fields.new.rest)) result (layer_kind_at (words_left fields.old.rest)) }
-{
-    let word = fields.word()?;
-    match layer_kind(word) {
-        Some(kind) => Ok(kind),
-        None => Err(LineFault::BadWord),
-    }
-}
-
 /// The yes or no that a word is.
 fn yes_no(word: &str) -> Option<bool>
     ensures { result ≡ yes_no_of word.now }
@@ -40,27 +29,17 @@ fn yes_no(word: &str) -> Option<bool>
     }
 }
 
-#[tactic(auto, unfolding(crate::specs::Grammar::yes_no_at))]
-fn yes_no_field<'a>(fields: &mut Fields<'a>) -> Result<bool, LineFault>
-    ensures { Gives (λ x. (x, words_left fields.new.rest)) result (yes_no_at (words_left fields.old.rest)) }
-{
-    let word = fields.word()?;
-    match yes_no(word) {
-        Some(answer) => Ok(answer),
-        None => Err(LineFault::BadWord),
-    }
-}
-
+#[tactic(auto, unfolding(crate::specs::Grammar::word_at))]
 fn add_layer<'a>(fields: &mut Fields<'a>) -> Result<Line<'a>, LineFault>
-    ensures { Gives (λ x. x) result (read add_layer_form (words_left fields.old.rest)) }
+    ensures { Gives (λ x. x) result (read add_layer_form fields.old) }
 {
-    let kind = layer_kind_field(fields)?;
+    let kind = known(layer_kind(fields.word()?))?;
     let name = fields.text()?;
     Ok(Line::AddLayer { kind, name })
 }
 
 fn remove_layer<'a>(fields: &mut Fields<'a>) -> Result<Line<'a>, LineFault>
-    ensures { Gives (λ x. x) result (read remove_layer_form (words_left fields.old.rest)) }
+    ensures { Gives (λ x. x) result (read remove_layer_form fields.old) }
 {
     let layer = fields.number()?;
     fields.end()?;
@@ -68,24 +47,25 @@ fn remove_layer<'a>(fields: &mut Fields<'a>) -> Result<Line<'a>, LineFault>
 }
 
 fn rename_layer<'a>(fields: &mut Fields<'a>) -> Result<Line<'a>, LineFault>
-    ensures { Gives (λ x. x) result (read rename_layer_form (words_left fields.old.rest)) }
+    ensures { Gives (λ x. x) result (read rename_layer_form fields.old) }
 {
     let layer = fields.number()?;
     let name = fields.text()?;
     Ok(Line::RenameLayer { layer, name })
 }
 
+#[tactic(auto, unfolding(crate::specs::Grammar::word_at))]
 fn show_layer<'a>(fields: &mut Fields<'a>) -> Result<Line<'a>, LineFault>
-    ensures { Gives (λ x. x) result (read show_layer_form (words_left fields.old.rest)) }
+    ensures { Gives (λ x. x) result (read show_layer_form fields.old) }
 {
     let layer = fields.number()?;
-    let visible = yes_no_field(fields)?;
+    let visible = known(yes_no(fields.word()?))?;
     fields.end()?;
     Ok(Line::ShowLayer { layer, visible })
 }
 
 fn move_layer<'a>(fields: &mut Fields<'a>) -> Result<Line<'a>, LineFault>
-    ensures { Gives (λ x. x) result (read move_layer_form (words_left fields.old.rest)) }
+    ensures { Gives (λ x. x) result (read move_layer_form fields.old) }
 {
     let layer = fields.number()?;
     let place = fields.number()?;
@@ -95,7 +75,7 @@ fn move_layer<'a>(fields: &mut Fields<'a>) -> Result<Line<'a>, LineFault>
 
 /// The line of layers that the words behind `layer` are.
 pub fn layer<'a>(fields: &mut Fields<'a>) -> Result<Line<'a>, LineFault>
-    ensures { Gives (λ x. x) result (read (choose layer_lines BadWord) (words_left fields.old.rest)) }
+    ensures { Gives (λ x. x) result (read (choose layer_lines BadWord) fields.old) }
 {
     let action = fields.word()?;
     match action {

@@ -1,12 +1,11 @@
 ghost use Rattle.session.specs.declared.line.LineFault.TheVariants.{BadWord};
 ghost use Rattle.session.specs.Grammar.{choose, object_lines, Gives, read, add_object_form, move_object_form, remove_object_form, resize_object_form};
-ghost use Rattle.session.specs.Words.{words_left};
 
 use crate::fields::Fields;
 use crate::line::{Line, LineFault};
 
 fn add_object<'a>(fields: &mut Fields<'a>) -> Result<Line<'a>, LineFault>
-    ensures { Gives (λ x. x) result (read add_object_form (words_left fields.old.rest)) }
+    ensures { Gives (λ x. x) result (read add_object_form fields.old) }
 {
     let layer = fields.number()?;
     let x = fields.coordinate()?;
@@ -25,7 +24,7 @@ fn add_object<'a>(fields: &mut Fields<'a>) -> Result<Line<'a>, LineFault>
 }
 
 fn move_object<'a>(follows: bool, fields: &mut Fields<'a>) -> Result<Line<'a>, LineFault>
-    ensures { Gives (λ x. x) result (read (move_object_form follows) (words_left fields.old.rest)) }
+    ensures { Gives (λ x. x) result (read (move_object_form follows) fields.old) }
 {
     let object = fields.number()?;
     let x = fields.coordinate()?;
@@ -40,7 +39,7 @@ fn move_object<'a>(follows: bool, fields: &mut Fields<'a>) -> Result<Line<'a>, L
 }
 
 fn resize_object<'a>(fields: &mut Fields<'a>) -> Result<Line<'a>, LineFault>
-    ensures { Gives (λ x. x) result (read resize_object_form (words_left fields.old.rest)) }
+    ensures { Gives (λ x. x) result (read resize_object_form fields.old) }
 {
     let object = fields.number()?;
     let width = fields.number()?;
@@ -54,7 +53,7 @@ fn resize_object<'a>(fields: &mut Fields<'a>) -> Result<Line<'a>, LineFault>
 }
 
 fn remove_object<'a>(fields: &mut Fields<'a>) -> Result<Line<'a>, LineFault>
-    ensures { Gives (λ x. x) result (read remove_object_form (words_left fields.old.rest)) }
+    ensures { Gives (λ x. x) result (read remove_object_form fields.old) }
 {
     let object = fields.number()?;
     fields.end()?;
@@ -63,7 +62,7 @@ fn remove_object<'a>(fields: &mut Fields<'a>) -> Result<Line<'a>, LineFault>
 
 /// The line of objects that the words behind `object` are.
 pub fn object<'a>(fields: &mut Fields<'a>) -> Result<Line<'a>, LineFault>
-    ensures { Gives (λ x. x) result (read (choose object_lines BadWord) (words_left fields.old.rest)) }
+    ensures { Gives (λ x. x) result (read (choose object_lines BadWord) fields.old) }
 {
     let action = fields.word()?;
     match action {

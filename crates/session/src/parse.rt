@@ -4,7 +4,6 @@ ghost use Rattle.session.specs.declared.line.LineFault.TheVariants.{UnknownComma
 ghost use Rattle.std.specs.Prelude.{◌≡◌, ◌==◌, ◌∷◌, IfOk, IfSome, IfNone};
 ghost use Rattle.std.specs.Str.{IsUtf8};
 ghost use Rattle.std.specs.List.{list_all};
-ghost use Rattle.session.specs.Words.{words_left};
 
 use crate::fields::Fields;
 use crate::layer_lines::layer;
@@ -18,7 +17,7 @@ use crate::words::cut;
 use tile_id::Gid;
 
 fn new<'a>(fields: &mut Fields<'a>) -> Result<Line<'a>, LineFault>
-    ensures { Gives (λ x. x) result (read new_form (words_left fields.old.rest)) }
+    ensures { Gives (λ x. x) result (read new_form fields.old) }
 {
     let name = fields.document_name()?;
     let width = fields.number()?;
@@ -37,7 +36,7 @@ fn new<'a>(fields: &mut Fields<'a>) -> Result<Line<'a>, LineFault>
 }
 
 fn open_file<'a>(fields: &mut Fields<'a>) -> Result<Line<'a>, LineFault>
-    ensures { Gives (λ x. x) result (read open_form (words_left fields.old.rest)) }
+    ensures { Gives (λ x. x) result (read open_form fields.old) }
 {
     let name = fields.document_name()?;
     let file = fields.file_name()?;
@@ -46,7 +45,7 @@ fn open_file<'a>(fields: &mut Fields<'a>) -> Result<Line<'a>, LineFault>
 }
 
 fn save<'a>(fields: &mut Fields<'a>) -> Result<Line<'a>, LineFault>
-    ensures { Gives (λ x. x) result (read save_form (words_left fields.old.rest)) }
+    ensures { Gives (λ x. x) result (read save_form fields.old) }
 {
     let file = fields.file_name()?;
     fields.end()?;
@@ -54,7 +53,7 @@ fn save<'a>(fields: &mut Fields<'a>) -> Result<Line<'a>, LineFault>
 }
 
 fn close<'a>(fields: &mut Fields<'a>) -> Result<Line<'a>, LineFault>
-    ensures { Gives (λ x. x) result (read close_form (words_left fields.old.rest)) }
+    ensures { Gives (λ x. x) result (read close_form fields.old) }
 {
     let name = fields.document_name()?;
     fields.end()?;
@@ -62,7 +61,7 @@ fn close<'a>(fields: &mut Fields<'a>) -> Result<Line<'a>, LineFault>
 }
 
 fn discard<'a>(fields: &mut Fields<'a>) -> Result<Line<'a>, LineFault>
-    ensures { Gives (λ x. x) result (read discard_form (words_left fields.old.rest)) }
+    ensures { Gives (λ x. x) result (read discard_form fields.old) }
 {
     let name = fields.document_name()?;
     fields.end()?;
@@ -70,7 +69,7 @@ fn discard<'a>(fields: &mut Fields<'a>) -> Result<Line<'a>, LineFault>
 }
 
 fn choose_document<'a>(fields: &mut Fields<'a>) -> Result<Line<'a>, LineFault>
-    ensures { Gives (λ x. x) result (read use_form (words_left fields.old.rest)) }
+    ensures { Gives (λ x. x) result (read use_form fields.old) }
 {
     let choice = fields.choice()?;
     fields.end()?;
@@ -78,7 +77,7 @@ fn choose_document<'a>(fields: &mut Fields<'a>) -> Result<Line<'a>, LineFault>
 }
 
 fn stamp<'a>(follows: bool, fields: &mut Fields<'a>) -> Result<Line<'a>, LineFault>
-    ensures { Gives (λ x. x) result (read (stamp_form follows) (words_left fields.old.rest)) }
+    ensures { Gives (λ x. x) result (read (stamp_form follows) fields.old) }
 {
     let layer = fields.number()?;
     let x = fields.coordinate()?;
@@ -96,7 +95,7 @@ fn stamp<'a>(follows: bool, fields: &mut Fields<'a>) -> Result<Line<'a>, LineFau
 }
 
 fn erase<'a>(follows: bool, fields: &mut Fields<'a>) -> Result<Line<'a>, LineFault>
-    ensures { Gives (λ x. x) result (read (erase_form follows) (words_left fields.old.rest)) }
+    ensures { Gives (λ x. x) result (read (erase_form follows) fields.old) }
 {
     let layer = fields.number()?;
     let x = fields.coordinate()?;
@@ -115,7 +114,7 @@ fn erase<'a>(follows: bool, fields: &mut Fields<'a>) -> Result<Line<'a>, LineFau
 }
 
 fn fill<'a>(fields: &mut Fields<'a>) -> Result<Line<'a>, LineFault>
-    ensures { Gives (λ x. x) result (read fill_form (words_left fields.old.rest)) }
+    ensures { Gives (λ x. x) result (read fill_form fields.old) }
 {
     let layer = fields.number()?;
     let x = fields.coordinate()?;
@@ -131,7 +130,7 @@ fn fill<'a>(fields: &mut Fields<'a>) -> Result<Line<'a>, LineFault>
 }
 
 fn tile<'a>(fields: &mut Fields<'a>) -> Result<Line<'a>, LineFault>
-    ensures { Gives (λ x. x) result (read tile_form (words_left fields.old.rest)) }
+    ensures { Gives (λ x. x) result (read tile_form fields.old) }
 {
     let layer = fields.number()?;
     let x = fields.coordinate()?;
@@ -141,7 +140,7 @@ fn tile<'a>(fields: &mut Fields<'a>) -> Result<Line<'a>, LineFault>
 }
 
 fn resize<'a>(fields: &mut Fields<'a>) -> Result<Line<'a>, LineFault>
-    ensures { Gives (λ x. x) result (read resize_form (words_left fields.old.rest)) }
+    ensures { Gives (λ x. x) result (read resize_form fields.old) }
 {
     let width = fields.number()?;
     let height = fields.number()?;
@@ -158,14 +157,14 @@ fn resize<'a>(fields: &mut Fields<'a>) -> Result<Line<'a>, LineFault>
 
 // A line of one word.
 fn bare<'a>(line: Line<'a>, fields: &mut Fields<'a>) -> Result<Line<'a>, LineFault>
-    ensures { Gives (λ x. x) result (read (Ends line.entry) (words_left fields.old.rest)) }
+    ensures { Gives (λ x. x) result (read (Ends line.entry) fields.old) }
 {
     fields.end()?;
     Ok(line)
 }
 
 fn goto<'a>(fields: &mut Fields<'a>) -> Result<Line<'a>, LineFault>
-    ensures { Gives (λ x. x) result (read goto_form (words_left fields.old.rest)) }
+    ensures { Gives (λ x. x) result (read goto_form fields.old) }
 {
     let index = fields.number()?;
     fields.end()?;
@@ -173,14 +172,14 @@ fn goto<'a>(fields: &mut Fields<'a>) -> Result<Line<'a>, LineFault>
 }
 
 fn begin<'a>(fields: &mut Fields<'a>) -> Result<Line<'a>, LineFault>
-    ensures { Gives (λ x. x) result (read begin_form (words_left fields.old.rest)) }
+    ensures { Gives (λ x. x) result (read begin_form fields.old) }
 {
     let (text, action) = fields.texts()?;
     Ok(Line::Begin { text, action })
 }
 
 fn limit<'a>(fields: &mut Fields<'a>) -> Result<Line<'a>, LineFault>
-    ensures { Gives (λ x. x) result (read limit_form (words_left fields.old.rest)) }
+    ensures { Gives (λ x. x) result (read limit_form fields.old) }
 {
     let limit = fields.number()?;
     fields.end()?;
@@ -188,7 +187,7 @@ fn limit<'a>(fields: &mut Fields<'a>) -> Result<Line<'a>, LineFault>
 }
 
 fn step_text<'a>(fields: &mut Fields<'a>) -> Result<Line<'a>, LineFault>
-    ensures { Gives (λ x. x) result (read step_text_form (words_left fields.old.rest)) }
+    ensures { Gives (λ x. x) result (read step_text_form fields.old) }
 {
     let number = fields.number()?;
     fields.end()?;
@@ -199,7 +198,7 @@ fn step_text<'a>(fields: &mut Fields<'a>) -> Result<Line<'a>, LineFault>
 // that its arms hand on.
 #[inline(never)]
 fn rare_command<'a>(name: &str, fields: &mut Fields<'a>) -> Result<Line<'a>, LineFault>
-    ensures { Gives (λ x. x) result (read (choose rare_commands UnknownCommand) (name.now ∷ words_left fields.old.rest)) }
+    ensures { Gives (λ x. x) result (read (choose rare_commands UnknownCommand) (name.now ∷ fields.old)) }
 {
     match name {
         "begin" => begin(fields),
@@ -228,7 +227,7 @@ fn rare_command<'a>(name: &str, fields: &mut Fields<'a>) -> Result<Line<'a>, Lin
 }
 
 fn command<'a>(name: &str, fields: &mut Fields<'a>) -> Result<Line<'a>, LineFault>
-    ensures { Gives (λ x. x) result (read line_form (name.now ∷ words_left fields.old.rest)) }
+    ensures { Gives (λ x. x) result (read line_form (name.now ∷ fields.old)) }
 {
     // The words of most lines stand first, since they are compared one after the other.
     match name {

@@ -1,11 +1,13 @@
 ghost use Rattle.std.specs.Prelude.{◌≡◌};
 ghost use Rattle.std.specs.List.{list_all};
+ghost use Rattle.session.specs.declared.line.Line.{Line};
 ghost use Rattle.session.specs.declared.line.Line.TheVariants.{SetProperty};
 ghost use Rattle.session.specs.declared.line.LineFault.TheVariants.{BadWord};
-ghost use Rattle.session.specs.Grammar.{choose, property_lines, property_types, Gives, read, bool_form, color_form, file_form, int_form, key_at, color_at, object_form, owner_at, remove_property_form, set_property_form, string_form, truth_at};
-ghost use Rattle.session.specs.Words.{is_color, is_color_digit, is_key, is_key_byte, owner_of, owner_with, truth_of, words_left};
+ghost use Rattle.session.specs.declared.typed_value.TypedValue.{TypedValue};
+ghost use Rattle.session.specs.Grammar.{choose, property_lines, passing, value_types, Gives, read, remove_property_form, set_property_form};
+ghost use Rattle.session.specs.Words.{is_color, is_color_digit, is_key, is_key_byte, owner_of, owner_with, truth_of};
 
-use crate::fields::Fields;
+use crate::fields::{Fields, known};
 use crate::limits::MAX_KEY;
 use crate::line::{Line, LineFault};
 use crate::text::Text;
@@ -29,15 +31,14 @@ fn is_key_word(word: &[u8]) -> bool
     has_only_key_bytes(word)
 }
 
-#[tactic(auto, unfolding(crate::specs::Grammar::key_at))]
-fn key_field<'a>(fields: &mut Fields<'a>) -> Result<Text<'a>, LineFault>
-    ensures { Gives (λ x. (x, words_left fields.new.rest)) result (key_at (words_left fields.old.rest)) }
+// The property's name that a word is.
+fn key(word: &str) -> Option<Text<'_>>
+    ensures { result ≡ passing is_key word.now }
 {
-    let word = fields.word()?;
     if !is_key_word(word.as_bytes()) {
-        return Err(LineFault::BadWord);
+        return None;
     }
-    Ok(Text::new(word))
+    Some(Text::new(word))
 }
 
 fn has_only_color_digits(bytes: &[u8]) -> bool
@@ -60,15 +61,14 @@ fn is_color_word(word: &[u8]) -> bool
     }
 }
 
-#[tactic(auto, unfolding(crate::specs::Grammar::color_at))]
-fn color_field<'a>(fields: &mut Fields<'a>) -> Result<Text<'a>, LineFault>
-    ensures { Gives (λ x. (x, words_left fields.new.rest)) result (color_at (words_left fields.old.rest)) }
+// The colour that a word is.
+fn color(word: &str) -> Option<Text<'_>>
+    ensures { result ≡ passing is_color word.now }
 {
-    let word = fields.word()?;
     if !is_color_word(word.as_bytes()) {
-        return Err(LineFault::BadWord);
+        return None;
     }
-    Ok(Text::new(word))
+    Some(Text::new(word))
 }
 
 // True or false.
@@ -79,17 +79,6 @@ fn truth(word: &str) -> Option<bool>
         "true" => Some(true),
         "false" => Some(false),
         _ => None,
-    }
-}
-
-#[tactic(auto, unfolding(crate::specs::Grammar::truth_at))]
-fn truth_field<'a>(fields: &mut Fields<'a>) -> Result<bool, LineFault>
-    ensures { Gives (λ x. (x, words_left fields.new.rest)) result (truth_at (words_left fields.old.rest)) }
-{
-    let word = fields.word()?;
-    match truth(word) {
-        Some(truth) => Ok(truth),
-        None => Err(LineFault::BadWord),
     }
 }
 
@@ -123,103 +112,23 @@ fn owner(word: &str) -> Option<Owner>
     }
 }
 
-#[tactic(auto, unfolding(crate::specs::Grammar::owner_at))]
-fn owner_field<'a>(fields: &mut Fields<'a>) -> Result<Owner, LineFault>
-    ensures { Gives (λ x. (x, words_left fields.new.rest)) result (owner_at (words_left fields.old.rest)) }
+// A property's type and value, which are all that is left.
+#[tactic(auto, unfolding(crate::specs::Grammar::word_at))]
+fn typed_value<'a>(fields: &mut Fields<'a>) -> Result<TypedValue<'a>, LineFault>
+    ensures { (line : TypedValue → Line) → Gives line result (read (choose (value_types line) BadWord) fields.old) }
 {
-    let word = fields.word()?;
-    match owner(word) {
-        Some(owner) => Ok(owner),
-        None => Err(LineFault::BadWord),
-    }
-}
-
-// The line that sets a property to this value.
-fn set_to<'a>(owner: Owner, name: Text<'a>, value: TypedValue<'a>, follows: bool) -> Line<'a>
-    ensures { result ≡ SetProperty owner name.entry value.entry follows }
-{
-    Line::SetProperty {
-        owner,
-        name,
-        value,
-        follows,
-    }
-}
-
-fn set_string<'a>(
-    owner: Owner,
-    name: Text<'a>,
-    follows: bool,
-    fields: &mut Fields<'a>,
-) -> Result<Line<'a>, LineFault>
-    ensures { Gives (λ x. x) result (read (string_form owner name.entry follows) (words_left fields.old.rest)) }
-{
-    let text = fields.text()?;
-    Ok(set_to(owner, name, TypedValue::String(text), follows))
-}
-
-fn set_file<'a>(
-    owner: Owner,
-    name: Text<'a>,
-    follows: bool,
-    fields: &mut Fields<'a>,
-) -> Result<Line<'a>, LineFault>
-    ensures { Gives (λ x. x) result (read (file_form owner name.entry follows) (words_left fields.old.rest)) }
-{
-    let text = fields.text()?;
-    Ok(set_to(owner, name, TypedValue::File(text), follows))
-}
-
-fn set_int<'a>(
-    owner: Owner,
-    name: Text<'a>,
-    follows: bool,
-    fields: &mut Fields<'a>,
-) -> Result<Line<'a>, LineFault>
-    ensures { Gives (λ x. x) result (read (int_form owner name.entry follows) (words_left fields.old.rest)) }
-{
-    let number = fields.coordinate()?;
+    let type_name = fields.word()?;
+    let value = match type_name {
+        "string" => return Ok(TypedValue::String(fields.text()?)),
+        "file" => return Ok(TypedValue::File(fields.text()?)),
+        "int" => TypedValue::Int(fields.coordinate()?),
+        "bool" => TypedValue::Bool(known(truth(fields.word()?))?),
+        "color" => TypedValue::Color(known(color(fields.word()?))?),
+        "object" => TypedValue::Object(fields.number()?),
+        _ => return Err(LineFault::BadWord),
+    };
     fields.end()?;
-    Ok(set_to(owner, name, TypedValue::Int(number), follows))
-}
-
-fn set_bool<'a>(
-    owner: Owner,
-    name: Text<'a>,
-    follows: bool,
-    fields: &mut Fields<'a>,
-) -> Result<Line<'a>, LineFault>
-    ensures { Gives (λ x. x) result (read (bool_form owner name.entry follows) (words_left fields.old.rest)) }
-{
-    let truth = truth_field(fields)?;
-    fields.end()?;
-    Ok(set_to(owner, name, TypedValue::Bool(truth), follows))
-}
-
-fn set_color<'a>(
-    owner: Owner,
-    name: Text<'a>,
-    follows: bool,
-    fields: &mut Fields<'a>,
-) -> Result<Line<'a>, LineFault>
-    ensures { Gives (λ x. x) result (read (color_form owner name.entry follows) (words_left fields.old.rest)) }
-{
-    let color = color_field(fields)?;
-    fields.end()?;
-    Ok(set_to(owner, name, TypedValue::Color(color), follows))
-}
-
-fn set_object<'a>(
-    owner: Owner,
-    name: Text<'a>,
-    follows: bool,
-    fields: &mut Fields<'a>,
-) -> Result<Line<'a>, LineFault>
-    ensures { Gives (λ x. x) result (read (object_form owner name.entry follows) (words_left fields.old.rest)) }
-{
-    let id = fields.number()?;
-    fields.end()?;
-    Ok(set_to(owner, name, TypedValue::Object(id), follows))
+    Ok(value)
 }
 
 // The line that sets a property, from its type on.
@@ -229,44 +138,46 @@ fn set_typed<'a>(
     follows: bool,
     fields: &mut Fields<'a>,
 ) -> Result<Line<'a>, LineFault>
-    ensures { Gives (λ x. x) result (read (choose (property_types owner name.entry follows) BadWord) (words_left fields.old.rest)) }
+    ensures { Gives (λ x. x) result (read (choose (value_types (λ value. SetProperty owner name.entry value follows)) BadWord) fields.old) }
 {
-    let type_name = fields.word()?;
-    match type_name {
-        "string" => set_string(owner, name, follows, fields),
-        "int" => set_int(owner, name, follows, fields),
-        "bool" => set_bool(owner, name, follows, fields),
-        "color" => set_color(owner, name, follows, fields),
-        "file" => set_file(owner, name, follows, fields),
-        "object" => set_object(owner, name, follows, fields),
-        _ => Err(LineFault::BadWord),
+    match typed_value(fields) {
+        Ok(value) => Ok(Line::SetProperty {
+            owner,
+            name,
+            value,
+            follows,
+        }),
+        Err(fault) => Err(fault),
     }
 }
 
+#[tactic(auto, unfolding(crate::specs::Grammar::word_at))]
 fn set_property<'a>(follows: bool, fields: &mut Fields<'a>) -> Result<Line<'a>, LineFault>
-    ensures { Gives (λ x. x) result (read (set_property_form follows) (words_left fields.old.rest)) }
+    ensures { Gives (λ x. x) result (read (set_property_form follows) fields.old) }
 {
-    let owner = owner_field(fields)?;
-    let name = key_field(fields)?;
+    let owner = known(owner(fields.word()?))?;
+    let name = known(key(fields.word()?))?;
     set_typed(owner, name, follows, fields)
 }
 
+#[tactic(auto, unfolding(crate::specs::Grammar::word_at))]
 fn remove_property<'a>(fields: &mut Fields<'a>) -> Result<Line<'a>, LineFault>
-    ensures { Gives (λ x. x) result (read remove_property_form (words_left fields.old.rest)) }
+    ensures { Gives (λ x. x) result (read remove_property_form fields.old) }
 {
-    let owner = owner_field(fields)?;
-    let name = key_field(fields)?;
+    let owner = known(owner(fields.word()?))?;
+    let name = known(key(fields.word()?))?;
     fields.end()?;
     Ok(Line::RemoveProperty { owner, name })
 }
 
 /// The line of properties that the words behind `prop` are.
 pub fn property<'a>(fields: &mut Fields<'a>) -> Result<Line<'a>, LineFault>
-    ensures { Gives (λ x. x) result (read (choose property_lines BadWord) (words_left fields.old.rest)) }
+    ensures { Gives (λ x. x) result (read (choose property_lines BadWord) fields.old) }
 {
     let action = fields.word()?;
     match action {
-        "set" | "set+" => set_property(action == "set+", fields),
+        "set" => set_property(false, fields),
+        "set+" => set_property(true, fields),
         "remove" => remove_property(fields),
         _ => Err(LineFault::BadWord),
     }

@@ -1,14 +1,13 @@
 ghost use Rattle.session.specs.declared.line.LineFault.TheVariants.{BadWord};
 ghost use Rattle.session.specs.declared.line.Line.TheVariants.{SelectNone};
 ghost use Rattle.session.specs.Grammar.{choose, select_lines, Ends, Gives, read, select_form};
-ghost use Rattle.session.specs.Words.{words_left};
 
 use crate::fields::Fields;
 use crate::line::{Line, LineFault};
 use map_model::SelectionMode;
 
 fn select_rectangle<'a>(mode: SelectionMode, fields: &mut Fields<'a>) -> Result<Line<'a>, LineFault>
-    ensures { Gives (λ x. x) result (read (select_form mode) (words_left fields.old.rest)) }
+    ensures { Gives (λ x. x) result (read (select_form mode) fields.old) }
 {
     let x = fields.coordinate()?;
     let y = fields.coordinate()?;
@@ -25,7 +24,7 @@ fn select_rectangle<'a>(mode: SelectionMode, fields: &mut Fields<'a>) -> Result<
 }
 
 fn select_none<'a>(fields: &mut Fields<'a>) -> Result<Line<'a>, LineFault>
-    ensures { Gives (λ x. x) result (read (Ends SelectNone) (words_left fields.old.rest)) }
+    ensures { Gives (λ x. x) result (read (Ends SelectNone) fields.old) }
 {
     fields.end()?;
     Ok(Line::SelectNone)
@@ -33,7 +32,7 @@ fn select_none<'a>(fields: &mut Fields<'a>) -> Result<Line<'a>, LineFault>
 
 /// The line of selecting that the words behind `select` are.
 pub fn select<'a>(fields: &mut Fields<'a>) -> Result<Line<'a>, LineFault>
-    ensures { Gives (λ x. x) result (read (choose select_lines BadWord) (words_left fields.old.rest)) }
+    ensures { Gives (λ x. x) result (read (choose select_lines BadWord) fields.old) }
 {
     let way = fields.word()?;
     match way {

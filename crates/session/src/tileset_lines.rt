@@ -1,12 +1,11 @@
 ghost use Rattle.session.specs.declared.line.LineFault.TheVariants.{BadWord};
 ghost use Rattle.session.specs.Grammar.{choose, tileset_lines, Gives, read, add_tileset_form, remove_tileset_form};
-ghost use Rattle.session.specs.Words.{words_left};
 
 use crate::fields::Fields;
 use crate::line::{Line, LineFault};
 
 fn add_tileset<'a>(fields: &mut Fields<'a>) -> Result<Line<'a>, LineFault>
-    ensures { Gives (λ x. x) result (read add_tileset_form (words_left fields.old.rest)) }
+    ensures { Gives (λ x. x) result (read add_tileset_form fields.old) }
 {
     let first_id = fields.number()?;
     let source = fields.text()?;
@@ -14,7 +13,7 @@ fn add_tileset<'a>(fields: &mut Fields<'a>) -> Result<Line<'a>, LineFault>
 }
 
 fn remove_tileset<'a>(fields: &mut Fields<'a>) -> Result<Line<'a>, LineFault>
-    ensures { Gives (λ x. x) result (read remove_tileset_form (words_left fields.old.rest)) }
+    ensures { Gives (λ x. x) result (read remove_tileset_form fields.old) }
 {
     let first_id = fields.number()?;
     fields.end()?;
@@ -23,7 +22,7 @@ fn remove_tileset<'a>(fields: &mut Fields<'a>) -> Result<Line<'a>, LineFault>
 
 /// The line of tilesets that the words behind `tileset` are.
 pub fn tileset<'a>(fields: &mut Fields<'a>) -> Result<Line<'a>, LineFault>
-    ensures { Gives (λ x. x) result (read (choose tileset_lines BadWord) (words_left fields.old.rest)) }
+    ensures { Gives (λ x. x) result (read (choose tileset_lines BadWord) fields.old) }
 {
     let action = fields.word()?;
     match action {

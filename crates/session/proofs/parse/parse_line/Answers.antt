@@ -1,7 +1,7 @@
 use Rattle.std.proofs.Common.{◌≤◌, ◌∷◌, length, cond, Ok, sym, ap, ◌∙◌, arith}
 use Rattle.session.specs.declared.limits.TheConstants.{MAX_LINE}
 use Rattle.session.specs.declared.line.Line.TheVariants.{Quiet}
-use Rattle.session.specs.Words.{words, words_left}
+use Rattle.session.specs.Words.{words}
 use Rattle.session.specs.Grammar.{read, line_form}
 use Rattle.session.proofs.FirstChecks.{checked, refused}
 use Rattle.session.proofs.Laws.{given_says, given_spelled}
@@ -19,7 +19,7 @@ returns-clause-value c =
     let short : length bytes ≤ MAX_LINE = omega (arith, c.if-bytes-gt-MAX_LINE.false) in
     let e = checked bytes short c.in-Some.ensures.some.1 ∙ ap (λ b. cond b (Ok Quiet) (read line_form (words bytes))) (sym c.is_quiet_line.ensures ∙ c.if-is_quiet_line.false)
     ∙ ap (read line_form) (ap words (sym c.in-Some.ensures.some.0) ∙ c.cut.ensures.pieces)
-    ∙ ap (λ rest. read line_form (c.cut.result.0.now ∷ words_left rest)) (sym c.new-fields.ensures) in
+    ∙ ap (λ left. read line_form (c.cut.result.0.now ∷ left)) (sym c.new-fields.ensures) in
     rw e c.command.ensures
 
 pub returns-clause-says : goal.returns-clause-says

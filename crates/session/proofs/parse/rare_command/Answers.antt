@@ -1,9 +1,8 @@
 use Rattle.std.proofs.Common.{rules}
 use Rattle.session.specs.Grammar.{rare_commands}
 use Rattle.session.specs.declared.line.LineFault.TheVariants.{UnknownCommand}
-use Rattle.session.specs.Words.{words_left}
 use Rattle.session.proofs.Forms.{choose_none}
 use Rattle.session.proofs.parse.rare_command.Goals as goal
 
 pub returns-in_default : goal.returns-in_default
-returns-in_default c = choose_none rare_commands UnknownCommand c.args.name.now (words_left c.args.fields.now.rest) (search rules)
+returns-in_default c = choose_none rare_commands UnknownCommand c.args.name.now c.args.fields.now (search rules)

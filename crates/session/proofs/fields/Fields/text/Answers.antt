@@ -1,22 +1,23 @@
-use Rattle.std.proofs.Common.{Ok, Err, cond, refl, sym, ap, ◌∙◌}
+use Rattle.std.proofs.Common.{Ok, Err, cond, sym, ap, ◌∙◌}
 use Rattle.session.specs.declared.line.LineFault.TheVariants.{BadWord}
 use Rattle.session.specs.Grammar.{last_text_at}
-use Rattle.session.specs.Words.{is_text}
+use Rattle.session.specs.Words.{is_text, words_left}
 use Rattle.session.proofs.Cutting.{text_of_words}
 use Rattle.session.proofs.fields.Fields.text.Goals as goal
 
 pub returns-in_default : goal.returns-in_default
 unfolding last_text_at
-returns-in_default c = rw c.in_default.is refl
+returns-in_default c = ap last_text_at (sym c.self.view_is ∙ ap words_left c.in_default.is)
 
 pub returns-then-not-is_text_here : goal.returns-then-not-is_text_here
 returns-then-not-is_text_here c =
     let text = c.in-Some.text.now in
     let is = ap is_text (sym c.as_bytes.ensures.value) ∙ sym c.is_text_here.ensures ∙ c.if-not-is_text_here.true in
-    rw c.in-Some.is (text_of_words text ∙ ap (λ b. cond b (Ok text) (Err BadWord)) is)
+    ap last_text_at (sym c.self.view_is ∙ ap words_left c.in-Some.is) ∙ text_of_words text ∙ ap (λ b. cond b (Ok text) (Err BadWord)) is
 
 pub returns : goal.returns
 returns c =
     let text = c.in-Some.text.now in
     let is = ap is_text (sym c.as_bytes.ensures.value) ∙ sym c.is_text_here.ensures ∙ c.if-not-is_text_here.false in
-    rw c.in-Some.is (text_of_words text ∙ ap (λ b. cond b (Ok text) (Err BadWord)) is ∙ ap Ok (sym c.new.ensures))
+    ap last_text_at (sym c.self.view_is ∙ ap words_left c.in-Some.is) ∙ text_of_words text ∙ ap (λ b. cond b (Ok text) (Err BadWord)) is
+    ∙ ap Ok (sym c.new.ensures)

@@ -1,10 +1,11 @@
-use Rattle.std.proofs.Common.{◌≡◌, ◌∙◌, Bool, true, false, cond, List, ℕ, Option, Some, None, Bor, Ok, Err, sym, ap, ap₂}
+use Rattle.std.proofs.Common.{◌≡◌, ◌∙◌, Bool, true, false, cond, List, ℕ, Option, Some, Bor, Ok, Err, sym, ap, ap₂, subst}
 use Rattle.std.specs.Prelude.{option_map}
 use Rattle.session.specs.declared.line.LineFault.TheVariants.{BadWord}
-use Rattle.session.specs.Grammar.{last_texts_at}
-use Rattle.session.specs.Words.{are_texts, cut_at_bars, words}
+use Rattle.session.specs.Grammar.{Gives, last_texts_at}
+use Rattle.session.specs.Words.{are_texts, cut_at_bars, words, words_left}
 use Rattle.session.proofs.Cutting.{texts_of_words}
 use Rattle.session.proofs.fields.Fields.texts.Goals as goal
+use Rattle.session.proofs.fields.Fields.texts.Goals.{in-Some-action, in-None}
 
 tested : (bytes prefix : List ℕ) (behind : Option (List ℕ)) (b : Bool) → prefix ≡ (cut_at_bars bytes).0 → behind ≡ (cut_at_bars bytes).1 → are_texts prefix behind ≡ b
     → last_texts_at (words bytes) ≡ cond b (Ok (prefix, behind)) (Err BadWord)
@@ -14,17 +15,18 @@ tested bytes prefix behind b f g is =
 
 pub returns-then-not-are_texts_here : goal.returns-then-not-are_texts_here
 returns-then-not-are_texts_here c =
-    rw c.in-Some.is (tested c.in-Some.rest.now _ _ false c.cut_at_bars.ensures.prefix c.cut_at_bars.ensures.behind (sym c.are_texts_here.ensures ∙ c.if-not-are_texts_here.true))
+    ap last_texts_at (sym c.self.view_is ∙ ap words_left c.in-Some.is)
+    ∙ tested c.in-Some.rest.now _ _ false c.cut_at_bars.ensures.prefix c.cut_at_bars.ensures.behind (sym c.are_texts_here.ensures ∙ c.if-not-are_texts_here.true)
 
-pub returns-in-Some-action : goal.returns-in-Some-action
-returns-in-Some-action c =
-    let second : option_map (λ (s : Bor (List ℕ)). s.now) c.cut_at_bars.result.1 ≡ Some c.new-in-Some-action.result =
-    ap (option_map (λ (s : Bor (List ℕ)). s.now)) c.in-Some-action.is ∙ ap Some (sym c.new-in-Some-action.ensures) in
-    rw c.in-Some.is (tested c.in-Some.rest.now _ _ true c.cut_at_bars.ensures.prefix c.cut_at_bars.ensures.behind (sym c.are_texts_here.ensures ∙ c.if-not-are_texts_here.false)
-    ∙ ap₂ (λ (x : List ℕ) (y : Option (List ℕ)). Ok (x, y)) (sym c.new.ensures) second)
-
-pub returns-in-None : goal.returns-in-None
-returns-in-None c =
-    let second : option_map (λ (s : Bor (List ℕ)). s.now) c.cut_at_bars.result.1 ≡ None = ap (option_map (λ (s : Bor (List ℕ)). s.now)) c.in-None.is in
-    rw c.in-Some.is (tested c.in-Some.rest.now _ _ true c.cut_at_bars.ensures.prefix c.cut_at_bars.ensures.behind (sym c.are_texts_here.ensures ∙ c.if-not-are_texts_here.false)
-    ∙ ap₂ (λ (x : List ℕ) (y : Option (List ℕ)). Ok (x, y)) (sym c.new-in-None.ensures) second)
+pub returns : goal.returns
+returns c =
+    let read =
+    ap last_texts_at (sym c.self.view_is ∙ ap words_left c.in-Some.is)
+    ∙ tested c.in-Some.rest.now _ _ true c.cut_at_bars.ensures.prefix c.cut_at_bars.ensures.behind (sym c.are_texts_here.ensures ∙ c.if-not-are_texts_here.false) in
+    let seen : Option (Bor (List ℕ)) → Option (List ℕ) = option_map (λ (s : Bor (List ℕ)). s.now) in
+    elim c.match-action.branch [
+      | in-Some-action w ↦ subst (λ r. Gives (λ x. x) r (last_texts_at c.args.self.now)) (sym w.result-is)
+          (read ∙ ap₂ (λ (x : List ℕ) (y : Option (List ℕ)). Ok (x, y)) (sym w.new.ensures) (ap seen w.in-Some-action.is ∙ ap Some (sym w.new-in-Some-action.ensures)))
+      | in-None w ↦ subst (λ r. Gives (λ x. x) r (last_texts_at c.args.self.now)) (sym w.result-is)
+          (read ∙ ap₂ (λ (x : List ℕ) (y : Option (List ℕ)). Ok (x, y)) (sym w.new-in-None.ensures) (ap seen w.in-None.is))
+    ]
