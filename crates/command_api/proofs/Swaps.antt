@@ -1,5 +1,6 @@
 -- What a swap keeps, from the laws of its part.
 use Rattle.std.proofs.Common.{◌≡◌, Bool, true, false, not, IsSome, Some, Result, Ok, refl, sym, ap, ◌∙◌}
+use Rattle.map_model.proofs.LensLaws.{some-eq}
 use Rattle.map_model.specs.Document.{DocumentParts}
 use Rattle.map_model.specs.Lens.{Lens, IsLawfulLens, put}
 use Rattle.map_model.specs.WellFormed.{IsWellFormed}
@@ -8,9 +9,6 @@ use Rattle.command_api.specs.Making.{Makes}
 use Rattle.command_api.specs.Exchange.{FitsTurn, IsExchanged, change_of}
 use Rattle.command_api.specs.Offers.{FitsPut, IsMerged, Shown, offer_undone}
 use Rattle.command_api.specs.Swap.{swap, swap_where, swap_shown, FitsShown, IsGiven}
-
-some-eq : {V : Type 0} (v w : V) → Some v ≡ Some w → v ≡ w
-some-eq v w e = cc
 
 -- ---- one turn: the part has the value new, and the held one is put in
 module _ {V : Type 0} {p : Lens DocumentParts V} {held new : V} {d e : DocumentParts} (laws : IsLawfulLens p) (given : p.get d ≡ Some new) (is : e ≡ put p held d) where

@@ -1,5 +1,6 @@
 -- The lists of all open documents, of which one has changed.
 use Rattle.std.proofs.Common.{◌≡◌, ℕ, List, [], ◌∷◌, ◌++◌, Bool, true, false, Option, Some, None, Result, map, refl, sym, ◌∙◌, ap, subst, inl, inr, arith}
+use Rattle.map_model.proofs.LensLaws.{some-eq}
 use Rattle.std.proofs.lemmas.List.{map-append}
 use Rattle.std.proofs.lemmas.Slice.Eq.{bytes_eq-Decides}
 use Rattle.std.specs.Option.{option_map}
@@ -73,10 +74,6 @@ module _ {C : Type 0} (f : C → Change) where
         is = ap (map kinds_of) r.is ∙ map-append kinds_of r.first (named name t ∷ r.rest);
         changed = subst (λ (x : Stack C). Changes (macros x) (macros t)) (sym same) changed;
       }
-
--- ---- the list of the active stack
-some-eq : {A : Type 0} (v w : A) → Some v ≡ Some w → v ≡ w
-some-eq v w q = cc
 
 module _ {C : Type 0} where
   found-macros : (name : List ℕ) (ss : List (NamedStack C)) (s : Stack C) → stack_named name ss ≡ Some s → macros_named name (map kinds_of ss) ≡ macros s

@@ -1,7 +1,7 @@
 -- A fill whose start has no free neighbour.
 use Rattle.std.proofs.Common.{◌≡◌, ◌≢◌, ◌↔◌, ℕ, suc, ◌+◌, ◌-◌, ◌*◌, ◌/◌, ◌%◌, ◌<◌, List, [], ◌∷◌, ◌++◌, length, Bool, true, false, cond, ◌&&◌, nat_eq, nat_lt, get_or, Some, None, refl, subst, sym, ap, ◌∙◌, arith}
 use Rattle.std.specs.List.{slice_get}
-use Rattle.std.proofs.lemmas.Bool.{and_from, and_parts, eq-eqb, eqb-true}
+use Rattle.std.proofs.lemmas.Bool.{and_from, and_parts, eq-eqb, eqb-true, false_from_ne_true}
 use Rattle.std.proofs.lemmas.Nat.{div-add-mod', div-mul-add, mod-mul-add}
 use Rattle.std.proofs.lemmas.Option.{slice_get-get_or}
 use Rattle.map_model.specs.Difference.{change_at, difference}
@@ -10,7 +10,7 @@ use Rattle.edits.specs.Covering.{covered, covered_value, lets_change}
 use Rattle.edits.specs.Flooding.{IsGround, free_in, start_of}
 use Rattle.edits.specs.Joining.{AreJoined, any_neighbour, is_value}
 use Rattle.edits.proofs.Differences.{change_at-same, difference-skip, get_or-each_at}
-use Rattle.edits.proofs.Fills.{change_at-cell, covered_value-cond, false-unless}
+use Rattle.edits.proofs.Fills.{change_at-cell, covered_value-cond}
 use Rattle.edits.proofs.Flooded.{cell_within}
 use Rattle.edits.proofs.Joined.{AreJoined-self, alone-joined, start_free}
 
@@ -69,7 +69,7 @@ module _ (g : Ground) where
 
     elsewhere : (k : ℕ) → k < length g.tiles.now → k ≢ at → get_or ys k 0 ≡ get_or g.tiles.now k 0
     elsewhere k l other =
-        let not_start = false-unless (is_start (k % w, k / w)) (λ h.
+        let not_start = false_from_ne_true (is_start (k % w, k / w)) (λ h.
         let same = (start-parts (k % w, k / w) h).1 in
         let column : x ≡ k % w = ap (λ (q : ℕ × ℕ). q.0) same in
         let row : y ≡ k / w = ap (λ (q : ℕ × ℕ). q.1) same in

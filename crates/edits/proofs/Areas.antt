@@ -1,5 +1,6 @@
 -- The cells of a map that lie in an area.
 use Rattle.std.proofs.Common.{◌≡◌, ◌⊎◌, inl, inr, ℕ, ℤ, ◌+◌, ◌-◌, ◌≤◌, ◌<◌, Bool, true, false, ◌&&◌, ◌||◌, nat_lt, Result, Ok, Err, IfOk, refl, sym, ap, subst, ◌∙◌, arith}
+use Rattle.std.proofs.lemmas.Bool.{or_cases}
 use Rattle.std.specs.Prelude.{nat_le}
 use Rattle.std.specs.FinSet as set
 use Rattle.std.specs.declared.alloc.AllocError.{AllocError}
@@ -85,10 +86,6 @@ and_right false b e = cc
 and_left : (a b : Bool) → (a && b) ≡ true → a ≡ true
 and_left true b e = refl
 and_left false b e = e
-
-or_cases : (a b : Bool) → (a || b) ≡ true → (a ≡ true) ⊎ (b ≡ true)
-or_cases true b e = inl refl
-or_cases false b e = inr e
 
 in_map : (m : MapParts) (q : ℕ × ℕ) → in_rectangle 0 0 m.width m.height q ≡ true → (q.0 < m.width) × (q.1 < m.height)
 in_map m q e = let both = whole_map m q ∙ e in (column (and_left _ _ both), row (and_right _ _ both))

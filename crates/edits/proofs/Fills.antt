@@ -1,6 +1,6 @@
 -- The changes of the cells that a fill has taken.
 use Rattle.std.proofs.Common.{◌≡◌, ◌≢◌, inl, inr, ℕ, zero, suc, ◌+◌, ◌-◌, ◌*◌, ◌/◌, ◌%◌, ◌<◌, ◌≤◌, [], ◌∷◌, ◌++◌, length, Bool, true, false, cond, nat_eq, get_or, Some, None, add-zero, add-suc, append-nil, append_assoc, refl, sym, ap, ◌∙◌, arith}
-use Rattle.std.proofs.lemmas.Bool.{cases_lt, eqb-true}
+use Rattle.std.proofs.lemmas.Bool.{cases_lt, eqb-true, false_from_ne_true}
 use Rattle.std.proofs.lemmas.List.{get_or_past}
 use Rattle.std.proofs.lemmas.Bool.Decides.{nat_tests}
 use Rattle.std.proofs.lemmas.Nat.{mod-mul-add, div-mul-add, div-add-mod', mod_below}
@@ -90,8 +90,3 @@ module _ (g : Ground) (s : Spread) (value : ℕ) where
       changes-marked y (x + n) free other (omega arith) (taken n (omega arith))
       ∙ ap (λ es. es ++ record { x = x + n; y = y; before = g.value; after = value } ∷ []) (changes-row y x n free other (omega arith) (λ k l. taken k (omega arith)))
       ∙ append_assoc (changes_below g s value (y * g.width + x)) (stretch_edits y x g.value value n) (record { x = x + n; y = y; before = g.value; after = value } ∷ []))
-
--- what cannot be is not
-pub false-unless : (b : Bool) → (b ≡ true → ⊥) → b ≡ false
-false-unless true h = absurd (h refl)
-false-unless false h = refl

@@ -1,18 +1,11 @@
 -- Cells that are joined: a list of cells leads from one to the other, exactly where as many steps as there are cells do.
 use Rattle.std.proofs.Common.{◌≡◌, ◌⊎◌, ◌↔◌, inl, inr, ℕ, zero, suc, ◌+◌, ◌-◌, ◌*◌, ◌/◌, ◌%◌, ◌<◌, ◌≤◌, List, [], ◌∷◌, ◌++◌, Bool, true, false, cond, ◌&&◌, ◌||◌, nat_eq, refl, sym, ap, ◌∙◌, subst, mul_comm, arith}
+use Rattle.std.proofs.Math.Bool.{or-false}
 use Rattle.std.specs.List.{list_any}
-use Rattle.std.proofs.lemmas.Bool.{cases_lt, or_cases, and_parts, and_from, eqb-true, eq-eqb, false≢true}
+use Rattle.std.proofs.lemmas.Bool.{cases_lt, or_cases, and_parts, and_from, eqb-true, eq-eqb, false≢true, or_right, or_left}
 use Rattle.std.proofs.lemmas.Nat.{mul-add-lt, mod-mul-add, div-mul-add}
 use Rattle.edits.specs.Flooding.{count}
 use Rattle.edits.specs.Joining.{AreBeside, AreNeighbours, Leads, AreJoined, beside, any_neighbour, is_reached}
-
--- ---- neighbours
-pub or_left : (a b : Bool) → a ≡ true → (a || b) ≡ true
-or_left a b e = rw e refl
-
-pub or_right : (a b : Bool) → b ≡ true → (a || b) ≡ true
-or_right true b e = refl
-or_right false b e = e
 
 any_beside : (test : ℕ → Bool) (a : ℕ) → list_any test (beside a) ≡ true → (b : ℕ) × AreBeside b a × (test b ≡ true)
 any_beside test zero h = elim (or_cases (test 1) false h) [ inl e ↦ (1, inr refl, e) | inr e ↦ absurd (false≢true e) ]
@@ -27,17 +20,13 @@ beside_any test zero b (inr s) e = or_left (test 1) false (ap test s ∙ e)
 beside_any test (suc a) b (inl s) e = let same : a ≡ b = omega arith in or_left (test a) (test (suc (suc a)) || false) (ap test same ∙ e)
 beside_any test (suc a) b (inr s) e = or_right (test a) (test (suc (suc a)) || false) (or_left (test (suc (suc a))) false (ap test s ∙ e))
 
-or_false : (a : Bool) → (a || false) ≡ a
-or_false true = refl
-or_false false = refl
-
 -- the test at the column, or the row, before and behind one: before the first there is none
 any_beside-by : (test : ℕ → Bool) (a before : ℕ) → (a ≡ 0 → test before ≡ false) → (0 < a → before ≡ a - 1) → list_any test (beside a) ≡ (test before || test (a + 1))
-any_beside-by test zero before none back = or_false (test 1) ∙ ap (λ b. b || test 1) (sym (none refl))
+any_beside-by test zero before none back = or-false (test 1) ∙ ap (λ b. b || test 1) (sym (none refl))
 any_beside-by test (suc a) before none back =
     let same : before ≡ a = omega (arith, back (omega arith)) in
     let next : suc a + 1 ≡ suc (suc a) = omega arith in
-    ap (λ b. test a || b) (or_false (test (suc (suc a)))) ∙ ap (λ k. test k || test (suc (suc a))) (sym same) ∙ ap (λ k. test before || test k) (sym next)
+    ap (λ b. test a || b) (or-false (test (suc (suc a)))) ∙ ap (λ k. test k || test (suc (suc a))) (sym same) ∙ ap (λ k. test before || test k) (sym next)
 
 pub any_neighbour-by : (test : ℕ × ℕ → Bool) (x y left up : ℕ) → (x ≡ 0 → test (left, y) ≡ false) → (0 < x → left ≡ x - 1) → (y ≡ 0 → test (x, up) ≡ false) → (0 < y → up ≡ y - 1)
     → any_neighbour test (x, y) ≡ ((test (left, y) || test (x + 1, y)) || (test (x, up) || test (x, y + 1)))

@@ -1,5 +1,7 @@
 -- A document on the canvas of its new size.
 use Rattle.std.proofs.Common.{◌≡◌, ℕ, ℤ, pos, negsuc, zero, suc, ◌+◌, ◌*◌, ◌≤◌, ◌<◌, ◌≤ℤ◌, ◌*ℤ◌, ◌-ℤ◌, neg_ℤ, List, [], ◌∷◌, length, map, Bool, true, false, cond, ◌&&◌, nat_lt, Option, Some, None, option_and_then, IfSome, refl, sym, ap, ◌∙◌, arith, length-append}
+use Rattle.std.proofs.lemmas.Float.{T_from_true}
+use Rattle.std.proofs.lemmas.Bool.{ltb-true}
 use Rattle.std.specs.Int.Signed.{le_z_yes}
 use Rattle.std.specs.Prelude.{T, int_le, slice_get, unsigned_abs}
 use Rattle.std.specs.FinSet as set
@@ -103,12 +105,8 @@ and-right : (a b : Bool) → (a && b) ≡ true → b ≡ true
 and-right true b e = e
 and-right false b e = cc
 
-from-true : (b : Bool) → b ≡ true → T b
-from-true true e = tt
-from-true false e = absurd cc
-
 int_le-true : (a b : ℤ) → int_le a b ≡ true → a ≤ℤ b
-int_le-true a b e = le_z_yes (from-true (int_le a b) e)
+int_le-true a b e = le_z_yes (T_from_true (int_le a b) e)
 
 pixels-within : (o : Option ℤ) → are_pixels o ≡ true → IfSome o IsPixels
 pixels-within None e = tt
@@ -146,9 +144,6 @@ layers-may right down size (d ∷ ds) h stay =
 
 within-map : (width height : ℕ) (q : ℕ × ℕ) → (nat_lt q.0 width && nat_lt q.1 height) ≡ in_rectangle 0 0 width height q
 within-map width height q = grind (arith, nat_tests)
-
-less : (a b : ℕ) → nat_lt a b ≡ true → a < b
-less a b e = grind (arith, nat_tests)
 
 -- ---- pixels
 -- the most pixels, as a natural number
@@ -195,7 +190,7 @@ module _ (d : DocumentParts) (width height : ℕ) (dx dy : ℤ) (lists : List (L
             (all_drawn d.map.layers) h.map.layers.each);
         selection = λ q one.
             let both = and-left (nat_lt q.0 width && nat_lt q.1 height) (has_at d.selection (pos q.0 -ℤ dx) (pos q.1 -ℤ dy)) (sym (cells q) ∙ one) in
-            (less q.0 width (and-left (nat_lt q.0 width) (nat_lt q.1 height) both), less q.1 height (and-right (nat_lt q.0 width) (nat_lt q.1 height) both));
+            (ltb-true q.0 width (and-left (nat_lt q.0 width) (nat_lt q.1 height) both), ltb-true q.1 height (and-right (nat_lt q.0 width) (nat_lt q.1 height) both));
         right = right_fits;
         down = down_fits;
         objects = layers-may right down (d.map.width * d.map.height) (all_drawn d.map.layers) h.map.layers.each stay;

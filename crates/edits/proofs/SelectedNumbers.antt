@@ -1,5 +1,6 @@
 -- Marks of the cells of a selection.
 use Rattle.std.proofs.Common.{◌≡◌, ◌↔◌, inl, inr, ℕ, ◌+◌, ◌*◌, ◌/◌, ◌%◌, ◌<◌, min, List, [], ◌∷◌, length, Bool, true, false, ◌&&◌, ◌||◌, nat_eq, nat_le, nat_lt, cond, get_or, Option, Some, None, refl, sym, ap, ◌∙◌, subst, mul_comm, arith}
+use Rattle.std.proofs.Math.Bool.{or_assoc}
 use Rattle.std.specs.List.{slice_get}
 use Rattle.std.specs.FinSet as set
 use Rattle.std.proofs.lemmas.Bool.{or_cases, and_parts, and_from, ltb-true, lt-ltb, leb-true, le-leb, eqb-true, eq-eqb}
@@ -21,10 +22,6 @@ use Rattle.edits.specs.Marks.{is_marked, is_between}
 use Rattle.edits.proofs.Differences.{difference-skip, get_or-each_at}
 use Rattle.edits.proofs.Joined.{end_free, is_reached-AreJoined, reached-free}
 use Rattle.edits.proofs.Flooded.{in_row, is_between-true, between, free_in-column, free_in-row}
-
-or_assoc : (a b c : Bool) → ((a || b) || c) ≡ (a || (b || c))
-or_assoc true b c = refl
-or_assoc false b c = refl
 
 -- a run that is cut at the width has the cells of the run
 between-in_run : (w end x y : ℕ) (r : Run) → end ≡ min w (r.x + r.len) → x < w → is_between (r.y * w + r.x) (r.y * w + end) (y * w + x) ≡ in_run r (x, y)

@@ -3,7 +3,7 @@ use Rattle.std.proofs.Common.{◌≡◌, ◌≢◌, ◌⊎◌, inl, inr, ℕ, �
 use Rattle.std.specs.Prelude.{bit_and, bit_or}
 use Rattle.std.specs.List.{slice_get}
 use Rattle.std.specs.Int.{bit_at, bit_not, trailing_zeros}
-use Rattle.std.proofs.lemmas.Bool.{cases_Bool, cases_eq, or_cases, and_parts, and_from, eq-eqb, eqb-true, false≢true}
+use Rattle.std.proofs.lemmas.Bool.{cases_Bool, cases_eq, or_cases, and_parts, and_from, eq-eqb, eqb-true, false≢true, or_right, or_left}
 use Rattle.std.proofs.lemmas.Bool.Decides.{nat_tests}
 use Rattle.std.proofs.lemmas.Nat.{and_le_l}
 use Rattle.std.proofs.lemmas.Nat.Bits.{bit_at-trailing_zeros, bit_at_and}
@@ -17,7 +17,7 @@ use Rattle.edits.specs.Joining.{is_value}
 use Rattle.edits.specs.Marks.{is_marked, room}
 use Rattle.edits.specs.Flooding.{AreNear, AreSideBySide, InBatch, IsBatch, IsClosed, IsLed, IsSound, Means, Spreads, Waits, free_at, taken_at, work_left}
 use Rattle.edits.proofs.Flooded.{free_at-within}
-use Rattle.edits.proofs.Joined.{count-le, count-lt, or_left, or_right}
+use Rattle.edits.proofs.Joined.{count-le, count-lt}
 use Rattle.edits.proofs.Marking.{has_and, has_not, has_or}
 
 -- ---- batches that wait

@@ -1,4 +1,3 @@
-pub mod MembersLemmas
 pub mod Walks
 pub mod Sizes
 pub mod Words

@@ -9,7 +9,7 @@ use Rattle.serde_json.specs.declared.value.Value.{Value}
 use Rattle.infinite_maps.specs.declared.plane.Plane.{Plane}
 use Rattle.infinite_maps.specs.declared.part.Part.{Part}
 use Rattle.infinite_maps.specs.Infinite.{below, spread, items_spread, members_spread}
-use Rattle.infinite_maps.proofs.MembersLemmas.{same_name}
+use Rattle.json_members.proofs.MembersLemmas.{same_name}
 
 spread_put_at : (o : Ordering) (p : Plane) (part : Part) (k l : List ℕ) (d e : Data) (ms : Members) → slice_cmp nat_cmp k l ≡ o
     → members_spread p part (put k d ms) ≡ put k (spread p (below part k) d) (members_spread p part ms)

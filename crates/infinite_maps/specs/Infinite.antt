@@ -8,7 +8,8 @@ use Rattle.infinite_maps.specs.declared.plane.Plane.{Plane}
 use Rattle.infinite_maps.specs.declared.part.Part.{Part}
 use Rattle.infinite_maps.specs.declared.part.Part.TheVariants.{Layers, Objects, Across, Down, Rest}
 use Rattle.infinite_maps.specs.Notes.{mark, plane_of}
-use Rattle.infinite_maps.specs.Layers.{without, put_some, layer_of}
+use Rattle.json_members.specs.Members.{without, put_some}
+use Rattle.infinite_maps.specs.Layers.{layer_of}
 
 -- what a member of this name is
 abbrev pub part_of_object : List ℕ → Part

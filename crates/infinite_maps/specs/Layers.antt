@@ -1,11 +1,10 @@
 -- A tile layer of a finite map as one of an infinite map.
 use Rattle.std.specs.Prelude.{ℕ, ◌*◌, ◌==◌, List, [], ◌∷◌, ◌++◌, map, length, codes, ℤ, pos, Bool, false, Option, Some, None, option_and_then, unwrap_or, if◌then◌else◌}
 use Rattle.std.specs.Int.{w64, int_wrapping_add}
-use Rattle.std.specs.Cmp.Lexicographic.{slice_cmp}
-use Rattle.std.specs.Ordering.{nat_cmp, match_ordering}
-use Rattle.serde_json.specs.Data.{unsigned, Data, number, array, object, Items, no_items, Members, no_members, member, put}
+use Rattle.serde_json.specs.Data.{unsigned, Data, number, array, object, Items, no_items, Members, no_members, put}
 use Rattle.serde_json.specs.Find.{get, get_member, as_array, of_integer}
 use Rattle.serde_json.specs.View.{items_of}
+use Rattle.json_members.specs.Members.{without, put_some}
 use Rattle.infinite_maps.specs.declared.rectangle.Rectangle.{Rectangle}
 use Rattle.infinite_maps.specs.declared.plane.Plane.{Plane}
 use Rattle.infinite_maps.specs.Rectangles.{width, height, bounds}
@@ -13,16 +12,6 @@ use Rattle.infinite_maps.specs.Cells.{is_text, cells_of, cells_data, cut}
 use Rattle.infinite_maps.specs.Coverage.{cover_of, are_apart}
 use Rattle.infinite_maps.specs.Growth.{grown}
 use Rattle.infinite_maps.specs.Notes.{mark, noted_all}
-
--- the members but those of this name
-abbrev pub without : List ℕ → Members → Members
-without k no_members = no_members
-without k (member l d ms) = match_ordering (slice_cmp nat_cmp k l) (member l d (without k ms)) (without k ms) (member l d (without k ms))
-
--- the members, with this one where there is a value
-abbrev pub put_some : List ℕ → Option Data → Members → Members
-put_some k None ms = ms
-put_some k (Some d) ms = put k d ms
 
 abbrev pub size : Plane → ℕ
 size p = p.columns * p.rows

@@ -4,7 +4,7 @@ ghost use Rattle.serde_json.specs.View.{view as data_of};
 ghost use Rattle.infinite_maps.specs.Infinite.{infinite_of, is_infinite};
 
 use crate::fault::Fault;
-use crate::members::{MARK, found, put_copy};
+use crate::members::{MARK, put_copy};
 use crate::notes::{MAX_SIDE, integer};
 use crate::part::Part;
 use crate::pasting::put_finite;
@@ -12,6 +12,7 @@ use crate::plane::Plane;
 use crate::same::is_same;
 use crate::spread::{made_infinite, moved};
 use crate::survey::{Extent, Survey, survey_layers};
+use json_members::found;
 use serde_json::{Map, Value};
 use std::alloc::{AllocError, Global};
 

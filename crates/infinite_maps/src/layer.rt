@@ -13,10 +13,11 @@ ghost use Rattle.infinite_maps.specs.Notes.{mark, noted_all};
 use crate::cells::{cells_data, cells_of, cut};
 use crate::cover::{are_apart, cover_of};
 use crate::growth::grown;
-use crate::members::{MARK, found, put_copy, remove};
+use crate::members::{MARK, put_copy};
 use crate::notes::noted_all;
 use crate::plane::Plane;
 use crate::rectangle::{Rectangle, bounds};
+use json_members::{found, remove};
 use serde_json::{Map, Value};
 use std::alloc::{AllocError, Global};
 

@@ -5,9 +5,9 @@ ghost use Rattle.serde_json.specs.View.{view as data_of, items_view, members_vie
 ghost use Rattle.infinite_maps.specs.Notes.{natural, integer, plane_of, noted, noted_all};
 
 use crate::cells::whole;
-use crate::members::found;
 use crate::plane::Plane;
 use crate::rectangle::Rectangle;
+use json_members::found;
 use serde_json::{Map, Value};
 use std::alloc::{AllocError, Global};
 

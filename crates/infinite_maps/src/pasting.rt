@@ -3,10 +3,11 @@
 use crate::cells::{cells_data, cells_of};
 use crate::cover::are_apart;
 use crate::fault::Fault;
-use crate::members::{MARK, found, remove};
+use crate::members::MARK;
 use crate::plane::Plane;
 use crate::rectangle::Rectangle;
 use crate::survey::extent_of;
+use json_members::{found, remove};
 use serde_json::{Map, Value};
 use std::alloc::{AllocError, Global};
 

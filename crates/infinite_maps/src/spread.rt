@@ -10,10 +10,11 @@ ghost use Rattle.infinite_maps.specs.Notes.{plane_of};
 
 use crate::fault::Fault;
 use crate::layer::spread_layer;
-use crate::members::{MARK, found, put_copy, remove};
+use crate::members::{MARK, put_copy};
 use crate::notes::plane_of;
 use crate::part::Part;
 use crate::plane::Plane;
+use json_members::{found, remove};
 use serde_json::{Map, Number, Value};
 use std::alloc::{AllocError, Global};
 

@@ -1,9 +1,9 @@
 // The chunks of a map, where they lie and how much they hold.
 
 use crate::fault::Fault;
-use crate::members::found;
 use crate::plane::Plane;
 use crate::rectangle::Rectangle;
+use json_members::found;
 use serde_json::{Map, Value};
 
 /// The greatest place and size of a chunk, in cells.

@@ -2,30 +2,21 @@
 use Rattle.std.proofs.Common.{◌≡◌, ℕ, ◌≤◌, eq-eqb, List, [], ◌∷◌, ◌++◌, Bool, true, false, not, ◌&&◌, ◌||◌, bytes_eq, true≢false, refl, sym, ◌∙◌}
 use Rattle.std.specs.Prelude.{◌≢◌, ◌==◌, nat_lt}
 use Rattle.std.specs.List.{list_any, list_all, flat_map}
-use Rattle.std.proofs.lemmas.Bool.{eqb-true, ltb-true, lt-ltb}
+use Rattle.std.proofs.lemmas.Bool.{eqb-true, ltb-true, lt-ltb, or_parts, false_from_ne_true, and_parts}
 use Rattle.std.proofs.lemmas.Slice.Eq.{bytes_eq-Decides}
 use Rattle.map_model.specs.declared.limits.TheConstants.{MAX_NEXT_ID}
 use Rattle.map_model.specs.Lists.{Each, Distinct}
 use Rattle.map_model.specs.WellFormed.{IsId, AreIds}
 use Rattle.map_json.specs.Distinctness.{are_distinct}
-use Rattle.map_json.proofs.Words.{both}
-
-pub either_false : (a b : Bool) → a || b ≡ false → (a ≡ false) × (b ≡ false)
-either_false true b e = absurd (true≢false e)
-either_false false b e = (refl, e)
 
 not_and : (a b : Bool) → not a && b ≡ true → (a ≡ false) × (b ≡ true)
 not_and true b e = absurd (true≢false (sym e))
 not_and false b e = (refl, e)
 
-is_false : (b : Bool) → (b ≡ true → ⊥) → b ≡ false
-is_false true h = absurd (h refl)
-is_false false h = refl
-
 module _ {A : Type 0} (eq : A → A → Bool) (same : (x y : A) → x ≡ y → eq x y ≡ true) where
   none_same : (x : A) (ys : List A) → list_any (eq x) ys ≡ false → Each (λ y. x ≢ y) ys
   none_same x [] e = tt
-  none_same x (y ∷ ys) e = let f = either_false (eq x y) (list_any (eq x) ys) e in ((λ s. true≢false (sym (same x y s) ∙ f.0)), none_same x ys f.1)
+  none_same x (y ∷ ys) e = let f = or_parts (eq x y) (list_any (eq x) ys) e in ((λ s. true≢false (sym (same x y s) ∙ f.0)), none_same x ys f.1)
 
   Distinct-are_distinct : (xs : List A) → are_distinct eq xs ≡ true → Distinct xs
   Distinct-are_distinct [] e = tt
@@ -34,7 +25,7 @@ module _ {A : Type 0} (eq : A → A → Bool) (same : (x y : A) → x ≡ y → 
 module _ {A : Type 0} (eq : A → A → Bool) (same : (x y : A) → eq x y ≡ true → x ≡ y) where
   none_equal : (x : A) (ys : List A) → Each (λ y. x ≢ y) ys → list_any (eq x) ys ≡ false
   none_equal x [] h = refl
-  none_equal x (y ∷ ys) h = rw (is_false (eq x y) (λ e. h.0 (same x y e)), none_equal x ys h.1) refl
+  none_equal x (y ∷ ys) h = rw (false_from_ne_true (eq x y) (λ e. h.0 (same x y e)), none_equal x ys h.1) refl
 
   are_distinct-Distinct : (xs : List A) → Distinct xs → are_distinct eq xs ≡ true
   are_distinct-Distinct [] h = refl
@@ -66,7 +57,7 @@ module _ {B : Type 0} (P : B → Type 0) where
 Each-IsId : (next : ℕ) (ids : List ℕ) → Each (λ id. 1 ≤ id) ids → list_all (λ id. nat_lt id next) ids ≡ true → Each (IsId next) ids
 Each-IsId next [] h e = tt
 Each-IsId next (id ∷ ids) h e =
-    let f = both (nat_lt id next) (list_all (λ id. nat_lt id next) ids) e in
+    let f = and_parts (nat_lt id next) (list_all (λ id. nat_lt id next) ids) e in
     (record { low = h.0; high = ltb-true id next f.0 }, Each-IsId next ids h.1 f.1)
 
 pub AreIds-read : (next : ℕ) (ids : List ℕ) → 1 ≤ next → next ≤ MAX_NEXT_ID → Each (λ id. 1 ≤ id) ids → are_distinct (λ a b. a == b) ids ≡ true → list_all (λ id. nat_lt id next) ids ≡ true → AreIds next ids

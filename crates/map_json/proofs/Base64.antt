@@ -1,5 +1,6 @@
 -- The text of base64 has no blanks, and is read again.
 use Rattle.std.proofs.Common.{◌≡◌, ℕ, zero, suc, ◌%◌, ◌<◌, Bool, true, false, not, ◌&&◌, List, [], ◌∷◌, ◌++◌, length, get_or, replicate, filter, Ok, refl, sym, ap, ◌∙◌, arith}
+use Rattle.std.proofs.lemmas.Bool.{and_from, and_parts}
 use Rattle.std.specs.List.{list_all}
 use Rattle.base64.specs.Rfc4648.{encode_symbols, padding_len}
 use Rattle.base64.specs.Engines.{standard}
@@ -11,20 +12,13 @@ use Rattle.map_json.specs.Trees.{bytes_of}
 abbrev is_no_blank : ℕ → Bool
 is_no_blank b = not (is_blank b)
 
-both : (a b : Bool) → a && b ≡ true → (a ≡ true) × (b ≡ true)
-both true b e = (refl, e)
-both false b e = absurd cc
-
-and_true : (a b : Bool) → a ≡ true → b ≡ true → a && b ≡ true
-and_true a b e f = rw (e, f) refl
-
 filter_all : (xs : List ℕ) → list_all is_no_blank xs ≡ true → filter is_no_blank xs ≡ xs
 filter_all [] e = refl
-filter_all (x ∷ xs) e = let h = both (is_no_blank x) (list_all is_no_blank xs) e in rw h.0 (ap (λ (ys : List ℕ). x ∷ ys) (filter_all xs h.1))
+filter_all (x ∷ xs) e = let h = and_parts (is_no_blank x) (list_all is_no_blank xs) e in rw h.0 (ap (λ (ys : List ℕ). x ∷ ys) (filter_all xs h.1))
 
 list_all-append : (xs ys : List ℕ) → list_all is_no_blank xs ≡ true → list_all is_no_blank ys ≡ true → list_all is_no_blank (xs ++ ys) ≡ true
 list_all-append [] ys a b = b
-list_all-append (x ∷ xs) ys a b = let h = both (is_no_blank x) (list_all is_no_blank xs) a in and_true (is_no_blank x) (list_all is_no_blank (xs ++ ys)) h.0 (list_all-append xs ys h.1 b)
+list_all-append (x ∷ xs) ys a b = let h = and_parts (is_no_blank x) (list_all is_no_blank xs) a in and_from (is_no_blank x) (list_all is_no_blank (xs ++ ys)) h.0 (list_all-append xs ys h.1 b)
 
 list_all-replicate : (n : ℕ) → list_all is_no_blank (replicate n 61) ≡ true
 list_all-replicate zero = refl
@@ -33,8 +27,8 @@ list_all-replicate (suc n) = list_all-replicate n
 -- no element of such a table is blank, nor what is past its end
 at_no_blank : (t : List ℕ) → list_all is_no_blank t ≡ true → (i : ℕ) → is_no_blank (get_or t i 0) ≡ true
 at_no_blank [] e i = refl
-at_no_blank (x ∷ t) e zero = (both (is_no_blank x) (list_all is_no_blank t) e).0
-at_no_blank (x ∷ t) e (suc i) = at_no_blank t (both (is_no_blank x) (list_all is_no_blank t) e).1 i
+at_no_blank (x ∷ t) e zero = (and_parts (is_no_blank x) (list_all is_no_blank t) e).0
+at_no_blank (x ∷ t) e (suc i) = at_no_blank t (and_parts (is_no_blank x) (list_all is_no_blank t) e).1 i
 
 module _ (t : List ℕ) (table : (i : ℕ) → is_no_blank (get_or t i 0) ≡ true) where
   symbols_no_blank : (m : List ℕ) → list_all is_no_blank (encode_symbols t m) ≡ true

@@ -9,10 +9,10 @@ use Rattle.map_model.specs.declared.parts.Body.{Body}
 use Rattle.map_model.specs.declared.parts.Layer.{Layer}
 use Rattle.map_json.specs.declared.body.LayerType.{LayerType}
 use Rattle.map_json.specs.declared.body.LayerType.TheVariants.{TileLayer, ObjectGroup, ImageLayer, GroupLayer}
-use Rattle.map_json.specs.Members.{without, without_all}
+use Rattle.json_members.specs.Members.{without, without_all}
 use Rattle.map_json.specs.Elements.{Counting}
 use Rattle.map_json.specs.Reading.{tiles_of, objects_of, body_by, placing_of}
-use Rattle.map_json.proofs.MembersLemmas.{get_member-without}
+use Rattle.json_members.proofs.MembersLemmas.{get_member-without}
 
 stays_at : (b : Bool) (q k : List ℕ) (r : Bool) (ms : Members) → bytes_eq q k ≡ b → b || r ≡ false → get_member q (without k ms) ≡ get_member q ms
 stays_at true q k r ms e h = absurd (true≢false h)

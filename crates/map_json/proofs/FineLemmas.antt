@@ -1,11 +1,12 @@
 -- Fine trees: their members, what is put in and taken out, and what was read.
 use Rattle.std.proofs.Common.{◌≡◌, ℕ, zero, suc, ◌≤◌, max, List, [], ◌∷◌, Option, Some, Ordering, Less, Equal, Greater, nat_cmp, Bool, true, false, ◌||◌, true≢false, refl, subst, arith}
+use Rattle.std.proofs.lemmas.Bool.{or_parts}
 use Rattle.std.specs.Cmp.Lexicographic.{slice_cmp}
 use Rattle.std.specs.Ordering.{match_ordering}
 use Rattle.serde_json.specs.Data.{Num, unsigned, negative, float, Data, null, boolean, number, string, array, object, Items, no_items, item, Members, no_members, member, depth, items_depth, members_depth}
 use Rattle.serde_json.specs.Find.{get_member, is_float}
 use Rattle.serde_json.specs.Written.{has_float, items_have_float, members_have_float}
-use Rattle.map_json.specs.Members.{without, without_all}
+use Rattle.json_members.specs.Members.{without, without_all}
 use Rattle.map_model.specs.Readable.{IsBefore, IsReadableNumber, IsReadable, AreReadableItems, AreReadableMembers}
 use Rattle.map_json.proofs.Fine.{IsFineNum, IsFine, AreFineItems, AreFineMembers}
 
@@ -93,10 +94,6 @@ mutual
 
 -- ---- what was read, with no float
 
-both_false : (a b : Bool) → a || b ≡ false → (a ≡ false) × (b ≡ false)
-both_false true b e = absurd (true≢false e)
-both_false false b e = (refl, e)
-
 num_read : (x : Num) → IsReadableNumber x → is_float x ≡ false → IsFineNum x
 num_read (unsigned n) h e = h
 num_read (negative z) h e = h
@@ -116,13 +113,13 @@ mutual
   AreFineItems-read : (n : ℕ) (ds : Items) → AreReadableItems ds → items_have_float ds ≡ false → items_depth ds ≤ n → AreFineItems n ds
   AreFineItems-read n no_items h e le = tt
   AreFineItems-read n (item d ds) h e le =
-      let f = both_false (has_float d) (items_have_float ds) e in
+      let f = or_parts (has_float d) (items_have_float ds) e in
       (IsFine-read n d h.0 f.0 (omega arith), AreFineItems-read n ds h.1 f.1 (omega arith))
 
   pub AreFineMembers-read : (n : ℕ) (ms : Members) → AreReadableMembers ms → members_have_float ms ≡ false → members_depth ms ≤ n → AreFineMembers n ms
   AreFineMembers-read n no_members h e le = tt
   AreFineMembers-read n (member k d ms) h e le =
-      let f = both_false (has_float d) (members_have_float ms) e in
+      let f = or_parts (has_float d) (members_have_float ms) e in
       (h.0, h.1, IsFine-read n d h.2 f.0 (omega arith), AreFineMembers-read n ms h.3 f.1 (omega arith))
 
 -- ---- a file can say them

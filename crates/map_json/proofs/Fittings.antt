@@ -4,7 +4,7 @@ use Rattle.std.specs.Prelude.{◌==◌, nat_le, nat_lt}
 use Rattle.std.specs.List.{list_all, flat_map}
 use Rattle.std.specs.Cmp.Lexicographic.{slice_cmp}
 use Rattle.std.specs.Ordering.{match_ordering}
-use Rattle.std.proofs.lemmas.Bool.{leb-true}
+use Rattle.std.proofs.lemmas.Bool.{leb-true, or_parts, and_parts, not-true}
 use Rattle.std.proofs.lemmas.List.Folds.{list_all-append}
 use Rattle.std.specs.Option.{ok_or}
 use Rattle.serde_json.specs.Data.{Data, null, boolean, number, string, array, object, Members, no_members, member, depth}
@@ -22,7 +22,7 @@ use Rattle.map_model.specs.Groups.{all_drawn}
 use Rattle.map_model.specs.Lists.{Each}
 use Rattle.map_model.specs.Keeping.{AreKept, map_level, object_level, map_names}
 use Rattle.map_model.specs.WellFormed.{IsSize, IsTileSize, IsTileset, AreProperties, IsObject, IsBody, IsDrawn, IsLayer, IsWellFormed, names_of_property, ids_of, layer_ids, ids_of_object, object_ids_in, object_ids_of, object_ids, first_ids_of}
-use Rattle.map_json.specs.Members.{without, without_all}
+use Rattle.json_members.specs.Members.{without, without_all}
 use Rattle.map_json.specs.declared.fault.MapRefusal.TheVariants.{Fraction, Infinite, IdUsedTwice, OverLimit, NotAMap}
 use Rattle.map_json.specs.Steps.{required, absent_means}
 use Rattle.map_json.specs.Scalars.{whole_at, truth_at}
@@ -33,12 +33,12 @@ use Rattle.map_json.specs.Maps.{version_has_fraction, has_fraction, is_map_type,
 use Rattle.map_model.specs.Readable.{IsReadable}
 use Rattle.map_json.proofs.Fine.{AreFineMembers}
 use Rattle.map_json.proofs.FineLemmas.{IsFine-get_member, members_have_float-fine, members_depth-fine, AreFineMembers-read, AreFineMembers-without, AreReadableMembers-fine, AreReadableMembers-without, members_depth-without}
-use Rattle.map_json.proofs.MembersLemmas.{get_member-without, LacksAll-without_all, without-absent}
-use Rattle.map_json.proofs.Words.{both}
+use Rattle.json_members.proofs.MembersLemmas.{get_member-without, without-absent}
+use Rattle.map_json.proofs.Lacking.{LacksAll-without_all}
 use Rattle.map_json.proofs.Sound.{by_bind, by_check, ok_is, ok_or_ok, required_ok, required_whole_sound, elements_sound, WereRead, properties_sound}
 use Rattle.map_json.proofs.Owners.{WasReadObject, tileset_sound}
 use Rattle.map_json.proofs.Layers.{WasReadBody, WasReadDrawn, WasReadLayer, map_layers_sound}
-use Rattle.map_json.proofs.Apart.{either_false, Distinct-numbers, Distinct-texts, Each-flat_map, AreIds-read}
+use Rattle.map_json.proofs.Apart.{Distinct-numbers, Distinct-texts, Each-flat_map, AreIds-read}
 
 -- ---- names that differ within each owner
 AreProperties-read : (level : ℕ) (ps : List Property) → WereRead level ps → are_named_apart ps ≡ true → AreProperties level ps
@@ -47,7 +47,7 @@ AreProperties-read level ps h e = record { few = h.few; each = h.each; distinct 
 Each-IsObject : (level : ℕ) (os : List Object) → Each (WasReadObject level) os → list_all are_named_apart (map (λ (o : Object). o.properties) os) ≡ true → Each (IsObject level) os
 Each-IsObject level [] h e = tt
 Each-IsObject level (o ∷ os) h e =
-    let f = both (are_named_apart o.properties) (list_all are_named_apart (map (λ (p : Object). p.properties) os)) e in
+    let f = and_parts (are_named_apart o.properties) (list_all are_named_apart (map (λ (p : Object). p.properties) os)) e in
     (record { placing = h.0.placing; name = h.0.name; gid = h.0.gid; properties = AreProperties-read level o.properties h.0.properties f.0; kept = h.0.kept }, Each-IsObject level os h.1 f.1)
 
 IsBody-read : (level size : ℕ) (b : Body) → WasReadBody level size b → list_all are_named_apart (lists_in b) ≡ true → IsBody level size b
@@ -58,13 +58,13 @@ IsBody-read level size (Group' s r) h f = h
 
 IsLayer-read : (level size : ℕ) (l : Layer) → WasReadLayer level size l → list_all are_named_apart (lists_of_layer l) ≡ true → IsLayer level size l
 IsLayer-read level size l h e =
-    let f = both (are_named_apart l.properties) (list_all are_named_apart (lists_in l.body)) e in
+    let f = and_parts (are_named_apart l.properties) (list_all are_named_apart (lists_in l.body)) e in
     record { name = h.name; properties = AreProperties-read level l.properties h.properties f.0; kept = h.kept; body = IsBody-read level size l.body h.body f.1 }
 
 Each-IsDrawn : (size : ℕ) (ds : List (ℕ × Layer)) → Each (WasReadDrawn size) ds → list_all are_named_apart (flat_map lists_of_drawn ds) ≡ true → Each (IsDrawn size) ds
 Each-IsDrawn size [] h e = tt
 Each-IsDrawn size (d ∷ ds) h e =
-    let f = both (list_all are_named_apart (lists_of_drawn d)) (list_all are_named_apart (flat_map lists_of_drawn ds)) (sym (list_all-append are_named_apart (lists_of_drawn d) (flat_map lists_of_drawn ds)) ∙ e) in
+    let f = and_parts (list_all are_named_apart (lists_of_drawn d)) (list_all are_named_apart (flat_map lists_of_drawn ds)) (sym (list_all-append are_named_apart (lists_of_drawn d) (flat_map lists_of_drawn ds)) ∙ e) in
     (IsLayer-read d.0 size d.1 h.0 f.0, Each-IsDrawn size ds h.1 f.1)
 
 -- ---- ids from 1 on
@@ -199,11 +199,11 @@ IsWellFormed-read m h apart below =
     let objects_apart = are_distinct (λ a b. a == b) (object_ids m.layers) in
     let tilesets_apart = are_distinct (λ a b. a == b) (flat_map first_ids_of m.tilesets) in
     let named_apart = list_all are_named_apart (property_lists m) in
-    let a = both (layers_apart && objects_apart && tilesets_apart) named_apart apart in
-    let b = both (layers_apart && objects_apart) tilesets_apart a.0 in
-    let c = both layers_apart objects_apart b.0 in
-    let d = both (are_named_apart m.properties) (list_all are_named_apart (flat_map lists_of_drawn (all_drawn m.layers))) a.1 in
-    let f = both (list_all (λ id. nat_lt id m.next_layer_id) (layer_ids m.layers)) (list_all (λ id. nat_lt id m.next_object_id) (object_ids m.layers)) below in
+    let a = and_parts (layers_apart && objects_apart && tilesets_apart) named_apart apart in
+    let b = and_parts (layers_apart && objects_apart) tilesets_apart a.0 in
+    let c = and_parts layers_apart objects_apart b.0 in
+    let d = and_parts (are_named_apart m.properties) (list_all are_named_apart (flat_map lists_of_drawn (all_drawn m.layers))) a.1 in
+    let f = and_parts (list_all (λ id. nat_lt id m.next_layer_id) (layer_ids m.layers)) (list_all (λ id. nat_lt id m.next_object_id) (object_ids m.layers)) below in
     let size = m.width * m.height in
     record {
       size = h.size;
@@ -221,10 +221,6 @@ IsWellFormed-read m h apart below =
       kept = h.kept;
     }
 
-not_true : (b : Bool) → not b ≡ true → b ≡ false
-not_true true e = absurd (true≢false (sym e))
-not_true false e = refl
-
 root_fine : (d : Data) (ms : Members) → as_object d ≡ Some ms → has_fraction d ≡ false → IsReadable d → depth d ≤ 127
     → AreFineMembers 126 (without VERSION.now ms)
 root_fine null ms is e h le = absurd cc
@@ -234,7 +230,7 @@ root_fine (string s) ms is e h le = absurd cc
 root_fine (array ds) ms is e h le = absurd cc
 root_fine (object ks) ms is e h le =
     let same : ks ≡ ms = cc in
-    let f = either_false (members_have_float (without VERSION.now ks)) (version_has_fraction (get_member VERSION.now ks)) e in
+    let f = or_parts (members_have_float (without VERSION.now ks)) (version_has_fraction (get_member VERSION.now ks)) e in
     let less = members_depth-without VERSION.now ks in
     subst (λ (x : Members). AreFineMembers 126 (without VERSION.now x)) same
     (AreFineMembers-read 126 (without VERSION.now ks) (AreReadableMembers-without VERSION.now ks h) f.0 (omega arith))
@@ -247,7 +243,7 @@ IsWellFormed-map_of d m h le e =
     by_bind (ok_or (as_object d) NotAMap) _ m e1 (λ ms object e2.
     by_check (is_map_type (get_member TYPE.now ms)) NotAMap _ m e2 (λ is_map e3.
     by_bind (parts_of ms) _ m e3 (λ p p_is e4.
-    let whole = not_true (has_fraction d) no_fraction in
+    let whole = not-true (has_fraction d) no_fraction in
     let fine = root_fine d ms (ok_or_ok (as_object d) NotAMap ms object) whole h le in
     let c = consistent_sound p m e4 in
     subst IsWellFormed c.0 (IsWellFormed-read p (parts_sound ms p fine p_is) c.1 c.2)))))

@@ -19,9 +19,10 @@ use Rattle.map_model.specs.Keeping.{layer_names}
 use Rattle.map_model.specs.Lists.{Each, or_empty}
 use Rattle.map_json.specs.Appending.{frame_of, framed_body, instead, layer_frame, replaced}
 use Rattle.map_json.specs.Details.{numbers_of}
-use Rattle.map_json.specs.Members.{Own, put_some, with_own}
+use Rattle.json_members.specs.Members.{put_some}
+use Rattle.map_json.specs.Members.{Own, with_own}
 use Rattle.map_json.specs.Trees.{array_by, layer_own, layer_tree, layers_tree, own_around, plain_own, properties_member, tileset_tree, whole_tree}
-use Rattle.map_json.proofs.MembersLemmas.{same_name}
+use Rattle.json_members.proofs.MembersLemmas.{same_name}
 
 -- ---- members that are put
 replaced-put_at : (o : Ordering) (k l m : List ℕ) (d e f : Data) (ms : Members) → slice_cmp nat_cmp l m ≡ o → replaced k d (put l e ms) ≡ put l (instead k d l e) (replaced k d ms)

@@ -19,7 +19,8 @@ use Rattle.map_model.specs.declared.parts.Tileset.{Tileset}
 use Rattle.map_model.specs.Lists.{Each}
 use Rattle.map_model.specs.Keeping.{IsOfAnotherKind, property_names, object_names, tileset_names, property_level}
 use Rattle.map_model.specs.WellFormed.{IsId, IsValue, IsProperty, AreProperties, IsPixels, IsPlacing, IsTileValue, IsObject, IsTileset}
-use Rattle.map_json.specs.Members.{without_all, with_own}
+use Rattle.json_members.specs.Members.{without_all}
+use Rattle.map_json.specs.Members.{with_own}
 use Rattle.map_json.specs.declared.fault.MapRefusal.{MapRefusal}
 use Rattle.map_json.specs.Steps.{optional, absent_means}
 use Rattle.map_json.specs.Scalars.{whole_at, signed_at, text_at, truth_at}

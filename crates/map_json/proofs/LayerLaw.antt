@@ -19,7 +19,8 @@ use Rattle.map_model.specs.Keeping.{deepest_level, inner_level, layer_level, lay
 use Rattle.map_model.specs.WellFormed.{IsId, IsObject, IsBody, IsDrawn, ids_of, ids_of_object, layer_ids, object_ids, object_ids_in, object_ids_of}
 use Rattle.map_model.proofs.GroupBodies.{IsLayer-without, object_ids-with}
 use Rattle.map_model.proofs.Trees.{below}
-use Rattle.map_json.specs.Members.{with_own, without_all}
+use Rattle.json_members.specs.Members.{without_all}
+use Rattle.map_json.specs.Members.{with_own}
 use Rattle.map_json.specs.declared.body.LayerType.{LayerType}
 use Rattle.map_json.specs.declared.body.LayerType.TheVariants.{TileLayer, ObjectGroup, ImageLayer, GroupLayer}
 use Rattle.map_json.specs.Steps.{absent_means}
@@ -30,7 +31,7 @@ use Rattle.map_json.specs.Trees.{array_by, items_by, whole_tree, properties_memb
 use Rattle.map_json.proofs.Again.{elements_again, items_len-items_by}
 use Rattle.map_json.proofs.DrawnLayers.{Each-left, Each-right, Group-inside, drawn_in, drawn_in-none, length-drawn, tree-Each}
 use Rattle.map_json.proofs.Law.{or_none, id_again, properties_again, object_again, encoding_again, cells_tree_again, same_again}
-use Rattle.map_json.proofs.MembersLemmas.{LacksAll}
+use Rattle.map_json.proofs.Lacking.{LacksAll}
 use Rattle.map_json.proofs.Own.{get_member-with_own, find_own, without_all-with_own}
 
 -- ---- ids of elements

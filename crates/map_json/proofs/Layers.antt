@@ -19,7 +19,7 @@ use Rattle.map_model.specs.Keeping.{AreKept, body_names, deepest_level, inner_le
 use Rattle.map_model.specs.Steps.{◌>>=◌, ◌>>◌, check}
 use Rattle.map_model.specs.WellFormed.{IsTileValue}
 use Rattle.map_model.proofs.Trees.{below}
-use Rattle.map_json.specs.Members.{without_all}
+use Rattle.json_members.specs.Members.{without_all}
 use Rattle.map_json.specs.declared.body.LayerType.{LayerType}
 use Rattle.map_json.specs.declared.body.LayerType.TheVariants.{TileLayer, ObjectGroup, ImageLayer, GroupLayer}
 use Rattle.map_json.specs.declared.fault.MapRefusal.TheVariants.{MemberOfAnotherKind, OverLimit}

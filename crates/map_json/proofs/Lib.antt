@@ -1,4 +1,4 @@
-pub mod MembersLemmas
+pub mod Lacking
 pub mod Own
 pub mod Loops
 pub mod Words

@@ -4,7 +4,7 @@ use Rattle.std.specs.Prelude.{codes, nat_le}
 use Rattle.std.specs.List.{list_all, flat_map}
 use Rattle.std.specs.Cmp.Lexicographic.{slice_cmp}
 use Rattle.std.specs.Ordering.{match_ordering}
-use Rattle.std.proofs.lemmas.Bool.{le-leb}
+use Rattle.std.proofs.lemmas.Bool.{le-leb, or_parts, and_from}
 use Rattle.std.proofs.lemmas.List.Folds.{list_all-append}
 use Rattle.serde_json.specs.Data.{Data, boolean, string, object, Members, no_members, member}
 use Rattle.serde_json.specs.Find.{get_member}
@@ -21,7 +21,8 @@ use Rattle.map_model.specs.Groups.{all_drawn}
 use Rattle.map_model.specs.Lists.{Each}
 use Rattle.map_model.specs.Keeping.{map_level, object_level, map_names}
 use Rattle.map_model.specs.WellFormed.{IsObject, IsBody, IsDrawn, IsTileset, AreProperties, IsWellFormed, names_of_property, layer_ids, object_ids, first_ids_of}
-use Rattle.map_json.specs.Members.{without, without_all, with_own}
+use Rattle.json_members.specs.Members.{without, without_all}
+use Rattle.map_json.specs.Members.{with_own}
 use Rattle.map_json.specs.Steps.{absent_means}
 use Rattle.map_json.specs.Scalars.{whole_at, truth_at}
 use Rattle.map_json.specs.Elements.{elements_at}
@@ -31,21 +32,17 @@ use Rattle.map_json.specs.Maps.{parts_of, consistent, map_of}
 use Rattle.map_json.specs.Trees.{array_by, whole_tree, properties_member, tileset_tree, layers_tree, map_own, tree_of}
 use Rattle.map_json.proofs.Own.{get_member-with_own, without_all-with_own}
 use Rattle.map_json.proofs.Again.{whole_again, elements_again, all_weaker}
-use Rattle.map_json.proofs.Apart.{either_false, numbers-Distinct, texts-Distinct, below-IsId}
+use Rattle.map_json.proofs.Apart.{numbers-Distinct, texts-Distinct, below-IsId}
 use Rattle.map_json.proofs.Plain.{tree_plain}
 use Rattle.map_json.proofs.Law.{or_none, properties_again, tileset_again}
 use Rattle.map_json.proofs.LayerLaw.{map_layers_again}
-
--- ---- what differs
-and_true : (a b : Bool) → a ≡ true → b ≡ true → a && b ≡ true
-and_true a b e f = rw (e, f) refl
 
 named_apart : (level : ℕ) (ps : List Property) → AreProperties level ps → are_named_apart ps ≡ true
 named_apart level ps h = texts-Distinct (flat_map names_of_property ps) h.distinct
 
 objects_apart : (level : ℕ) (os : List Object) → Each (IsObject level) os → list_all are_named_apart (map (λ (o : Object). o.properties) os) ≡ true
 objects_apart level [] h = refl
-objects_apart level (o ∷ os) h = and_true (are_named_apart o.properties) _ (named_apart level o.properties h.0.properties) (objects_apart level os h.1)
+objects_apart level (o ∷ os) h = and_from (are_named_apart o.properties) _ (named_apart level o.properties h.0.properties) (objects_apart level os h.1)
 
 body_apart : (level size : ℕ) (b : Body) → IsBody level size b → list_all are_named_apart (lists_in b) ≡ true
 body_apart level size (Tiles e cells) h = refl
@@ -57,15 +54,15 @@ layers_apart : (size : ℕ) (ds : List (ℕ × Layer)) → Each (IsDrawn size) d
 layers_apart size [] h = refl
 layers_apart size (d ∷ ds) h =
     list_all-append are_named_apart (lists_of_drawn d) (flat_map lists_of_drawn ds)
-    ∙ and_true (list_all are_named_apart (lists_of_drawn d)) (list_all are_named_apart (flat_map lists_of_drawn ds))
-    (and_true (are_named_apart d.1.properties) (list_all are_named_apart (lists_in d.1.body)) (named_apart d.0 d.1.properties h.0.properties) (body_apart d.0 size d.1.body h.0.body))
+    ∙ and_from (list_all are_named_apart (lists_of_drawn d)) (list_all are_named_apart (flat_map lists_of_drawn ds))
+    (and_from (are_named_apart d.1.properties) (list_all are_named_apart (lists_in d.1.body)) (named_apart d.0 d.1.properties h.0.properties) (body_apart d.0 size d.1.body h.0.body))
     (layers_apart size ds h.1)
 
 consistent_again : (m : MapParts) → IsWellFormed m → consistent m ≡ Ok m
 unfolding consistent
 consistent_again m h =
     let names : list_all are_named_apart (property_lists m) ≡ true =
-    and_true (are_named_apart m.properties) (list_all are_named_apart (flat_map lists_of_drawn (all_drawn m.layers))) (named_apart map_level m.properties h.properties) (layers_apart (m.width * m.height) (all_drawn m.layers) h.layers.each) in
+    and_from (are_named_apart m.properties) (list_all are_named_apart (flat_map lists_of_drawn (all_drawn m.layers))) (named_apart map_level m.properties h.properties) (layers_apart (m.width * m.height) (all_drawn m.layers) h.layers.each) in
     rw (
       numbers-Distinct (layer_ids m.layers) h.layers.layer_ids.distinct,
       numbers-Distinct (object_ids m.layers) h.layers.object_ids.distinct,
@@ -117,7 +114,7 @@ whole_without_at Greater l d rest e f = rw e f
 members_have_float-without : (k : List ℕ) (ms : Members) → members_have_float ms ≡ false → members_have_float (without k ms) ≡ false
 members_have_float-without k no_members e = refl
 members_have_float-without k (member l d ms) e =
-    let f = either_false (has_float d) (members_have_float ms) e in
+    let f = or_parts (has_float d) (members_have_float ms) e in
     whole_without_at (slice_cmp nat_cmp k l) l d (without k ms) f.0 (members_have_float-without k ms f.1)
 
 map_read : (m : MapParts) (ms : Members) → members_have_float (without VERSION.now ms) ≡ false → get_member VERSION.now ms ≡ Some (string (codes "1.10")) → get_member TYPE.now ms ≡ Some (string (codes "map"))

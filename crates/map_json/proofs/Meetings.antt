@@ -1,7 +1,7 @@
 -- Keys that are met one after the other, and a set of those that were.
 use Rattle.std.proofs.Common.{◌≡◌, ℕ, ◌+◌, ◌<◌, ◌∙◌, length, get_or, drop, map, bytes_eq, Bor, ◌++◌, eqb, arith, Less, Equal, Greater, List, [], ◌∷◌, Bool, true, false, not, cond, true≢false, ◌&&◌, ◌||◌, nat_cmp, is_eq, refl, sym, ap}
 use Rattle.std.specs.Prelude.{◌==◌, nat_lt}
-use Rattle.std.proofs.lemmas.Bool.{ltb-true, eqb-true}
+use Rattle.std.proofs.lemmas.Bool.{ltb-true, eqb-true, not-true}
 use Rattle.std.proofs.lemmas.List.{at_drop_more}
 use Rattle.std.specs.List.{list_any, list_all}
 use Rattle.std.specs.Cmp.Lexicographic.{slice_cmp}
@@ -102,11 +102,6 @@ are_distinct-texts (n ∷ names) =
 pub texts_of-push : (names : List (Bor (List ℕ))) (n : Bor (List ℕ)) (rest : List (List ℕ)) → texts_of (names ++ n ∷ []) ++ rest ≡ texts_of names ++ n.now ∷ rest
 texts_of-push [] n rest = refl
 texts_of-push (m ∷ names) n rest = ap (λ (ts : List (List ℕ)). m.now ∷ ts) (texts_of-push names n rest)
-
--- ---- what an insertion told
-pub was_new : (met : Bool) → not met ≡ true → met ≡ false
-was_new true e = absurd (true≢false (sym e))
-was_new false e = refl
 
 pub was_met : (met : Bool) → not met ≡ false → met ≡ true
 was_met true e = refl

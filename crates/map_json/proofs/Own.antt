@@ -5,14 +5,16 @@ use Rattle.std.specs.Cmp.Lexicographic.{slice_cmp}
 use Rattle.std.specs.Ordering.{match_ordering}
 use Rattle.std.proofs.lemmas.Slice.Eq.{bytes_eq-Decides}
 use Rattle.std.proofs.lemmas.Map.Text.{is_eq-slice_cmp}
-use Rattle.std.proofs.lemmas.Bool.{false≢true}
+use Rattle.std.proofs.lemmas.Bool.{false≢true, or_parts}
 use Rattle.serde_json.specs.Data.{Data, Members, no_members, member, put}
 use Rattle.serde_json.specs.Find.{get_member}
 use Rattle.serde_json.specs.Written.{has_float, members_have_float}
 use Rattle.serde_json.proofs.Views.{get_member-put, get_member-put_other}
-use Rattle.map_json.specs.Members.{without, without_all, put_some, with_own}
+use Rattle.json_members.specs.Members.{without, without_all, put_some}
+use Rattle.map_json.specs.Members.{with_own}
 use Rattle.map_json.specs.Distinctness.{are_distinct}
-use Rattle.map_json.proofs.MembersLemmas.{without-absent, LacksAll}
+use Rattle.json_members.proofs.MembersLemmas.{without-absent}
+use Rattle.map_json.proofs.Lacking.{LacksAll}
 
 apart : (q k : List ℕ) → bytes_eq q k ≡ false → q ≡ k → ⊥
 apart q k e same = false≢true (sym e ∙ (bytes_eq-Decides q k).1 same)
@@ -86,10 +88,6 @@ without_all-with_own (p ∷ ps) kept e lacks =
 
 -- ---- whole numbers
 
-either_false : (a b : Bool) → a || b ≡ false → (a ≡ false) × (b ≡ false)
-either_false true b e = absurd (true≢false e)
-either_false false b e = (refl, e)
-
 put_whole_at : (o : Ordering) (k l : List ℕ) (d e : Data) (ms : Members) → has_float d ≡ false → has_float e ≡ false → members_have_float ms ≡ false → members_have_float (put k d ms) ≡ false
     → members_have_float (match_ordering o (member k d (member l e ms)) (member l d ms) (member l e (put k d ms))) ≡ false
 put_whole_at Less k l d e ms hd he hms later = rw (hd, he) hms
@@ -99,5 +97,5 @@ put_whole_at Greater k l d e ms hd he hms later = rw he later
 pub put_whole : (k : List ℕ) (d : Data) (ms : Members) → has_float d ≡ false → members_have_float ms ≡ false → members_have_float (put k d ms) ≡ false
 put_whole k d no_members hd hms = rw hd refl
 put_whole k d (member l e ms) hd hms =
-    let h = either_false (has_float e) (members_have_float ms) hms in
+    let h = or_parts (has_float e) (members_have_float ms) hms in
     put_whole_at (slice_cmp nat_cmp k l) k l d e ms hd h.0 h.1 (put_whole k d ms hd h.1)

@@ -1,5 +1,7 @@
 -- What was read is well formed: tilesets, objects and layers, but for what must differ over the whole map.
 use Rattle.std.proofs.Common.{◌≡◌, IsUtf8, ℕ, suc, ◌+◌, ◌-◌, ◌≤◌, ℤ, true, ◌&&◌, Option, Some, None, Result, Ok, subst, arith}
+use Rattle.std.proofs.lemmas.Bool.{and_parts}
+use Rattle.std.proofs.lemmas.Float.{T_from_true}
 use Rattle.std.specs.Prelude.{int_le, neg_ℤ, ◌≤ℤ◌, IfSome}
 use Rattle.std.specs.Int.Signed.{le_z_yes}
 use Rattle.std.specs.Option.{ok_or}
@@ -12,15 +14,14 @@ use Rattle.map_model.specs.declared.parts.Object.{Object}
 use Rattle.map_model.specs.declared.parts.Tileset.{Tileset}
 use Rattle.map_model.specs.Keeping.{AreKept, object_names, tileset_names, tileset_level, property_level}
 use Rattle.map_model.specs.WellFormed.{IsPlacing, IsPixels, IsTileValue, IsTileset}
-use Rattle.map_json.specs.Members.{without_all}
+use Rattle.json_members.specs.Members.{without_all}
 use Rattle.map_json.specs.declared.fault.MapRefusal.{MapRefusal}
 use Rattle.map_json.specs.declared.fault.MapRefusal.TheVariants.{MemberOfAnotherKind, OverLimit}
 use Rattle.map_json.specs.Steps.{required, optional}
 use Rattle.map_json.specs.Scalars.{whole_at, signed_at, text_at, truth_at}
 use Rattle.map_json.specs.Reading.{id_at, pixels_at, placing_of, object_at, properties_of, tileset_at}
 use Rattle.map_json.proofs.Fine.{IsFine}
-use Rattle.map_json.proofs.Sound.{from_true, by_bind, ok_is, chosen, ok_or_ok, object_fine, kept_sound, required_whole_sound, whole_sound, optional_text_sound, WereRead, properties_sound}
-use Rattle.map_json.proofs.Words.{both}
+use Rattle.map_json.proofs.Sound.{by_bind, ok_is, chosen, ok_or_ok, object_fine, kept_sound, required_whole_sound, whole_sound, optional_text_sound, WereRead, properties_sound}
 
 -- ---- tilesets
 pub tileset_sound : (n : ℕ) → tileset_level + n ≤ MAX_DEPTH → (d : Data) (t : Tileset) → IsFine (suc n) d → tileset_at d ≡ Ok t → IsTileset t
@@ -54,7 +55,7 @@ optional_sound P read sound None x e = subst (λ y. IfSome y P) (ok_is None x e)
 optional_sound P read sound (Some d) x e = by_bind (read d) _ x e (λ y y_is e1. subst (λ z. IfSome z P) (ok_is (Some y) x e1) (sound d y y_is))
 
 int_le-true : (a b : ℤ) → int_le a b ≡ true → a ≤ℤ b
-int_le-true a b e = le_z_yes (from_true (int_le a b) e)
+int_le-true a b e = le_z_yes (T_from_true (int_le a b) e)
 
 pub signed_sound : (low high : ℤ) (d : Data) (z : ℤ) → signed_at low high d ≡ Ok z → (low ≤ℤ z) × (z ≤ℤ high)
 unfolding signed_at
@@ -62,7 +63,7 @@ signed_sound low high d z e =
     by_bind (ok_or (as_number d) MemberOfAnotherKind) _ z e (λ x x_is e1.
     by_bind (ok_or (as_i64 x) OverLimit) _ z e1 (λ k k_is e2.
     let c = chosen (int_le low k && int_le k high) (Ok k) OverLimit z e2 in
-    let b = both (int_le low k) (int_le k high) c.0 in
+    let b = and_parts (int_le low k) (int_le k high) c.0 in
     subst (λ (m : ℤ). (low ≤ℤ m) × (m ≤ℤ high)) (ok_is k z c.1) (int_le-true low k b.0, int_le-true k high b.1)))
 
 pixels_sound : (d : Data) (z : ℤ) → pixels_at d ≡ Ok z → IsPixels z

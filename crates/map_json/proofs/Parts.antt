@@ -19,7 +19,7 @@ use Rattle.map_json.specs.declared.fault.MapFault.TheVariants.{Memory, Refused}
 use Rattle.map_json.specs.Steps.{Fails, required, absent_means}
 use Rattle.map_json.specs.Scalars.{whole_at, truth_at}
 use Rattle.map_json.specs.Elements.{elements_at}
-use Rattle.map_json.specs.Members.{without, without_all}
+use Rattle.json_members.specs.Members.{without, without_all}
 use Rattle.map_json.specs.Reading.{properties_of, tileset_at, map_layers_at}
 use Rattle.map_json.specs.Maps.{parts_of}
 use Rattle.map_json.proofs.Bodies.{get_member-without_all}

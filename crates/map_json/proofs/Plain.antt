@@ -24,7 +24,8 @@ use Rattle.map_model.specs.Lists.{Each}
 use Rattle.map_model.specs.Keeping.{AreKept, deepest_level, inner_level, map_level, layer_level, tileset_level, object_level, property_level, tileset_names, object_names, property_names, layer_names, map_names}
 use Rattle.map_model.specs.WellFormed.{IsValue, IsProperty, AreProperties, IsObject, IsBody, IsDrawn, IsLayer, IsTileset, IsWellFormed}
 use Rattle.map_model.proofs.GroupBodies.{IsLayer-without}
-use Rattle.map_json.specs.Members.{with_own, put_some}
+use Rattle.json_members.specs.Members.{put_some}
+use Rattle.map_json.specs.Members.{with_own}
 use Rattle.map_json.specs.Trees.{items_by, array_by, whole_tree, value_tree, property_own, property_tree, properties_member, object_own, object_tree, tileset_own, tileset_tree, cells_tree, encoding_member, body_own, layer_own, layer_tree, layers_tree, own_around, tree_of, type_word}
 use Rattle.map_json.specs.Appending.{AreWritten, frame_of, framed_body, layer_frame}
 use Rattle.map_json.proofs.DrawnLayers.{Each-left, Each-right, tree-Each}

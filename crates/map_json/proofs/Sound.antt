@@ -1,12 +1,13 @@
 -- What was read is well formed, as far as one owner tells: values, properties, elements, numbers and cells.
 use Rattle.std.proofs.Common.{◌≡◌, IsUtf8, ℕ, suc, ◌+◌, ◌-◌, ◌*◌, ◌^◌, ◌<◌, ◌≤◌, ℤ, eqb, Bool, true, false, cond, ◌&&◌, List, [], ◌∷◌, length, Option, Some, None, Result, Ok, Err, refl, sym, ap, subst, arith}
+use Rattle.std.proofs.lemmas.Float.{T_from_true}
 use Rattle.std.specs.Prelude.{codes, IfSome, nat_le, nat_lt, option_and_then, option_map, if◌then◌else◌}
 use Rattle.std.specs.List.{list_all}
 use Rattle.std.specs.Result.{result_ok}
 use Rattle.std.specs.Int.Signed.{le_z_yes}
 use Rattle.std.proofs.Math.Dec.{T}
 use Rattle.std.proofs.lemmas.Int.{ints}
-use Rattle.std.proofs.lemmas.Bool.{eqb-true, leb-true, ltb-true, le-leb}
+use Rattle.std.proofs.lemmas.Bool.{eqb-true, leb-true, ltb-true, le-leb, and_parts}
 use Rattle.std.specs.Option.{ok_or}
 use Rattle.json.proofs.Printed.Utf8.{IsUtf8-are_ascii}
 use Rattle.base64.specs.Engines.{standard}
@@ -23,7 +24,7 @@ use Rattle.map_model.specs.Lists.{Each}
 use Rattle.map_model.specs.Keeping.{AreKept, IsKeptValue, IsOfAnotherKind, property_names, property_level}
 use Rattle.map_model.specs.WellFormed.{IsWhole, IsValue, IsProperty}
 use Rattle.map_model.specs.Steps.{◌>>=◌, ◌>>◌, check}
-use Rattle.map_json.specs.Members.{without_all}
+use Rattle.json_members.specs.Members.{without_all}
 use Rattle.map_json.specs.declared.fault.MapRefusal.{MapRefusal}
 use Rattle.map_json.specs.declared.fault.MapRefusal.TheVariants.{MemberOfAnotherKind, OverLimit, BadData}
 use Rattle.map_json.specs.Steps.{required, absent_means, optional}
@@ -33,8 +34,8 @@ use Rattle.map_json.specs.Cells.{cell_of, cells_of, packed, words_of, is_byte, a
 use Rattle.map_json.specs.Reading.{value_of, value_at, property_at, properties_of, cells_at}
 use Rattle.map_json.proofs.Fine.{IsFineNum, IsFine, AreFineItems, AreFineMembers}
 use Rattle.map_json.proofs.FineLemmas.{IsFine-get_member, AreFineMembers-without_all, has_float-fine, members_have_float-fine, depth-fine, members_depth-fine, IsReadable-fine, AreReadableMembers-fine}
-use Rattle.map_json.proofs.MembersLemmas.{LacksAll-without_all}
-use Rattle.map_json.proofs.Words.{both, words_sound}
+use Rattle.map_json.proofs.Lacking.{LacksAll-without_all}
+use Rattle.map_json.proofs.Words.{words_sound}
 
 pub bind_ok : {A B : Type 0} (r : Result A MapRefusal) (f : A → Result B MapRefusal) (y : B) → (r >>= f) ≡ Ok y → (x : A) × (r ≡ Ok x) × (f x ≡ Ok y)
 bind_ok (Ok x) f y e = (x, refl, e)
@@ -69,11 +70,6 @@ pub by_check : {B : Type 0} {C : Type 0} (b : Bool) (f : MapRefusal) (rest : Res
 by_check true f rest y e next = next refl e
 by_check false f rest y e next = absurd cc
 
--- ---- values
-pub from_true : (b : Bool) → b ≡ true → T b
-from_true true e = tt
-from_true false e = absurd cc
-
 negative_whole : (z w : ℤ) → IsFineNum (negative z) → z ≡ w → IsWhole w
 negative_whole z w h e = subst IsWhole e (record { low = h.0; high = let below = h.1 in omega (arith, ints) })
 
@@ -86,7 +82,7 @@ kept_value level n d room h kind =
 unsigned_held : (b : Bool) (level n m : ℕ) → level + n ≤ MAX_DEPTH → nat_lt m (2 ^ 63) ≡ b → m < 2 ^ 64 → IsValue level (value_of (number (unsigned m)))
 unsigned_held true level n m room e h = let lt : m < 2 ^ 63 = ltb-true m (2 ^ 63) e in
     let le : m ≤ 2 ^ 63 - 1 = omega arith in
-    rw e (record { low = le_z_yes tt; high = le_z_yes (from_true (nat_le m (2 ^ 63 - 1)) (le-leb m (2 ^ 63 - 1) le)) })
+    rw e (record { low = le_z_yes tt; high = le_z_yes (T_from_true (nat_le m (2 ^ 63 - 1)) (le-leb m (2 ^ 63 - 1) le)) })
 unsigned_held false level n m room e h = rw e (kept_value level n (number (unsigned m)) room h (rw e refl))
 
 pub value_sound : (level n : ℕ) (d : Data) → level + n ≤ MAX_DEPTH → IsFine n d → IsValue level (value_of d)
@@ -220,7 +216,7 @@ whole_sound low high d n e =
     by_bind (ok_or (as_number d) MemberOfAnotherKind) _ n e (λ x x_is e1.
     by_bind (ok_or (as_u64 x) OverLimit) _ n e1 (λ k k_is e2.
     let c = chosen (nat_le low k && nat_le k high) (Ok k) OverLimit n e2 in
-    let b = both (nat_le low k) (nat_le k high) c.0 in
+    let b = and_parts (nat_le low k) (nat_le k high) c.0 in
     subst (λ (m : ℕ). (low ≤ m) × (m ≤ high)) (ok_is k n c.1) (leb-true low k b.0, leb-true k high b.1)))
 
 pub required_whole_sound : (low high : ℕ) (o : Option Data) (n : ℕ) → required (whole_at low high) o ≡ Ok n → (low ≤ n) × (n ≤ high)
@@ -262,5 +258,5 @@ cells_tree_sound Base64 count d cells e =
     by_bind (ok_or (as_str d) MemberOfAnotherKind) _ cells e (λ text text_is e1.
     by_bind (ok_or (result_ok (decode_of standard (packed text))) BadData) _ cells e1 (λ bytes bytes_is e2.
     let c = chosen (eqb (length bytes) (4 * count) && list_all is_byte bytes) (Ok (words_of bytes)) BadData cells e2 in
-    let b = both (eqb (length bytes) (4 * count)) (list_all is_byte bytes) c.0 in
+    let b = and_parts (eqb (length bytes) (4 * count)) (list_all is_byte bytes) c.0 in
     subst (AreCells count) (ok_is (words_of bytes) cells c.1) (words_sound bytes count (eqb-true (length bytes) (4 * count) b.0) b.1)))

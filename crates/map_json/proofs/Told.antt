@@ -2,7 +2,7 @@
 use Rattle.std.proofs.Common.{◌≡◌, ℕ, suc, ◌^◌, ◌<◌, pos, negsuc, List, [], ◌∷◌, get_or, option_map, option_and_then, Less, nat_cmp, decimal, Bool, true, false, ◌||◌, true≢false, refl, sym, ap, ◌∙◌, subst, arith}
 use Rattle.std.specs.Cmp.Lexicographic.{slice_cmp}
 use Rattle.std.specs.Fmt.{signed_decimal}
-use Rattle.std.proofs.lemmas.Bool.{ne_eqb}
+use Rattle.std.proofs.lemmas.Bool.{ne_eqb, or_parts}
 use Rattle.std.proofs.lemmas.Fmt.{IsAscii-decimal, first_decimal}
 use Rattle.std.proofs.lemmas.Int.{ints}
 use Rattle.std.proofs.lemmas.Str.{IsUtf8-append, IsUtf8-from_ascii}
@@ -84,11 +84,6 @@ AllBefore-none : (ms : Members) → AllBefore no_members ms
 AllBefore-none no_members = tt
 AllBefore-none (member k d ms) = (tt, AllBefore-none ms)
 
--- ---- trees
-both_whole : (a b : Bool) → a || b ≡ false → (a ≡ false) × (b ≡ false)
-both_whole true b e = absurd (true≢false e)
-both_whole false b e = (refl, e)
-
 joined-none : (found : Members) → joined found no_members ≡ found
 joined-none no_members = refl
 joined-none (member l e found) = ap (member l e) (joined-none found)
@@ -105,13 +100,13 @@ mutual
   items_told : (ds : Items) → AreReadableItems ds → items_have_float ds ≡ false → ItemsReturn ds
   items_told no_items h whole = ItemsReturn-none
   items_told (item d ds) h whole =
-      let w = both_whole (has_float d) (items_have_float ds) whole in
+      let w = or_parts (has_float d) (items_have_float ds) whole in
       ItemsReturn-item d ds (told d h.0 w.0) (items_told ds h.1 w.1)
 
   members_told : (ms found : Members) → AllBefore found ms → AreReadableMembers ms → members_have_float ms ≡ false → MembersReturn ms found (joined found ms)
   members_told no_members found before h whole = subst (MembersReturn no_members found) (sym (joined-none found)) (MembersReturn-none found)
   members_told (member k d ms) found before h whole =
-      let w = both_whole (has_float d) (members_have_float ms) whole in
+      let w = or_parts (has_float d) (members_have_float ms) whole in
       let later = members_told ms (behind found k d) (AllBefore-behind found k d ms before.1 h.1) h.3 w.1 in
       MembersReturn-member k d ms found (joined found (member k d ms)) h.0 (told d h.2 w.0)
       (subst (λ (x : Members). MembersReturn ms x (joined found (member k d ms))) (sym (put-behind k d found before.0))

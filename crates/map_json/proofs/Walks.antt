@@ -11,7 +11,7 @@ use Rattle.serde_json.specs.Find.{get_member}
 use Rattle.map_model.specs.declared.names.TheConstants.{VERSION}
 use Rattle.map_json.specs.Maps.{has_fraction, version_has_fraction}
 use Rattle.serde_json.specs.Written.{has_float, members_have_float}
-use Rattle.map_json.specs.Members.{without}
+use Rattle.json_members.specs.Members.{without}
 
 module _ {A B : Type 0} (f : A → List B) where
   -- one more element is behind what was gathered

@@ -2,7 +2,7 @@
 use Rattle.std.proofs.Common.{eqb, eq-eqb, Some, Ok, Bool, true, false, ◌&&◌, zero, suc, ◌^◌, ◌≡◌, ℕ, ◌+◌, ◌*◌, ◌<◌, ◌≤◌, List, [], ◌∷◌, ◌++◌, length, get_or, drop, refl, sym, ap, ◌∙◌, append_assoc, arith}
 use Rattle.std.specs.List.{list_all}
 use Rattle.map_model.specs.Lists.{Each}
-use Rattle.std.proofs.lemmas.Bool.{lt-ltb, ltb-true}
+use Rattle.std.proofs.lemmas.Bool.{lt-ltb, ltb-true, and_parts}
 use Rattle.base64.specs.Engines.{standard}
 use Rattle.base64.specs.GeneralPurpose.{IsBytes, decode_of}
 use Rattle.serde_json.specs.Data.{Data}
@@ -41,12 +41,8 @@ pub is_byte-from_IsBytes : (bytes : List ℕ) → IsBytes bytes → list_all is_
 is_byte-from_IsBytes [] h = refl
 is_byte-from_IsBytes (b ∷ bs) h = rw (lt-ltb b 256 (h 0)) (is_byte-from_IsBytes bs (λ i. h (suc i)))
 
-pub both : (a b : Bool) → a && b ≡ true → (a ≡ true) × (b ≡ true)
-both true b e = (refl, e)
-both false b e = absurd cc
-
 byte_lt : (b : ℕ) (bs : List ℕ) → list_all is_byte (b ∷ bs) ≡ true → (b < 256) × (list_all is_byte bs ≡ true)
-byte_lt b bs e = let h = both (is_byte b) (list_all is_byte bs) e in (ltb-true b 256 h.0, h.1)
+byte_lt b bs e = let h = and_parts (is_byte b) (list_all is_byte bs) e in (ltb-true b 256 h.0, h.1)
 
 word_lt : (a b c d : ℕ) → a < 256 → b < 256 → c < 256 → d < 256 → from_le_bytes w32 (a ∷ b ∷ c ∷ d ∷ []) < 2 ^ 32
 word_lt a b c d ha hb hc hd = omega arith

@@ -29,7 +29,8 @@ use Rattle.map_model.specs.Lists.{Each}
 use Rattle.map_model.specs.Readable.{IsReadable, AreReadableItems, AreReadableMembers}
 use Rattle.map_model.specs.WellFormed.{IsId, IsWhole, IsPixels, IsTileValue, IsValue, IsProperty, AreProperties, IsObject, IsBody, IsDrawn, IsLayer, IsTileset, IsWellFormed, ids_of, ids_of_object, object_ids_in, object_ids_of}
 use Rattle.map_model.proofs.GroupBodies.{IsLayer-without, object_ids-with}
-use Rattle.map_json.specs.Members.{Own, with_own, put_some}
+use Rattle.json_members.specs.Members.{put_some}
+use Rattle.map_json.specs.Members.{Own, with_own}
 use Rattle.map_json.specs.Trees.{items_by, whole_tree, value_tree, property_own, property_tree, properties_member, object_own, object_tree, tileset_own, tileset_tree, bytes_of, cells_tree, encoding_member, type_word, body_own, layer_own, layer_tree, layers_tree, plain_own, lists_own, map_own, tree_of}
 use Rattle.map_json.proofs.DrawnLayers.{Each-left, Each-right, tree-Each}
 use Rattle.map_json.proofs.Orders.{AreReadableMembers-put}

@@ -27,7 +27,7 @@ use Rattle.map_json.specs.declared.fault.MapRefusal.TheVariants.{MemberOfAnother
 use Rattle.map_json.specs.Steps.{required, absent_means, optional}
 use Rattle.map_json.specs.Scalars.{whole_at, signed_at, text_at, truth_at}
 use Rattle.map_json.specs.Elements.{Counting, each_counted, elements_at}
-use Rattle.map_json.specs.Members.{without_all}
+use Rattle.json_members.specs.Members.{without_all}
 use Rattle.map_json.specs.Cells.{array_cells_at, base64_cells_at}
 
 -- ---- properties

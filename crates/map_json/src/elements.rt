@@ -4,7 +4,7 @@ ghost use Rattle.serde_json.specs.Data.{Data};
 ghost use Rattle.serde_json.specs.Find.{as_array, get_member};
 ghost use Rattle.serde_json.specs.View.{view as data_of, items_view};
 ghost use Rattle.map_model.specs.declared.limits.TheConstants.{MAX_CELLS, MAX_OBJECTS};
-ghost use Rattle.map_json.specs.Members.{without};
+ghost use Rattle.json_members.specs.Members.{without};
 ghost use Rattle.map_json.specs.Steps.{Gives, GivesBy, required, absent_means};
 ghost use Rattle.map_json.specs.Elements.{each, elements_at};
 

@@ -4,7 +4,7 @@ ghost use Rattle.serde_json.specs.Data.{object};
 ghost use Rattle.serde_json.specs.View.{view as data_of, items_view, members_view};
 ghost use Rattle.serde_json.specs.Written.{has_float, items_have_float, members_have_float};
 ghost use Rattle.map_model.specs.declared.names.TheConstants.{VERSION};
-ghost use Rattle.map_json.specs.Members.{without};
+ghost use Rattle.json_members.specs.Members.{without};
 ghost use Rattle.map_json.specs.Maps.{version_has_fraction, has_fraction};
 
 use crate::trail::{Step, Trail};

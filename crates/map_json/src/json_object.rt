@@ -3,7 +3,7 @@ ghost use Rattle.std.specs.Prelude.{◌≡◌, option_map, OnOk, IfOk};
 ghost use Rattle.serde_json.specs.Data.{object, put as with_member};
 ghost use Rattle.serde_json.specs.Find.{get_member, as_object};
 ghost use Rattle.serde_json.specs.View.{view as data_of, members_view};
-ghost use Rattle.map_json.specs.Members.{without, put_some};
+ghost use Rattle.json_members.specs.Members.{without, put_some};
 
 use crate::trail::{Step, Trail};
 use map_model::Kept;
@@ -53,7 +53,7 @@ impl JsonObject {
     pub fn get(&self, name: &str) -> Option<&Value>
         ensures { option_map (λ value. data_of value.now) result ≡ get_member name.now self.now }
     {
-        self.members.get(name)
+        json_members::found(&self.members, name)
     }
 
     /// Takes a member out.
@@ -61,7 +61,7 @@ impl JsonObject {
         ensures found { option_map data_of result ≡ get_member name.now self.old }
         ensures left { self.new ≡ without name.now self.old }
     {
-        self.members.remove(name)
+        json_members::take(&mut self.members, name)
     }
 
     /// Takes a member out, and goes to its place.

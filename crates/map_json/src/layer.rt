@@ -5,7 +5,7 @@ ghost use Rattle.serde_json.specs.View.{view as data_of, items_view};
 ghost use Rattle.map_model.specs.declared.names.TheConstants.{LAYERS};
 ghost use Rattle.map_model.specs.Keeping.{body_names};
 ghost use Rattle.map_model.specs.declared.limits.TheConstants.{MAX_CELLS, MAX_LAYERS};
-ghost use Rattle.map_json.specs.Members.{without, without_all};
+ghost use Rattle.json_members.specs.Members.{without, without_all};
 ghost use Rattle.map_json.specs.Steps.{Fails, Gives, GivesBy, required};
 ghost use Rattle.map_json.specs.Elements.{each_counted};
 ghost use Rattle.map_json.specs.Reading.{body_by, layer_by, layers_at, map_layers_at};

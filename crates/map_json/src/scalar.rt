@@ -3,7 +3,7 @@ ghost use Rattle.std.specs.Prelude.{◌≡◌, ◌≤◌, IfOk};
 ghost use Rattle.serde_json.specs.Find.{get_member};
 ghost use Rattle.serde_json.specs.View.{view as data_of};
 ghost use Rattle.map_model.specs.declared.names.TheConstants.{ID};
-ghost use Rattle.map_json.specs.Members.{without};
+ghost use Rattle.json_members.specs.Members.{without};
 ghost use Rattle.map_json.specs.Steps.{required, absent_means, optional, Gives};
 ghost use Rattle.map_json.specs.Scalars.{whole_at, text_at, truth_at};
 ghost use Rattle.map_json.specs.Reading.{id_at, pixels_at};

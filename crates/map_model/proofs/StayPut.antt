@@ -26,11 +26,8 @@ use Rattle.map_model.specs.PropertyLenses.{properties, setting_at, setting_named
 use Rattle.map_model.proofs.FoundLaws.{found-get, found-keeps, found-laws, found-update}
 use Rattle.map_model.proofs.Lookups.{first_some-with_layer, found-with_layer}
 use Rattle.map_model.proofs.ObjectKeeps.{group_in-objects}
-use Rattle.map_model.proofs.LensLaws.{placing-laws, slice_get-change_at}
+use Rattle.map_model.proofs.LensLaws.{placing-laws, slice_get-change_at, some-eq}
 use Rattle.map_model.proofs.PropertyLaws.{properties-laws, setting_at-laws}
-
-some-eq : {X : Type 0} (x y : X) → Some x ≡ Some y → x ≡ y
-some-eq x y e = cc
 
 -- ---- look-ups in a list of which one element has changed
 module _ {X : Type 0} (q : X → Bool) (f : X → X) (same : (x : X) → q (f x) ≡ q x) where

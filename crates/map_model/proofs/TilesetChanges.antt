@@ -5,7 +5,7 @@ use Rattle.std.specs.List.{AllByRecursion, flat_map, list_any, insert, remove}
 use Rattle.std.proofs.lemmas.List.Elements.{All-contains, All-from_recursion}
 use Rattle.std.proofs.lemmas.Option.{slice_get-get_or, get_or_from_slice_get}
 use Rattle.std.proofs.Math.Nat.{mod-lt}
-use Rattle.std.proofs.lemmas.Bool.{and_parts, cond_both, eq-eqb}
+use Rattle.std.proofs.lemmas.Bool.{and_parts, cond_both, eq-eqb, ltb-true}
 use Rattle.serde_json.specs.Data.{no_members}
 use Rattle.std.proofs.lemmas.Bool.Decides.{nat_tests}
 use Rattle.std.proofs.lemmas.List.Folds.{list_any-append}
@@ -56,10 +56,6 @@ insert_tileset-keeps m at t few is above h =
       distinct = Distinct-insert first_ids_of m.tilesets at t (tt, tt) (below_apart t.first_id m.tilesets above, tt) h.tilesets.distinct;
     }) h
 
--- ---- the end of a tileset's range
-lt_true : (a b : ℕ) → nat_lt a b ≡ true → a < b
-lt_true a b h = grind (arith, nat_tests)
-
 -- it is no higher than the end so far, and above the first id where that is
 end_of-le : (first end : ℕ) (ts : List Tileset) → end_of first end ts ≤ end
 end_of-le first end [] = omega arith
@@ -81,7 +77,7 @@ end_of-above first end b (t ∷ ts) h each = end_of-above first (nearer first en
   where
     step : (first end b : ℕ) (t : Tileset) → b < end → (first < t.first_id → b < t.first_id) → b < nearer first end t
     step first end b t h above =
-        cond_both (nat_lt first t.first_id && nat_lt t.first_id end) t.first_id end (λ e. b < e) (λ is. above (lt_true first t.first_id (and_parts _ _ is).0)) (λ _. h)
+        cond_both (nat_lt first t.first_id && nat_lt t.first_id end) t.first_id end (λ e. b < e) (λ is. above (ltb-true first t.first_id (and_parts _ _ is).0)) (λ _. h)
 
 -- ---- what is found in lists
 pub list_any-flat_map : {X A : Type 0} (p : A → Bool) (g : X → List A) (xs : List X) → list_any p (flat_map g xs) ≡ list_any (λ x. list_any p (g x)) xs
@@ -155,7 +151,7 @@ is_value_of-range m first value f =
         (λ s k above. above_by (nat_lt b s.first_id) refl (λ l. omega (arith, k l, same, above))) m.tilesets h.greatest))
       where
         above_by : {s : ℕ} (q : Bool) → nat_lt b s ≡ q → (s ≤ b → ⊥) → b < s
-        above_by {s = s} true e k = lt_true b s e
+        above_by {s = s} true e k = ltb-true b s e
         above_by {s = s} false e k = absurd (k (grind (arith, nat_tests)))
     by_first t h false e = by_low (nat_lt b first) refl
       where
@@ -163,7 +159,7 @@ is_value_of-range m first value f =
         other q = true≢false (sym (eq-eqb t.first_id first q) ∙ e)
 
         by_low : (q : Bool) → nat_lt b first ≡ q → false ≡ (nat_le first b && nat_lt b end)
-        by_low true l = not_between (inl (lt_true b first l))
+        by_low true l = not_between (inl (ltb-true b first l))
         by_low false l =
             let low : first ≤ b = grind (arith, nat_tests) in
             let over : first ≤ t.first_id = let o = Each-contains _ m.tilesets f.t f.there h.greatest in omega (arith, o (omega (arith, f.is, low)), f.is) in
@@ -175,7 +171,7 @@ is_value_of-range m first value f =
     by_tileset None h k = not_between (inl (by_zero (nat_lt 0 b) refl))
       where
         by_zero : (q : Bool) → nat_lt 0 b ≡ q → b < first
-        by_zero true e = let up = Each-contains _ m.tilesets f.t f.there (k (lt_true 0 b e)) in omega (arith, up, f.is)
+        by_zero true e = let up = Each-contains _ m.tilesets f.t f.there (k (ltb-true 0 b e)) in omega (arith, up, f.is)
         by_zero false e = let zero : b ≤ 0 = grind (arith, nat_tests) in omega (arith, zero, f.low)
     by_tileset (Some t) h k = by_first t h (nat_eq t.first_id first) refl
 

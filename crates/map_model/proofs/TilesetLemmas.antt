@@ -1,5 +1,6 @@
 -- The best tileset of a list.
 use Rattle.std.proofs.Common.{◌≡◌, ℕ, suc, ◌<◌, ◌≤◌, List, [], ◌∷◌, Bool, true, false, cond, nat_lt, nat_eq, Option, Some, None, IfSome, IfNone, ◌⊎◌, inl, inr, refl, subst, arith}
+use Rattle.std.proofs.lemmas.Bool.{ltb-true}
 use Rattle.std.specs.Prelude.{Contains}
 use Rattle.std.proofs.lemmas.Bool.Decides.{nat_tests}
 use Rattle.tile_id.specs.Gid.{base_of}
@@ -11,9 +12,6 @@ use Rattle.map_model.specs.Tilesets.{better, best_of, IsTilesetOf, HasNoTileset}
 -- t is not beaten by the tileset s
 abbrev IsOver : ℕ → Tileset → Tileset → Type 0
 IsOver base t s = s.first_id ≤ base → s.first_id ≤ t.first_id
-
-test_true : (a b : ℕ) → nat_lt a b ≡ true → a < b
-test_true a b h = grind (arith, nat_tests)
 
 test_false : (a b : ℕ) → nat_lt a b ≡ false → b ≤ a
 test_false a b h = grind (arith, nat_tests)
@@ -59,7 +57,7 @@ better_over base None s t = by_test (nat_lt base s.first_id) refl
 better_over base (Some r) s t = by_test (nat_lt base s.first_id) (nat_lt r.first_id s.first_id) refl refl
   where
     by_test : (b c : Bool) → nat_lt base s.first_id ≡ b → nat_lt r.first_id s.first_id ≡ c → cond b (Some r) (cond c (Some s) (Some r)) ≡ Some t → IsOver base t s
-    by_test true c e f q l = let above = test_true base s.first_id e in absurd (omega arith)
+    by_test true c e f q l = let above = ltb-true base s.first_id e in absurd (omega arith)
     by_test false true e f q l = let is : s ≡ t = cc in subst (λ (u : Tileset). s.first_id ≤ u.first_id) is (omega arith)
     by_test false false e f q l = let is : r ≡ t = cc in subst (λ (u : Tileset). s.first_id ≤ u.first_id) is (test_false r.first_id s.first_id f)
 
@@ -70,7 +68,7 @@ better_old base r s t = by_test (nat_lt base s.first_id) (nat_lt r.first_id s.fi
     by_test true c f q = let is : r ≡ t = cc in subst (λ (u : Tileset). r.first_id ≤ u.first_id) is (omega arith)
     by_test false true f q =
         let is : s ≡ t = cc in
-        let less = test_true r.first_id s.first_id f in
+        let less = ltb-true r.first_id s.first_id f in
         subst (λ (u : Tileset). r.first_id ≤ u.first_id) is (omega arith)
     by_test false false f q = let is : r ≡ t = cc in subst (λ (u : Tileset). r.first_id ≤ u.first_id) is (omega arith)
 
@@ -86,7 +84,7 @@ better_none : (base : ℕ) (s : Tileset) → better base None s ≡ None → bas
 better_none base s = by_test (nat_lt base s.first_id) refl
   where
     by_test : (b : Bool) → nat_lt base s.first_id ≡ b → cond b None (Some s) ≡ None → base < s.first_id
-    by_test true e q = test_true base s.first_id e
+    by_test true e q = ltb-true base s.first_id e
     by_test false e q = cc
 
 -- ---- a whole list

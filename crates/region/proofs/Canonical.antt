@@ -1,5 +1,6 @@
 -- Runs with the same cells are the same runs.
 use Rattle.std.proofs.Common.{◌≡◌, ℕ, ◌+◌, ◌<◌, ◌≤◌, ◌⊎◌, inl, inr, Bool, true, false, ◌||◌, List, [], ◌∷◌, refl, sym, subst, ◌∙◌, arith}
+use Rattle.std.proofs.lemmas.Bool.{or_left, or_cases}
 use Rattle.std.proofs.lemmas.Bool.Decides.{nat_tests}
 use Rattle.region.specs.declared.runs.Run.{Run}
 use Rattle.region.specs.Runs.{IsMaximalRuns, EndsBefore, in_run, in_runs}
@@ -19,13 +20,6 @@ in_run-has t x a b = grind (arith, nat_tests)
 -- the cell stands after the run, with a cell between them
 abbrev pub After : Run → ℕ × ℕ → Type 0
 After r q = (r.y < q.1) ⊎ ((r.y ≡ q.1) × (r.x + r.len < q.0))
-
-or_cases : (a b : Bool) → (a || b) ≡ true → (a ≡ true) ⊎ (b ≡ true)
-or_cases true b h = inl refl
-or_cases false b h = inr h
-
-or_left : (a b : Bool) → a ≡ true → (a || b) ≡ true
-or_left a b h = rw h refl
 
 after_run : (r t : Run) (q : ℕ × ℕ) → EndsBefore r t → in_run t q ≡ true → After r q
 after_run r t q (inl e) h = inl (omega (arith, in_run-row t q h))

@@ -1,5 +1,6 @@
 -- Runs with one more run at the end.
 use Rattle.std.proofs.Common.{◌≡◌, ℕ, zero, suc, length, get_or, ◌+◌, ◌<◌, ◌≤◌, max, ◌⊎◌, inl, inr, Bool, true, false, ◌||◌, List, [], ◌∷◌, ◌++◌, refl, sym, ap, ◌∙◌, arith}
+use Rattle.std.proofs.Math.Bool.{or-false}
 use Rattle.std.proofs.lemmas.Bool.Decides.{nat_tests}
 use Rattle.std.proofs.lemmas.List.Folds.{list_any-append}
 use Rattle.region.specs.declared.runs.Run.{Run}
@@ -33,10 +34,6 @@ before_push r (x ∷ xs) l m h = h
 pub IsMaximalRuns-push : (xs : List Run) (l m : Run) → IsRun m → EndsBefore l m → IsMaximalRuns (xs ++ l ∷ []) → IsMaximalRuns ((xs ++ l ∷ []) ++ m ∷ [])
 IsMaximalRuns-push [] l m i b h = (h.0, b, (i, tt, tt))
 IsMaximalRuns-push (x ∷ xs) l m i b h = (h.0, before_push x xs l m h.1, IsMaximalRuns-push xs l m i b h.2)
-
-or-false : (b : Bool) → (b || false) ≡ b
-or-false true = refl
-or-false false = refl
 
 pub in_runs-push : (xs : List Run) (l : Run) (q : ℕ × ℕ) → in_runs (xs ++ l ∷ []) q ≡ (in_runs xs q || in_run l q)
 in_runs-push xs l q = list_any-append (λ r. in_run r q) xs (l ∷ []) ∙ ap (λ b. in_runs xs q || b) (or-false (in_run l q))

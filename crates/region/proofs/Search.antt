@@ -1,5 +1,6 @@
 -- Which of the runs can have a cell.
 use Rattle.std.proofs.Common.{◌≡◌, ℕ, zero, suc, length, get_or, ◌+◌, ◌<◌, ◌≤◌, ◌⊎◌, inl, inr, Bool, true, false, ◌||◌, List, [], ◌∷◌, refl, ap, ◌∙◌, arith}
+use Rattle.std.proofs.Math.Bool.{or-false}
 use Rattle.std.specs.List.Sorted.{IsPartitionedBy, IsPartitionPoint}
 use Rattle.std.proofs.lemmas.Bool.Decides.{nat_tests}
 use Rattle.region.specs.declared.runs.Run.{Run}
@@ -51,10 +52,6 @@ not_later r rs q h e = by_test (in_runs rs q) refl
     by_test : (b : Bool) → in_runs rs q ≡ b → in_runs rs q ≡ false
     by_test true k = let behind = After-is_after r q (after r rs q h k) in cc
     by_test false k = k
-
-or-false : (b : Bool) → (b || false) ≡ b
-or-false true = refl
-or-false false = refl
 
 abbrev pub Splits : ℕ × ℕ → List Run → ℕ → Type 0
 Splits q rs i = IsPartitionPoint (λ r. is_after q r ≡ true) (λ r. is_after q r ≡ false) rs i

@@ -1,5 +1,6 @@
 -- Runs that are split at a cell.
-use Rattle.std.proofs.Common.{◌≡◌, ℕ, zero, suc, ◌+◌, ◌<◌, ◌≤◌, ◌⊎◌, inl, inr, Bool, true, false, ◌||◌, List, [], ◌∷◌, ◌++◌, length, get_or, take, drop, drop-cons, drop_of_length-le, append_assoc, refl, sym, ap, ◌∙◌, arith}
+use Rattle.std.proofs.Common.{◌≡◌, ℕ, zero, suc, ◌+◌, ◌<◌, ◌≤◌, ◌⊎◌, inl, inr, true, false, ◌||◌, List, [], ◌∷◌, ◌++◌, length, get_or, take, drop, drop-cons, drop_of_length-le, append_assoc, refl, sym, ap, ◌∙◌, arith}
+use Rattle.std.proofs.lemmas.Bool.{or_right}
 use Rattle.std.proofs.lemmas.List.{take-append-drop}
 use Rattle.std.proofs.Math.Seq.{take-append_seam, drop-append_seam}
 use Rattle.std.proofs.lemmas.Bool.Decides.{nat_tests}
@@ -62,13 +63,9 @@ in_runs-ended (r ∷ rs) p q h f = rw (ended_out r p q f h.0) (in_runs-ended rs 
 pub in_runs-append : (xs ys : List Run) (q : ℕ × ℕ) → in_runs (xs ++ ys) q ≡ (in_runs xs q || in_runs ys q)
 in_runs-append xs ys q = list_any-append (λ r. in_run r q) xs ys
 
-or-right : (a b : Bool) → b ≡ true → (a || b) ≡ true
-or-right true b h = refl
-or-right false b h = h
-
 -- a cell of the rest is one of the runs'
 pub in_runs-rest : (q p : ℕ × ℕ) (runs prefix rest : List Run) → AreSplitAt p runs prefix rest → in_runs rest q ≡ true → in_runs runs q ≡ true
-in_runs-rest q p runs prefix rest h e = rw (h.whole, in_runs-append prefix rest q) (or-right (in_runs prefix q) (in_runs rest q) e)
+in_runs-rest q p runs prefix rest h e = rw (h.whole, in_runs-append prefix rest q) (or_right (in_runs prefix q) (in_runs rest q) e)
 
 -- and from there on the rest has each cell of the runs
 pub in_runs-from : (q p : ℕ × ℕ) (runs prefix rest : List Run) → AreSplitAt p runs prefix rest → IsFrom q p → in_runs runs q ≡ in_runs rest q

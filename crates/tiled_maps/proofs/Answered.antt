@@ -1,5 +1,6 @@
 -- The facts about an answer, from what was seen of its tree.
 use Rattle.std.proofs.Common.{◌≡◌, inr, ℕ, ◌≤◌, ◌<◌, nat_le, leb-false, List, Bool, true, false, not, ◌||◌, true≢false, Option, Some, None, is_some, Vec, Global, Err, refl, sym, ap, ◌∙◌, arith}
+use Rattle.std.proofs.lemmas.Bool.{or_right}
 use Rattle.std.specs.Prelude.{unwrap_or}
 use Rattle.serde_json.specs.Data.{Data, depth}
 use Rattle.serde_json.specs.Read.{max_depth}
@@ -20,10 +21,6 @@ use Rattle.tiled_maps.proofs.ReadTrees.{IsReadTree-read}
 or_false : (a b : Bool) → b ≡ false → (a || b) ≡ a
 or_false true b e = refl
 or_false false b e = e
-
-or_true : (a b : Bool) → b ≡ true → (a || b) ≡ true
-or_true true b e = refl
-or_true false b e = e
 
 pub if_not : (b : Bool) → true ≡ not b → b ≡ false
 if_not true e = absurd (true≢false e)
@@ -68,7 +65,7 @@ SetsAside-finite bytes text d t tree free infinite finite text_tree =
       put_back = put_back_of-spread d t (IsReadTree-read bytes d tree.1) free finite.spread;
       whole = finite.whole;
       finite = finite.finite;
-      some = sym (or_true (has_fraction Map d) (is_infinite d) is);
+      some = sym (or_right (has_fraction Map d) (is_infinite d) is);
     }
 
 -- ---- faults

@@ -14,11 +14,12 @@ use Rattle.serde_json.specs.Find.{get_member, as_integer, as_object, of_integer,
 use Rattle.serde_json.proofs.Views.{get_member-put, get_member-put_other}
 use Rattle.tiled_maps.specs.declared.place.Place.{Place}
 use Rattle.tiled_maps.specs.declared.place.Place.TheVariants.{Map, Layer, Object, Coordinate, Version, Elsewhere}
-use Rattle.tiled_maps.specs.Members.{without, put_some, has_name, items_have_name, members_have_name}
+use Rattle.json_members.specs.Members.{without, put_some}
+use Rattle.tiled_maps.specs.Members.{has_name, items_have_name, members_have_name}
 use Rattle.tiled_maps.specs.Places.{below, inside}
 use Rattle.tiled_maps.specs.Aside.{reserved_name, stand_in, whole_part, fraction_at, note_of, notes_of, with_notes, aside, items_aside, members_aside}
 use Rattle.tiled_maps.specs.Back.{number_of_halves, of_halves, is_alone, is_integer_at, restored, members_restored, joined, back, items_back, members_back}
-use Rattle.tiled_maps.proofs.MembersLemmas.{without-absent, skips, same_name}
+use Rattle.json_members.proofs.MembersLemmas.{without-absent, skips, same_name}
 use Rattle.tiled_maps.proofs.ReadTrees.{IsReadNum, Above, IsReadTree, AreReadItems, AreReadMembers}
 
 -- ---- a member that is put in, and the walks

@@ -1,4 +1,3 @@
-pub mod MembersLemmas
 pub mod ReadTrees
 pub mod Walks
 pub mod Meeting

@@ -17,7 +17,7 @@ use Rattle.tiled_maps.specs.Fractions.{is_fraction, has_fraction, items_have_fra
 use Rattle.tiled_maps.specs.Aside.{reserved_name}
 use Rattle.tiled_maps.specs.Look.{NeedsNothing}
 use Rattle.tiled_maps.specs.Lexemes.{infinite, IsWhole}
-use Rattle.tiled_maps.proofs.MembersLemmas.{same_name}
+use Rattle.json_members.proofs.MembersLemmas.{same_name}
 
 -- ---- of JSON
 abbrev pub IsNotTrue : json.Json → Type 0

@@ -13,7 +13,7 @@ use Rattle.tiled_maps.specs.Places.{below}
 use Rattle.tiled_maps.specs.Aside.{reserved_name, stand_in, aside, members_aside, set_aside_of}
 use Rattle.tiled_maps.specs.Back.{back}
 use Rattle.tiled_maps.specs.Trees.{put_back_of}
-use Rattle.tiled_maps.proofs.MembersLemmas.{same_name}
+use Rattle.json_members.proofs.MembersLemmas.{same_name}
 use Rattle.tiled_maps.proofs.ReadTrees.{IsReadTree}
 use Rattle.tiled_maps.proofs.Law.{absent, back-set_aside_of}
 

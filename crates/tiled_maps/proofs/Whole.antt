@@ -7,12 +7,13 @@ use Rattle.serde_json.specs.Data.{Num, unsigned, negative, float, Data, null, bo
 use Rattle.serde_json.specs.Find.{get_member, is_float, of_integer, to_float}
 use Rattle.tiled_maps.specs.declared.place.Place.{Place}
 use Rattle.tiled_maps.specs.declared.place.Place.TheVariants.{Map, Layer, Object, Coordinate, Version, Elsewhere}
-use Rattle.tiled_maps.specs.Members.{without, put_some, has_name, items_have_name, members_have_name}
+use Rattle.json_members.specs.Members.{without, put_some}
+use Rattle.tiled_maps.specs.Members.{has_name, items_have_name, members_have_name}
 use Rattle.tiled_maps.specs.Places.{below, inside}
 use Rattle.tiled_maps.specs.Fractions.{is_fraction, has_fraction, items_have_fraction, members_have_fraction}
 use Rattle.tiled_maps.specs.Aside.{reserved_name, stand_in, whole_part, fraction_at, note_of, notes_of, with_notes, aside, items_aside, members_aside}
 use Rattle.tiled_maps.specs.Back.{restored, members_restored, number_in, notes_in, joined, back, items_back, members_back}
-use Rattle.tiled_maps.proofs.MembersLemmas.{same_name}
+use Rattle.json_members.proofs.MembersLemmas.{same_name}
 use Rattle.tiled_maps.proofs.Law.{or_left, or_right, absent, joined_absent}
 
 neither : (a b : Bool) → a ≡ false → b ≡ false → (a || b) ≡ false

@@ -6,7 +6,7 @@ use Rattle.serde_json.specs.Data.{Num, unsigned, Data, null, boolean, number, st
 use Rattle.serde_json.specs.Find.{as_number, of_integer, is_float, to_float, get_member}
 use Rattle.tiled_maps.specs.declared.place.Place.{Place}
 use Rattle.tiled_maps.specs.declared.place.Place.TheVariants.{Map, Layer, Object, Coordinate, Version, Elsewhere}
-use Rattle.tiled_maps.specs.Members.{put_some}
+use Rattle.json_members.specs.Members.{put_some}
 use Rattle.tiled_maps.specs.Places.{below, inside}
 
 -- the name that no member of a map may have

@@ -4,7 +4,7 @@ use Rattle.std.specs.Float.{binary64}
 use Rattle.std.specs.Ordering.{int_eq}
 use Rattle.serde_json.specs.Data.{Num, Data, null, boolean, number, string, array, object, Items, no_items, item, Members, no_members, member}
 use Rattle.serde_json.specs.Find.{to_float, as_number, as_u64, as_integer, as_object, of_float, at, get_member}
-use Rattle.tiled_maps.specs.Members.{without}
+use Rattle.json_members.specs.Members.{without}
 use Rattle.tiled_maps.specs.Aside.{reserved_name, whole_part, fraction_at}
 
 -- ---- a stand-in

@@ -1,12 +1,12 @@
 // A map's tree with its fractions set aside.
 ghost use Rattle.std.specs.Prelude.{◌≡◌, IfOk, OnOk};
 ghost use Rattle.serde_json.specs.View.{view as data_of, number_view, items_view, members_view};
-ghost use Rattle.tiled_maps.specs.Members.{put_some};
+ghost use Rattle.json_members.specs.Members.{put_some};
 ghost use Rattle.tiled_maps.specs.Aside.{aside, items_aside, members_aside, fraction_aside, number_aside, note_of, notes_of, with_notes};
 
 use crate::fraction::{RESERVED_NAME, fraction_at, stand_in, to_float, whole_part};
-use crate::members::found;
 use crate::place::Place;
+use json_members::found;
 use serde_json::{Map, Number, Value};
 use std::alloc::{AllocError, Global};
 

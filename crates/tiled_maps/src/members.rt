@@ -1,33 +1,16 @@
-// Members of an object, found by name, taken out and looked through.
-ghost use Rattle.std.specs.Prelude.{◌≡◌, option_map};
-ghost use Rattle.serde_json.specs.Find.{get_member};
+// Members of an object, looked through.
+ghost use Rattle.std.specs.Prelude.{◌≡◌};
 ghost use Rattle.serde_json.specs.View.{view as data_of, items_view, members_view};
 ghost use Rattle.tiled_maps.specs.Back.{is_alone};
-ghost use Rattle.tiled_maps.specs.Members.{without, has_name, items_have_name, members_have_name};
+ghost use Rattle.tiled_maps.specs.Members.{has_name, items_have_name, members_have_name};
 
 use serde_json::{Map, Value};
-
-/// The value of a member.
-pub fn found<'a>(members: &'a Map<String, Value>, name: &str) -> Option<&'a Value>
-    ensures { option_map (λ value. data_of value.now) result
-        ≡ get_member name.now (members_view members.now.entries) }
-{
-    members.get(name)
-}
 
 /// Whether an object has just one member.
 pub fn is_alone(members: &Map<String, Value>) -> bool
     ensures { result ≡ is_alone (members_view members.now.entries) }
 {
     members.len() == 1
-}
-
-/// Takes a member out, and drops it.
-pub fn remove(members: &mut Map<String, Value>, name: &str)
-    ensures { members_view members.new.entries
-        ≡ without name.now (members_view members.old.entries) }
-{
-    drop(members.remove(name));
 }
 
 /// Whether a member of this name stands anywhere in a tree.

@@ -1,9 +1,9 @@
 use Rattle.std.proofs.Common.{◌≡◌, inl, inr, length, ◌*◌, ◌<◌, ap, sym, subst, ◌∙◌, arith}
-use Rattle.std.proofs.lemmas.Bool.{cases_lt}
+use Rattle.std.proofs.lemmas.Bool.{cases_lt, false_from_ne_true}
 use Rattle.edits.specs.Flooding.{changes_below, taken_at}
 use Rattle.map_model.specs.Alike.{AreAlike}
 use Rattle.edits.proofs.FilledAlike.{changes-alike}
-use Rattle.edits.proofs.Fills.{changes-unmarked, false-unless, marked-within}
+use Rattle.edits.proofs.Fills.{changes-unmarked, marked-within}
 use Rattle.edits.proofs.filled.changes_of.Goals as goal
 
 pub loop-word-init : goal.loop-word-init
@@ -14,7 +14,7 @@ loop-word-init c =
     let first = c.min-word.result in
     c.in_ok-cells.ensures.items
     ∙ sym (changes-unmarked g s c.args.value 0 (64 * first) some (omega arith)
-    (λ k l m. false-unless (taken_at s k) (λ t. omega (arith, m, c.min-word.ensures, c.requires.sound.from k t))))
+    (λ k l m. false_from_ne_true (taken_at s k) (λ t. omega (arith, m, c.min-word.ensures, c.requires.sound.from k t))))
 
 pub returns-clause-cells : goal.returns-clause-cells
 returns-clause-cells c =
@@ -25,8 +25,8 @@ returns-clause-cells c =
     let size = length g.tiles.now in
     c.loop-word.invariant ∙ ap (λ n. changes_below g s c.args.value (64 * n)) all
     ∙ elim (cases_lt (64 * s.end) size) [
-      | inl l ↦ sym (changes-unmarked g s c.args.value (64 * s.end) size some (omega arith) (λ k a b. false-unless (taken_at s k) (λ t. omega (arith, a, c.requires.sound.to k t))))
-      | inr l ↦ changes-unmarked g s c.args.value size (64 * s.end) some l (λ k a b. false-unless (taken_at s k) (λ t. omega (arith, a, marked-within g s c.args.value c.requires.free some k t)))
+      | inl l ↦ sym (changes-unmarked g s c.args.value (64 * s.end) size some (omega arith) (λ k a b. false_from_ne_true (taken_at s k) (λ t. omega (arith, a, c.requires.sound.to k t))))
+      | inr l ↦ changes-unmarked g s c.args.value size (64 * s.end) some l (λ k a b. false_from_ne_true (taken_at s k) (λ t. omega (arith, a, marked-within g s c.args.value c.requires.free some k t)))
     ]
 
 pub returns-clause-alike : goal.returns-clause-alike

@@ -4,7 +4,7 @@ use Rattle.serde_json.specs.View.{view, members_view}
 use Rattle.serde_json.specs.Written.{members_have_float}
 use Rattle.serde_json.proofs.Views.{view_of_ref, view-lookup}
 use Rattle.map_model.specs.declared.names.TheConstants.{VERSION}
-use Rattle.map_json.specs.Members.{without}
+use Rattle.json_members.specs.Members.{without}
 use Rattle.map_json.specs.Maps.{version_has_fraction}
 use Rattle.map_json.proofs.Walks.{has_fraction-object}
 use Rattle.map_json.proofs.fractions.object_has_fraction.Goals as goal

@@ -1,11 +1,8 @@
-use Rattle.std.proofs.Common.{◌≡◌, ◌||◌, Bool, true, false, refl, arith}
+use Rattle.std.proofs.Common.{arith}
+use Rattle.std.proofs.Math.Bool.{or_assoc}
 use Rattle.region.specs.Runs.{in_run, in_runs}
 use Rattle.region.proofs.Splits.{in_runs-append, HaveEnded-append}
 use Rattle.region.proofs.walks.push_runs.Goals as goal
-
-or_assoc : (a b c : Bool) → ((a || b) || c) ≡ (a || (b || c))
-or_assoc true b c = refl
-or_assoc false b c = refl
 
 pub returns-then-not-is_empty-clause-cells : goal.returns-then-not-is_empty-clause-cells
 returns-then-not-is_empty-clause-cells c q =

@@ -1,4 +1,5 @@
 use Rattle.std.proofs.Common.{◌≡◌, inl, inr, ℕ, ◌+◌, ◌-◌, ◌*◌, ◌%◌, ◌^◌, Bool, true, false, ◌||◌, nat_eq, refl, ap, ◌∙◌, arith}
+use Rattle.std.proofs.Math.Bool.{or-false}
 use Rattle.std.specs.List.{slice_get}
 use Rattle.std.specs.Int.{bit_at}
 use Rattle.std.proofs.lemmas.Bool.{cases_lt}
@@ -6,10 +7,6 @@ use Rattle.std.proofs.lemmas.Nat.Bits.{bit_at_above}
 use Rattle.edits.specs.Joining.{is_value}
 use Rattle.edits.proofs.Marking.{has_or, shl_high, shl_low}
 use Rattle.edits.proofs.ground.Ground.equal_in_whole.Goals as goal
-
-or_false : (a : Bool) → (a || false) ≡ a
-or_false true = refl
-or_false false = refl
 
 pub returns : goal.returns
 returns c i l =
@@ -21,7 +18,7 @@ returns c i l =
     has_or low up i
     ∙ elim (cases_lt i 32) [
       | inl here ↦
-          ap (λ n. nat_eq (bit_at low i) 1 || nat_eq n 1) (shl_low high 32 i l here) ∙ or_false (nat_eq (bit_at low i) 1)
+          ap (λ n. nat_eq (bit_at low i) 1 || nat_eq n 1) (shl_low high 32 i l here) ∙ or-false (nat_eq (bit_at low i) 1)
           ∙ ap (λ n. nat_eq (bit_at n i) 1) c.from.ensures ∙ c.equal_in_half-low.ensures i here
       | inr there ↦
           let at : first + 32 + (i - 32) ≡ first + i = omega arith in

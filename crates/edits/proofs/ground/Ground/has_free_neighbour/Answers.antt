@@ -1,8 +1,8 @@
 use Rattle.std.proofs.Common.{◌≡◌, ℕ, ◌+◌, ◌-◌, ◌%◌, ◌^◌, false, ◌||◌, sym, ap, ◌∙◌, arith}
+use Rattle.std.proofs.lemmas.Bool.{false_from_ne_true}
 use Rattle.edits.specs.declared.ground.Ground.{Ground}
 use Rattle.edits.specs.Flooding.{IsGround, free_in, start_of}
 use Rattle.edits.specs.Joining.{any_neighbour}
-use Rattle.edits.proofs.Fills.{false-unless}
 use Rattle.edits.proofs.Flooded.{free_in-column, free_in-row}
 use Rattle.edits.proofs.Joined.{any_neighbour-by}
 use Rattle.edits.proofs.ground.Ground.has_free_neighbour.Goals as goal
@@ -17,9 +17,9 @@ found g ground =
     let x = g.start.0 in
     let y = g.start.1 in
     any_neighbour-by (free_in g) x y (before x) (before y)
-    (λ e. false-unless (free_in g (before x, y)) (λ h. omega (arith, e, ground.narrow, free_in-column g (before x, y) h)))
+    (λ e. false_from_ne_true (free_in g (before x, y)) (λ h. omega (arith, e, ground.narrow, free_in-column g (before x, y) h)))
     (λ l. omega (arith, l, ground.column, ground.narrow))
-    (λ e. false-unless (free_in g (x, before y)) (λ h. omega (arith, e, ground.low, free_in-row g ground (x, before y) h)))
+    (λ e. false_from_ne_true (free_in g (x, before y)) (λ h. omega (arith, e, ground.low, free_in-row g ground (x, before y) h)))
     (λ l. omega (arith, l, ground.row, ground.low))
 
 pub returns-then-is_free : goal.returns-then-is_free
