@@ -92,11 +92,6 @@ joined-none [] = refl
 joined-none (e ∷ es) = ap (λ fs. e ∷ fs) (joined-none es)
 
 -- ---- numbers in a list in row order
-pub AreInRowOrder-drop : (k : ℕ) (es : List CellEdit) → AreInRowOrder es → AreInRowOrder (drop k es)
-AreInRowOrder-drop zero es h = h
-AreInRowOrder-drop (suc k) [] h = tt
-AreInRowOrder-drop (suc k) (e ∷ es) h = AreInRowOrder-drop k es h.1
-
 module _ (d : CellEdit) where
   in_order-get : (es : List CellEdit) → AreInRowOrder es → (i j : ℕ) → i < j → j < length es → ComesBefore (get_or es i d) (get_or es j d)
   in_order-get [] h i j l m = absurd (omega arith)

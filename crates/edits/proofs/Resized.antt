@@ -33,6 +33,7 @@ use Rattle.map_model.proofs.Listings.{Each-append}
 use Rattle.edits.specs.Blocks.{ValueBlock, offset, value_in}
 use Rattle.edits.specs.Resizing.{row, table, drawn_stays, each_under, value_at, layer_block, resized_values, pixels_right, pixels_down, are_pixels, stays, all_stay, objects_stay, resized_layer, resized_selection, resized, IsDistance}
 use Rattle.edits.proofs.ResizedTrees.{layer-with, layers-with}
+use Rattle.map_model.proofs.CanvasLaws.{layers-cells}
 
 -- ---- the values of a table
 length-table : (f : ℕ → ℕ → ℕ) (width height : ℕ) → length (table f width height) ≡ width * height
@@ -85,17 +86,6 @@ layers-cells size more f good [] h = tt
 layers-cells size more f good (d ∷ ds) h =
     rw (map-append f (lists_of d) (flat_map lists_of ds))
     (Each-append (AreCells more) (map f (lists_of d)) (map f (flat_map lists_of ds)) (layer-cells d.0 size more f good d.1.body h.0.body) (layers-cells size more f good ds h.1))
-
-own-cells : (level size : ℕ) (b : Body) → IsBody level size b → Each (AreCells size) (lists_in b)
-own-cells level size (Tiles e own) h = (h, tt)
-own-cells level size (Objects os) h = tt
-own-cells level size Other h = tt
-own-cells level size (Group' s r) h = tt
-
--- the cells of each tile layer are as many as those of the map
-pub drawn-cells : (size : ℕ) (ds : List (ℕ × Layer)) → Each (IsDrawn size) ds → Each (AreCells size) (flat_map lists_of ds)
-drawn-cells size [] h = tt
-drawn-cells size (d ∷ ds) h = Each-append (AreCells size) (lists_of d) (flat_map lists_of ds) (own-cells d.0 size d.1.body h.0.body) (drawn-cells size ds h.1)
 
 and-left : (a b : Bool) → (a && b) ≡ true → a ≡ true
 and-left true b e = refl

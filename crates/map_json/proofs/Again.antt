@@ -30,10 +30,6 @@ module _ {A : Type 0} (tree : A → Data) (read : Data → Result A MapRefusal) 
       let fits : nat_le (items_len (items_by tree xs)) most ≡ true = rw (items_len-items_by tree xs) (le-leb (length xs) most few) in
       rw fits (each_again xs h)
 
-pub all_weaker : {A : Type 0} (P Q : A → Type 0) → ((x : A) → P x → Q x) → (xs : List A) → Each P xs → Each Q xs
-all_weaker P Q f [] h = h
-all_weaker P Q f (x ∷ xs) h = (f x h.0, all_weaker P Q f xs h.1)
-
 cell_again : (c : ℕ) → c < 2 ^ 32 → cell_of (whole_tree c) ≡ Some c
 unfolding cell_of
 cell_again c h = rw (lt-ltb c (2 ^ 32) h) refl

@@ -9,7 +9,7 @@ use Rattle.map_model.specs.Lists.{Each, Distinct}
 use Rattle.map_model.specs.WellFormed.{IsId, AreIds}
 use Rattle.map_json.specs.Distinctness.{are_distinct}
 
-not_and : (a b : Bool) → not a && b ≡ true → (a ≡ false) × (b ≡ true)
+pub not_and : (a b : Bool) → not a && b ≡ true → (a ≡ false) × (b ≡ true)
 not_and true b e = absurd (true≢false (sym e))
 not_and false b e = (refl, e)
 

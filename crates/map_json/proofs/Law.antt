@@ -29,9 +29,10 @@ use Rattle.map_json.specs.Reading.{value_of, property_at, id_at, pixels_at, plac
 use Rattle.map_json.specs.Cells.{array_cells_at, base64_cells_at}
 use Rattle.map_json.specs.Trees.{whole_tree, value_tree, property_own, property_tree, properties_member, object_own, object_tree, tileset_own, tileset_tree, bytes_of, cells_tree, encoding_member}
 use Rattle.map_json.proofs.Own.{get_member-with_own, without_all-with_own, or_else}
-use Rattle.map_json.proofs.Again.{whole_again, elements_again, all_weaker, cells_again, length-bytes_of, words_again}
+use Rattle.map_json.proofs.Again.{whole_again, elements_again, cells_again, length-bytes_of, words_again}
 use Rattle.map_json.proofs.Words.{is_byte-from_IsBytes}
 use Rattle.map_json.proofs.Base64.{decoded_again, IsBytes-bytes_of}
+use Rattle.map_model.proofs.TilesetChanges.{Each-along}
 
 -- ---- scalars
 to_true : (b : Bool) → T b → b ≡ true
@@ -105,7 +106,7 @@ pub properties_again : (level : ℕ) (ps : List Property) → AreProperties leve
 properties_again level [] h = refl
 properties_again level (p ∷ ps) h =
     elements_again property_tree property_at MAX_PROPERTIES (p ∷ ps) h.few
-    (all_weaker (IsProperty (property_level level)) (λ q. property_at (property_tree q) ≡ Ok q) (property_again (property_level level)) (p ∷ ps) h.each)
+    (Each-along (IsProperty (property_level level)) (λ q. property_at (property_tree q) ≡ Ok q) (property_again (property_level level)) (p ∷ ps) h.each)
 
 -- ---- tilesets
 tileset_read : (t : Tileset) (ms : Members) → get_member FIRST_ID.now ms ≡ Some (whole_tree t.first_id) → get_member SOURCE.now ms ≡ option_map string t.source

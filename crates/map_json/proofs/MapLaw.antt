@@ -31,11 +31,12 @@ use Rattle.map_json.specs.Distinctness.{lists_in, lists_of_drawn, property_lists
 use Rattle.map_json.specs.Maps.{parts_of, consistent, map_of}
 use Rattle.map_json.specs.Trees.{array_by, whole_tree, properties_member, tileset_tree, layers_tree, map_own, tree_of}
 use Rattle.map_json.proofs.Own.{get_member-with_own, without_all-with_own}
-use Rattle.map_json.proofs.Again.{whole_again, elements_again, all_weaker}
+use Rattle.map_json.proofs.Again.{whole_again, elements_again}
 use Rattle.map_json.proofs.Apart.{numbers-Distinct, texts-Distinct, below-IsId}
 use Rattle.map_json.proofs.Plain.{tree_plain}
 use Rattle.map_json.proofs.Law.{or_none, properties_again, tileset_again}
 use Rattle.map_json.proofs.LayerLaw.{map_layers_again}
+use Rattle.map_model.proofs.TilesetChanges.{Each-along}
 
 named_apart : (level : ℕ) (ps : List Property) → AreProperties level ps → are_named_apart ps ≡ true
 named_apart level ps h = texts-Distinct (flat_map names_of_property ps) h.distinct
@@ -102,7 +103,7 @@ parts_again m h =
     (whole_again 1 MAX_TILE_SIDE m.tile_width h.tile_size.wide h.tile_size.width_limit) (whole_again 1 MAX_TILE_SIDE m.tile_height h.tile_size.high h.tile_size.height_limit)
     (whole_again 1 MAX_NEXT_ID m.next_layer_id layer.next_low layer.next_high) (whole_again 1 MAX_NEXT_ID m.next_object_id object.next_low object.next_high)
     (map_layers_again m.next_layer_id m.next_object_id m.width m.height layer.next_high object.next_high m.layers h.layers.few h.layers.each layer.each object.each)
-    (elements_again tileset_tree tileset_at MAX_TILESETS m.tilesets h.tilesets.few (all_weaker IsTileset (λ t. tileset_at (tileset_tree t) ≡ Ok t) tileset_again m.tilesets h.tilesets.each))
+    (elements_again tileset_tree tileset_at MAX_TILESETS m.tilesets h.tilesets.few (Each-along IsTileset (λ t. tileset_at (tileset_tree t) ≡ Ok t) tileset_again m.tilesets h.tilesets.each))
     (properties_again map_level m.properties h.properties) (without_all-with_own own kept refl lacks)
 
 -- ---- fractions

@@ -7,6 +7,7 @@ use Rattle.std.specs.List.{list_any, list_all}
 use Rattle.std.specs.Cmp.Lexicographic.{slice_cmp}
 use Rattle.std.proofs.lemmas.Map.Text.{is_eq-slice_cmp}
 use Rattle.map_json.specs.Distinctness.{are_distinct}
+use Rattle.map_model.proofs.TilesetChanges.{list_any-same}
 
 module _ {K : Type 0} (eq : K → K → Bool) where
   -- no element was met
@@ -59,10 +60,6 @@ module _ {K : Type 0} (eq : K → K → Bool) where
       all_new (y ∷ ys) = rw (none y, all_new ys) refl
 
 -- ---- tests that agree
-pub list_any-same : {A : Type 0} (p q : A → Bool) → ((x : A) → p x ≡ q x) → (xs : List A) → list_any p xs ≡ list_any q xs
-list_any-same p q e [] = refl
-list_any-same p q e (x ∷ xs) = rw (e x, list_any-same p q e xs) refl
-
 pub are_distinct-same : {A : Type 0} (p q : A → A → Bool) → ((x y : A) → p x y ≡ q x y) → (xs : List A) → are_distinct p xs ≡ are_distinct q xs
 are_distinct-same p q e [] = refl
 are_distinct-same p q e (x ∷ xs) = rw (list_any-same (p x) (q x) (e x) xs, are_distinct-same p q e xs) refl

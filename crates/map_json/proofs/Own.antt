@@ -15,6 +15,7 @@ use Rattle.map_json.specs.Members.{with_own}
 use Rattle.map_json.specs.Distinctness.{are_distinct}
 use Rattle.json_members.proofs.MembersLemmas.{without-absent}
 use Rattle.map_json.proofs.Lacking.{LacksAll}
+use Rattle.map_json.proofs.Apart.{not_and}
 
 apart : (q k : List ℕ) → bytes_eq q k ≡ false → q ≡ k → ⊥
 apart q k e same = false≢true (sym e ∙ (bytes_eq-Decides q k).1 same)
@@ -75,14 +76,10 @@ without-put_some : (k : List ℕ) (o : Option Data) (ms : Members) → get_membe
 without-put_some k None ms e = without-absent k ms e
 without-put_some k (Some d) ms e = without-put k d ms e
 
-first_apart : (b c : Bool) → not b && c ≡ true → (b ≡ false) × (c ≡ true)
-first_apart true c e = absurd cc
-first_apart false c e = (refl, e)
-
 pub without_all-with_own : (t : List (List ℕ × Option Data)) (kept : Members) → are_distinct bytes_eq (names t) ≡ true → LacksAll (names t) kept → without_all (names t) (with_own t kept) ≡ kept
 without_all-with_own [] kept e lacks = refl
 without_all-with_own (p ∷ ps) kept e lacks =
-    let f = first_apart (list_any (bytes_eq p.0) (names ps)) (are_distinct bytes_eq (names ps)) e in
+    let f = not_and (list_any (bytes_eq p.0) (names ps)) (are_distinct bytes_eq (names ps)) e in
     let absent : get_member p.0 (with_own ps kept) ≡ None = get_member-with_own p.0 ps kept ∙ (find_own-other p.0 ps (get_member p.0 kept) f.0 ∙ lacks.0) in
     ap (without_all (names ps)) (without-put_some p.0 p.1 (with_own ps kept) absent) ∙ without_all-with_own ps kept f.1 lacks.1
 

@@ -178,7 +178,7 @@ body-cells level size (Objects os) h = tt
 body-cells level size Other h = tt
 body-cells level size (Group' s r) h = tt
 
-layers-cells : (size : ℕ) (ds : List (ℕ × Layer)) → Each (IsDrawn size) ds → Each (AreCells size) (flat_map lists_of ds)
+pub layers-cells : (size : ℕ) (ds : List (ℕ × Layer)) → Each (IsDrawn size) ds → Each (AreCells size) (flat_map lists_of ds)
 layers-cells size [] h = tt
 layers-cells size (d ∷ ds) h =
     Each-append (AreCells size) (lists_of d) (flat_map lists_of ds) (body-cells d.0 size d.1.body h.0.body) (layers-cells size ds h.1)

@@ -30,13 +30,6 @@ use Rattle.map_model.proofs.Lookups.{level_of-low, level_of-with_layer}
 use Rattle.map_model.proofs.NewMaps.{unread-test}
 use Rattle.map_model.proofs.ObjectKeeps.{length-change_at, Each-change_at, group_in-objects, object_at-IsObject, with_object-keeps_there}
 
--- a write at a place is a change of the element there
-pub set-at_place : {X : Type 0} (f : X → X) (xs : List X) (k : ℕ) (x : X) → slice_get xs k ≡ Some x → slice_set xs k (f x) ≡ change_at k f xs
-set-at_place f [] zero x e = refl
-set-at_place f [] (suc k) x e = refl
-set-at_place f (y ∷ ys) zero x e = let is : x ≡ y = cc in ap (λ z. f z ∷ ys) is
-set-at_place f (y ∷ ys) (suc k) x e = ap (λ zs. y ∷ zs) (set-at_place f ys k x e)
-
 -- ---- the properties of an owner of a well-formed map
 mapped : {X Y : Type 0} (f : X → Y) (o : Option X) (y : Y) → option_map f o ≡ Some y → (x : X) × ((o ≡ Some x) × (f x ≡ y))
 mapped f None y e = cc

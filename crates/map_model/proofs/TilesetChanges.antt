@@ -84,7 +84,7 @@ pub list_any-flat_map : {X A : Type 0} (p : A → Bool) (g : X → List A) (xs :
 list_any-flat_map p g [] = refl
 list_any-flat_map p g (x ∷ xs) = list_any-append p (g x) (flat_map g xs) ∙ ap (λ b. list_any p (g x) || b) (list_any-flat_map p g xs)
 
-list_any-same : {X : Type 0} (p q : X → Bool) → ((x : X) → p x ≡ q x) → (xs : List X) → list_any p xs ≡ list_any q xs
+pub list_any-same : {X : Type 0} (p q : X → Bool) → ((x : X) → p x ≡ q x) → (xs : List X) → list_any p xs ≡ list_any q xs
 list_any-same p q same xs i = list_any (λ x. same x i) xs
 
 recursion_from_Each : {X : Type 0} (P : X → Type 0) (xs : List X) → Each P xs → AllByRecursion P xs
@@ -94,7 +94,7 @@ recursion_from_Each P (x ∷ xs) h = (h.0, recursion_from_Each P xs h.1)
 Each-contains : {X : Type 0} (P : X → Type 0) (xs : List X) (x : X) → Contains xs x → Each P xs → P x
 Each-contains P xs x c h = All-contains P xs x (All-from_recursion P xs (recursion_from_Each P xs h)) c
 
-Each-along : {X : Type 0} (P Q : X → Type 0) → ((x : X) → P x → Q x) → (xs : List X) → Each P xs → Each Q xs
+pub Each-along : {X : Type 0} (P Q : X → Type 0) → ((x : X) → P x → Q x) → (xs : List X) → Each P xs → Each Q xs
 Each-along P Q f [] h = tt
 Each-along P Q f (x ∷ xs) h = (f x h.0, Each-along P Q f xs h.1)
 

@@ -4,9 +4,10 @@ use Rattle.region.specs.Cells.{cell_cmp}
 use Rattle.map_model.specs.declared.edit.CellEdit.{CellEdit}
 use Rattle.map_model.specs.CellEdits.{AreInRowOrder, cell}
 use Rattle.edits.specs.Merging.{joined, joined_cell}
-use Rattle.edits.proofs.Merged.{HasNoneBefore, AreInRowOrder-drop, first-HasNoneBefore, drop-HasNoneBefore, joined-none, joined-prefix, joined-met, joined-unmet, done_more}
+use Rattle.edits.proofs.Merged.{HasNoneBefore, first-HasNoneBefore, drop-HasNoneBefore, joined-none, joined-prefix, joined-met, joined-unmet, done_more}
 use Rattle.edits.proofs.merging.joined_cells.Goals as goal
 use Rattle.edits.proofs.merging.joined_cells.Goals.{then-not-is_empty+then-comes_before+in_ok-push_stretch, else-not-is_empty, else-not-is_empty-via-then-not-is_empty+else-comes_before, else-not-is_empty-via-else-not-is_empty, then-not-is_empty-2+then-is_same_cell, else-not-is_empty-2, else-not-is_empty-2-via-then-not-is_empty-2+else-is_same_cell, else-not-is_empty-2-via-else-not-is_empty-2}
+use Rattle.map_model.proofs.SideBySide.{in_row_order-drop}
 
 pub loop-cell-preserved : goal.loop-cell-preserved
 loop-cell-preserved c =
@@ -26,7 +27,7 @@ loop-cell-preserved c =
           rw (w.cells-is, w.rest-is, w.split_at.ensures.back) (
             done_more a (take p es) (joined (drop p es) (n ∷ ns)) (joined es (n ∷ ns)) whole w.push_stretch.new.cells.items
                 (w.in_ok-push_stretch.ensures.items ∙ ap (λ ms. a ++ ms) w.split_at.ensures.front) before (joined-prefix n ns p es w.number_of.ensures),
-            AreInRowOrder-drop p es c.loop-cell.invariant.ordered,
+            in_row_order-drop p es c.loop-cell.invariant.ordered,
             drop-HasNoneBefore n p es w.number_of.ensures,
           )
       | else-not-is_empty w ↦
@@ -43,7 +44,7 @@ loop-cell-preserved c =
             done_more b (joined_cell e n) (joined (drop 1 fs) ns) (joined fs (n ∷ ns)) whole w.push_joined.new.cells.items w.push_joined.ensures.items prefix.0
                 (joined-met n ns fs e w.index-rest-0-then-not-is_empty-2.result (search rules) w.index-rest-0-then-is_same_cell.is w.index-rest-0-then-not-is_empty-2.is
                 (sym w.is_same_cell.ensures ∙ w.if-is_same_cell.true)),
-            AreInRowOrder-drop 1 fs prefix.1,
+            in_row_order-drop 1 fs prefix.1,
           )
       | else-not-is_empty-2 w ↦
           let other : 0 < length fs → (f : CellEdit) × (f ≡ get_or fs 0 f) × (is_eq (cell_cmp (cell f) (cell n)) ≡ false) = elim w.else-not-is_empty-2.branch [

@@ -4,11 +4,12 @@ use Rattle.region.specs.Cells.{in_moved_cut}
 use Rattle.map_model.specs.declared.parts.MapParts.{MapParts}
 use Rattle.map_model.specs.Canvas.{tile_layers}
 use Rattle.edits.specs.Resizing.{resized_values}
-use Rattle.edits.proofs.Resized.{canvas-resized, canvas-fits, drawn-cells}
+use Rattle.edits.proofs.Resized.{canvas-resized, canvas-fits}
+use Rattle.map_model.proofs.CanvasLaws.{layers-cells}
 use Rattle.edits.proofs.resizing.new_canvas.Goals as goal
 
 pub resized_layers-requires-clause-cells : goal.resized_layers-requires-clause-cells
-resized_layers-requires-clause-cells c = rw c.parts-parts.ensures.value (drawn-cells _ _ c.parts-parts.ensures.well_formed.layers.each)
+resized_layers-requires-clause-cells c = rw c.parts-parts.ensures.value (layers-cells _ _ c.parts-parts.ensures.well_formed.layers.each)
 
 pub returns-clause-document : goal.returns-clause-document
 returns-clause-document c =
