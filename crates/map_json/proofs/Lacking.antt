@@ -4,7 +4,7 @@ use Rattle.serde_json.specs.Data.{Members}
 use Rattle.serde_json.specs.Find.{get_member}
 use Rattle.map_model.specs.Lists.{Each}
 use Rattle.json_members.specs.Members.{without, without_all}
-use Rattle.json_members.proofs.MembersLemmas.{get_member-without_same, stays_absent}
+use Rattle.json_members.proofs.MembersLemmas.{get_member-without, get_member-without_same, stays_absent}
 
 -- no member has a name of these
 abbrev pub LacksAll : List (List ℕ) → Members → Type 0
@@ -17,3 +17,5 @@ absent_from_all q (k ∷ ks) ms h = absent_from_all q ks (without k ms) (stays_a
 pub LacksAll-without_all : (ks : List (List ℕ)) (ms : Members) → LacksAll ks (without_all ks ms)
 LacksAll-without_all [] ms = tt
 LacksAll-without_all (k ∷ ks) ms = (absent_from_all k ks (without k ms) (get_member-without_same k ms), LacksAll-without_all ks (without k ms))
+
+pub ruleset takes = (get_member-without)

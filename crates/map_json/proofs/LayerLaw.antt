@@ -26,7 +26,7 @@ use Rattle.map_json.specs.declared.body.LayerType.TheVariants.{TileLayer, Object
 use Rattle.map_json.specs.Steps.{absent_means}
 use Rattle.map_json.specs.Scalars.{text_at, truth_at}
 use Rattle.map_json.specs.Elements.{Counting, each_counted, elements_at}
-use Rattle.map_json.specs.Reading.{property_at, id_at, object_at, type_at, cells_at, tiles_of, objects_of, body_by, layer_by, layers_at, map_layers_at}
+use Rattle.map_json.specs.Reading.{property_at, id_at, object_at, type_at, cells_at, tiles_of, objects_of, body_by, head_of, layer_by, layers_at, map_layers_at}
 use Rattle.map_json.specs.Trees.{array_by, items_by, whole_tree, properties_member, object_tree, cells_tree, encoding_member, body_own, type_word, layer_own, layer_tree, layers_tree}
 use Rattle.map_json.proofs.Again.{elements_again, items_len-items_by}
 use Rattle.map_json.proofs.DrawnLayers.{Each-left, Each-right, Group-inside, drawn_in, drawn_in-none, length-drawn, tree-Each}
@@ -118,7 +118,7 @@ layer_read : (inner : Counting (List Layer)) (width height count behind : ℕ) (
     → get_member NAME.now ms ≡ Some (string l.name) → get_member VISIBLE.now ms ≡ Some (boolean l.visible) → get_member PROPERTIES.now ms ≡ properties_member l.properties
     → id_at (whole_tree l.id) ≡ Ok l.id → absent_means [] (elements_at MAX_PROPERTIES property_at) (properties_member l.properties) ≡ Ok l.properties
     → body_by inner (kind_of l.body) width height count ms ≡ Ok (behind, l.body) → without_all (layer_names l.body) ms ≡ l.kept → layer_by inner width height count (object ms) ≡ Ok (behind, l)
-unfolding layer_by text_at truth_at
+unfolding layer_by head_of text_at truth_at
 layer_read inner width height count behind l ms type id name visible properties id_ok properties_ok body_ok kept =
     rw (type, type_again l.body, id, id_ok, name, visible, properties, properties_ok, body_ok, kept) refl
 

@@ -22,11 +22,12 @@ use Rattle.map_model.proofs.Trees.{below}
 use Rattle.json_members.specs.Members.{without_all}
 use Rattle.map_json.specs.declared.body.LayerType.{LayerType}
 use Rattle.map_json.specs.declared.body.LayerType.TheVariants.{TileLayer, ObjectGroup, ImageLayer, GroupLayer}
+use Rattle.map_json.specs.declared.layer.Head.{Head}
 use Rattle.map_json.specs.declared.fault.MapRefusal.TheVariants.{MemberOfAnotherKind, OverLimit}
 use Rattle.map_json.specs.Steps.{required, absent_means}
 use Rattle.map_json.specs.Scalars.{text_at, truth_at}
 use Rattle.map_json.specs.Elements.{Counting, each_counted, elements_at}
-use Rattle.map_json.specs.Reading.{id_at, properties_of, object_at, type_at, encoding_at, compression_at, same_at, cells_at, tiles_of, objects_of, body_by, layer_by, layers_at, map_layers_at}
+use Rattle.map_json.specs.Reading.{id_at, properties_of, object_at, type_at, encoding_at, compression_at, same_at, cells_at, tiles_of, objects_of, body_by, layer_by, layers_at, map_layers_at, head_of}
 use Rattle.map_json.proofs.DrawnLayers.{Each-both, Each-tree, length-drawn, drawn_in, below-drawn_in, drawn_in-none, drawn_in-Group}
 use Rattle.map_json.proofs.Fine.{IsFine, AreFineItems, AreFineMembers}
 use Rattle.map_json.proofs.FineLemmas.{IsFine-get_member}
@@ -163,29 +164,43 @@ body_sound room level n deep inner GroupLayer width height count ms r sound h e 
     let fine = IsFine-get_member (suc (suc (suc (suc n)))) LAYERS.now ms found.0 h found.1 in
     subst (BodyRead room level (width * height) count) (ok_is (ls.0, Group ls.1) r e1) (sound found.0 count ls fine found.2))
 
+-- what was read of the members of a layer of any kind
+record HeadRead (ms : Members) (head : Head) : Type 0 where
+  id : required id_at (get_member ID.now ms) ≡ Ok head.id
+  name : absent_means [] text_at (get_member NAME.now ms) ≡ Ok head.name
+  properties : properties_of ms ≡ Ok head.properties
+
+head_read : (ms : Members) (head : Head) → head_of ms ≡ Ok head → HeadRead ms head
+unfolding head_of
+head_read ms head e =
+    by_bind (required type_at (get_member TYPE.now ms)) _ head e (λ kind kind_is e1.
+    by_bind (required id_at (get_member ID.now ms)) _ head e1 (λ id id_is e2.
+    by_bind (absent_means [] text_at (get_member NAME.now ms)) _ head e2 (λ name name_is e3.
+    by_bind (absent_means true truth_at (get_member VISIBLE.now ms)) _ head e3 (λ visible visible_is e4.
+    by_bind (properties_of ms) _ head e4 (λ properties properties_is e5.
+    let found : Head = record { kind = kind; id = id; name = name; visible = visible; properties = properties } in
+    subst (HeadRead ms) (ok_is found head e5) (record { id = id_is; name = name_is; properties = properties_is }))))))
+
 one_sound : (room level n : ℕ) → property_level (object_level level) + n ≤ MAX_DEPTH → (inner : Counting (List Layer)) (width height count : ℕ) (d : Data) (r : ℕ × Layer)
     → IsInner room level (suc (suc (suc (suc n)))) (width * height) inner → IsFine (suc (suc (suc (suc (suc n))))) d → layer_by inner width height count d ≡ Ok r → LayerRead room level (width * height) count r
 unfolding layer_by
 one_sound room level n deep inner width height count d r sound fine e =
     by_bind (ok_or (as_object d) MemberOfAnotherKind) _ r e (λ ms object e1.
-    by_bind (required type_at (get_member TYPE.now ms)) _ r e1 (λ type type_is e2.
-    by_bind (required id_at (get_member ID.now ms)) _ r e2 (λ id id_is e3.
-    by_bind (absent_means [] text_at (get_member NAME.now ms)) _ r e3 (λ name name_is e4.
-    by_bind (absent_means true truth_at (get_member VISIBLE.now ms)) _ r e4 (λ visible visible_is e5.
-    by_bind (properties_of ms) _ r e5 (λ properties properties_is e6.
-    by_bind (body_by inner type width height count ms) _ r e6 (λ body body_is e7.
+    by_bind (head_of ms) _ r e1 (λ head head_is e2.
+    by_bind (body_by inner head.kind width height count ms) _ r e2 (λ body body_is e3.
+    let read = head_read ms head head_is in
     let members = object_fine (suc (suc (suc (suc n)))) d ms fine (ok_or_ok (as_object d) MemberOfAnotherKind ms object) in
-    let range = required_whole_sound 1 (MAX_NEXT_ID - 1) (get_member ID.now ms) id id_is in
-    let held = body_sound room level n deep inner type width height count ms body sound members body_is in
-    let l : Layer = record { id = id; name = name; visible = visible; properties = properties; kept = without_all (layer_names body.1) ms; body = body.1 } in
+    let range = required_whole_sound 1 (MAX_NEXT_ID - 1) (get_member ID.now ms) head.id read.id in
+    let held = body_sound room level n deep inner head.kind width height count ms body sound members body_is in
+    let l : Layer = record { id = head.id; name = head.name; visible = head.visible; properties = head.properties; kept = without_all (layer_names body.1) ms; body = body.1 } in
     let made : WasReadLayer level (width * height) l = record {
       low = range.0;
-      name = text_or_sound (suc (suc (suc (suc n)))) NAME.now ms members [] name IsUtf8-nil name_is;
-      properties = properties_sound level (suc (suc n)) (omega arith) ms properties members properties_is;
+      name = text_or_sound (suc (suc (suc (suc n)))) NAME.now ms members [] head.name IsUtf8-nil read.name;
+      properties = properties_sound level (suc (suc n)) (omega arith) ms head.properties members read.properties;
       kept = kept_sound level (suc (suc (suc (suc n)))) (layer_names body.1) ms (omega arith) members;
       body = held.0;
     } in
-    subst (LayerRead room level (width * height) count) (ok_is (body.0, l) r e7) (made, subst (WereCounted (width * height) count body.0) (sym (below-drawn_in room level l)) held.1))))))))
+    subst (LayerRead room level (width * height) count) (ok_is (body.0, l) r e3) (made, subst (WereCounted (width * height) count body.0) (sym (below-drawn_in room level l)) held.1))))
 
 -- a group with room for layers, which a reader of one room less reads
 inner_sound : (room level n width height : ℕ) → level + 2 * suc room ≡ deepest_level

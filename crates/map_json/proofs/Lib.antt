@@ -8,6 +8,7 @@ pub mod Base64
 pub mod Walks
 pub mod Bodies
 pub mod Parts
+pub mod Heads
 pub mod Meetings
 pub mod Fine
 pub mod FineLemmas

@@ -22,6 +22,7 @@ use Rattle.map_model.specs.Keeping.{layer_names, object_names, tileset_names, pr
 use Rattle.map_model.specs.Steps.{◌>>=◌, ◌>>◌, check}
 use Rattle.map_json.specs.declared.body.LayerType.{LayerType}
 use Rattle.map_json.specs.declared.body.LayerType.TheVariants.{TileLayer, ObjectGroup, ImageLayer, GroupLayer}
+use Rattle.map_json.specs.declared.layer.Head.{Head}
 use Rattle.map_json.specs.declared.fault.MapRefusal.{MapRefusal}
 use Rattle.map_json.specs.declared.fault.MapRefusal.TheVariants.{MemberOfAnotherKind, Compressed, BadData, OverLimit}
 use Rattle.map_json.specs.Steps.{required, absent_means, optional}
@@ -146,17 +147,23 @@ body_by inner ObjectGroup width height count ms = objects_of ms >>= λ body. Ok 
 body_by inner ImageLayer width height count ms = Ok (count, Other)
 body_by inner GroupLayer width height count ms = required (inner count) (get_member LAYERS.now ms) >>= λ ls. Ok (ls.0, Group ls.1)
 
--- a layer, on a map of this size
-unfoldable pub layer_by : Counting (List Layer) → ℕ → ℕ → Counting Layer
-layer_by inner width height count d = do
-  ms ← ok_or (as_object d) MemberOfAnotherKind
-  type ← required type_at (get_member TYPE.now ms)
+-- the members of a layer of any kind
+unfoldable pub head_of : Members → Result Head MapRefusal
+head_of ms = do
+  kind ← required type_at (get_member TYPE.now ms)
   id ← required id_at (get_member ID.now ms)
   name ← absent_means [] text_at (get_member NAME.now ms)
   visible ← absent_means true truth_at (get_member VISIBLE.now ms)
   properties ← properties_of ms
-  body ← body_by inner type width height count ms
-  Ok (body.0, record { id = id; name = name; visible = visible; properties = properties; kept = without_all (layer_names body.1) ms; body = body.1 })
+  Ok (record { kind = kind; id = id; name = name; visible = visible; properties = properties })
+
+-- a layer, on a map of this size
+unfoldable pub layer_by : Counting (List Layer) → ℕ → ℕ → Counting Layer
+layer_by inner width height count d = do
+  ms ← ok_or (as_object d) MemberOfAnotherKind
+  head ← head_of ms
+  body ← body_by inner head.kind width height count ms
+  Ok (body.0, record { id = head.id; name = head.name; visible = head.visible; properties = head.properties; kept = without_all (layer_names body.1) ms; body = body.1 })
 
 -- an array of layers, where so many such arrays may stand in one another, itself among them
 --

@@ -184,7 +184,7 @@ fn required_cells<T: Trail>(
 }
 
 /// What a tile layer holds.
-#[tactic(auto, using(crate::proofs::MembersLemmas::takes), unfolding(crate::specs::Reading::tiles_of))]
+#[tactic(auto, using(crate::proofs::Lacking::takes), unfolding(crate::specs::Reading::tiles_of))]
 pub fn tiles<T: Trail>(
     alloc: Global,
     size: Size,

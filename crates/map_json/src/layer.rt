@@ -1,26 +1,26 @@
 // Layers.
-ghost use Rattle.std.specs.Prelude.{◌≡◌, ◌*◌, ◌≤◌, Ok, IfErr, IfOk, IsSomeAnd, length};
+ghost use Rattle.std.specs.Prelude.{◌≡◌, ◌*◌, ◌≤◌, IfOk, length};
 ghost use Rattle.serde_json.specs.Find.{get_member};
 ghost use Rattle.serde_json.specs.View.{view as data_of, items_view};
 ghost use Rattle.map_model.specs.declared.names.TheConstants.{LAYERS};
-ghost use Rattle.map_model.specs.Keeping.{body_names};
+ghost use Rattle.map_model.specs.Keeping.{body_names, common_names};
 ghost use Rattle.map_model.specs.declared.limits.TheConstants.{MAX_CELLS, MAX_LAYERS};
 ghost use Rattle.json_members.specs.Members.{without, without_all};
-ghost use Rattle.map_json.specs.Steps.{Fails, Gives, GivesBy, required};
+ghost use Rattle.map_json.specs.Steps.{Gives, GivesBy, required};
 ghost use Rattle.map_json.specs.Elements.{each_counted};
-ghost use Rattle.map_json.specs.Reading.{body_by, layer_by, layers_at, map_layers_at};
+ghost use Rattle.map_json.specs.Reading.{body_by, head_of, layer_by, layers_at, map_layers_at};
 
 use crate::body::{LayerType, objects, required_type, tiles};
-use crate::elements::array_of;
+use crate::elements::{ElementList, array_of};
 use crate::fault::{MapFault, MapRefusal};
 use crate::json_object::JsonObject;
 use crate::property::properties_or_none;
 use crate::scalar::{required_id, text_or, truth_or};
 use crate::size::Size;
 use crate::trail::{Step, Trail};
-use link_chain::{Chain, Loose};
+use link_chain::Chain;
 use map_model::limits::{MAX_GROUPS, MAX_LAYERS};
-use map_model::{Body, Layer, names};
+use map_model::{Body, Layer, MapText, Property, names};
 use serde_json::Value;
 use std::alloc::Global;
 
@@ -57,8 +57,42 @@ fn body<T: Trail>(
     }
 }
 
+// The members of a layer of any kind.
+#[derive(Drop)]
+struct Head {
+    kind: LayerType,
+    id: u32,
+    name: MapText,
+    visible: bool,
+    properties: Chain<Property>,
+}
+
+#[tactic(auto, using(crate::proofs::Lacking::takes), unfolding(crate::specs::Reading::head_of))]
+fn read_head<T: Trail>(
+    alloc: Global,
+    size: Size,
+    members: &mut JsonObject,
+    trail: &mut T,
+) -> Result<Head, MapFault>
+    requires { size.width * size.height ≤ MAX_CELLS }
+    ensures value { Gives result (head_of members.old) }
+    ensures left { IfOk result (λ head. members.new ≡ without_all common_names members.old) }
+{
+    let kind = required_type(members, trail)?;
+    let id = required_id(members, trail)?;
+    let name = text_or(alloc, members, names::NAME, "", trail)?;
+    let visible = truth_or(members, names::VISIBLE, true, trail)?;
+    let properties = properties_or_none(alloc, size, members, trail)?;
+    Ok(Head {
+        kind,
+        id,
+        name,
+        visible,
+        properties,
+    })
+}
+
 #[cycle(layers)]
-#[tactic(auto, using(crate::proofs::Bodies::common, crate::proofs::MembersLemmas::takes), unfolding(crate::specs::Reading::layer_by))]
 fn layer<T: Trail>(
     alloc: Global,
     size: Size,
@@ -74,42 +108,16 @@ fn layer<T: Trail>(
     ensures few { IfOk result (λ layer. count.new ≤ MAX_LAYERS) }
 {
     let mut members = JsonObject::from_value(value).ok_or(MapRefusal::MemberOfAnotherKind)?;
-    let kind = required_type(&mut members, trail)?;
-    let id = required_id(&mut members, trail)?;
-    let name = text_or(alloc, &mut members, names::NAME, "", trail)?;
-    let visible = truth_or(&mut members, names::VISIBLE, true, trail)?;
-    let properties = properties_or_none(alloc, size, &mut members, trail)?;
-    let body = body(alloc, size, room, kind, &mut members, count, trail)?;
+    let head = read_head(alloc, size, &mut members, trail)?;
+    let body = body(alloc, size, room, head.kind, &mut members, count, trail)?;
     Ok(Layer {
-        id,
-        name,
-        visible,
-        properties,
+        id: head.id,
+        name: head.name,
+        visible: head.visible,
+        properties: head.properties,
         kept: members.into_kept(),
         body,
     })
-}
-
-// A layer in a link of its own.
-#[cycle(layers)]
-fn linked<T: Trail>(
-    alloc: Global,
-    size: Size,
-    room: usize,
-    value: Value,
-    count: &mut usize,
-    trail: &mut T,
-) -> Result<Loose<Layer>, MapFault>
-    requires size { size.width * size.height ≤ MAX_CELLS }
-    requires few { count.old ≤ MAX_LAYERS }
-    ensures ok { IfOk result (λ loose. IsSomeAnd loose (λ layer.
-        layer_by (layers_at room size.width size.height) size.width size.height count.old (data_of value) ≡ Ok (count.new, layer))) }
-    ensures err { IfErr result (λ fault. Fails fault
-        (layer_by (layers_at room size.width size.height) size.width size.height count.old (data_of value))) }
-    ensures few { IfOk result (λ loose. count.new ≤ MAX_LAYERS) }
-{
-    let layer = layer(alloc, size, room, value, count, trail)?;
-    Loose::new(alloc, layer).map_err(|_| MapFault::Memory)
 }
 
 // The layers of an array, one after the other, with room for so many arrays in one another in each.
@@ -132,9 +140,9 @@ fn each_layer<T: Trail>(
     let mut found = Chain::new(alloc);
     for value in values {
         trail.enter(Step::Element(found.len()));
-        let link = linked(alloc, size, room, value, count, trail)?;
+        let layer = layer(alloc, size, room, value, count, trail)?;
+        found.add(alloc, layer)?;
         trail.leave();
-        found.insert(found.len(), link);
     }
     Ok(found)
 }

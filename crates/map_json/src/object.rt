@@ -20,7 +20,7 @@ use std::alloc::Global;
 use tile_id::Gid;
 
 // Where an object stands, and how large it is; the members are taken out.
-#[tactic(auto, using(crate::proofs::MembersLemmas::takes), unfolding(crate::specs::Reading::placing_of))]
+#[tactic(auto, using(crate::proofs::Lacking::takes), unfolding(crate::specs::Reading::placing_of))]
 fn placing<T: Trail>(members: &mut JsonObject, trail: &mut T) -> Result<Placing, MapRefusal>
     ensures value { result ≡ placing_of members.old }
     ensures left { IfOk result (λ placing. members.new ≡ without HEIGHT.now (without WIDTH.now (without Y.now (without X.now members.old)))) }

@@ -52,7 +52,7 @@ fn required_value<T: Trail>(
 impl Element for Property {
     ghost reads = { λ _. property_at };
 
-    #[tactic(auto, using(crate::proofs::MembersLemmas::takes), unfolding(crate::specs::Reading::property_at))]
+    #[tactic(auto, using(crate::proofs::Lacking::takes), unfolding(crate::specs::Reading::property_at))]
     fn read<T: Trail>(
         alloc: Global,
         _size: Size,

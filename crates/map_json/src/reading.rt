@@ -19,7 +19,7 @@ use map_model::{Map, MapParts, names};
 use serde_json::Value;
 use std::alloc::Global;
 
-#[tactic(auto, using(crate::proofs::MembersLemmas::takes), unfolding(crate::specs::Maps::parts_of))]
+#[tactic(auto, using(crate::proofs::Lacking::takes), unfolding(crate::specs::Maps::parts_of))]
 fn parts_of<T: Trail>(
     alloc: Global,
     mut members: JsonObject,

@@ -23,7 +23,7 @@ use std::alloc::Global;
 impl Element for Tileset {
     ghost reads = { λ _. tileset_at };
 
-    #[tactic(auto, using(crate::proofs::MembersLemmas::takes), unfolding(crate::specs::Reading::tileset_at))]
+    #[tactic(auto, using(crate::proofs::Lacking::takes), unfolding(crate::specs::Reading::tileset_at))]
     fn read<T: Trail>(
         _alloc: Global,
         _size: Size,

@@ -1,9 +1,14 @@
-use Rattle.std.proofs.Common.{◌≡◌, ◌+◌, ◌-◌, ◌≤◌, None, Some, rules, arith}
+use Rattle.std.proofs.Common.{◌≡◌, ◌+◌, ◌-◌, ◌≤◌, ◌++◌, ◌∷◌, [], length, None, Some, rules, arith, sym, ap, ◌∙◌, length-append}
+use Rattle.std.specs.Vec.Iter.{into_iter_items}
 use Rattle.serde_json.proofs.Views.{items_len-items_view}
 use Rattle.serde_json.specs.Events.{items_len}
-use Rattle.serde_json.specs.Find.{as_array}
+use Rattle.serde_json.specs.Find.{as_array, as_object}
 use Rattle.serde_json.specs.View.{view as data_of, items_view}
 use Rattle.map_model.specs.declared.limits.TheConstants.{MAX_LAYERS}
+use Rattle.map_json.specs.Reading.{layer_by, layers_at}
+use Rattle.map_json.specs.Elements.{each_counted}
+use Rattle.map_json.proofs.Loops.{counted_prefix, counted_prefix-element}
+use Rattle.map_json.proofs.Heads.{layer_by-no_object, head_refused, body_refused, layer_read}
 use Rattle.map_json.proofs.Rooms.{layers_at-no_array, layers_at-no_room, layers_at-many, layers_at-each}
 use Rattle.map_json.proofs.layer.+layers.Goals.{layers_in-then-room-eq0-via-then-room-eq0, layers_in-then-room-eq0-via-else-room-eq0+then-len-count}
 use Rattle.map_json.proofs.layer.+layers.Goals as goal
@@ -34,3 +39,46 @@ layers_in-returns-clause-value g t c =
     let fits : c.args.count.now + items_len values ≤ MAX_LAYERS = omega (arith, c.if-len-count.false, c.len.ensures, items_len-items_view c.in_ok-values.values.items, c.requires.few) in
     let is = layers_at-each c.args.size.width c.args.size.height c.args.count.now (data_of c.args.value) c.args.room (c.args.room - 1) values (omega (arith, c.if-room-eq0.false)) found fits in
     rw (is, long) c.each_layer.ensures.value
+
+pub layer-returns-in_err-members-clause-value : goal.layer-returns-in_err-members-clause-value
+layer-returns-in_err-members-clause-value g t c =
+    let none : as_object (data_of c.args.value) ≡ None = search rules in
+    let is = layer_by-no_object (layers_at c.args.room c.args.size.width c.args.size.height) c.args.size.width c.args.size.height c.args.count.now (data_of c.args.value) none in
+    search rules
+
+pub layer-returns-in_err-head-clause-value : goal.layer-returns-in_err-head-clause-value
+layer-returns-in_err-head-clause-value g t c =
+    let inner = layers_at c.args.room c.args.size.width c.args.size.height in
+    let members : as_object (data_of c.args.value) ≡ Some c.in_ok-members.members = search rules in
+    let fails = head_refused inner c.args.size.width c.args.size.height c.args.count.now (data_of c.args.value) c.in_ok-members.members members c.in_err-head.field-0.0 c.in_err-head.ensures.value in
+    search rules
+
+pub layer-returns-in_err-body-clause-value : goal.layer-returns-in_err-body-clause-value
+layer-returns-in_err-body-clause-value g t c =
+    let inner = layers_at c.args.room c.args.size.width c.args.size.height in
+    let members : as_object (data_of c.args.value) ≡ Some c.in_ok-members.members = search rules in
+    let fails = body_refused inner c.args.size.width c.args.size.height c.args.count.now (data_of c.args.value) c.in_ok-members.members members
+    c.in_ok-head.head c.in_ok-head.ensures.value c.read_head.new.members c.in_ok-head.ensures.left c.in_err-body.field-0.0 c.in_err-body.ensures.value in
+    search rules
+
+pub layer-returns-clause-value : goal.layer-returns-clause-value
+layer-returns-clause-value g t c =
+    let inner = layers_at c.args.room c.args.size.width c.args.size.height in
+    let members : as_object (data_of c.args.value) ≡ Some c.in_ok-members.members = search rules in
+    layer_read inner c.args.size.width c.args.size.height c.args.count.now (data_of c.args.value) c.in_ok-members.members members
+    c.in_ok-head.head c.in_ok-head.ensures.value c.read_head.new.members c.in_ok-head.ensures.left c.body.new.count c.in_ok-body.body _ c.in_ok-body.ensures.value (cc c.in_ok-body.ensures.kept)
+
+pub each_layer-loop-value-preserved : goal.each_layer-loop-value-preserved
+each_layer-loop-value-preserved g t c =
+    let read = layer_by (layers_at c.args.room c.args.size.width c.args.size.height) c.args.size.width c.args.size.height in
+    let l = c.loop-value in
+    let later = c.next.new.self in
+    let steps : into_iter_items l.value-iterator ≡ c.in-Some.value ∷ into_iter_items later = search rules in
+    let put : c.add.new.self ≡ l.found ++ c.in_ok-layer.layer ∷ [] = search rules in
+    let more = counted_prefix-element read l.found l.count c.layer.new.count (data_of c.in-Some.value) (items_view (into_iter_items later)) c.in_ok-layer.layer c.in_ok-layer.ensures.value in (
+      tt,
+      tt,
+      omega (arith, simp length-append at (ap length put), ap length steps, l.invariant.2),
+      rw put (sym more ∙ (ap (λ vs. counted_prefix l.found (each_counted read l.count (items_view vs))) (sym steps) ∙ l.invariant.3)),
+      c.in_ok-layer.ensures.few,
+    )

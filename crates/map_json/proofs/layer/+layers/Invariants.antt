@@ -8,19 +8,16 @@ use Rattle.map_json.proofs.Loops.{counted_prefix}
 use Rattle.map_json.proofs.layer.+layers.Given as goal
 
 abbrev pub decreases-layers_in : goal.decreases-layers_in
-decreases-layers_in g l = 5 * l.room
+decreases-layers_in g l = 4 * l.room
 
 abbrev pub decreases-body : goal.decreases-body
-decreases-body g l = 5 * l.room + 1
+decreases-body g l = 4 * l.room + 1
 
 abbrev pub decreases-layer : goal.decreases-layer
-decreases-layer g l = 5 * l.room + 2
-
-abbrev pub decreases-linked : goal.decreases-linked
-decreases-linked g l = 5 * l.room + 3
+decreases-layer g l = 4 * l.room + 2
 
 abbrev pub decreases-each_layer : goal.decreases-each_layer
-decreases-each_layer g l = 5 * l.room + 4
+decreases-each_layer g l = 4 * l.room + 3
 
 abbrev pub invariant-each_layer-loop-value : goal.invariant-each_layer-loop-value
 invariant-each_layer-loop-value g l =
