@@ -1,6 +1,6 @@
 """Sees how the pages are laid out: each line of a page has at most 100 characters, but for rows of
 tables, lines of blocks of code, and lines that are one link or one address; and each row of a table
-has as many cells as its head."""
+has as many cells as its head. A line of a definition or a proof has at most 160 characters."""
 import re
 import subprocess
 
@@ -9,17 +9,22 @@ from lib.pages import ROW, Page
 from lib.places import TOP
 
 MOST = 100
+MOST_OF_A_PROOF = 160
 # One link or one address, perhaps as an entry of a list.
 ONE_LINK = re.compile(r'\s*(?:[-*] |\d+\. )?(?:!?\[[^\]]*\]\([^)]*\)|<?https?://\S+>?)[.,;:]?')
 
 
-def tracked():
-    """The pages that git tracks; all that there are where this is no clone."""
-    listed = subprocess.run(['git', 'ls-files', '*.md'], cwd=TOP, capture_output=True, text=True)
+def tracked(pattern):
+    """The files of that name that git tracks; all that there are where this is no clone."""
+    listed = subprocess.run(['git', 'ls-files', pattern], cwd=TOP, capture_output=True, text=True)
     names = listed.stdout.splitlines() or [
-        str(path.relative_to(TOP)) for path in TOP.rglob('*.md') if '/out/' not in str(path)
+        str(path.relative_to(TOP)) for path in TOP.rglob(pattern) if '/out/' not in str(path)
     ]
-    return [Page(TOP / name) for name in names if (TOP / name).exists()]
+    return [TOP / name for name in names if (TOP / name).exists()]
+
+
+def pages():
+    return [Page(path) for path in tracked('*.md')]
 
 
 def text_lines(page):
@@ -56,9 +61,23 @@ def fault_of_rows(page):
     return '\n    '.join(wrong) or None
 
 
+def fault_of_proof(path):
+    lines = path.read_text(encoding='utf-8').split('\n')
+    wide = [
+        f'line {number}: {len(line)} characters: {line.strip()[:60]}..'
+        for number, line in enumerate(lines, 1)
+        if len(line) > MOST_OF_A_PROOF
+    ]
+    return '\n    '.join(wide) or None
+
+
 def test_widths_of_lines():
-    check_each(tracked(), fault_of_widths)
+    check_each(pages(), fault_of_widths)
 
 
 def test_cells_of_tables():
-    check_each(tracked(), fault_of_rows)
+    check_each(pages(), fault_of_rows)
+
+
+def test_widths_of_proofs():
+    check_each(tracked('*.antt'), fault_of_proof)
