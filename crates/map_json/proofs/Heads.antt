@@ -22,10 +22,12 @@ use Rattle.map_json.specs.Reading.{type_at, id_at, properties_of, head_of, body_
 use Rattle.map_json.proofs.Bodies.{body_by_common}
 use Rattle.map_json.proofs.Parts.{Fails->>=}
 
-by_steps : {B : Type 0} (kind : Result LayerType MapRefusal) (id : Result ℕ MapRefusal) (name : Result (List ℕ) MapRefusal) (visible : Result Bool MapRefusal) (properties : Result (List Property) MapRefusal)
-    → (next : Head → Result B MapRefusal)
-    → (kind >>= λ k. id >>= λ i. name >>= λ n. visible >>= λ v. properties >>= λ ps. next (record { kind = k; id = i; name = n; visible = v; properties = ps }))
-    ≡ ((kind >>= λ k. id >>= λ i. name >>= λ n. visible >>= λ v. properties >>= λ ps. Ok (record { kind = k; id = i; name = n; visible = v; properties = ps })) >>= next)
+by_steps : {B : Type 0} (kind : Result LayerType MapRefusal) (id : Result ℕ MapRefusal) (name : Result (List ℕ) MapRefusal)
+    → (visible : Result Bool MapRefusal) (properties : Result (List Property) MapRefusal) (next : Head → Result B MapRefusal)
+    → (kind >>= λ k. id >>= λ i. name >>= λ n. visible >>= λ v. properties >>= λ ps.
+      next (record { kind = k; id = i; name = n; visible = v; properties = ps }))
+    ≡ ((kind >>= λ k. id >>= λ i. name >>= λ n. visible >>= λ v. properties >>= λ ps.
+      Ok (record { kind = k; id = i; name = n; visible = v; properties = ps })) >>= next)
 by_steps (Err f) id name visible properties next = refl
 by_steps (Ok k) (Err f) name visible properties next = refl
 by_steps (Ok k) (Ok i) (Err f) visible properties next = refl
@@ -34,7 +36,8 @@ by_steps (Ok k) (Ok i) (Ok n) (Ok v) (Err f) next = refl
 by_steps (Ok k) (Ok i) (Ok n) (Ok v) (Ok ps) next = refl
 
 -- a value that is no object
-pub layer_by-no_object : (inner : Counting (List Layer)) (width height count : ℕ) (d : Data) → as_object d ≡ None → layer_by inner width height count d ≡ Err MemberOfAnotherKind
+pub layer_by-no_object : (inner : Counting (List Layer)) (width height count : ℕ) (d : Data) → as_object d ≡ None
+    → layer_by inner width height count d ≡ Err MemberOfAnotherKind
 unfolding layer_by
 layer_by-no_object inner width height count d none = rw none refl
 
@@ -42,13 +45,21 @@ module _ (inner : Counting (List Layer)) (width height count : ℕ) (d : Data) (
   abbrev rest : Head → Result (ℕ × Layer) MapRefusal
   rest h =
       body_by inner h.kind width height count ms
-      >>= λ body. Ok (body.0, record { id = h.id; name = h.name; visible = h.visible; properties = h.properties; kept = without_all (layer_names body.1) ms; body = body.1 })
+      >>= λ body.
+      Ok (body.0, record {
+        id = h.id;
+        name = h.name;
+        visible = h.visible;
+        properties = h.properties;
+        kept = without_all (layer_names body.1) ms;
+        body = body.1;
+      })
 
   layer_by-head : layer_by inner width height count d ≡ (head_of ms >>= rest)
   unfolding layer_by head_of
   layer_by-head =
-      rw members (by_steps (required type_at (get_member TYPE.now ms)) (required id_at (get_member ID.now ms)) (absent_means [] text_at (get_member NAME.now ms)) (absent_means true truth_at (get_member VISIBLE.now ms))
-      (properties_of ms) rest)
+      rw members (by_steps (required type_at (get_member TYPE.now ms)) (required id_at (get_member ID.now ms))
+      (absent_means [] text_at (get_member NAME.now ms)) (absent_means true truth_at (get_member VISIBLE.now ms)) (properties_of ms) rest)
 
   pub head_refused : (f : MapFault) → Fails f (head_of ms) → Fails f (layer_by inner width height count d)
   head_refused f fails = rw layer_by-head (Fails->>= f (head_of ms) rest fails)
@@ -61,8 +72,10 @@ module _ (inner : Counting (List Layer)) (width height count : ℕ) (d : Data) (
     pub body_refused : (f : MapFault) → Fails f (body_by inner h.kind width height count left) → Fails f (layer_by inner width height count d)
     body_refused f fails = rw (layer_by-head, is) (Fails->>= f (body_by inner h.kind width height count ms) _ (subst (Fails f) there fails))
 
-    pub layer_read : (then : ℕ) (body : Body) (unread : Members) → body_by inner h.kind width height count left ≡ Ok (then, body) → unread ≡ without_all (body_names body) left
-        → layer_by inner width height count d ≡ Ok (then, record { id = h.id; name = h.name; visible = h.visible; properties = h.properties; kept = unread; body = body })
+    pub layer_read : (then : ℕ) (body : Body) (unread : Members) → body_by inner h.kind width height count left ≡ Ok (then, body)
+        → unread ≡ without_all (body_names body) left
+        → layer_by inner width height count d
+        ≡ Ok (then, record { id = h.id; name = h.name; visible = h.visible; properties = h.properties; kept = unread; body = body })
     layer_read then body unread e out =
         let all : unread ≡ without_all (layer_names body) ms = out ∙ ap (without_all (body_names body)) taken in
         rw (layer_by-head, is, sym there ∙ e, all) refl
