@@ -23,7 +23,8 @@ use Rattle.map_json.proofs.Bodies.{body_by_common}
 use Rattle.map_json.proofs.Parts.{Fails->>=}
 
 -- a value that is no object
-pub layer_by-no_object : (inner : Counting (List Layer)) (width height count : ℕ) (d : Data) → as_object d ≡ None → layer_by inner width height count d ≡ Err MemberOfAnotherKind
+pub layer_by-no_object : (inner : Counting (List Layer)) (width height count : ℕ) (d : Data) → as_object d ≡ None
+    → layer_by inner width height count d ≡ Err MemberOfAnotherKind
 unfolding layer_by
 layer_by-no_object inner width height count d none = rw none refl
 
@@ -31,7 +32,18 @@ module _ (inner : Counting (List Layer)) (width height count : ℕ) (d : Data) (
   abbrev rest : Head → Result (ℕ × Layer) MapRefusal
   rest h =
       body_by inner h.kind width height count ms
-      >>= λ body. Ok (body.0, record { id = h.id; name = h.name; visible = h.visible; properties = h.properties; kept = without_all (layer_names body.1) ms; body = body.1 })
+      >>= λ body.
+      Ok (
+        body.0,
+        record {
+          id = h.id;
+          name = h.name;
+          visible = h.visible;
+          properties = h.properties;
+          kept = without_all (layer_names body.1) ms;
+          body = body.1;
+        },
+      )
 
   layer_by-head : layer_by inner width height count d ≡ (head_of ms >>= rest)
   unfolding layer_by
@@ -48,8 +60,10 @@ module _ (inner : Counting (List Layer)) (width height count : ℕ) (d : Data) (
     pub body_refused : (f : MapFault) → Fails f (body_by inner h.kind width height count left) → Fails f (layer_by inner width height count d)
     body_refused f fails = rw (layer_by-head, is) (Fails->>= f (body_by inner h.kind width height count ms) _ (subst (Fails f) there fails))
 
-    pub layer_read : (then : ℕ) (body : Body) (unread : Members) → body_by inner h.kind width height count left ≡ Ok (then, body) → unread ≡ without_all (body_names body) left
-        → layer_by inner width height count d ≡ Ok (then, record { id = h.id; name = h.name; visible = h.visible; properties = h.properties; kept = unread; body = body })
+    pub layer_read : (then : ℕ) (body : Body) (unread : Members) → body_by inner h.kind width height count left ≡ Ok (then, body)
+        → unread ≡ without_all (body_names body) left
+        → layer_by inner width height count d
+        ≡ Ok (then, record { id = h.id; name = h.name; visible = h.visible; properties = h.properties; kept = unread; body = body })
     layer_read then body unread e out =
         let all : unread ≡ without_all (layer_names body) ms = out ∙ ap (without_all (body_names body)) taken in
         rw (layer_by-head, is, sym there ∙ e, all) refl

@@ -5,7 +5,7 @@ use Rattle.std.proofs.lemmas.List.{append-nil, at_drop_more, drop_all}
 use Rattle.serde_json.specs.View.{view, items_view}
 use Rattle.serde_json.proofs.Views.{items_len-items_view}
 use Rattle.serde_json.specs.declared.value.Value.{Value}
-use Rattle.serde_json.specs.Data.{Data, Items, item}
+use Rattle.serde_json.specs.Data.{Data, Items, no_items, item}
 use Rattle.map_model.specs.Steps.{◌>>=◌}
 use Rattle.map_json.specs.declared.fault.MapRefusal.{MapRefusal}
 use Rattle.map_json.specs.declared.fault.MapFault.{MapFault}
@@ -33,6 +33,11 @@ module _ {A : Type 0} where
       → with_prefix prefix (each read (item d ds)) ≡ with_prefix (prefix ++ x ∷ []) (each read ds)
   with_prefix-element read prefix d ds x e = rw e (regroup prefix x (each read ds))
 
+  -- all elements
+  pub with_prefix-all : (read : Data → Result A MapRefusal) (prefix : List A) (r : Result (List A) MapRefusal)
+      → with_prefix prefix (each read no_items) ≡ r → r ≡ Ok prefix
+  with_prefix-all read prefix r e = sym e ∙ ap (λ (ys : List A). Ok ys) (append-nil prefix)
+
   -- an element that is refused
   pub refused_element : (read : Data → Result A MapRefusal) (prefix : List A) (d : Data) (ds : Items) (e : MapFault) → Fails e (read d) → Fails e (with_prefix prefix (each read (item d ds)))
   refused_element read prefix d ds Memory h = tt
@@ -54,6 +59,11 @@ module _ {A : Type 0} where
   pub counted_prefix-element : (read : ℕ → Data → Result (ℕ × A) MapRefusal) (prefix : List A) (count then : ℕ) (d : Data) (ds : Items) (x : A) → read count d ≡ Ok (then, x)
       → counted_prefix prefix (each_counted read count (item d ds)) ≡ counted_prefix (prefix ++ x ∷ []) (each_counted read then ds)
   counted_prefix-element read prefix count then d ds x e = rw e (regroup_counted prefix x (each_counted read then ds))
+
+  -- all counted elements
+  pub counted_prefix-all : (read : ℕ → Data → Result (ℕ × A) MapRefusal) (prefix : List A) (count : ℕ) (r : Result (ℕ × List A) MapRefusal)
+      → counted_prefix prefix (each_counted read count no_items) ≡ r → r ≡ Ok (count, prefix)
+  counted_prefix-all read prefix count r e = sym e ∙ ap (λ (ys : List A). Ok (count, ys)) (append-nil prefix)
 
   pub refused_counted : (read : ℕ → Data → Result (ℕ × A) MapRefusal) (prefix : List A) (count : ℕ) (d : Data) (ds : Items) (e : MapFault) → Fails e (read count d) → Fails e (counted_prefix prefix (each_counted read count (item d ds)))
   refused_counted read prefix count d ds Memory h = tt

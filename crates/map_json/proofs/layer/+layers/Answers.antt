@@ -1,4 +1,5 @@
 use Rattle.std.proofs.Common.{◌≡◌, ◌+◌, ◌-◌, ◌≤◌, ◌++◌, ◌∷◌, [], length, None, Some, rules, arith, sym, ap, ◌∙◌, length-append}
+use Rattle.std.proofs.lemmas.List.{nil_from_length}
 use Rattle.std.specs.Vec.Iter.{into_iter_items}
 use Rattle.serde_json.proofs.Views.{items_len-items_view}
 use Rattle.serde_json.specs.Events.{items_len}
@@ -7,7 +8,7 @@ use Rattle.serde_json.specs.View.{view as data_of, items_view}
 use Rattle.map_model.specs.declared.limits.TheConstants.{MAX_LAYERS}
 use Rattle.map_json.specs.Reading.{layer_by, layers_at}
 use Rattle.map_json.specs.Elements.{each_counted}
-use Rattle.map_json.proofs.Loops.{counted_prefix, counted_prefix-element}
+use Rattle.map_json.proofs.Loops.{counted_prefix, counted_prefix-element, counted_prefix-all}
 use Rattle.map_json.proofs.Heads.{layer_by-no_object, head_refused, body_refused, layer_read}
 use Rattle.map_json.proofs.Rooms.{layers_at-no_array, layers_at-no_room, layers_at-many, layers_at-each}
 use Rattle.map_json.proofs.layer.+layers.Goals.{layers_in-then-room-eq0-via-then-room-eq0, layers_in-then-room-eq0-via-else-room-eq0+then-len-count}
@@ -43,14 +44,16 @@ layers_in-returns-clause-value g t c =
 pub layer-returns-in_err-members-clause-value : goal.layer-returns-in_err-members-clause-value
 layer-returns-in_err-members-clause-value g t c =
     let none : as_object (data_of c.args.value) ≡ None = search rules in
-    let is = layer_by-no_object (layers_at c.args.room c.args.size.width c.args.size.height) c.args.size.width c.args.size.height c.args.count.now (data_of c.args.value) none in
+    let is = layer_by-no_object (layers_at c.args.room c.args.size.width c.args.size.height) c.args.size.width c.args.size.height
+    c.args.count.now (data_of c.args.value) none in
     search rules
 
 pub layer-returns-in_err-head-clause-value : goal.layer-returns-in_err-head-clause-value
 layer-returns-in_err-head-clause-value g t c =
     let inner = layers_at c.args.room c.args.size.width c.args.size.height in
     let members : as_object (data_of c.args.value) ≡ Some c.in_ok-members.members = search rules in
-    let fails = head_refused inner c.args.size.width c.args.size.height c.args.count.now (data_of c.args.value) c.in_ok-members.members members c.in_err-head.field-0.0 c.in_err-head.ensures.value in
+    let fails = head_refused inner c.args.size.width c.args.size.height c.args.count.now (data_of c.args.value) c.in_ok-members.members members
+    c.in_err-head.field-0.0 c.in_err-head.ensures.value in
     search rules
 
 pub layer-returns-in_err-body-clause-value : goal.layer-returns-in_err-body-clause-value
@@ -66,7 +69,8 @@ layer-returns-clause-value g t c =
     let inner = layers_at c.args.room c.args.size.width c.args.size.height in
     let members : as_object (data_of c.args.value) ≡ Some c.in_ok-members.members = search rules in
     layer_read inner c.args.size.width c.args.size.height c.args.count.now (data_of c.args.value) c.in_ok-members.members members
-    c.in_ok-head.head c.in_ok-head.ensures.value c.read_head.new.members c.in_ok-head.ensures.left c.body.new.count c.in_ok-body.body _ c.in_ok-body.ensures.value (cc c.in_ok-body.ensures.kept)
+    c.in_ok-head.head c.in_ok-head.ensures.value c.read_head.new.members c.in_ok-head.ensures.left
+    c.body.new.count c.in_ok-body.body _ c.in_ok-body.ensures.value (cc c.in_ok-body.ensures.kept)
 
 pub each_layer-loop-value-preserved : goal.each_layer-loop-value-preserved
 each_layer-loop-value-preserved g t c =
@@ -75,10 +79,18 @@ each_layer-loop-value-preserved g t c =
     let later = c.next.new.self in
     let steps : into_iter_items l.value-iterator ≡ c.in-Some.value ∷ into_iter_items later = search rules in
     let put : c.add.new.self ≡ l.found ++ c.in_ok-layer.layer ∷ [] = search rules in
-    let more = counted_prefix-element read l.found l.count c.layer.new.count (data_of c.in-Some.value) (items_view (into_iter_items later)) c.in_ok-layer.layer c.in_ok-layer.ensures.value in (
+    let more = counted_prefix-element read l.found l.count c.layer.new.count (data_of c.in-Some.value) (items_view (into_iter_items later))
+    c.in_ok-layer.layer c.in_ok-layer.ensures.value in (
       tt,
       tt,
       omega (arith, simp length-append at (ap length put), ap length steps, l.invariant.2),
       rw put (sym more ∙ (ap (λ vs. counted_prefix l.found (each_counted read l.count (items_view vs))) (sym steps) ∙ l.invariant.3)),
       c.in_ok-layer.ensures.few,
     )
+
+pub each_layer-returns-clause-value : goal.each_layer-returns-clause-value
+each_layer-returns-clause-value g t c =
+    let l = c.loop-value in
+    let none = nil_from_length (into_iter_items l.value-iterator) (search (rules, c.in-None.ensures.steps.0)) in
+    let read = layer_by (layers_at c.args.room c.args.size.width c.args.size.height) c.args.size.width c.args.size.height in
+    counted_prefix-all read l.found l.count _ (rw none at l.invariant.3)

@@ -1,6 +1,7 @@
-use Rattle.std.proofs.Common.{◌≡◌, Err, rules, ◌∙◌}
+use Rattle.std.proofs.Common.{◌≡◌, Err, rules, ◌∙◌, arith}
 use Rattle.map_json.specs.Steps.{Fails}
 use Rattle.map_json.specs.Maps.{parts_of}
+use Rattle.json_members.proofs.MembersLemmas.{get_member-without}
 use Rattle.map_json.proofs.Parts.{next_object_refused, plain_taken, parts_of-with, layers_refused, tilesets_refused, properties_refused, parts_read}
 use Rattle.map_json.proofs.reading.parts_of.Goals as goal
 
@@ -97,3 +98,31 @@ returns g c =
     c.required_tilesets.new.members c.in_ok-tilesets.tilesets c.required_tilesets.ensures.left c.in_ok-tilesets.ensures.value
     c.properties_or_none.new.members c.remove.new.self c.into_kept.result c.in_ok-properties.properties c.properties_or_none.ensures.left c.in_ok-properties.ensures.value c.remove.ensures
     (c.into_kept.ensures ∙ c.remove-2.ensures)
+
+pub returns-in_err-height : goal.returns-in_err-height
+unfolding parts_of
+returns-in_err-height g c = grind (arith, get_member-without)
+
+pub returns-then-width-height-gt-MAX_CELLS : goal.returns-then-width-height-gt-MAX_CELLS
+unfolding parts_of
+returns-then-width-height-gt-MAX_CELLS g c = grind (arith, get_member-without)
+
+pub returns-in_err-tile_width : goal.returns-in_err-tile_width
+unfolding parts_of
+returns-in_err-tile_width g c = grind (arith, get_member-without)
+
+pub returns-in_err-tile_height : goal.returns-in_err-tile_height
+unfolding parts_of
+returns-in_err-tile_height g c = grind (arith, get_member-without)
+
+pub returns-in_err-truth_or : goal.returns-in_err-truth_or
+unfolding parts_of
+returns-in_err-truth_or g c = grind (arith, get_member-without)
+
+pub returns-then-branch : goal.returns-then-branch
+unfolding parts_of
+returns-then-branch g c = grind (arith, get_member-without)
+
+pub returns-in_err-next_layer_id : goal.returns-in_err-next_layer_id
+unfolding parts_of
+returns-in_err-next_layer_id g c = grind (arith, get_member-without)
