@@ -1,10 +1,11 @@
-ghost use Rattle.std.specs.Prelude.{◌≡◌, ◌+◌, ◌-◌, ◌^◌, ◌<◌, ◌≤◌, ◌++◌, [], length, slice_get, Some, IfOk, IfErr, IfSome, IsSomeAnd};
+ghost use Rattle.std.specs.Prelude.{◌≡◌, ◌+◌, ◌-◌, ◌^◌, ◌<◌, ◌≤◌, ◌++◌, [], length, slice_get, Some, IfOk, IfErr, IfSome, IsSomeAnd, MatchBool};
 ghost use Rattle.std.specs.List.{insert, remove};
-ghost use Rattle.std.specs.Option.{option_copied};
+ghost use Rattle.std.specs.Option.{option_copied, MatchOption};
 ghost use Rattle.link_tree.specs.declared.tree.Tree.{Empty};
 ghost use Rattle.link_tree.specs.Trees.{items, IsSized};
 ghost use Rattle.std.specs.Fn.{FnOnceTakesAtMut};
 ghost use Rattle.link_tree.specs.Changing.{ChangesAt, ChangesEach, TakesEach};
+ghost use Rattle.link_tree.specs.Passing.{IsFirst, NonePasses, SomePasses};
 
 use crate::iter::Iter;
 use crate::tree::{Link, Tree};
@@ -167,6 +168,22 @@ impl<T: Drop> LinkTree<T> {
         } else {
             None
         }
+    }
+
+    /// Whether some item passes a test.
+    pub fn any<F: Fn(&T) -> bool>(&self, test: F) -> bool
+        requires { F.IsAlwaysCallable test }
+        ensures { MatchBool result (SomePasses F.Fn test self.now) (NonePasses F.Fn test self.now) }
+    {
+        self.tree.any(&test)
+    }
+
+    /// The first item that passes a test, behind its place.
+    pub fn find<F: Fn(&T) -> bool>(&self, test: F) -> Option<(usize, &T)>
+        requires { F.IsAlwaysCallable test }
+        ensures { MatchOption result (NonePasses F.Fn test self.now) (λ found. IsFirst F.Fn test self.now found.0 found.1.now) }
+    {
+        self.tree.find(&test, 0)
     }
 
     /// Changes the item at a place below the length where it stands.

@@ -1,0 +1,104 @@
+// Items that pass a test.
+//
+// The links on the way call themselves. The last step of each such call is the one for the links behind its own, and a link
+// with no others needs none: so there is a call for about one link in four.
+ghost use Rattle.std.specs.Prelude.{◌≡◌, ◌+◌, ◌-◌, ◌<◌, ◌≤◌, ◌^◌, length, MatchBool};
+ghost use Rattle.std.specs.Option.{MatchOption};
+ghost use Rattle.std.specs.Fn.{FnReturnsAt};
+ghost use Rattle.link_tree.specs.Trees.{items, IsSized};
+ghost use Rattle.link_tree.specs.Passing.{link_items, IsFirst, IsSizedLink, NonePasses, SomePasses};
+
+use crate::tree::{Link, Tree};
+
+// Whether an item passes a test.
+#[inline(always)]
+fn passes<T, F: Fn(&T) -> bool>(item: &T, test: &F) -> bool
+    requires { F.IsAlwaysCallable test.now }
+    ensures { FnReturnsAt F.Fn test.now item.now result }
+{
+    test(item)
+}
+
+impl<T> Tree<T> {
+    /// Whether some item passes a test.
+    #[inline(always)]
+    #[cycle(any)]
+    pub(crate) fn any<F: Fn(&T) -> bool>(&self, test: &F) -> bool
+        requires sized { IsSized self.now }
+        requires callable { F.IsAlwaysCallable test.now }
+        ensures { MatchBool result (SomePasses F.Fn test.now (items self.now)) (NonePasses F.Fn test.now (items self.now)) }
+    {
+        match self {
+            Tree::Empty => false,
+            Tree::Filled(link) => {
+                if link.size == 1 {
+                    passes(&link.item, test)
+                } else {
+                    link.any(test)
+                }
+            }
+        }
+    }
+
+    /// The first item that passes a test, behind its place, which stands behind so many others.
+    #[inline(always)]
+    #[cycle(find)]
+    pub(crate) fn find<F: Fn(&T) -> bool>(&self, test: &F, passed: usize) -> Option<(usize, &T)>
+        requires sized { IsSized self.now }
+        requires fits { passed + length (items self.now) < 2 ^ 64 }
+        requires callable { F.IsAlwaysCallable test.now }
+        ensures { MatchOption result (NonePasses F.Fn test.now (items self.now)) (λ found. (passed ≤ found.0) × IsFirst F.Fn test.now (items self.now) (found.0 - passed) found.1.now) }
+    {
+        match self {
+            Tree::Empty => None,
+            Tree::Filled(link) => {
+                if link.size > 1 {
+                    link.find(test, passed)
+                } else if passes(&link.item, test) {
+                    Some((passed, &link.item))
+                } else {
+                    None
+                }
+            }
+        }
+    }
+}
+
+impl<T> Link<T> {
+    #[cycle(any)]
+    fn any<F: Fn(&T) -> bool>(&self, test: &F) -> bool
+        requires sized { IsSizedLink self.now }
+        requires callable { F.IsAlwaysCallable test.now }
+        ensures { MatchBool result (SomePasses F.Fn test.now (link_items self.now)) (NonePasses F.Fn test.now (link_items self.now)) }
+    {
+        if passes(&self.item, test) {
+            return true;
+        }
+        if self.left.any(test) {
+            return true;
+        }
+        match &self.right {
+            Tree::Empty => false,
+            Tree::Filled(right) => right.any(test),
+        }
+    }
+
+    #[cycle(find)]
+    fn find<F: Fn(&T) -> bool>(&self, test: &F, passed: usize) -> Option<(usize, &T)>
+        requires sized { IsSizedLink self.now }
+        requires fits { passed + length (link_items self.now) < 2 ^ 64 }
+        requires callable { F.IsAlwaysCallable test.now }
+        ensures { MatchOption result (NonePasses F.Fn test.now (link_items self.now)) (λ found. (passed ≤ found.0) × IsFirst F.Fn test.now (link_items self.now) (found.0 - passed) found.1.now) }
+    {
+        if let Some(found) = self.left.find(test, passed) {
+            return Some(found);
+        }
+        if passes(&self.item, test) {
+            return Some((passed + self.before, &self.item));
+        }
+        match &self.right {
+            Tree::Empty => None,
+            Tree::Filled(right) => right.find(test, passed + self.before + 1),
+        }
+    }
+}
