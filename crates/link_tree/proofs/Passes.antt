@@ -41,43 +41,47 @@ module _ {F T : Type 0} (g : Shared F (Bor T × Unit {0}) Bool) (f : F) where
   pub some-at : (b : Bool) (xs ys : List T) (x : T) → Answers g f b x → b ≡ true → SomePasses g f (xs ++ x ∷ ys)
   some-at b xs ys x passes is = some-right xs (x ∷ ys) (inl (subst (λ c. Answers g f c x) is passes))
 
-  pub some-behind : (b c d : Bool) (xs ys : List T) (x : T) → MatchBool c (SomePasses g f xs) (NonePasses g f xs) → c ≡ false → Answers g f d x → d ≡ false
-      → MatchBool b (SomePasses g f ys) (NonePasses g f ys) → MatchBool b (SomePasses g f (xs ++ x ∷ ys)) (NonePasses g f (xs ++ x ∷ ys))
+  pub some-behind : (b c d : Bool) (xs ys : List T) (x : T) → MatchBool c (SomePasses g f xs) (NonePasses g f xs) → c ≡ false
+      → Answers g f d x → d ≡ false → MatchBool b (SomePasses g f ys) (NonePasses g f ys) → MatchBool b (SomePasses g f (xs ++ x ∷ ys)) (NonePasses g f (xs ++ x ∷ ys))
   some-behind true c d xs ys x before none at fails some = some-right xs (x ∷ ys) (inr some)
   some-behind false true d xs ys x before none at fails some = cc
   some-behind false false true xs ys x before none at fails some = cc
   some-behind false false false xs ys x before none at fails some = none-around xs ys x before at some
 
   -- the first one, behind so many others
-  pub first-before : (xs ys : List T) (k : ℕ) (x : T) → IsFirst g f xs k x → IsFirst g f (xs ++ ys) k x
-  first-before xs ys k x first =
-      let h = get-bound xs k x first.found in
+  pub first-before : (xs ys : List T) (k : ℕ) → IsFirst g f xs k → IsFirst g f (xs ++ ys) k
+  first-before xs ys k first =
+      let h = get-bound xs k first.item first.found in
       record {
-        found = get-in_left xs ys k x first.found;
+        item = first.item;
+        found = get-in_left xs ys k first.item first.found;
         passes = first.passes;
         before = rw (take-left xs ys k (omega (arith, h))) first.before;
       }
 
-  pub first-at : (b : Bool) (xs ys : List T) (k : ℕ) (x : T) → k ≡ length xs → NonePasses g f xs → Answers g f b x → b ≡ true → IsFirst g f (xs ++ x ∷ ys) k x
+  pub first-at : (b : Bool) (xs ys : List T) (k : ℕ) (x : T) → k ≡ length xs → NonePasses g f xs → Answers g f b x → b ≡ true
+      → IsFirst g f (xs ++ x ∷ ys) k
   first-at b xs ys k x at none passes is =
       record {
+        item = x;
         found = get-at xs ys x k (sym at);
         passes = subst (λ c. Answers g f c x) is passes;
         before = rw (at, take-whole xs (x ∷ ys)) none;
       }
 
-  pub first-behind : (b : Bool) (r : Option (ℕ × Bor T)) (p q : ℕ) (xs ys : List T) (x : T) → q ≡ p + length xs + 1
+  pub first-behind : (b : Bool) (r : Option ℕ) (p q : ℕ) (xs ys : List T) (x : T) → q ≡ p + length xs + 1
       → NonePasses g f xs → Answers g f b x → b ≡ false
-      → MatchOption r (NonePasses g f ys) (λ found. (q ≤ found.0) × IsFirst g f ys (found.0 - q) found.1.now)
-      → MatchOption r (NonePasses g f (xs ++ x ∷ ys)) (λ found. (p ≤ found.0) × IsFirst g f (xs ++ x ∷ ys) (found.0 - p) found.1.now)
-  first-behind b None p q xs ys x at before fails is none = none-around xs ys x before (subst (λ c. Answers g f c x) is fails) none
-  first-behind b (Some found) p q xs ys x at before fails is first =
-      let low : q ≤ found.0 = first.0 in
-      let e : found.0 - p ≡ length xs + 1 + (found.0 - q) = omega (arith, low, at) in (
-        omega (arith, low, at),
+      → MatchOption r (NonePasses g f ys) (λ at. (q ≤ at) × IsFirst g f ys (at - q))
+      → MatchOption r (NonePasses g f (xs ++ x ∷ ys)) (λ at. (p ≤ at) × IsFirst g f (xs ++ x ∷ ys) (at - p))
+  first-behind b None p q xs ys x is before fails_it fails none = none-around xs ys x before (subst (λ c. Answers g f c x) fails fails_it) none
+  first-behind b (Some at) p q xs ys x is before fails_it fails first =
+      let low : q ≤ at = first.0 in
+      let e : at - p ≡ length xs + 1 + (at - q) = omega (arith, low, is) in (
+        omega (arith, low, is),
         rw e record {
-          found = rw (get-past xs ys x (found.0 - q)) first.1.found;
+          item = first.1.item;
+          found = rw (get-past xs ys x (at - q)) first.1.found;
           passes = first.1.passes;
-          before = rw (take-past xs ys x (found.0 - q)) (none-around xs _ x before (subst (λ c. Answers g f c x) is fails) first.1.before);
+          before = rw (take-past xs ys x (at - q)) (none-around xs _ x before (subst (λ c. Answers g f c x) fails fails_it) first.1.before);
         },
       )

@@ -20,9 +20,10 @@ abbrev pub NonePasses : {F T : Type 0} → Shared F (Bor T × Unit {0}) Bool →
 NonePasses g f xs = AllByRecursion (Answers g f false) xs
 
 -- the item at a place passes, and none before it
-pub record IsFirst {F T : Type 0} (g : Shared F (Bor T × Unit {0}) Bool) (f : F) (xs : List T) (at : ℕ) (x : T) : Type 0 where
-  pub found : slice_get xs at ≡ Some x
-  pub passes : Answers g f true x
+pub record IsFirst {F T : Type 0} (g : Shared F (Bor T × Unit {0}) Bool) (f : F) (xs : List T) (at : ℕ) : Type 0 where
+  pub item : T
+  pub found : slice_get xs at ≡ Some item
+  pub passes : Answers g f true item
   pub before : NonePasses g f (take at xs)
 
 -- the items of a link: those before it, its own, and those behind it

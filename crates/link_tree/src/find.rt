@@ -40,22 +40,22 @@ impl<T> Tree<T> {
         }
     }
 
-    /// The first item that passes a test, behind its place, which stands behind so many others.
+    /// The place, behind so many others, of the first item that passes a test.
     #[inline(always)]
-    #[cycle(find)]
-    pub(crate) fn find<F: Fn(&T) -> bool>(&self, test: &F, passed: usize) -> Option<(usize, &T)>
+    #[cycle(position)]
+    pub(crate) fn position<F: Fn(&T) -> bool>(&self, test: &F, passed: usize) -> Option<usize>
         requires sized { IsSized self.now }
         requires fits { passed + length (items self.now) < 2 ^ 64 }
         requires callable { F.IsAlwaysCallable test.now }
-        ensures { MatchOption result (NonePasses F.Fn test.now (items self.now)) (λ found. (passed ≤ found.0) × IsFirst F.Fn test.now (items self.now) (found.0 - passed) found.1.now) }
+        ensures { MatchOption result (NonePasses F.Fn test.now (items self.now)) (λ at. (passed ≤ at) × IsFirst F.Fn test.now (items self.now) (at - passed)) }
     {
         match self {
             Tree::Empty => None,
             Tree::Filled(link) => {
                 if link.size > 1 {
-                    link.find(test, passed)
+                    link.position(test, passed)
                 } else if passes(&link.item, test) {
-                    Some((passed, &link.item))
+                    Some(passed)
                 } else {
                     None
                 }
@@ -83,22 +83,23 @@ impl<T> Link<T> {
         }
     }
 
-    #[cycle(find)]
-    fn find<F: Fn(&T) -> bool>(&self, test: &F, passed: usize) -> Option<(usize, &T)>
+    #[cycle(position)]
+    fn position<F: Fn(&T) -> bool>(&self, test: &F, passed: usize) -> Option<usize>
         requires sized { IsSizedLink self.now }
         requires fits { passed + length (link_items self.now) < 2 ^ 64 }
         requires callable { F.IsAlwaysCallable test.now }
-        ensures { MatchOption result (NonePasses F.Fn test.now (link_items self.now)) (λ found. (passed ≤ found.0) × IsFirst F.Fn test.now (link_items self.now) (found.0 - passed) found.1.now) }
+        ensures { MatchOption result (NonePasses F.Fn test.now (link_items self.now)) (λ at. (passed ≤ at) × IsFirst F.Fn test.now (link_items self.now) (at - passed)) }
     {
-        if let Some(found) = self.left.find(test, passed) {
-            return Some(found);
+        if let Some(at) = self.left.position(test, passed) {
+            return Some(at);
         }
+        let here = passed + self.before;
         if passes(&self.item, test) {
-            return Some((passed + self.before, &self.item));
+            return Some(here);
         }
         match &self.right {
             Tree::Empty => None,
-            Tree::Filled(right) => right.find(test, passed + self.before + 1),
+            Tree::Filled(right) => right.position(test, here + 1),
         }
     }
 }

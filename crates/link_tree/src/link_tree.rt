@@ -64,6 +64,7 @@ impl<T: Drop> Loose<T> {
 pub struct LinkTree<T> {
     tree: Tree<T>,
     here: usize,
+    note: Option<u32>,
 }
 
 impl<T> Model for LinkTree<T> {
@@ -88,6 +89,7 @@ impl<T: Drop> LinkTree<T> {
         LinkTree {
             tree: Tree::Empty,
             here: 0,
+            note: None,
         }
     }
 
@@ -141,11 +143,21 @@ impl<T: Drop> LinkTree<T> {
         }
     }
 
-    /// Goes to a place, or behind the last item where there is none. No item changes.
-    pub fn go_to(&mut self, at: usize)
+    /// Goes to a place, or behind the last item where there is none, and notes a number for it. No item changes.
+    pub fn go_to(&mut self, at: usize, note: u32)
         ensures { self.new ≡ self.old }
     {
         self.here = at;
+        self.note = Some(note);
+    }
+
+    /// Whether this number was noted for the place that was last gone to, and since then no item at another place was
+    /// changed, and no link put in or taken out.
+    pub fn is_noted(&self, note: u32) -> bool {
+        match self.note {
+            Some(noted) => noted == note,
+            None => false,
+        }
     }
 
     /// Visits the items in order.
@@ -181,9 +193,13 @@ impl<T: Drop> LinkTree<T> {
     /// The first item that passes a test, behind its place.
     pub fn find<F: Fn(&T) -> bool>(&self, test: F) -> Option<(usize, &T)>
         requires { F.IsAlwaysCallable test }
-        ensures { MatchOption result (NonePasses F.Fn test self.now) (λ found. IsFirst F.Fn test self.now found.0 found.1.now) }
+        ensures first { MatchOption result (NonePasses F.Fn test self.now) (λ found. IsFirst F.Fn test self.now found.0) }
+        ensures item { IfSome result (λ found. slice_get self.now found.0 ≡ Some found.1.now) }
     {
-        self.tree.find(&test, 0)
+        match self.tree.position(&test, 0) {
+            Some(at) => Some((at, self.get(at))),
+            None => None,
+        }
     }
 
     /// Changes the item at a place below the length where it stands.
@@ -192,7 +208,10 @@ impl<T: Drop> LinkTree<T> {
         requires callable { (x : _) → slice_get self.old at ≡ Some x → FnOnceTakesAtMut F.FnOnce change x }
         ensures { ChangesAt F.FnOnce change at self.old result self.new }
     {
-        self.here = at;
+        if at != self.here {
+            self.here = at;
+            self.note = None;
+        }
         let mut change = Some(change);
         let mut answer = None;
         self.tree.change_at(at, &mut change, &mut answer);
@@ -218,6 +237,7 @@ impl<T: Drop> LinkTree<T> {
     {
         let Loose { link } = loose;
         self.here = at;
+        self.note = None;
         if let Tree::Filled(link) = link {
             self.tree.insert(at, link);
         }
@@ -230,6 +250,7 @@ impl<T: Drop> LinkTree<T> {
         ensures rest { self.new ≡ remove self.old at }
     {
         self.here = at;
+        self.note = None;
         Loose {
             link: Tree::Filled(self.tree.take(at)),
         }
