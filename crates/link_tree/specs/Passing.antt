@@ -1,5 +1,5 @@
 -- Items that pass a test, as a closure that may be called again and again answers for them.
-use Rattle.std.specs.Prelude.{◌≡◌, ◌+◌, ℕ, Bool, true, false, List, [], ◌∷◌, ◌++◌, ◌⊎◌, length, Some, slice_get, take}
+use Rattle.std.specs.Prelude.{◌≡◌, ◌≤◌, ◌+◌, ◌-◌, ℕ, Bool, true, false, List, [], ◌∷◌, ◌++◌, ◌⊎◌, length, Some, slice_get, take}
 use Rattle.std.specs.List.{AllByRecursion}
 use Rattle.std.specs.Borrow.{Bor}
 use Rattle.std.specs.Fn.{Shared, FnReturnsAt}
@@ -25,6 +25,13 @@ pub record IsFirst {F T : Type 0} (g : Shared F (Bor T × Unit {0}) Bool) (f : F
   pub found : slice_get xs at ≡ Some item
   pub passes : Answers g f true item
   pub before : NonePasses g f (take at xs)
+
+-- behind so many others, this many items stand before the first one that passes, or before the end where none does
+pub record Precede {F T : Type 0} (g : Shared F (Bor T × Unit {0}) Bool) (f : F) (xs : List T) (passed at : ℕ) : Type 0 where
+  pub low : passed ≤ at
+  pub high : at ≤ passed + length xs
+  pub before : NonePasses g f (take (at - passed) xs)
+  pub passes : (x : T) → slice_get xs (at - passed) ≡ Some x → Answers g f true x
 
 -- the items of a link: those before it, its own, and those behind it
 abbrev pub link_items : {T : Type 0} → Link T → List T

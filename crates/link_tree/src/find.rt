@@ -2,11 +2,10 @@
 //
 // The links on the way call themselves. The last step of each such call is the one for the links behind its own, and a link
 // with no others needs none: so there is a call for about one link in four.
-ghost use Rattle.std.specs.Prelude.{◌≡◌, ◌+◌, ◌-◌, ◌<◌, ◌≤◌, ◌^◌, length, MatchBool};
-ghost use Rattle.std.specs.Option.{MatchOption};
+ghost use Rattle.std.specs.Prelude.{◌≡◌, ◌+◌, ◌<◌, ◌^◌, length, MatchBool};
 ghost use Rattle.std.specs.Fn.{FnReturnsAt};
 ghost use Rattle.link_tree.specs.Trees.{items, IsSized};
-ghost use Rattle.link_tree.specs.Passing.{link_items, IsFirst, IsSizedLink, NonePasses, SomePasses};
+ghost use Rattle.link_tree.specs.Passing.{link_items, IsSizedLink, NonePasses, Precede, SomePasses};
 
 use crate::tree::{Link, Tree};
 
@@ -40,24 +39,25 @@ impl<T> Tree<T> {
         }
     }
 
-    /// The place, behind so many others, of the first item that passes a test.
+    /// How many items stand before the first one that passes a test, or how many there are where none passes; and so many
+    /// others are counted with them.
     #[inline(always)]
-    #[cycle(position)]
-    pub(crate) fn position<F: Fn(&T) -> bool>(&self, test: &F, passed: usize) -> Option<usize>
+    #[cycle(failing)]
+    pub(crate) fn failing<F: Fn(&T) -> bool>(&self, test: &F, passed: usize) -> usize
         requires sized { IsSized self.now }
         requires fits { passed + length (items self.now) < 2 ^ 64 }
         requires callable { F.IsAlwaysCallable test.now }
-        ensures { MatchOption result (NonePasses F.Fn test.now (items self.now)) (λ at. (passed ≤ at) × IsFirst F.Fn test.now (items self.now) (at - passed)) }
+        ensures { Precede F.Fn test.now (items self.now) passed result }
     {
         match self {
-            Tree::Empty => None,
+            Tree::Empty => passed,
             Tree::Filled(link) => {
                 if link.size > 1 {
-                    link.position(test, passed)
+                    link.failing(test, passed)
                 } else if passes(&link.item, test) {
-                    Some(passed)
+                    passed
                 } else {
-                    None
+                    passed + 1
                 }
             }
         }
@@ -83,23 +83,24 @@ impl<T> Link<T> {
         }
     }
 
-    #[cycle(position)]
-    fn position<F: Fn(&T) -> bool>(&self, test: &F, passed: usize) -> Option<usize>
+    #[cycle(failing)]
+    fn failing<F: Fn(&T) -> bool>(&self, test: &F, passed: usize) -> usize
         requires sized { IsSizedLink self.now }
         requires fits { passed + length (link_items self.now) < 2 ^ 64 }
         requires callable { F.IsAlwaysCallable test.now }
-        ensures { MatchOption result (NonePasses F.Fn test.now (link_items self.now)) (λ at. (passed ≤ at) × IsFirst F.Fn test.now (link_items self.now) (at - passed)) }
+        ensures { Precede F.Fn test.now (link_items self.now) passed result }
     {
-        if let Some(at) = self.left.position(test, passed) {
-            return Some(at);
-        }
         let here = passed + self.before;
+        let found = self.left.failing(test, passed);
+        if found < here {
+            return found;
+        }
         if passes(&self.item, test) {
-            return Some(here);
+            return here;
         }
         match &self.right {
-            Tree::Empty => None,
-            Tree::Filled(right) => right.position(test, here + 1),
+            Tree::Empty => here + 1,
+            Tree::Filled(right) => right.failing(test, here + 1),
         }
     }
 }
