@@ -5,14 +5,14 @@ use crate::parts::{Body, Layer, Object};
 use link_chain::Chain;
 use link_tree::LinkTree;
 
-/// Whether the object that was last changed or gone to has an id, in layers that may have so many groups in one another. If
-/// so, its list notes it, and next time it need not be looked up to know that. No layer changes.
+/// Goes to the object with an id in the layer that was last changed or gone to, in layers that may have so many groups in one
+/// another, and tells whether it did. That layer notes it, so that next time it need not look the object up. No layer changes.
 #[cycle(here)]
-pub fn is_object_here(layers: &mut Chain<Layer>, id: u32, room: usize) -> bool
+pub fn seek_here(layers: &mut Chain<Layer>, id: u32, room: usize) -> bool
     ensures { layers.new ≡ layers.old }
 {
     match layer_here(layers) {
-        Some(at) => layers.get_mut(at).body.has_object_here(id, room),
+        Some(at) => layers.get_mut(at).body.seek_object_here(id, room),
         None => false,
     }
 }
@@ -25,8 +25,8 @@ fn layer_here(layers: &Chain<Layer>) -> Option<usize>
     Some(at)
 }
 
-// Whether the object that was last changed or gone to has an id, as is noted then.
-fn is_listed_here(objects: &mut LinkTree<Object>, id: u32) -> bool
+// Goes to the object with an id, if it is the one that was last changed or gone to, or else by the ids, and notes that it did.
+fn seek_listed(objects: &mut LinkTree<Object>, id: u32) -> bool
     ensures { objects.new ≡ objects.old }
 {
     if objects.is_noted(id) {
@@ -34,7 +34,7 @@ fn is_listed_here(objects: &mut LinkTree<Object>, id: u32) -> bool
     }
     let place = match objects.here() {
         Some((at, object)) if object.id == id => Some(at),
-        _ => None,
+        _ => place_of_id(objects, id),
     };
     match place {
         Some(at) => {
@@ -92,16 +92,16 @@ fn place_of_id(objects: &LinkTree<Object>, id: u32) -> Option<usize> {
 }
 
 impl Body {
-    // Whether the object that was last changed or gone to has an id, as is noted then.
+    // Goes to the object with an id, or in a group to that in the layer here, and tells whether it did.
     #[cycle(here)]
-    fn has_object_here(&mut self, id: u32, room: usize) -> bool
+    fn seek_object_here(&mut self, id: u32, room: usize) -> bool
         ensures { self.new ≡ self.old }
     {
         match self {
-            Body::Objects(objects) => is_listed_here(objects, id),
+            Body::Objects(objects) => seek_listed(objects, id),
             Body::Group(layers) => {
                 if room > 0 {
-                    is_object_here(layers, id, room - 1)
+                    seek_here(layers, id, room - 1)
                 } else {
                     false
                 }

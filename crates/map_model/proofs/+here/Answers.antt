@@ -10,6 +10,6 @@ same_body [] (suc at) l b found is = refl
 same_body (k ∷ ls) zero l b found is = let same : k ≡ l = cc in rw (is, same) refl
 same_body (k ∷ ls) (suc at) l b found is = ap (λ ks. k ∷ ks) (same_body ls at l b found is)
 
-pub seek::is_object_here-returns-in-Some : goal.seek::is_object_here-returns-in-Some
-seek::is_object_here-returns-in-Some t c =
-    same_body c.args.layers.now c.in-Some.at c.get_mut.result.now c.has_object_here.new.self c.get_mut.ensures.value c.has_object_here.ensures
+pub seek::seek_here-returns-in-Some : goal.seek::seek_here-returns-in-Some
+seek::seek_here-returns-in-Some t c =
+    same_body c.args.layers.now c.in-Some.at c.get_mut.result.now c.seek_object_here.new.self c.get_mut.ensures.value c.seek_object_here.ensures

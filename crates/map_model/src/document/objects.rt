@@ -10,7 +10,7 @@ use crate::limits::MAX_GROUPS;
 use crate::objects::{insert_object_in, place_object_in, take_object_in};
 use crate::parts::{Object, Placing};
 use crate::place::ObjectPlace;
-use crate::seek::{is_object_here, seek_in_layers};
+use crate::seek::{seek_here, seek_in_layers};
 use link_tree::Loose;
 
 impl Document {
@@ -41,7 +41,7 @@ impl Document {
         ensures well_formed { IsDocument self.new }
     {
         let layers = &mut self.map.parts.layers;
-        if !is_object_here(layers, id, MAX_GROUPS) {
+        if !seek_here(layers, id, MAX_GROUPS) {
             seek_in_layers(layers, id, MAX_GROUPS);
         }
     }
