@@ -126,6 +126,13 @@ fn turn(
     Ok(same && is_same(tree, plain))
 }
 
+// Whether both have the same place for the first item that is not below a number, or no such item.
+fn finds_same(low: usize, tree: &LinkTree<usize>, plain: &Vec<usize>) -> bool {
+    let place = plain.iter().position(|item| low <= *item);
+    let found = tree.find(|item| low <= *item);
+    found.map(|(at, _)| at) == place && tree.any(|item| low <= *item) == place.is_some()
+}
+
 // A tree of 4,096 items is at most 22 links deep in each of these orders. By its balance alone it could be 26 deep.
 #[test]
 fn balanced_in_each_order(rt: HostRuntime) -> Result<(), Fail> {
@@ -168,5 +175,8 @@ fn same_as_a_plain_list(rt: HostRuntime) -> Result<(), Fail> {
         assert!(rt; same);
     }
     assert!(rt; tree.len() > 400);
+    for low in 0..2_001 {
+        assert!(rt; finds_same(low, &tree, &plain));
+    }
     Ok(())
 }

@@ -2,3 +2,4 @@ mod Alone
 mod Changes
 mod Edits
 mod Waits
+mod Passes

@@ -1,3 +1,4 @@
 pub mod Trees
 pub mod Waiting
 pub mod Changing
+pub mod Passing

@@ -1,6 +1,7 @@
 //! Lists of boxed links, each held as a balanced tree.
 #![tactic(auto)]
 
+mod find;
 mod iter;
 mod link_tree;
 mod tree;

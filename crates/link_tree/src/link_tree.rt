@@ -1,10 +1,11 @@
-ghost use Rattle.std.specs.Prelude.{◌≡◌, ◌+◌, ◌-◌, ◌^◌, ◌<◌, ◌≤◌, ◌++◌, [], length, slice_get, Some, IfOk, IfErr, IfSome, IsSomeAnd};
+ghost use Rattle.std.specs.Prelude.{◌≡◌, ◌+◌, ◌-◌, ◌^◌, ◌<◌, ◌≤◌, ◌++◌, [], length, slice_get, Some, IfOk, IfErr, IfSome, IsSomeAnd, MatchBool};
 ghost use Rattle.std.specs.List.{insert, remove};
-ghost use Rattle.std.specs.Option.{option_copied};
+ghost use Rattle.std.specs.Option.{option_copied, MatchOption};
 ghost use Rattle.link_tree.specs.declared.tree.Tree.{Empty};
 ghost use Rattle.link_tree.specs.Trees.{items, IsSized};
 ghost use Rattle.std.specs.Fn.{FnOnceTakesAtMut};
 ghost use Rattle.link_tree.specs.Changing.{ChangesAt, ChangesEach, TakesEach};
+ghost use Rattle.link_tree.specs.Passing.{IsFirst, NonePasses, SomePasses};
 
 use crate::iter::Iter;
 use crate::tree::{Link, Tree};
@@ -63,6 +64,7 @@ impl<T: Drop> Loose<T> {
 pub struct LinkTree<T> {
     tree: Tree<T>,
     here: usize,
+    note: Option<u32>,
 }
 
 impl<T> Model for LinkTree<T> {
@@ -87,6 +89,7 @@ impl<T: Drop> LinkTree<T> {
         LinkTree {
             tree: Tree::Empty,
             here: 0,
+            note: None,
         }
     }
 
@@ -140,11 +143,21 @@ impl<T: Drop> LinkTree<T> {
         }
     }
 
-    /// Goes to a place, or behind the last item where there is none. No item changes.
-    pub fn go_to(&mut self, at: usize)
+    /// Goes to a place, or behind the last item where there is none, and notes a number for it. No item changes.
+    pub fn go_to(&mut self, at: usize, note: u32)
         ensures { self.new ≡ self.old }
     {
         self.here = at;
+        self.note = Some(note);
+    }
+
+    /// Whether this number was noted for the place that was last gone to, and since then no item at another place was
+    /// changed, and no link put in or taken out.
+    pub fn is_noted(&self, note: u32) -> bool {
+        match self.note {
+            Some(noted) => noted == note,
+            None => false,
+        }
     }
 
     /// Visits the items in order.
@@ -169,13 +182,38 @@ impl<T: Drop> LinkTree<T> {
         }
     }
 
+    /// Whether some item passes a test.
+    pub fn any<F: Fn(&T) -> bool>(&self, test: F) -> bool
+        requires { F.IsAlwaysCallable test }
+        ensures { MatchBool result (SomePasses F.Fn test self.now) (NonePasses F.Fn test self.now) }
+    {
+        self.tree.any(&test)
+    }
+
+    /// The first item that passes a test, behind its place.
+    pub fn find<F: Fn(&T) -> bool>(&self, test: F) -> Option<(usize, &T)>
+        requires { F.IsAlwaysCallable test }
+        ensures first { MatchOption result (NonePasses F.Fn test self.now) (λ found. IsFirst F.Fn test self.now found.0) }
+        ensures item { IfSome result (λ found. slice_get self.now found.0 ≡ Some found.1.now) }
+    {
+        let at = self.tree.failing(&test, 0);
+        if at < self.len() {
+            Some((at, self.get(at)))
+        } else {
+            None
+        }
+    }
+
     /// Changes the item at a place below the length where it stands.
     pub fn change_at<R, F: FnOnce(&mut T) -> R>(&mut self, at: usize, change: F) -> R
         requires place { at < length self.old }
         requires callable { (x : _) → slice_get self.old at ≡ Some x → FnOnceTakesAtMut F.FnOnce change x }
         ensures { ChangesAt F.FnOnce change at self.old result self.new }
     {
-        self.here = at;
+        if at != self.here {
+            self.here = at;
+            self.note = None;
+        }
         let mut change = Some(change);
         let mut answer = None;
         self.tree.change_at(at, &mut change, &mut answer);
@@ -201,6 +239,7 @@ impl<T: Drop> LinkTree<T> {
     {
         let Loose { link } = loose;
         self.here = at;
+        self.note = None;
         if let Tree::Filled(link) = link {
             self.tree.insert(at, link);
         }
@@ -213,6 +252,7 @@ impl<T: Drop> LinkTree<T> {
         ensures rest { self.new ≡ remove self.old at }
     {
         self.here = at;
+        self.note = None;
         Loose {
             link: Tree::Filled(self.tree.take(at)),
         }

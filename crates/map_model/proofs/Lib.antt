@@ -15,6 +15,7 @@ pub mod NewMaps
 pub mod ObjectKeeps
 pub mod ObjectPlaces
 pub mod LensLaws
+pub mod Passed
 pub mod Places
 pub mod Selections
 pub mod SlotLaws

@@ -147,16 +147,7 @@ fn find_object(objects: &LinkTree<Object>, id: u32) -> Option<(usize, &Object)>
     ensures place { option_map (λ found. found.0) result ≡ position (has_object_id id) objects.now }
     ensures object { IfSome result (λ found. slice_get objects.now found.0 ≡ Some found.1.now) }
 {
-    // That a length is a `usize` bounds the places.
-    if objects.len() == 0 {
-        return None;
-    }
-    for (at, object) in objects.iter().enumerate() {
-        if object.id == id {
-            return Some((at, object));
-        }
-    }
-    None
+    objects.find(move |object| object.id == id)
 }
 
 /// The object with an id in a layer, behind its place.

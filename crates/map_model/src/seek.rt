@@ -5,6 +5,46 @@ use crate::parts::{Body, Layer, Object};
 use link_chain::Chain;
 use link_tree::LinkTree;
 
+/// Goes to the object with an id in the layer that was last changed or gone to, in layers that may have so many groups in one
+/// another, and tells whether it did. That layer notes it, so that next time it need not look the object up. No layer changes.
+#[cycle(here)]
+pub fn seek_here(layers: &mut Chain<Layer>, id: u32, room: usize) -> bool
+    ensures { layers.new ≡ layers.old }
+{
+    match layer_here(layers) {
+        Some(at) => layers.get_mut(at).body.seek_object_here(id, room),
+        None => false,
+    }
+}
+
+// The place of the layer that was last changed or gone to.
+fn layer_here(layers: &Chain<Layer>) -> Option<usize>
+    ensures { IfSome result (λ at. at < length layers.now) }
+{
+    let (at, _) = layers.here()?;
+    Some(at)
+}
+
+// Goes to the object with an id, if it is the one that was last changed or gone to, or else by the ids, and notes that it did.
+fn seek_listed(objects: &mut LinkTree<Object>, id: u32) -> bool
+    ensures { objects.new ≡ objects.old }
+{
+    if objects.is_noted(id) {
+        return true;
+    }
+    let place = match objects.here() {
+        Some((at, object)) if object.id == id => Some(at),
+        _ => place_of_id(objects, id),
+    };
+    match place {
+        Some(at) => {
+            objects.go_to(at, id);
+            true
+        }
+        None => false,
+    }
+}
+
 /// Goes to the object with an id, so that it is found and changed at once, in layers that may have so many groups in one
 /// another. Where the ids of a layer do not rise, or those of several layers overlap, it may miss the object. No layer changes.
 #[inline(never)]
@@ -52,6 +92,25 @@ fn place_of_id(objects: &LinkTree<Object>, id: u32) -> Option<usize> {
 }
 
 impl Body {
+    // Goes to the object with an id, or in a group to that in the layer here, and tells whether it did.
+    #[cycle(here)]
+    fn seek_object_here(&mut self, id: u32, room: usize) -> bool
+        ensures { self.new ≡ self.old }
+    {
+        match self {
+            Body::Objects(objects) => seek_listed(objects, id),
+            Body::Group(layers) => {
+                if room > 0 {
+                    seek_here(layers, id, room - 1)
+                } else {
+                    false
+                }
+            }
+            Body::Tiles(_, _) => false,
+            Body::Other => false,
+        }
+    }
+
     // Whether an object may have the id, if the ids rise.
     fn may_have(&self, id: u32) -> bool {
         let Some(objects) = self.objects() else {
@@ -71,7 +130,7 @@ impl Body {
         match self {
             Body::Objects(objects) => {
                 if let Some(at) = place_of_id(objects, id) {
-                    objects.go_to(at);
+                    objects.go_to(at, id);
                 }
             }
             Body::Group(layers) => {

@@ -20,6 +20,9 @@ use tile_id::Gid;
 /// No base of a value is as great.
 const BASE_LIMIT: u32 = 0x1000_0000;
 
+// Of how many cells it is asked at once whether one has a value.
+const BLOCK: usize = 256;
+
 impl Tileset {
     /// A tileset whose tiles stand in a file of their own, the source. It takes no memory.
     pub fn external(alloc: Global, first_id: u32, source: MapText) -> Tileset
@@ -84,10 +87,28 @@ fn is_base_between(value: Gid, low: u32, end: u32) -> bool
     low <= value.base() && value.base() < end
 }
 
+// The same of some cell of a block. It looks at each of them, so that the compiler takes several in one step.
+fn is_in_block(block: &[Gid], low: u32, end: u32) -> bool
+    ensures { result ≡ list_any (is_between low end) block.now }
+{
+    let mut found = false;
+    for value in block.iter() {
+        found = found | is_base_between(*value, low, end);
+    }
+    found
+}
+
 fn is_in_cells(cells: &[Gid], low: u32, end: u32) -> bool
     ensures { result ≡ list_any (is_between low end) cells.now }
 {
-    cells.iter().any(|value| is_base_between(*value, low, end))
+    let mut rest = cells;
+    while let Some((block, behind)) = rest.split_at_checked(BLOCK) {
+        if is_in_block(block, low, end) {
+            return true;
+        }
+        rest = behind;
+    }
+    is_in_block(rest, low, end)
 }
 
 fn is_of_object(object: &Object, low: u32, end: u32) -> bool
@@ -102,7 +123,7 @@ fn is_of_object(object: &Object, low: u32, end: u32) -> bool
 fn is_in_objects(objects: &LinkTree<Object>, low: u32, end: u32) -> bool
     ensures { result ≡ list_any (λ o. list_any (is_between low end) (gids_of o)) objects.now }
 {
-    objects.iter().any(|object| is_of_object(object, low, end))
+    objects.any(move |object| is_of_object(object, low, end))
 }
 
 fn is_in_body(body: &Body, low: u32, end: u32) -> bool

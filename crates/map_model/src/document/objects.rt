@@ -10,7 +10,7 @@ use crate::limits::MAX_GROUPS;
 use crate::objects::{insert_object_in, place_object_in, take_object_in};
 use crate::parts::{Object, Placing};
 use crate::place::ObjectPlace;
-use crate::seek::seek_in_layers;
+use crate::seek::{seek_here, seek_in_layers};
 use link_tree::Loose;
 
 impl Document {
@@ -40,8 +40,9 @@ impl Document {
         ensures document { self.new ≡ self.old }
         ensures well_formed { IsDocument self.new }
     {
-        if self.map.object_here(id).is_none() {
-            seek_in_layers(&mut self.map.parts.layers, id, MAX_GROUPS);
+        let layers = &mut self.map.parts.layers;
+        if !seek_here(layers, id, MAX_GROUPS) {
+            seek_in_layers(layers, id, MAX_GROUPS);
         }
     }
 

@@ -36,7 +36,7 @@ impl Map {
     }
 
     // The object that was last changed or gone to, where it has the id.
-    pub(crate) fn object_here(&self, id: u32) -> Option<(ObjectPlace, &Object)>
+    fn object_here(&self, id: u32) -> Option<(ObjectPlace, &Object)>
         ensures place { IfSome result (λ found. object_place self.now id ≡ Some found.0) }
         ensures object { IfSome result (λ found. object_at self.now found.0 ≡ Some found.1.now) }
     {
