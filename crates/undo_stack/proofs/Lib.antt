@@ -18,4 +18,5 @@ pub mod Targets
 pub mod Calm
 pub mod Reports
 pub mod Held
+mod Turned
 pub mod Innermost
